@@ -10,7 +10,7 @@ use Rattle.hound_reader.proofs.WrittenLemmas.{containers-concat, length-concat}
 use Rattle.hound_number.specs.{signed_bytes_of}
 use Rattle.hound_sample.specs.{Refusal, containers, int_bytes, int_container, contained}
 use Rattle.hound_medium.specs.{MediumState}
-use Rattle.hound_writer.specs.{Accepts, AcceptAnswer, if_marked, one, AcceptsEach, short_bytes, IsSameFile, write, WriterState, IsWhole, data_length, accepted_samples}
+use Rattle.hound_writer.specs.{Accepts, AcceptAnswer, if_marked, one, AcceptsEach, i16_bytes, IsSameFile, write, WriterState, IsWhole, data_length, accepted_samples}
 use Rattle.hound_writer.proofs.Recording.{same_but_memory}
 use Rattle.hound.proofs.Calling.{Went, call_went, went_still, went_then}
 
@@ -24,9 +24,9 @@ wide [] = tt
 wide (v ∷ values) = (refl, wide values)
 
 -- a number that fits in sixteen bits has its two bytes as its container
-short_container : (v : ℤ) (bits width : ℕ) (c : List ℕ) → bits ≡ 16
+i16_container : (v : ℤ) (bits width : ℕ) (c : List ℕ) → bits ≡ 16
     → int_container v bits width ≡ Ok c → c ≡ signed_bytes_of 2 v
-short_container v bits width c sixteen is =
+i16_container v bits width c sixteen is =
     let (pair, _, same) =
     contained v 16 width c (ap (λ b. int_container v b width) (sym sixteen) ∙ is) in
     let two : width ≡ 2 = grind (arith, nat_tests) in
@@ -47,17 +47,17 @@ module _ {M : Type 0} (tells keeps : Bool) (state : M → MediumState) (told : I
       → Went tells keeps state told (map (signed_bytes_of 2) values) old new
   each_went [] old new sixteen same =
       subst (Went tells keeps state told [] old) (sym same)
-      (went_still tells keeps state told old old.buffer)
+      (went_still tells keeps state told old old.batch_memory)
   each_went (v ∷ values) old new sixteen (mid, accepts, each) =
       let s = old.spec_ex in
       let container = int_container v s.spec.bits_per_sample s.bytes_per_sample in
-      let first = call_went tells keeps state told (Ok tt) old.buffer old mid (write (one container))
+      let first = call_went tells keeps state told (Ok tt) old.batch_memory old mid (write (one container))
       accepts in
       let bytes = signed_bytes_of 2 v in
       went_then tells keeps state told (bytes ∷ []) (map (signed_bytes_of 2) values) old mid new
       (subst (λ l. Went tells keeps state told l old mid)
       (one_taken old container bytes
-      (λ c. short_container v s.spec.bits_per_sample s.bytes_per_sample c sixteen)
+      (λ c. i16_container v s.spec.bits_per_sample s.bytes_per_sample c sixteen)
       accepts.adds.answers) first)
       (each_went values mid new (ap (λ x. x.spec.bits_per_sample) first.spec_ex ∙ sixteen) each)
 
@@ -67,11 +67,11 @@ module _ {M : Type 0} (tells keeps : Bool) (state : M → MediumState) (told : I
       → IsSameFile first a
       → Accepts tells keeps state
       (Ok (containers a.spec_ex.bytes_per_sample
-      (length (short_bytes values) / a.spec_ex.bytes_per_sample) (short_bytes values))) (Ok tt) a b
+      (length (i16_bytes values) / a.spec_ex.bytes_per_sample) (i16_bytes values))) (Ok tt) a b
       → AcceptsEach tells keeps state int_container values first c
       → (accepted_samples state b ≡ accepted_samples state c) × (data_length b ≡ data_length c)
   same_samples values first a b c whole sixteen two stays batch each =
-      let bytes = short_bytes values in
+      let bytes = i16_bytes values in
       let each_two = map (signed_bytes_of 2) values in
       let count : length bytes / 2 ≡ length each_two =
       omega (arith, ap length (joined values), length-concat 2 each_two (wide values)) in
@@ -85,8 +85,8 @@ module _ {M : Type 0} (tells keeps : Bool) (state : M → MediumState) (told : I
       ∙ containers-concat 2 each_two [] (wide values) in
       let t = went_then tells keeps state told [] list first a b
       (subst (Went tells keeps state told [] first) (same_but_memory first a stays)
-      (went_still tells keeps state told first a.buffer))
-      (call_went tells keeps state told (Ok tt) a.buffer a b (write (Ok list))
+      (went_still tells keeps state told first a.batch_memory))
+      (call_went tells keeps state told (Ok tt) a.batch_memory a b (write (Ok list))
       batch) in
       let l = each_went values first c sixteen each in (
         t.accepted whole ∙ ap (λ x. accepted_samples state first ++ x) same

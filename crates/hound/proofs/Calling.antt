@@ -8,7 +8,7 @@ use Rattle.hound_spec.specs.declared.error.Error.{Error}
 use Rattle.hound_spec.specs.{data_start}
 use Rattle.hound_medium.specs.{moment, overlay, MediumState, Span}
 use Rattle.hound_medium.proofs.Spans.{moment_last}
-use Rattle.hound_writer.specs.{UnlessFailed, faults_told, mark_of, IsStored, KeepsStored, Asked, Call, Does, Lead, publish, write, with_memory, Counts, ChangesSizesOnly, WriterState, HasHeader, IsBegun, IsCounted, IsWhole, accepted_samples, data_length, padded_end}
+use Rattle.hound_writer.specs.{UnlessFailed, faults_told, mark_of, IsStored, StaysStored, Asked, Call, Does, Lead, publish, write, with_memory, Counts, ChangesSizesOnly, WriterState, HasHeader, IsBegun, IsCounted, IsWhole, accepted_samples, data_length, padded_end}
 use Rattle.hound_writer.proofs.Answers.{unless_failed, unless_then, where_marked}
 use Rattle.hound_writer.proofs.Fresh.{begun_front}
 use Rattle.hound_writer.proofs.Sizes.{sizes_front, sizes_then, take_front}
@@ -59,7 +59,7 @@ module _ {W : Type 0} (tells keeps : Bool) (state : W → MediumState) (told : I
         → ChangesSizesOnly old.data_start (state old.medium).contents
         (moment (state new.medium).start (state new.medium).past k)
     pub stored : IsTrue keeps → IsWhole state old
-        → KeepsStored old.data_start (concat (accepted_samples state old)) (state old.medium)
+        → StaysStored old.data_start (concat (accepted_samples state old)) (state old.medium)
         (state new.medium)
 
   pub went_still : (w : WriterState W) (memory : List ℕ) → Went [] w (with_memory w memory)
@@ -116,7 +116,7 @@ module _ {W : Type 0} (tells keeps : Bool) (state : W → MediumState) (told : I
         stored_join a.data_start (concat list) (state a.medium) (state b.medium) (state c.medium)
         one.added two.added one.past two.start two.past (first.stored kept whole)
         (stored_fewer a.data_start (concat list) (concat l) (state b.medium) (state c.medium)
-        (subst (λ (x : ℕ × List ℕ). KeepsStored x.0 x.1 (state b.medium) (state c.medium))
+        (subst (λ (x : ℕ × List ℕ). StaysStored x.0 x.1 (state b.medium) (state c.medium))
         (λ j. (first.data_start j, bytes j)) (then.stored kept there)));
   }
 
@@ -181,7 +181,7 @@ module _ {W : Type 0} (tells keeps : Bool) (state : W → MediumState) (told : I
       sizes = λ kept replays behind whole k from to.
           let c = moment (state new.medium).start (state new.medium).past k in
           sizes_front old.data_start (state old.medium).contents c behind
-          (take_front old.data_start (old.data_start + old.out) (state old.medium).contents c
+          (take_front old.data_start (old.data_start + old.bytes_written) (state old.medium).contents c
           (omega arith) (((a.moments told kept).front whole).each k from to));
       stored = λ kept whole. (a.moments told kept).stored whole;
     }
@@ -223,7 +223,7 @@ module _ {W : Type 0} (tells keeps : Bool) (state : W → MediumState) (told : I
       → Lead tells keeps state (before ++ after) old new
       → (mid : WriterState W) × Lead tells keeps state before old mid
       × Lead tells keeps state after mid new
-  lead_parts [] after old new lead = (old, (old.buffer, refl), lead)
+  lead_parts [] after old new lead = (old, (old.batch_memory, refl), lead)
   lead_parts (call ∷ before) after old new (memory, mid, at, does, rest) =
       let parts = lead_parts before after mid new rest in
       (parts.0, (memory, mid, at, does, parts.1), parts.2)

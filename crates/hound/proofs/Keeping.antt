@@ -20,7 +20,7 @@ use Rattle.hound_writer.proofs.Containers.{none_whole, zero_div}
 use Rattle.hound_writer.proofs.Fresh.{none_accepted}
 use Rattle.hound_writer.proofs.Publishing.{reads_all}
 use Rattle.hound_writer.proofs.Heads.{head_inside, head_with}
-use Rattle.hound_writer.proofs.Samples.{concat-samples, length-out, length_out}
+use Rattle.hound_writer.proofs.Samples.{concat-samples, length-written, length_written}
 use Rattle.hound.specs.Headline.{CanonicalAtEnd, HeadAtEach, Holds, HoldsAtEnd, IfBegun, Keeps, Kept, LastsToEnd, NoFault, Promises, SurvivesAtEnd, accepted_by_all, begins_at}
 use Rattle.hound.proofs.Calling.{Went, begin, counted, front_stays, in_order, length-concat-append, made, stays_flushed, stored, went}
 use Rattle.hound.proofs.Later.{no_fault_parts, same_moment}
@@ -30,9 +30,9 @@ use Rattle.hound.proofs.PowerLoss.{after_losses, wide_containers}
 use Rattle.hound.proofs.Lengths.{front_in_writes, mixed, never_less, old_or_new, published}
 
 -- its accepted samples, joined, have the length that it counts
-pub sized : {M : Type 0} (state : M → MediumState) (w : WriterState M) → IsSound w → w.waiting ≡ []
+pub sized : {M : Type 0} (state : M → MediumState) (w : WriterState M) → IsSound w → w.buffered ≡ []
     → IsWhole state w → length (concat (accepted_samples state w)) ≡ data_length w
-sized state w sound none whole = grind (arith, common_steps, concat-samples, length-take-le, length-drop, length_out)
+sized state w sound none whole = grind (arith, common_steps, concat-samples, length-take-le, length-drop, length_written)
 
 if_begun_then : {P Q : Type 0} (s : WavSpecEx) (file : Begun) → IfBegun s file P → (P → Q)
     → IfBegun s file Q
@@ -43,7 +43,7 @@ if_begun_then s (appended old start found) here on = λ at header. on (here at h
 pub record First {W : Type 0} (tells : Bool) (state : W → MediumState) (s : WavSpecEx)
     (file : Begun) (first : WriterState W) : Type 0 where
   pub sound : IsSound first
-  pub none_waits : first.waiting ≡ []
+  pub none_buffered : first.buffered ≡ []
   pub sound_spec : IsSoundSpec s
   pub spec : first.spec_ex ≡ s
   pub start : first.data_start ≡ start_of s file
@@ -62,10 +62,10 @@ module _ {W : Type 0} (tells keeps : Bool) (state : W → MediumState) where
       → Opens tells keeps state s file first → First tells state s file first
   first_of s (new_file old) first begins =
       let b = begins.begun in
-      let none = none_accepted state first b.sound b.none_waits b.none_out in
+      let none = none_accepted state first b.sound b.none_buffered b.none_out in
       record {
         sound = b.sound;
-        none_waits = b.none_waits;
+        none_buffered = b.none_buffered;
         sound_spec = (
           omega (arith, b.sound.channels, ap (λ (x : WavSpecEx). x.spec.channels) b.spec),
           omega (arith, b.sound.width, ap (λ (x : WavSpecEx). x.bytes_per_sample) b.spec),
@@ -100,7 +100,7 @@ module _ {W : Type 0} (tells keeps : Bool) (state : W → MediumState) where
       let a = opens.appends in
       record {
         sound = a.sound;
-        none_waits = a.none_waits;
+        none_buffered = a.none_buffered;
         sound_spec = subst IsSoundSpec opens.spec_is a.sound_spec;
         spec = opens.spec_is;
         start = opens.start_is;
@@ -140,10 +140,10 @@ module _ {W : Type 0} (tells keeps : Bool) (state : W → MediumState) where
     all_wide =
         let w = last.spec_ex.bytes_per_sample in
         let bytes = accepted_bytes state last in
-        let held = take last.out (drop last.data_start (state last.medium).contents) in
+        let held = take last.bytes_written (drop last.data_start (state last.medium).contents) in
         let size : length bytes ≡ data_length last =
-        length-append held last.waiting
-        ∙ ap (λ n. n + length last.waiting) (length-out state last (l.whole whole)) in
+        length-append held last.buffered
+        ∙ ap (λ n. n + length last.buffered) (length-written state last (l.whole whole)) in
         subst (λ (x : ℕ × List (List ℕ)). AllByRecursion (λ c. length c ≡ x.0) x.1)
         (λ i. ((l.spec_ex i).bytes_per_sample, l.accepted whole i))
         (wide_containers w (data_length last / w) bytes
@@ -186,7 +186,7 @@ module _ {W : Type 0} (tells keeps : Bool) (state : W → MediumState) where
         ∙ omega (
           arith,
           m.earlier.size,
-          sized state first is_first.sound is_first.none_waits whole,
+          sized state first is_first.sound is_first.none_buffered whole,
           length-concat-append (accepted_samples state first) (accepted_by_all before),
         )
 
@@ -220,7 +220,7 @@ module _ {W : Type 0} (tells keeps : Bool) (state : W → MediumState) where
             ap data_length m.rest.1,
             does.samples.data_length,
             w.size,
-            sized state first is_first.sound is_first.none_waits whole,
+            sized state first is_first.sound is_first.none_buffered whole,
             length-canonical first.spec_ex (found ++ accepted_by_all before),
             length-concat-append found (accepted_by_all before),
           ),
@@ -276,18 +276,18 @@ module _ {W : Type 0} (tells keeps : Bool) (state : W → MediumState) where
           let h = first.data_start in
           let list = accepted_samples state first in
           let size : length (concat list) ≡ data_length first =
-          sized state first is_first.sound is_first.none_waits whole in
+          sized state first is_first.sound is_first.none_buffered whole in
           let head = is_first.head told in
           let tall = head_inside (state first.medium).contents first.spec_ex head.0 h head.1 in
           let counts = counted tells keeps state told kept calls first last lead whole in
-          let stands = stored tells keeps state told kept calls first last lead whole in
+          let at_most = stored tells keeps state told kept calls first last lead whole in
           let order = in_order tells keeps state told kept calls first last lead whole in
           let never = never_less tells keeps state told kept replays calls first last lead behind
           whole size in
           let flushes = stays_flushed tells keeps state told kept calls first last lead
           whole in
           let losses = after_losses first.spec_ex h head.0 list calls end
-          (state first.medium).contents is_first.sound.width counts stands order
+          (state first.medium).contents is_first.sound.width counts at_most order
           (λ k from to. (fronts k from to).0) (λ k from to. (fronts k from to).1) head.1 tall all_wide
           never flushes in
           record {
@@ -307,7 +307,7 @@ module _ {W : Type 0} (tells keeps : Bool) (state : W → MediumState) where
                 whole size;
             never_less = never;
             flushed = flushes;
-            stored = stands;
+            stored = at_most;
             now = moment_last end (replays last.medium);
             in_order = order;
             after_loss = losses.0;

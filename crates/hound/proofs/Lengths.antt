@@ -41,7 +41,7 @@ module _ {W : Type 0} (tells keeps : Bool) (state : W → MediumState) (told : I
       → P (field p (moment (state new.medium).start (state new.medium).past k))
   call_field (write list) answer memory old new does at behind whole has_it k from to fine =
       subst P
-      (ap number (sym (front_part (old.data_start + old.out) p 4
+      (ap number (sym (front_part (old.data_start + old.bytes_written) p 4
       (moment (state new.medium).start (state new.medium).past k) (state old.medium).contents
       (omega (arith, at, behind)) (((does.moments told kept).front whole).each k from to)))) has_it
   call_field publish answer memory old new does at behind whole has_it k from to (inl none) =
@@ -196,7 +196,7 @@ module _ {W : Type 0} (tells keeps : Bool) (state : W → MediumState) (told : I
       → take a.data_start (moment (state b.medium).start (state b.medium).past k)
       ≡ take a.data_start (state a.medium).contents
   front_of (write list) answer memory a b does writes whole k from to =
-      take_front a.data_start (a.data_start + a.out) (state a.medium).contents
+      take_front a.data_start (a.data_start + a.bytes_written) (state a.medium).contents
       (moment (state b.medium).start (state b.medium).past k) (omega arith)
       (((does.moments told kept).front whole).each k from to)
   front_of publish answer memory a b does writes whole k from to = absurd (writes refl)

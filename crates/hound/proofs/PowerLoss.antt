@@ -12,7 +12,7 @@ use Rattle.hound_reader.specs.{Head}
 use Rattle.hound_reader.proofs.WrittenLemmas.{containers-concat, length-concat}
 use Rattle.hound_writer.specs.{mark_of, Call, Counts, ChangesSizesOnly, field}
 use Rattle.hound_writer.proofs.Containers.{containers_front}
-use Rattle.hound_writer.proofs.Counted.{counts_more, counts_standing}
+use Rattle.hound_writer.proofs.Counted.{counts_more, counts_at_most}
 use Rattle.hound_writer.proofs.Heads.{head_behind}
 use Rattle.hound.specs.Headline.{BeginInOrder, CountedAfterLoss, CountedAtEach, FlushedByFlushes, KeptAfterLoss, NeverLess, StoredAtEach, accepted_by_all, accepted_of, begins_at}
 use Rattle.hound_repair.proofs.Joining.{AreWide, concat-append, concat_front, wide_front, wide_take}
@@ -58,7 +58,7 @@ counts_stored s h q list c some wide head few among stored =
     let e : q * w + 0 ≡ q * w = omega arith in
     let counted : Counts s h (containers w q (drop h c)) c =
     subst (λ n. Counts s h (containers w n (drop h c)) c) back
-    (counts_standing s h (q * w + 0) c some whole head (omega (arith, few))) in
+    (counts_at_most s h (q * w + 0) c some whole head (omega (arith, few))) in
     subst (λ l. Counts s h l c)
     (ap (λ l. l ++ drop q list) found ∙ take-append-drop q list)
     (counts_more s h (containers w q (drop h c)) (drop q list) c some counted)
@@ -169,7 +169,7 @@ module _ (s : WavSpecEx) (h len : ℕ) (found : List (List ℕ)) (calls : List C
       (cover_count w (says j) c.samples some c.covers) (omega arith) in
       let parts = concat_front c.samples all in (
         omega (arith, few, size, ap length parts, length-append (concat first) rest),
-        sym (take-take n (c.samples * w) (drop h (at j)) few) ∙ ap (take n) c.stand
+        sym (take-take n (c.samples * w) (drop h (at j)) few) ∙ ap (take n) c.stored
             ∙ sym (ap (take n) parts ∙ take-append-le n (concat first) rest (omega (arith, few, size))),
       )
 

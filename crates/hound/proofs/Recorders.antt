@@ -9,16 +9,16 @@ use Rattle.hound_medium.specs.{placed, MediumState}
 use Rattle.hound_durable.specs.{Ascends, place_of}
 use Rattle.hound_durable.proofs.Ascending.{length_put, place_after, place_before}
 use Rattle.hound_sample.specs.{too_wide}
-use Rattle.hound_writer.specs.{Acted, ActsAll, Begun, Call, IsCareful, IsFresh, IsSound, IsStanding, LeavesWriter, Left, Log, Opened, Opens, Performed, PutsAt, Resumed, WriterState, field, found_in, known_of, log_state, recording, start_of, write}
+use Rattle.hound_writer.specs.{Acted, ActsAll, Begun, Call, IsCareful, IsFresh, IsSound, CountsAtMost, LeavesWriter, Left, Log, Opened, Opens, Performed, PutsAt, Resumed, WriterState, field, found_in, known_of, log_state, recording, start_of, write}
 use Rattle.hound_writer.specs.declared.effects.Effect.TheVariants.{Size, Sync}
 use Rattle.hound_writer.proofs.Accepting.{type_refuses}
 use Rattle.hound_writer.proofs.Acting.{acts_lead, opened, resumed}
 use Rattle.hound_writer.proofs.Checkpoint.{Good}
 use Rattle.hound_writer.proofs.Ordering.{Calm, actions_ordered, header_in_order, in_order_none}
 use Rattle.hound_writer.proofs.Recording.{call_at, lead_more, opens_spec}
-use Rattle.hound_writer.proofs.Samples.{length_out}
+use Rattle.hound_writer.proofs.Samples.{length_written}
 use Rattle.hound_writer.proofs.Sizes.{riff_length}
-use Rattle.hound_writer.proofs.Standing.{inside}
+use Rattle.hound_writer.proofs.AtMost.{inside}
 use Rattle.hound.specs.Headline.{Kept, KeptWithin, Promises, begins_at}
 use Rattle.hound.proofs.Calling.{went}
 use Rattle.hound.proofs.Keeping.{first_of, keeps_promises, left_kept, survives_counted}
@@ -123,27 +123,27 @@ pub resumed_calm : (s : WavSpecEx) (samples start : ℕ) (log : Log) (actions : 
 resumed_calm s samples start log actions last is fresh careful did =
     let w = recording s start (samples * s.bytes_per_sample) log in
     actions_ordered actions w last (resumed s samples start log is).1.sound.after_head
-    (in_order_none (w.data_start + w.out) log.state (omega (arith, fresh.1, ap length fresh.0))) careful did
+    (in_order_none (w.data_start + w.bytes_written) log.state (omega (arith, fresh.1, ap length fresh.0))) careful did
 
 -- without the RIFF size nothing is published
-pub riff_left_out : (w : WriterState Log) (end : Log) → w.waiting ≡ [] → IsSound w
-    → IsStanding w.spec_ex w.data_start w.out w.medium.state.contents
-    → (field 4 w.medium.state.contents ≡ riff_size w.data_start w.out → ⊥)
-    → Performed (Sync ∷ Size (w.data_start - 4) w.out ∷ Sync ∷ []) (Ok tt) w.medium end
+pub riff_left_out : (w : WriterState Log) (end : Log) → w.buffered ≡ [] → IsSound w
+    → CountsAtMost w.spec_ex w.data_start w.bytes_written w.medium.state.contents
+    → (field 4 w.medium.state.contents ≡ riff_size w.data_start w.bytes_written → ⊥)
+    → Performed (Sync ∷ Size (w.data_start - 4) w.bytes_written ∷ Sync ∷ []) (Ok tt) w.medium end
     → LeavesWriter true true log_state (Ok tt) w (record w { medium = end }) → ⊥
-riff_left_out w end none sound stands other (m, Ok x, first, (n, Ok y, second, (o, Ok z, third, (is, last)))) leaves =
+riff_left_out w end none sound at_most other (m, Ok x, first, (n, Ok y, second, (o, Ok z, third, (is, last)))) leaves =
     let a = w.medium.state.contents in
-    let there = inside w.spec_ex w.data_start w.out a a stands in
-    let few = length-take second.count (bytes_of 4 w.out) in
+    let there = inside w.spec_ex w.data_start w.bytes_written a a at_most in
+    let few = length-take second.count (bytes_of 4 w.bytes_written) in
     let same = riff_length (w.data_start - 4) m.state.contents (omega (arith, sound.after_head))
     (omega (arith, there, sound.after_head, ap length first.stays.contents))
-    (take second.count (bytes_of 4 w.out)) (omega (arith, few)) in
+    (take second.count (bytes_of 4 w.bytes_written)) (omega (arith, few)) in
     let says = (leaves.publishes refl).riff_says in
-    let size = length_out log_state w none in
+    let size = length_written log_state w none in
     grind (arith, common_steps)
-riff_left_out w end none sound stands other (m, Ok x, first, (n, Ok y, second, (o, Err e, third, (is, last)))) leaves = cc
-riff_left_out w end none sound stands other (m, Ok x, first, (n, Err e, second, (is, last))) leaves = cc
-riff_left_out w end none sound stands other (m, Err e, first, (is, last)) leaves = cc
+riff_left_out w end none sound at_most other (m, Ok x, first, (n, Ok y, second, (o, Err e, third, (is, last)))) leaves = cc
+riff_left_out w end none sound at_most other (m, Ok x, first, (n, Err e, second, (is, last))) leaves = cc
+riff_left_out w end none sound at_most other (m, Err e, first, (is, last)) leaves = cc
 
 -- bytes that are written at or before a byte that isn't synced are a step back
 pub not_synced : {T E : Type 0} (at i : ℕ) (bytes : List ℕ) (result : Result T E) (old new : MediumState)

@@ -12,7 +12,7 @@ use Rattle.hound_medium.proofs.Overlays.{front_part}
 use Rattle.hound_reader.specs.{Head, IsSoundSpec}
 use Rattle.hound_reader.proofs.WrittenLemmas.{length-concat}
 use Rattle.hound_repair.proofs.Joining.{AreWide, wide_front}
-use Rattle.hound_repair.proofs.Keeping.{keeps_stored}
+use Rattle.hound_repair.proofs.Keeping.{stays_stored}
 use Rattle.hound_repair.specs.{held, IsNoPad, ReadsFrames, Repairs}
 use Rattle.hound_repair.specs.declared.sizes.Repair.{Repair}
 use Rattle.hound_repair.specs.declared.sizes.RepairState.TheVariants.{HasChunksAfterData}
@@ -94,7 +94,7 @@ module _ (s : WavSpecEx) (h : ℕ) (found : List (List ℕ)) (calls : List Call)
       let start : h + 0 ≡ h = omega arith in
       ap (λ n. take (length (concat list)) (drop n (at from))) start
       ∙ ap (λ n. take n (drop h (at from))) (sym bytes)
-      ∙ c.stand
+      ∙ c.stored
       ∙ ap concat (take_all c.samples list (omega (arith, all)))
       ∙ sym (take_all (length (concat list)) (concat list) (omega arith))
 
@@ -242,5 +242,5 @@ module _ (s : WavSpecEx) (h : ℕ) (found : List (List ℕ)) (calls : List Call)
       → (found.spec_ex ≡ s) × ReadsFrames found h list mended.contents
   none_lost looks cut mended found left repairs alone =
       let l = published_is_left cut.contents left in
-      keeps_stored looks cut mended found s (field (h - 4) cut.contents) h list repairs alone l.head
+      stays_stored looks cut mended found s (field (h - 4) cut.contents) h list repairs alone l.head
       sound wide_list l.stored (no_pad cut.contents l.counts)

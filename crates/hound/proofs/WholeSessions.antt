@@ -21,9 +21,9 @@ use Rattle.hound_writer.proofs.Accepting.{length_overlay_max}
 use Rattle.hound_writer.proofs.AppendAnswers.{no_head_fault, one_append_answer}
 use Rattle.hound_writer.proofs.Fresh.{none_accepted}
 use Rattle.hound_writer.proofs.Heads.{head_field, head_inside}
-use Rattle.hound_writer.proofs.Samples.{length_out, samples_out}
+use Rattle.hound_writer.proofs.Samples.{length_written, samples_out}
 use Rattle.hound.specs.declared.session.Step.{Step}
-use Rattle.hound.specs.Sessions.{AnswersStep, writer_after, AnswersAll, AnswersSession, IsAnswered, RunsFrom, RunsOn, RunsOnce, RunsUntil, StopsAt, StopsShort, all_steps}
+use Rattle.hound.specs.Sessions.{AnswersStep, writer_after, AnswersAll, AnswersSession, IsAnswered, RunsFrom, RunsOn, RunsOnce, RunsUntil, StopsAt, StopsEarly, all_steps}
 use Rattle.hound.specs.Run.{Takes, asked_by, accepted_by, containers_of}
 use Rattle.hound.specs.declared.session.Begin.{Begin}
 use Rattle.hound.specs.declared.session.Begin.TheVariants.{New, Append}
@@ -115,9 +115,9 @@ module _ {M : Type 0} (tells keeps : Bool) (state : M → MediumState) (told : I
               (λ i. (agree.0 i, sym same i)) file.header,
           at ∙ ap data_start agree.0,
         );
-        holds = samples_out state w appends.none_waits appends.sound
+        holds = samples_out state w appends.none_buffered appends.sound
             ∙ (λ i. containers (sym agree.0 i).bytes_per_sample
-            ((sym (length_out state w appends.none_waits) ∙ sym agree.1) i /
+            ((sym (length_written state w appends.none_buffered) ∙ sym agree.1) i /
             (sym agree.0 i).bytes_per_sample) (drop (at i) (same i)))
             ∙ ap (λ k. containers s.bytes_per_sample k (drop h c)) (sym read.readable.count)
             ∙ read.containers;
@@ -133,7 +133,7 @@ module _ {M : Type 0} (tells keeps : Bool) (state : M → MediumState) (told : I
       ≤ max (length (state old.medium).contents) (padded_end new)
       → OnFile (list ++ accepted_of asked (mark_of answer)) new
   on_call list asked answer old new on does same reach =
-      let t = call_went tells keeps state told answer old.buffer old new asked does in
+      let t = call_went tells keeps state told answer old.batch_memory old new asked does in
       let more = accepted_of asked (mark_of answer) in
       let at : new.data_start ≡ data_start s = t.data_start ∙ on.after.start in
       let size : data_length new ≡ length (concat (list ++ more)) =
@@ -165,7 +165,7 @@ module _ {M : Type 0} (tells keeps : Bool) (state : M → MediumState) (told : I
   on_refused list publish e old new no_io on does none =
       subst (λ l. OnFile l new) (append-nil list)
       (on_call list publish (Err e) old new on does none.0
-      ((call_went tells keeps state told (Err e) old.buffer old new publish does).reach none))
+      ((call_went tells keeps state told (Err e) old.batch_memory old new publish does).reach none))
 
   -- an Ok end leaves a file that can be appended to
   holds_file : (list : List (List ℕ)) (w : WriterState M) (medium : M) → OnFile list w
@@ -202,11 +202,11 @@ module _ {M : Type 0} (tells keeps : Bool) (state : M → MediumState) (told : I
       }
 
   -- an end that met no fault after an error leaves the file of all before
-  stop_short : (list : List (List ℕ)) (after : List Step) (e : Error) (w : WriterState M)
+  stop_early : (list : List (List ℕ)) (after : List Step) (e : Error) (w : WriterState M)
       (answer : Answer) (medium : M) → OnFile list w → NoFault (state w.medium) (state medium)
       → Finishes tells keeps state w answer medium → (IsIoError e → ⊥) → StopsAt s list after e
-      → StopsShort s list after e (state medium).contents
-  stop_short list after e w answer medium on (same, few) ends no_fault why =
+      → StopsEarly s list after e (state medium).contents
+  stop_early list after e w answer medium on (same, few) ends no_fault why =
       let p = ends.publishes told in
       let c = (state medium).contents in
       let all = sym (append-nil list) in
@@ -228,7 +228,7 @@ module _ {M : Type 0} (tells keeps : Bool) (state : M → MediumState) (told : I
   abbrev Leads : List (List ℕ) → List Step → List Step → MediumState → Answer → Type 0
   Leads list steps all now (Ok x) =
       HoldsFile (list ++ containers_of s steps) now.contents now.faults
-  Leads list steps all now (Err e) = NoFault start now → StopsShort s list all e now.contents
+  Leads list steps all now (Err e) = NoFault start now → StopsEarly s list all e now.contents
 
   leads_later : (list more : List (List ℕ)) (first steps all : List Step) (now : MediumState)
       (answer : Answer) → containers_of s first ≡ more → Leads (list ++ more) steps all now answer
@@ -266,7 +266,7 @@ module _ {M : Type 0} (tells keeps : Bool) (state : M → MediumState) (told : I
   finish list rest w (Err e) medium on ends = λ (clean, few).
       let same : NoFault (state w.medium) (state medium) =
       (clean ∙ sym on.none, omega (arith, on.none, few)) in
-      stop_short list rest e w (Err e) medium on same ends
+      stop_early list rest e w (Err e) medium on same ends
       (no_io e (state w.medium).faults same.1 (sym (ends.publishes told).faults ∙ same.0))
       (inl (publishing_after s list w (Err e) on.after ends.answers))
 
@@ -284,7 +284,7 @@ module _ {M : Type 0} (tells keeps : Bool) (state : M → MediumState) (told : I
       (inl (e, new, dropped, is, takes, ends)) =
       let does = subst (λ x. Does tells keeps state (asked_by x step) (Err e) w new) on.after.spec
       takes in
-      let t = call_went tells keeps state told (Err e) w.buffer w new (asked_by s step) does in
+      let t = call_went tells keeps state told (Err e) w.batch_memory w new (asked_by s step) does in
       let answers = step_answers tells keeps state s w new list step (Err e) on.after takes in
       subst (λ r. Leads list (step ∷ steps) (step ∷ (steps ++ rest)) (state medium) r
       × AnswersSession s list (step ∷ steps) r) (sym is) (
@@ -293,9 +293,9 @@ module _ {M : Type 0} (tells keeps : Bool) (state : M → MediumState) (told : I
             (grows_told dropped (state new.medium) (state medium) (ends.publishes told).faults)
             (clean ∙ sym on.none, omega (arith, on.none, few)) in
             let no_fault = no_io e (state w.medium).faults parts.0.1
-            (sym (call_faults tells keeps state told (Err e) w.buffer w new (asked_by s step) does)
+            (sym (call_faults tells keeps state told (Err e) w.batch_memory w new (asked_by s step) does)
             ∙ parts.0.0) in
-            stop_short list (step ∷ (steps ++ rest)) e new dropped medium
+            stop_early list (step ∷ (steps ++ rest)) e new dropped medium
             (on_refused list (asked_by s step) e w new no_fault on does parts.0) parts.1 ends no_fault
             (inr (step, steps ++ rest, refl, answers)),
         inl (e, refl, answers),
@@ -306,8 +306,8 @@ module _ {M : Type 0} (tells keeps : Bool) (state : M → MediumState) (told : I
       let more = accepted_by s step true in
       let (led, answers) = until (list ++ more) steps rest new answer medium
       (on_call list (asked_by s step) (Ok tt) w new on does
-      (call_faults tells keeps state told (Ok tt) w.buffer w new (asked_by s step) does)
-      (call_reach tells keeps state told (Ok tt) w.buffer w new (asked_by s step) does)) runs in (
+      (call_faults tells keeps state told (Ok tt) w.batch_memory w new (asked_by s step) does)
+      (call_reach tells keeps state told (Ok tt) w.batch_memory w new (asked_by s step) does)) runs in (
         leads_later list more (step ∷ []) steps (steps ++ rest) (state medium) answer
             (append-nil more) led,
         inr (step_answers tells keeps state s w new list step (Ok tt) on.after takes, answers),
@@ -451,7 +451,7 @@ module _ {M : Type 0} (tells keeps : Bool) (state : M → MediumState) (s : WavS
           × ((state old).contents ≡ [] → (state medium).contents ≡ file))
       pub faults : OnOk answer ((state medium).faults ≡ (state old).faults)
       pub stops : IsWritable s → NoFault (state old) (state medium) →
-          IfErr answer (λ e. StopsShort s [] (all_steps sessions) e (state medium).contents)
+          IfErr answer (λ e. StopsEarly s [] (all_steps sessions) e (state medium).contents)
       pub first_error : IsWritable s → AnswersAll s [] sessions answer
 
   module _ (told : IsTrue tells) (small : (m : M) → AreBytes (state m).contents)

@@ -14,7 +14,7 @@ use Rattle.hound_medium.proofs.Overlays.{length-placed}
 use Rattle.hound_durable.specs.{within, Ascends, SurvivesLoss, own, replays_own}
 use Rattle.hound_durable.specs.declared.durable.Durable.{Durable}
 use Rattle.hound_writer.specs.{mark_of, Begun, Call, Known, Left, asked_by_all, found_in, publish, start_of, Counts, accepted_samples, data_length}
-use Rattle.hound_writer.proofs.Samples.{length_out, samples_out}
+use Rattle.hound_writer.proofs.Samples.{length_written, samples_out}
 use Rattle.hound.specs.declared.session.Step.{Step}
 use Rattle.hound.specs.declared.session.Step.TheVariants.{Flush}
 use Rattle.hound.specs.declared.session.Begin.{Begin}
@@ -242,12 +242,12 @@ module _ {M : Type 0} {g : Ghosts M} (told : IsTrue g.tells) (kept : IsTrue g.ke
       let file = r.begins.file told in
       let before = (shown old).contents in
       let width = w.spec_ex.bytes_per_sample in
-      let out : w.out ≡ data_length w =
-      sym (length_out of_durable w r.begins.none_waits) in
+      let out : w.bytes_written ≡ data_length w =
+      sym (length_written of_durable w r.begins.none_buffered) in
       let stays : (shown w.medium).contents ≡ before = file.puts.stays.contents in
       let found_is : accepted_samples of_durable w
       ≡ containers width (data_length w / width) (drop w.data_start before) =
-      samples_out of_durable w r.begins.none_waits r.begins.sound
+      samples_out of_durable w r.begins.none_buffered r.begins.sound
       ∙ (λ i. containers width (out i / width) (drop w.data_start (stays i))) in
       inr (
         r,

@@ -9,18 +9,18 @@ pub use Rattle.hound_spec.specs.declared.error.Error.{Error}
 pub use Rattle.hound_spec.specs.declared.spec.SampleFormat.{SampleFormat}
 pub use Rattle.hound_spec.specs.declared.spec.WavSpec.{WavSpec}
 pub use Rattle.hound_spec.specs.declared.spec.WavSpecEx.{WavSpecEx}
-pub use Rattle.hound_sample.specs.{IsEncoded, Refusal, WritesContainer, all_containers, and_more, bytes_in, containers, error_of, first_error, fits, if_fits, int_bytes, joined_containers, offset_byte, too_wide, unsupported, contained, int_container-in_width, pattern_container-in_width, FillsFront, ReadRefusal, Reads, ReadsContainer, ReadsEach, ReadsItem, TakesContainer, TakesPart, answer_of, error_of_item, error_of_read, float_refusal, int_meaning, int_refusal, items_of, low_short, other_format, other_pair, pattern, read_error, reason_of, wider, clipped, float_of_int, full_scale, scaled, with_bits}
+pub use Rattle.hound_sample.specs.{IsEncoded, Refusal, WritesContainer, all_containers, and_more, bytes_in, containers, error_of, first_error, fits, if_fits, int_bytes, joined_containers, offset_byte, too_wide, unsupported, contained, int_container-in_width, pattern_container-in_width, FillsFront, ReadRefusal, Reads, ReadsContainer, ReadsEach, ReadsItem, TakesContainer, TakesPart, answer_of, error_of_item, error_of_read, float_refusal, int_meaning, int_refusal, items_of, low_i16, misfit, other_format, pattern, read_error, reason_of, clipped, float_of_int, full_scale, scaled, with_bits}
 unfoldable pub use Rattle.hound_sample.specs.{int_container, pattern_container}
 pub use Rattle.hound_sample.specs.declared.item.ItemError.{ItemError}
 pub use Rattle.hound_medium.specs.{FlushedSince, Flushes, Gets, Goes, IsMoved, MediumState, Puts, PutsAll, PutsFirst, Shifts, Span, Stays, WhereKeeps, WhereTells, count_of, faults_after, moment, one_more, overlay, place_reached, placed, put_at, unknown, FailsAt, IsNumbered, SameRequests, calls, greatest_count}
 pub use Rattle.hound_durable.specs.{Ascends, IsBelow, IsItsFault, IsLastBefore, LeadsBack, OnlySyncs, SurvivesLoss, byte_at, left_of, left_own, own, place_of, replays_own, Around, synced, within}
-pub use Rattle.hound_reader.specs.{IsSoundSpec, by_subformat, fmt_len, fmt_of, spec_of, width_of, with_format, with_valid_bits, Answer, Answers, AnswersFile, AreContainers, Chunk, Chunks, HasOneAnswer, HasOneFileAnswer, Head, IsChunk, IsDataPlace, Readable, Refused, Unreadable, Walk, chunk_bytes, cut_fault, data_fault, fault_of, first_fault, fmt_fault, joined, last_spec, ok_of, readable, unreadable, CountsFailed, Gives, IsSoundChunk, IsSoundOption, ReadsChunk, ReadsContent, ReadsFormat, RefusedAfter, Refuses, RefusesFront, ReportsFront, SaysContent, TakesAll, TakesFor, TakesFront, TakesLess, UnreadableAfter, Walked, Walks, chunk_taken, content_taken, content_takes, front_taken, AnswersNext, AnswersRead, AnswersReadMany, AreItems, AreTaken, CountsTaken, GivesItem, GivesItems, GivesItemsOfBytes, HasGiven, HasGiven-prop, HasSoundCounts, HasWholeFrames, IsNext, ReaderState, ReadsBlock, TookBytes, meaning_at, over_bytes, refusal_at, requested, samples_left, taken_without, FailsAs, IsRefusal, Names, OpensAs, ReportsError, reason_text, LendsNext, TakesNext, lender, lent_reader, taken_reader, AnswersBytes, FindsData, Untouched, account_of, faults_after_walk, unread, Follows, HasSought, IsAtCount, IsMeaningOf, PassesItem, ReadsInPlace, Recounts, Seeks, StandsAsCounted, bytes_before, container_at, count_after, samples_before, way_to, IsAfter, IsAhead, IsAt, IsAtPart, IsNearer, IsSoundStep, LeadsTo, Reaches, part_bytes, part_length, part_start, parts_left}
+pub use Rattle.hound_reader.specs.{IsSoundSpec, by_subformat, fmt_len, fmt_of, spec_of, width_of, with_format, with_valid_bits, Answer, Answers, AnswersFile, AreContainers, Chunk, Chunks, HasOneAnswer, HasOneFileAnswer, Head, IsChunk, IsDataPlace, Readable, Refused, Unreadable, Walk, chunk_bytes, cut_fault, data_fault, fault_of, first_fault, fmt_fault, joined, last_spec, ok_of, readable, unreadable, CountsFailed, Gives, IsSoundChunk, IsSoundOption, ReadsChunk, ReadsContent, ReadsFormat, RefusedAfter, Refuses, RefusesFront, ReportsFront, SaysContent, TakesAll, TakesFor, TakesFront, TakesLess, UnreadableAfter, Walked, Walks, chunk_taken, content_taken, content_takes, front_taken, AnswersNext, AnswersRead, AnswersReadMany, AreItems, AreTaken, CountsTaken, GivesItem, GivesItems, GivesItemsOfBytes, HasGiven, HasGiven-prop, HasSoundCounts, HasWholeFrames, IsNext, ReaderState, ReadsBlock, TookBytes, meaning_at, over_bytes, refusal_at, requested, samples_left, taken_without, FailsAs, IsRefusal, Names, OpensAs, ReportsError, reason_text, LendsNext, TakesNext, lender, lent_reader, taken_reader, AnswersBytes, FindsData, Untouched, account_of, faults_after_walk, unread, Follows, HasSought, IsAtCount, IsMeaningOf, IsWhereCounted, PassesItem, ReadsInPlace, Recounts, Seeks, bytes_before, container_at, count_after, samples_before, way_to, IsAfter, IsAhead, IsAt, IsAtPart, IsNearer, IsSoundStep, LeadsTo, Reaches, part_bytes, part_length, part_start, parts_left}
 unfoldable pub use Rattle.hound_reader.specs.{by_tag, fmt_said, wave_format, wave_format_extensible, wave_format_ieee_float, wave_format_pcm, chunk_fault, content_fault, front_fault, spec_after}
 pub use Rattle.hound_reader.specs.declared.cause.Cause.{Cause}
 pub use Rattle.hound_reader.specs.declared.cause.HeadError.{HeadError}
 pub use Rattle.hound_reader.specs.declared.cause.Reason.{Reason}
 pub use Rattle.hound_reader.specs.declared.chunks.FileHead.{FileHead}
-pub use Rattle.hound_writer.specs.{AcceptAnswer, Accepts, AcceptsBytes, AcceptsEach, Adds, AddsAtEach, AddsToFile, AreShort, FitAnswer, IsIoError, IsPublishing, IsStored, KeepsStored, OnPublished, OnRefused, StaysTrue, UnlessFailed, container_in, containers_in, faults_told, if_marked, mark_of, one, outcome_of, sample_bytes, short_bytes, whole_containers, AnswersAppend, AppendAnswer, AppendFault, Appends, FailsCheck, FollowsData, HasOneAppendAnswer, IsAppendFault, IsNotAppended, NamesFault, PutsNothing, appendable, by_bytes, faulty, too_long, IsSameFile, WritesToBatch, batch_bytes, batch_lender, batch_writer, remaining, Begins, BeginsFile, HasBegun, IsNotBegun, PutsHeader, GoesAtEach, GoesOut, GoesToFile, HasSize, IsConsistent, IsLimit, IsPatched, IsPublishResult, IsStanding, Patches, PatchesAtEach, PutsAt, StaysAround, after_out, all_out, bytes_kept, of_fields, or_fault, result_of, AreKnown, Asked, Begun, Call, Does, Ends, Extends, HadData, IsKnown, KeepsCalls, Known, Lead, LeftBy, Opens, RecordedBy, appended, asked_by_all, found_in, handed_in, made, marked, new_file, publish, start_of, with_memory, write, AreFrames, ChangesSizesOnly, Counts, HasHeader, HasRoom, IsBegun, IsCounted, IsPadded, IsSixteen, IsSound, IsValid, IsWhole, KeepsSamples, ReadsFirst, SameButSizes, WriterState, accepted_bytes, accepted_samples, block_length, data_end, data_length, field, padded_end, sample_count, Checkpoints, Finishes, IsHalfPublished, IsOldOrNew, IsOutside, LeavesWriter, OncePutBefore, Publishes, PublishesAtEach, PublishesTo, PutsFrom, PutsLast, ReadsAs, place_after, Log, Performed, Performs, checkpoint, log_state, nth, pad_effects, size_effects, Acted, Action, Acts, ActsAll, IsCareful, IsFresh, Opened, Resumed, asked_of, block, known_of, out_after, recording, resumed_file, resync, save, AppendsRecorder, BeginsRecorder, HasData, HasFailed, HasNoData, NextEffect, Places, Reports, advanced, effects_of, length_with, recorder_of}
+pub use Rattle.hound_writer.specs.{AcceptAnswer, Accepts, AcceptsBytes, AcceptsEach, Adds, AddsAtEach, AddsToFile, AreI16, FitAnswer, IsIoError, IsPublishing, IsStored, OnPublished, OnRefused, StaysStored, StaysTrue, UnlessFailed, container_in, containers_in, faults_told, i16_bytes, if_marked, mark_of, one, outcome_of, sample_bytes, whole_containers, AnswersAppend, AppendAnswer, AppendFault, Appends, FailsCheck, FollowsData, HasOneAppendAnswer, IsAppendFault, IsNotAppended, NamesFault, PutsNothing, appendable, by_bytes, faulty, too_long, IsSameFile, WritesToBatch, batch_bytes, batch_lender, batch_writer, remaining, Begins, BeginsFile, HasBegun, IsNotBegun, PutsHeader, CountsAtMost, GoesAtEach, GoesOut, GoesToFile, HasSize, IsConsistent, IsLimit, IsPatched, IsPublishResult, Patches, PatchesAtEach, PutsAt, StaysAround, after_out, all_out, memory_bytes, of_fields, or_fault, result_of, AreKnown, Asked, Begun, Call, Does, Ends, Extends, HadData, HasSameCalls, IsKnown, Known, Lead, LeftBy, Opens, RecordedBy, appended, asked_by_all, found_in, handed_in, made, marked, new_file, publish, start_of, with_memory, write, AreFrames, ChangesSizesOnly, Counts, HasHeader, HasRoom, HasSameSamples, IsBegun, IsCounted, IsPadded, IsSixteen, IsSound, IsValid, IsWhole, ReadsFirst, SameButSizes, WriterState, accepted_bytes, accepted_samples, block_length, data_end, data_length, field, padded_end, sample_count, Checkpoints, Finishes, IsHalfPublished, IsOldOrNew, IsOutside, LeavesWriter, OncePutBefore, Publishes, PublishesAtEach, PublishesTo, PutsFrom, PutsLast, ReadsAs, place_after, Log, Performed, Performs, checkpoint, log_state, nth, pad_effects, size_effects, Acted, Action, Acts, ActsAll, IsCareful, IsFresh, Opened, Resumed, asked_of, block, known_of, out_after, recording, resumed_file, resync, save, AppendsRecorder, BeginsRecorder, HasData, HasFailed, HasNoData, NextEffect, Places, Reports, advanced, effects_of, length_with, recorder_of}
 unfoldable pub use Rattle.hound_writer.specs.{head_fault, Left, Recorded, with_sizes}
 pub use Rattle.hound_writer.specs.declared.effects.Effect.{Effect}
 pub use Rattle.hound_writer.specs.declared.recorder.Recorder.{Recorder}
@@ -30,7 +30,7 @@ unfoldable pub use Rattle.hound_repair.specs.{are_at_most, are_chunks, chunk_con
 pub use Rattle.hound_repair.specs.declared.bytes.Unrepaired.{Unrepaired}
 pub use Rattle.hound_repair.specs.declared.sizes.Repair.{Repair}
 pub use Rattle.hound_repair.specs.declared.sizes.RepairState.{RepairState}
-pub use Rattle.hound.specs.Sessions.{AnswersAll, AnswersCall, AnswersSession, AnswersStep, IsAnswered, RunsFrom, RunsOn, RunsOnce, RunsUntil, StopsAt, StopsShort, all_steps, writer_after}
+pub use Rattle.hound.specs.Sessions.{AnswersAll, AnswersCall, AnswersSession, AnswersStep, IsAnswered, RunsFrom, RunsOn, RunsOnce, RunsUntil, StopsAt, StopsEarly, all_steps, writer_after}
 pub use Rattle.hound.specs.Headline.{BeginInOrder, CanonicalAtEnd, CountedAfterLoss, CountedAtEach, FlushedByFlushes, FrontAtEach, FrontInWrites, HasPublished, HasWholeLength, HeadAtEach, Holds, HoldsAtEnd, IfBegun, IsLeftAfter, IsUncut, Keeps, Kept, KeptAfterLoss, KeptWithin, LastsToEnd, LosesNothing, MixedInPatches, NeverLess, NoFault, OldOrNewInPatches, Promises, PublishedByFlushes, StoredAtEach, SurvivesAtEnd, accepted, accepted_as_seen, accepted_by_all, accepted_of, begins_at, contents_at, seen}
 pub use Rattle.hound.specs.Run.{AppendedSurvives, BeginsAs, EndsAs, IsNotBegunAs, IsSession, Ran, Takes, accepted_by, accepted_by_steps, all_calls, asked_by, batch_containers, begun_spec, containers_of, end_call, file_of, is_int, is_sixteen}
 pub mod Sessions

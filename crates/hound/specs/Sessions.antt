@@ -21,9 +21,9 @@ writer_after s list = record {
   medium = tt;
   spec_ex = s;
   data_start = data_start s;
-  out = length (concat list);
-  waiting = [];
-  buffer = [];
+  bytes_written = length (concat list);
+  buffered = [];
+  batch_memory = [];
 }
 
 -- what such a writer returns for a call
@@ -119,7 +119,7 @@ StopsAt s list after e =
 -- Sessions after a file of these that stopped with an error though no call of the medium failed: it
 -- is no `IoError`, the steps before it were accepted and their canonical file is there, and an end or
 -- the next step gave it.
-pub record StopsShort (s : WavSpecEx) (list : List (List ℕ)) (steps : List Step) (e : Error)
+pub record StopsEarly (s : WavSpecEx) (list : List (List ℕ)) (steps : List Step) (e : Error)
     (contents : List ℕ) : Type 0 where
   pub no_fault : IsIoError e → ⊥
   pub before : List Step

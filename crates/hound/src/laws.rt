@@ -7,7 +7,7 @@ ghost use Rattle.hound_spec.specs.{canonical, data_start, riff_size};
 ghost use Rattle.hound_medium.specs.{MediumState, WhereKeeps, WhereTells};
 ghost use Rattle.hound_durable.specs.{Ascends, place_of, within};
 ghost use Rattle.hound_sample.specs.{Refusal, containers, int_container};
-ghost use Rattle.hound_writer.specs.{mark_of, AcceptAnswer, Accepts, ChangesSizesOnly, appended, AcceptsEach, short_bytes, AreKnown, Asked, Begun, Call, IsKnown, Known, Lead, Left, asked_by_all, found_in, made, marked, new_file, publish, start_of, IsSameFile, Finishes, WriterState, IsWhole, accepted_samples, data_length, AreFrames, IsPublishResult, IsSound, IsStanding, LeavesWriter, PutsAt, field, Log, Performed, checkpoint, log_state, Acted, ActsAll, IsCareful, IsFresh, Opened, Resumed, known_of, recording, resumed_file};
+ghost use Rattle.hound_writer.specs.{mark_of, AcceptAnswer, Accepts, ChangesSizesOnly, appended, AcceptsEach, i16_bytes, AreKnown, Asked, Begun, Call, IsKnown, Known, Lead, Left, asked_by_all, found_in, made, marked, new_file, publish, start_of, IsSameFile, Finishes, WriterState, IsWhole, accepted_samples, data_length, AreFrames, IsPublishResult, IsSound, CountsAtMost, LeavesWriter, PutsAt, field, Log, Performed, checkpoint, log_state, Acted, ActsAll, IsCareful, IsFresh, Opened, Resumed, known_of, recording, resumed_file};
 ghost use Rattle.hound_writer.specs.declared.effects.Effect.TheVariants.{Size, Sync};
 ghost use Rattle.hound_repair.specs.{ReadsFrames, Repairs};
 ghost use Rattle.hound_repair.specs.declared.sizes.Repair.{Repair};
@@ -34,7 +34,7 @@ pub fn a_batch_is_its_values<M: Medium>(values: &[i16])
         first.spec_ex.spec.bits_per_sample ≡ 16 → first.spec_ex.bytes_per_sample ≡ 2 →
         IsSameFile first a →
         Accepts M.tells M.keeps M.state (Ok (containers a.spec_ex.bytes_per_sample
-        (length (short_bytes values.now) / a.spec_ex.bytes_per_sample) (short_bytes values.now))) (Ok tt) a b
+        (length (i16_bytes values.now) / a.spec_ex.bytes_per_sample) (i16_bytes values.now))) (Ok tt) a b
         → AcceptsEach M.tells M.keeps M.state int_container values.now first c →
         (accepted_samples M.state b ≡ accepted_samples M.state c) × (data_length b ≡ data_length c)) }
 {}
@@ -153,9 +153,9 @@ pub fn what_a_loss_leaves<M: Medium>(durable: &Durable<M>)
 /// of whole frames the file is read as exactly the samples that were written.
 pub fn a_checkpoint_publishes()
     ensures { (w : WriterState Log) (end : Log) (performed : Result Unit IoFault) (are_frames : Bool)
-        (answer : Result Unit Error) → w.waiting ≡ [] → IsSound w
-        → IsStanding w.spec_ex w.data_start w.out w.medium.state.contents
-        → Performed (checkpoint w.data_start w.out) performed w.medium end
+        (answer : Result Unit Error) → w.buffered ≡ [] → IsSound w
+        → CountsAtMost w.spec_ex w.data_start w.bytes_written w.medium.state.contents
+        → Performed (checkpoint w.data_start w.bytes_written) performed w.medium end
         → IsPublishResult performed are_frames answer
         → (IsTrue are_frames → AreFrames w) × (AreFrames w → IsTrue are_frames)
         → LeavesWriter true true log_state answer w (record w { medium = end }) }
@@ -204,10 +204,10 @@ pub fn a_recording_ascends()
 /// published. A write at or before a byte that isn't synced, as a size before the samples are, or a
 /// block again that was cut, is a step back, after which a loss of power may lose what was published.
 pub fn other_orders_lose()
-    ensures riff { (w : WriterState Log) (end : Log) → w.waiting ≡ [] → IsSound w
-        → IsStanding w.spec_ex w.data_start w.out w.medium.state.contents
-        → (field 4 w.medium.state.contents ≡ riff_size w.data_start w.out → ⊥)
-        → Performed (Sync ∷ Size (w.data_start - 4) w.out ∷ Sync ∷ []) (Ok tt) w.medium end
+    ensures riff { (w : WriterState Log) (end : Log) → w.buffered ≡ [] → IsSound w
+        → CountsAtMost w.spec_ex w.data_start w.bytes_written w.medium.state.contents
+        → (field 4 w.medium.state.contents ≡ riff_size w.data_start w.bytes_written → ⊥)
+        → Performed (Sync ∷ Size (w.data_start - 4) w.bytes_written ∷ Sync ∷ []) (Ok tt) w.medium end
         → LeavesWriter true true log_state (Ok tt) w (record w { medium = end }) → ⊥ }
     ensures synced { (at i : ℕ) (bytes : List ℕ) (old new : MediumState) (result : Result Unit IoFault)
         → old.flushed ≤ i → i < length old.past → at ≤ place_of old.past i

@@ -82,7 +82,7 @@ pub use durable::run_durable_session;
 pub use hound_durable::{Durable, SyncedFile, a_durable_medium_ascends};
 pub use hound_medium::{Journal, Medium, Placed, Source, Tape, put_all};
 pub use hound_reader::{
-    WavIntoSamples, WavReader, WavSamples, a_block_is_its_items, a_reader_stands_as_counted,
+    WavIntoSamples, WavReader, WavSamples, a_block_is_its_items, a_reader_is_where_it_counts,
     a_seek_leads_to_its_frame, an_iterator_gives_what_it_hints, items_are_of_the_file, one_answer,
     read_wave_header, written_is_head, written_is_read,
 };
@@ -93,7 +93,7 @@ pub use hound_repair::{
 };
 pub use hound_sample::{
     FloatBits, Sample, change_bits, float_to_int, int_to_float, integers_come_back,
-    short_integers_are_kept,
+    i16s_are_kept,
 };
 pub use hound_spec::{
     Error, Result, SampleFormat, WavSpec, WavSpecEx, extensions_come_back, fields_come_back,

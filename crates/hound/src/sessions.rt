@@ -6,7 +6,7 @@ ghost use Rattle.hound_spec.specs.{canonical, IsWritable};
 ghost use Rattle.hound_medium.specs.{WhereTells};
 ghost use Rattle.hound_writer.specs.{Finishes};
 ghost use Rattle.hound.specs.declared.session.Begin.TheVariants.{Append, New};
-ghost use Rattle.hound.specs.Sessions.{IsAnswered, RunsFrom, RunsOn, RunsOnce, RunsUntil, StopsShort, all_steps};
+ghost use Rattle.hound.specs.Sessions.{IsAnswered, RunsFrom, RunsOn, RunsOnce, RunsUntil, StopsEarly, all_steps};
 ghost use Rattle.hound.specs.Headline.{NoFault};
 ghost use Rattle.hound.specs.Run.{containers_of};
 
@@ -115,7 +115,7 @@ pub fn run_sessions<'a, M: Source + Medium>(
     // are there.
     ensures stops { WhereTells M.tells (IsWritable spec_ex
         → NoFault (M.state medium) (M.state result.0) →
-        IfErr result.1 (λ e. StopsShort spec_ex [] (all_steps sessions.now) e (M.state result.0).contents)) }
+        IfErr result.1 (λ e. StopsEarly spec_ex [] (all_steps sessions.now) e (M.state result.0).contents)) }
 {
     let Some((first, others)) = sessions.split_first() else {
         return (medium, Ok(()));

@@ -7,7 +7,7 @@ use Rattle.hound_reader.specs.declared.cause.Reason.TheVariants.{NoRiffTag, NoWa
 use Rattle.hound_writer.specs.declared.recorder.RecorderError.{RecorderError}
 use Rattle.hound_writer.specs.declared.recorder.RecorderError.TheVariants.{NotWritable, TooLong as TooLongToRecord, UnfinishedFrame as HalfFrame, NeedsCheckpoint, SyncFailed}
 use Rattle.hound_c.specs.declared.fault.Fault.{Fault}
-use Rattle.hound_c.specs.declared.fault.Fault.TheVariants.{Head, OtherFormat, Wider, OtherPair, Truncated, TooLong, UnfinishedFrame, NoRoom, Recorder}
+use Rattle.hound_c.specs.declared.fault.Fault.TheVariants.{Head, OtherFormat, TooWide, NotWritable, Truncated, TooLong, UnfinishedFrame, NoRoom, Recorder}
 
 abbrev pub reason_code : Reason → ℤ
 reason_code NoRiffTag = negsuc 9
@@ -33,8 +33,8 @@ fault_code (Head Ended) = negsuc 0
 fault_code (Head Unsupported) = negsuc 1
 fault_code (Head (Format reason)) = reason_code reason
 fault_code OtherFormat = negsuc 2
-fault_code Wider = negsuc 3
-fault_code OtherPair = negsuc 4
+fault_code TooWide = negsuc 3
+fault_code NotWritable = negsuc 4
 fault_code Truncated = negsuc 5
 fault_code TooLong = negsuc 6
 fault_code UnfinishedFrame = negsuc 7

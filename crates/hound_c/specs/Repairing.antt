@@ -6,9 +6,9 @@ use Rattle.hound_repair.specs.{IsFoundAt, IsRepairFault, LacksRoom, RepairsBytes
 use Rattle.hound_repair.specs.declared.sizes.Repair.{Repair}
 use Rattle.hound_repair.specs.declared.sizes.RepairState.{RepairState}
 use Rattle.hound_repair.specs.declared.sizes.RepairState.TheVariants.{Whole, CutOff, HasChunksAfterData}
-use Rattle.hound_c.specs.Writing.{IsExplicit, spec_of}
+use Rattle.hound_c.specs.Writing.{IsExplicit, spec_from_c}
 use Rattle.hound_c.specs.declared.fault.Fault.{Fault}
-use Rattle.hound_c.specs.declared.fault.Fault.TheVariants.{Head, OtherPair, TooLong, NoRoom}
+use Rattle.hound_c.specs.declared.fault.Fault.TheVariants.{Head, NotWritable, TooLong, NoRoom}
 use Rattle.hound_c.specs.declared.spec.HoundRepair.{HoundRepair}
 
 -- the number of how a file was found
@@ -19,7 +19,7 @@ state_code HasChunksAfterData = 2
 
 -- what was found, as C has it
 pub record IsReported (found : Repair) (c : HoundRepair) : Type 0 where
-  pub spec : spec_of c.spec ≡ found.spec_ex
+  pub spec : spec_from_c c.spec ≡ found.spec_ex
   pub explicit : IsExplicit c.spec
   pub frames : c.frames ≡ found.frames
   pub left_over : c.left_over ≡ found.left_over
@@ -33,7 +33,7 @@ FindsInFile bytes c = (found : Repair) × IsReported found c
 -- why a file isn't looked at
 abbrev pub IsDamageFault : List ℕ → Fault → Type 0
 IsDamageFault bytes (Head cause) = IsRepairFault bytes (by_bytes cause)
-IsDamageFault bytes OtherPair = IsRepairFault bytes (by_bytes Unsupported)
+IsDamageFault bytes NotWritable = IsRepairFault bytes (by_bytes Unsupported)
 IsDamageFault bytes TooLong = IsRepairFault bytes too_long
 IsDamageFault bytes _ = ⊥
 

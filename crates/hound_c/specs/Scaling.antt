@@ -4,7 +4,7 @@ use Rattle.std.specs.Float.{Float}
 use Rattle.std.specs.List.{count_by}
 use Rattle.hound_sample.specs.{clipped, fits, float_of_int, scaled}
 use Rattle.hound_c.specs.declared.fault.Fault.{Fault}
-use Rattle.hound_c.specs.declared.fault.Fault.TheVariants.{NoRoom, OtherPair}
+use Rattle.hound_c.specs.declared.fault.Fault.TheVariants.{NoRoom, NotWritable}
 
 -- integers have so many bits
 abbrev pub AreBits : ℕ → Type 0
@@ -12,7 +12,7 @@ AreBits bits = (1 ≤ bits) × (bits ≤ 32)
 
 -- why so many values aren't scaled into so many places
 abbrev pub IsScaleFault : ℕ → ℕ → ℕ → Fault → Type 0
-IsScaleFault bits count room OtherPair = AreBits bits → ⊥
+IsScaleFault bits count room NotWritable = AreBits bits → ⊥
 IsScaleFault bits count room NoRoom = room < count
 IsScaleFault bits count room _ = ⊥
 

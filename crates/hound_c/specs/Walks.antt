@@ -8,7 +8,7 @@ use Rattle.hound_reader.specs.declared.parts.HeadWalk.{HeadWalk}
 use Rattle.hound_reader.specs.declared.parts.Part.{Part}
 use Rattle.hound_reader.specs.declared.parts.Part.TheVariants.{Front, Header, Last, Fmt}
 use Rattle.hound_c.specs.Codes.{fault_code}
-use Rattle.hound_c.specs.Writing.{IsExplicit, spec_of}
+use Rattle.hound_c.specs.Writing.{IsExplicit, spec_from_c}
 use Rattle.hound_c.specs.declared.fault.Fault.TheVariants.{Head}
 use Rattle.hound_c.specs.declared.spec.HoundSpec.{HoundSpec}
 use Rattle.hound_c.specs.declared.spec.HoundInfo.{HoundInfo}
@@ -17,7 +17,7 @@ use Rattle.hound_c.specs.declared.spec.HoundWalk.{HoundWalk}
 -- the spec that was found so far, if C's is one of a file: of channels and bytes that make a frame
 abbrev pub found_of : HoundSpec → Option WavSpecEx
 found_of c =
-    let s = spec_of c in
+    let s = spec_from_c c in
     if s.spec.channels == 0 then None
     else if s.bytes_per_sample == 0 then None
     else if nat_lt greatest_u16 (s.spec.channels * s.bytes_per_sample) then None
@@ -55,7 +55,7 @@ pub record FindsHead (old : HoundWalk) (info : HoundInfo) : Type 0 where
 -- cause why there are none.
 pub record Steps (file : List ℕ) (number : ℤ) (new : HoundWalk) (info : HoundInfo) : Type 0 where
   pub on : number ≡ pos 1 → IsAt file (walk_of new)
-  pub found : number ≡ pos 0 → Readable file (spec_of info.spec) info.samples info.data_start
+  pub found : number ≡ pos 0 → Readable file (spec_from_c info.spec) info.samples info.data_start
   pub refused : (number ≡ pos 1 → ⊥) → (number ≡ pos 0 → ⊥)
       → (cause : Cause) × (number ≡ fault_code (Head cause)) × Unreadable file cause
 

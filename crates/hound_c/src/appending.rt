@@ -1,6 +1,6 @@
 // Files that are appended to.
 ghost use Rattle.std.specs.Prelude.{◌≡◌, ◌≤◌, IfOk, length};
-ghost use Rattle.hound_c.specs.Writing.{Appends};
+ghost use Rattle.hound_c.specs.Writing.{AppendsInPlace};
 
 use crate::fault::Fault;
 use crate::head::find_samples;
@@ -16,7 +16,7 @@ pub(crate) fn append_block<S: Sample + Copy>(
     format: SampleFormat,
     samples: &[S],
 ) -> Result<usize, Fault>
-    ensures appends { Appends format S.container samples.now used file.old file.new result }
+    ensures appends { AppendsInPlace format S.container samples.now used file.old file.new result }
     ensures within { IfOk result (λ n. n ≤ length file.old) }
 {
     if used > file.len() {
@@ -30,7 +30,7 @@ pub(crate) fn append_block<S: Sample + Copy>(
     let bits = spec_ex.spec.bits_per_sample;
     let width = spec_ex.bytes_per_sample;
     if !is_pair(spec_ex.spec.sample_format, bits, width) {
-        return Err(Fault::OtherPair);
+        return Err(Fault::NotWritable);
     }
     let data_start = head.data_start as usize;
     let end = data_start + stored as usize * width as usize;

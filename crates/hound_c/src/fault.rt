@@ -13,9 +13,9 @@ pub enum Fault {
     /// The samples are floats and integers were requested, or the other way round.
     OtherFormat,
     /// The samples, or a value, are wider than what is to hold them.
-    Wider,
+    TooWide,
     /// The spec isn't written, or the type not read from it.
-    OtherPair,
+    NotWritable,
     /// The next sample isn't among the bytes, though the header counts it.
     Truncated,
     /// The sizes of the file would pass 32 bits.
@@ -38,8 +38,8 @@ pub(crate) fn code_of_fault(fault: Fault) -> i32
         // From -10 down, in the order of the reasons.
         Fault::Head(Cause::Format(reason)) => -10 - reason as i32,
         Fault::OtherFormat => -3,
-        Fault::Wider => -4,
-        Fault::OtherPair => -5,
+        Fault::TooWide => -4,
+        Fault::NotWritable => -5,
         Fault::Truncated => -6,
         Fault::TooLong => -7,
         Fault::UnfinishedFrame => -8,

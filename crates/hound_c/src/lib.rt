@@ -27,12 +27,12 @@ ghost use Rattle.hound_spec.specs.declared.spec.SampleFormat.TheVariants.{Float,
 ghost use Rattle.hound_reader.specs.declared.cause.Cause.{Cause};
 ghost use Rattle.hound_writer.specs.Recorder.{AppendsRecorder, BeginsRecorder, NextEffect, Places, Reports};
 ghost use Rattle.hound_c.specs.Codes.{Records, Returns, fault_code};
-ghost use Rattle.hound_c.specs.Reading.{Decodes, Reads};
+ghost use Rattle.hound_c.specs.Reading.{Decodes, ReadsInto};
 ghost use Rattle.hound_c.specs.Recording.{effect_of};
 ghost use Rattle.hound_c.specs.Repairing.{FindsInFile, IsDamageFault, RepairsFile};
 ghost use Rattle.hound_c.specs.Scaling.{ScalesToFloats, ScalesToIntegers};
 ghost use Rattle.hound_c.specs.Walks.{AreAsked, AsksOn, FindsHead, Steps, walk_of};
-ghost use Rattle.hound_c.specs.Writing.{Appends, Encodes, GivesHeader, GivesSizes, IsExplicit, Sizes, Writes, spec_of};
+ghost use Rattle.hound_c.specs.Writing.{AppendsInPlace, Encodes, GivesHeader, GivesSizes, IsExplicit, Sizes, WritesFile, spec_from_c};
 ghost use Rattle.hound_c.specs.declared.fault.Fault.{Fault as AnyFault};
 ghost use Rattle.hound_c.specs.declared.fault.Fault.TheVariants.{Head};
 
@@ -49,7 +49,7 @@ use recording::effect_for_c;
 use repairing::{find_file_damage, repair_file, repair_for_c};
 use scaling::{scale_to_floats, scale_to_integers};
 pub use spec::{HoundEffect, HoundInfo, HoundRepair, HoundSpec, HoundWalk};
-use spec::{info_for_c, spec_of};
+use spec::{info_for_c, spec_from_c};
 use value::{value_of_8, value_of_16, value_of_24, value_of_32};
 use walking::{part_of, walk_for_c, walk_of};
 use writing::{encode_block, file_size, write_file, write_header, write_sizes};
@@ -57,7 +57,7 @@ use writing::{encode_block, file_size, write_file, write_header, write_sizes};
 /// What is before the data: 0, or why it can't be read.
 #[unsafe(no_mangle)]
 pub extern "C" fn hound_info(file: &[u8], info: &mut HoundInfo) -> i32
-    ensures found { result ≡ pos 0 → Readable file.now (spec_of info.new.spec) info.new.samples info.new.data_start }
+    ensures found { result ≡ pos 0 → Readable file.now (spec_from_c info.new.spec) info.new.samples info.new.data_start }
     ensures explicit { result ≡ pos 0 → IsExplicit info.new.spec }
     ensures refused { (result ≡ pos 0 → ⊥) → (info.new ≡ info.old)
         × ((cause : Cause) × (result ≡ fault_code (Head cause)) × Unreadable file.now cause) }
@@ -102,7 +102,7 @@ pub extern "C" fn hound_walk_next(walk: &mut HoundWalk, bytes: &[u8], info: &mut
 /// Reads integers into sixteen bits.
 #[unsafe(no_mangle)]
 pub extern "C" fn hound_read_i16(file: &[u8], first: u64, out: &mut [i16]) -> i64
-    ensures { Returns result (Reads (int_refusal 2) (λ _. int_meaning) file.now first out.old out.new) }
+    ensures { Returns result (ReadsInto (int_refusal 2) (λ _. int_meaning) file.now first out.old out.new) }
 {
     code_of(read_block::<i16>(file, first, out))
 }
@@ -110,7 +110,7 @@ pub extern "C" fn hound_read_i16(file: &[u8], first: u64, out: &mut [i16]) -> i6
 /// Reads integers.
 #[unsafe(no_mangle)]
 pub extern "C" fn hound_read_i32(file: &[u8], first: u64, out: &mut [i32]) -> i64
-    ensures { Returns result (Reads (int_refusal 4) (λ _. int_meaning) file.now first out.old out.new) }
+    ensures { Returns result (ReadsInto (int_refusal 4) (λ _. int_meaning) file.now first out.old out.new) }
 {
     code_of(read_block::<i32>(file, first, out))
 }
@@ -119,7 +119,7 @@ pub extern "C" fn hound_read_i32(file: &[u8], first: u64, out: &mut [i32]) -> i6
 #[unsafe(no_mangle)]
 pub extern "C" fn hound_read_f32(file: &[u8], first: u64, out: &mut [FloatBits]) -> i64
     ensures { Returns result
-        (Reads float_refusal (λ _ _ _ c. record { 0 = pattern c }) file.now first out.old out.new) }
+        (ReadsInto float_refusal (λ _ _ _ c. record { 0 = pattern c }) file.now first out.old out.new) }
 {
     code_of(read_block::<FloatBits>(file, first, out))
 }
@@ -127,7 +127,7 @@ pub extern "C" fn hound_read_f32(file: &[u8], first: u64, out: &mut [FloatBits])
 /// How many bytes the file of so many samples has.
 #[unsafe(no_mangle)]
 pub extern "C" fn hound_size(spec: &HoundSpec, samples: u64) -> i64
-    ensures { Returns result (Sizes (spec_of spec.now) samples) }
+    ensures { Returns result (Sizes (spec_from_c spec.now) samples) }
 {
     code_of(file_size(*spec, samples))
 }
@@ -135,7 +135,7 @@ pub extern "C" fn hound_size(spec: &HoundSpec, samples: u64) -> i64
 /// Writes the header of the file of so many samples.
 #[unsafe(no_mangle)]
 pub extern "C" fn hound_header(spec: &HoundSpec, samples: u64, out: &mut [u8]) -> i64
-    ensures { Returns result (GivesHeader (spec_of spec.now) samples out.old out.new) }
+    ensures { Returns result (GivesHeader (spec_from_c spec.now) samples out.old out.new) }
 {
     code_of(write_header(*spec, samples, out))
 }
@@ -149,7 +149,7 @@ pub extern "C" fn hound_sizes(
     samples: u64,
     out: &mut [u8],
 ) -> i64
-    ensures { Returns result (GivesSizes (spec_of spec.now) data_start samples out.old out.new) }
+    ensures { Returns result (GivesSizes (spec_from_c spec.now) data_start samples out.old out.new) }
 {
     code_of(write_sizes(*spec, data_start, samples, out))
 }
@@ -157,7 +157,7 @@ pub extern "C" fn hound_sizes(
 /// Writes the whole file of these samples.
 #[unsafe(no_mangle)]
 pub extern "C" fn hound_write_i16(spec: &HoundSpec, samples: &[i16], out: &mut [u8]) -> i64
-    ensures { Returns result (Writes Int int_container (spec_of spec.now) samples.now out.old out.new) }
+    ensures { Returns result (WritesFile Int int_container (spec_from_c spec.now) samples.now out.old out.new) }
 {
     code_of(write_file::<i16>(*spec, SampleFormat::Int, samples, out))
 }
@@ -165,7 +165,7 @@ pub extern "C" fn hound_write_i16(spec: &HoundSpec, samples: &[i16], out: &mut [
 /// Writes the whole file of these samples.
 #[unsafe(no_mangle)]
 pub extern "C" fn hound_write_i32(spec: &HoundSpec, samples: &[i32], out: &mut [u8]) -> i64
-    ensures { Returns result (Writes Int int_container (spec_of spec.now) samples.now out.old out.new) }
+    ensures { Returns result (WritesFile Int int_container (spec_from_c spec.now) samples.now out.old out.new) }
 {
     code_of(write_file::<i32>(*spec, SampleFormat::Int, samples, out))
 }
@@ -173,8 +173,8 @@ pub extern "C" fn hound_write_i32(spec: &HoundSpec, samples: &[i32], out: &mut [
 /// Writes the whole file of these floats, given as their bits.
 #[unsafe(no_mangle)]
 pub extern "C" fn hound_write_f32(spec: &HoundSpec, samples: &[FloatBits], out: &mut [u8]) -> i64
-    ensures { Returns result (Writes Float (λ v. pattern_container v.0)
-        (spec_of spec.now) samples.now out.old out.new) }
+    ensures { Returns result (WritesFile Float (λ v. pattern_container v.0)
+        (spec_from_c spec.now) samples.now out.old out.new) }
 {
     code_of(write_file::<FloatBits>(*spec, SampleFormat::Float, samples, out))
 }
@@ -182,7 +182,7 @@ pub extern "C" fn hound_write_f32(spec: &HoundSpec, samples: &[FloatBits], out: 
 /// Appends samples after those of the file in the first `used` bytes.
 #[unsafe(no_mangle)]
 pub extern "C" fn hound_append_i16(file: &mut [u8], used: usize, samples: &[i16]) -> i64
-    ensures { Returns result (Appends Int int_container samples.now used file.old file.new) }
+    ensures { Returns result (AppendsInPlace Int int_container samples.now used file.old file.new) }
 {
     code_of(append_block::<i16>(file, used, SampleFormat::Int, samples))
 }
@@ -190,7 +190,7 @@ pub extern "C" fn hound_append_i16(file: &mut [u8], used: usize, samples: &[i16]
 /// The same for integers of up to 32 bits.
 #[unsafe(no_mangle)]
 pub extern "C" fn hound_append_i32(file: &mut [u8], used: usize, samples: &[i32]) -> i64
-    ensures { Returns result (Appends Int int_container samples.now used file.old file.new) }
+    ensures { Returns result (AppendsInPlace Int int_container samples.now used file.old file.new) }
 {
     code_of(append_block::<i32>(file, used, SampleFormat::Int, samples))
 }
@@ -198,7 +198,7 @@ pub extern "C" fn hound_append_i32(file: &mut [u8], used: usize, samples: &[i32]
 /// The same for floats, given as their bits.
 #[unsafe(no_mangle)]
 pub extern "C" fn hound_append_f32(file: &mut [u8], used: usize, samples: &[FloatBits]) -> i64
-    ensures { Returns result (Appends Float (λ v. pattern_container v.0) samples.now used file.old file.new) }
+    ensures { Returns result (AppendsInPlace Float (λ v. pattern_container v.0) samples.now used file.old file.new) }
 {
     code_of(append_block::<FloatBits>(file, used, SampleFormat::Float, samples))
 }
@@ -238,7 +238,7 @@ pub extern "C" fn hound_repair_to_end(file: &mut [u8], used: usize, found: &mut 
 /// Decodes samples of a spec, of eight bits.
 #[unsafe(no_mangle)]
 pub extern "C" fn hound_decode_i8(spec: &HoundSpec, bytes: &[u8], out: &mut [i8]) -> i64
-    ensures { Returns result (Decodes (int_refusal 1) (λ _. int_meaning) (spec_of spec.now) bytes.now out.old out.new) }
+    ensures { Returns result (Decodes (int_refusal 1) (λ _. int_meaning) (spec_from_c spec.now) bytes.now out.old out.new) }
 {
     code_of(decode_block::<i8>(*spec, bytes, out))
 }
@@ -246,7 +246,7 @@ pub extern "C" fn hound_decode_i8(spec: &HoundSpec, bytes: &[u8], out: &mut [i8]
 /// Encodes samples of a spec.
 #[unsafe(no_mangle)]
 pub extern "C" fn hound_encode_i8(spec: &HoundSpec, samples: &[i8], out: &mut [u8]) -> i64
-    ensures { Returns result (Encodes Int int_container (spec_of spec.now) samples.now out.old out.new) }
+    ensures { Returns result (Encodes Int int_container (spec_from_c spec.now) samples.now out.old out.new) }
 {
     code_of(encode_block::<i8>(*spec, SampleFormat::Int, samples, out))
 }
@@ -254,7 +254,7 @@ pub extern "C" fn hound_encode_i8(spec: &HoundSpec, samples: &[i8], out: &mut [u
 /// Decodes samples of a spec.
 #[unsafe(no_mangle)]
 pub extern "C" fn hound_decode_i16(spec: &HoundSpec, bytes: &[u8], out: &mut [i16]) -> i64
-    ensures { Returns result (Decodes (int_refusal 2) (λ _. int_meaning) (spec_of spec.now) bytes.now out.old out.new) }
+    ensures { Returns result (Decodes (int_refusal 2) (λ _. int_meaning) (spec_from_c spec.now) bytes.now out.old out.new) }
 {
     code_of(decode_block::<i16>(*spec, bytes, out))
 }
@@ -262,7 +262,7 @@ pub extern "C" fn hound_decode_i16(spec: &HoundSpec, bytes: &[u8], out: &mut [i1
 /// Encodes samples of a spec.
 #[unsafe(no_mangle)]
 pub extern "C" fn hound_encode_i16(spec: &HoundSpec, samples: &[i16], out: &mut [u8]) -> i64
-    ensures { Returns result (Encodes Int int_container (spec_of spec.now) samples.now out.old out.new) }
+    ensures { Returns result (Encodes Int int_container (spec_from_c spec.now) samples.now out.old out.new) }
 {
     code_of(encode_block::<i16>(*spec, SampleFormat::Int, samples, out))
 }
@@ -270,7 +270,7 @@ pub extern "C" fn hound_encode_i16(spec: &HoundSpec, samples: &[i16], out: &mut 
 /// Decodes samples of a spec.
 #[unsafe(no_mangle)]
 pub extern "C" fn hound_decode_i32(spec: &HoundSpec, bytes: &[u8], out: &mut [i32]) -> i64
-    ensures { Returns result (Decodes (int_refusal 4) (λ _. int_meaning) (spec_of spec.now) bytes.now out.old out.new) }
+    ensures { Returns result (Decodes (int_refusal 4) (λ _. int_meaning) (spec_from_c spec.now) bytes.now out.old out.new) }
 {
     code_of(decode_block::<i32>(*spec, bytes, out))
 }
@@ -278,7 +278,7 @@ pub extern "C" fn hound_decode_i32(spec: &HoundSpec, bytes: &[u8], out: &mut [i3
 /// Encodes samples of a spec.
 #[unsafe(no_mangle)]
 pub extern "C" fn hound_encode_i32(spec: &HoundSpec, samples: &[i32], out: &mut [u8]) -> i64
-    ensures { Returns result (Encodes Int int_container (spec_of spec.now) samples.now out.old out.new) }
+    ensures { Returns result (Encodes Int int_container (spec_from_c spec.now) samples.now out.old out.new) }
 {
     code_of(encode_block::<i32>(*spec, SampleFormat::Int, samples, out))
 }
@@ -287,7 +287,7 @@ pub extern "C" fn hound_encode_i32(spec: &HoundSpec, samples: &[i32], out: &mut 
 #[unsafe(no_mangle)]
 pub extern "C" fn hound_decode_f32(spec: &HoundSpec, bytes: &[u8], out: &mut [FloatBits]) -> i64
     ensures { Returns result (Decodes float_refusal (λ _ _ _ c. record { 0 = pattern c })
-        (spec_of spec.now) bytes.now out.old out.new) }
+        (spec_from_c spec.now) bytes.now out.old out.new) }
 {
     code_of(decode_block::<FloatBits>(*spec, bytes, out))
 }
@@ -296,7 +296,7 @@ pub extern "C" fn hound_decode_f32(spec: &HoundSpec, bytes: &[u8], out: &mut [Fl
 #[unsafe(no_mangle)]
 pub extern "C" fn hound_encode_f32(spec: &HoundSpec, samples: &[FloatBits], out: &mut [u8]) -> i64
     ensures { Returns result (Encodes Float (λ v. pattern_container v.0)
-        (spec_of spec.now) samples.now out.old out.new) }
+        (spec_from_c spec.now) samples.now out.old out.new) }
 {
     code_of(encode_block::<FloatBits>(*spec, SampleFormat::Float, samples, out))
 }
@@ -358,10 +358,10 @@ pub extern "C" fn hound_from_f32(
 /// Begins to record a new file, whose header the caller writes.
 #[unsafe(no_mangle)]
 pub extern "C" fn hound_recorder_begin(spec: &HoundSpec, recorder: &mut Recorder) -> i32
-    ensures { Records result (λ _. 0) (λ begun. BeginsRecorder (spec_of spec.now) begun
+    ensures { Records result (λ _. 0) (λ begun. BeginsRecorder (spec_from_c spec.now) begun
         × (recorder.new ≡ result_unwrap_or begun recorder.old)) }
 {
-    match Recorder::begin(spec_of(*spec)) {
+    match Recorder::begin(spec_from_c(*spec)) {
         Ok(begun) => {
             *recorder = begun;
             0
@@ -374,10 +374,10 @@ pub extern "C" fn hound_recorder_begin(spec: &HoundSpec, recorder: &mut Recorder
 #[unsafe(no_mangle)]
 pub extern "C" fn hound_recorder_append(info: &HoundInfo, recorder: &mut Recorder) -> i32
     ensures { Records result (λ _. 0)
-        (λ begun. AppendsRecorder (spec_of info.now.spec) info.now.data_start info.now.samples begun
+        (λ begun. AppendsRecorder (spec_from_c info.now.spec) info.now.data_start info.now.samples begun
         × (recorder.new ≡ result_unwrap_or begun recorder.old)) }
 {
-    match Recorder::append(spec_of(info.spec), info.data_start, info.samples) {
+    match Recorder::append(spec_from_c(info.spec), info.data_start, info.samples) {
         Ok(begun) => {
             *recorder = begun;
             0

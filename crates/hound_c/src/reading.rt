@@ -1,12 +1,12 @@
 // Blocks of samples that are read.
 ghost use Rattle.std.specs.Prelude.{◌≡◌, ◌≤◌, IfOk, IsOk, None, length};
 ghost use Rattle.hound_reader.specs.{refusal_at};
-ghost use Rattle.hound_c.specs.Reading.{Decodes, DecodesSamples, Reads, read_check};
-ghost use Rattle.hound_c.specs.Writing.{spec_of};
+ghost use Rattle.hound_c.specs.Reading.{Decodes, DecodesSamples, ReadsInto, read_check};
+ghost use Rattle.hound_c.specs.Writing.{spec_from_c};
 
 use crate::fault::Fault;
 use crate::head::find_samples;
-use crate::spec::{HoundSpec, spec_of};
+use crate::spec::{HoundSpec, spec_from_c};
 use hound_sample::{Decode, decode_containers};
 use hound_spec::{Error, WavSpecEx};
 
@@ -24,8 +24,8 @@ fn check_type<S: Decode>(spec_ex: WavSpecEx) -> Result<(), Fault>
     ) {
         Ok(()) => Ok(()),
         Err(Error::InvalidSampleFormat) => Err(Fault::OtherFormat),
-        Err(Error::TooWide) => Err(Fault::Wider),
-        Err(_) => Err(Fault::OtherPair),
+        Err(Error::TooWide) => Err(Fault::TooWide),
+        Err(_) => Err(Fault::NotWritable),
     }
 }
 
@@ -49,7 +49,7 @@ fn decode_front<S: Decode>(spec_ex: WavSpecEx, bytes: &[u8], out: &mut [S]) -> u
 
 /// Reads samples from one on into the front of `out`, and returns how many.
 pub(crate) fn read_block<S: Decode>(file: &[u8], first: u64, out: &mut [S]) -> Result<usize, Fault>
-    ensures { Reads S.decode_refusal S.value file.now first out.old out.new result }
+    ensures { ReadsInto S.decode_refusal S.value file.now first out.old out.new result }
 {
     let (head, samples) = find_samples(file)?;
     let spec_ex = head.spec_ex;
@@ -75,10 +75,10 @@ pub(crate) fn decode_block<S: Decode>(
     bytes: &[u8],
     out: &mut [S],
 ) -> Result<usize, Fault>
-    ensures decodes { Decodes S.decode_refusal S.value (spec_of spec) bytes.now out.old out.new result }
+    ensures decodes { Decodes S.decode_refusal S.value (spec_from_c spec) bytes.now out.old out.new result }
     ensures within { IfOk result (λ n. n ≤ length out.old) }
 {
-    let spec_ex = spec_of(spec);
+    let spec_ex = spec_from_c(spec);
     check_type::<S>(spec_ex)?;
     Ok(decode_front(spec_ex, bytes, out))
 }

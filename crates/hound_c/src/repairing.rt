@@ -41,7 +41,7 @@ pub(crate) fn find_file_damage(file: &[u8]) -> Result<Repair, Fault>
     let head = find_head(file)?;
     match find_damage_in_bytes(file, head) {
         Ok(repair) => Ok(repair),
-        Err(Unrepaired::Unsupported) => Err(Fault::OtherPair),
+        Err(Unrepaired::Unsupported) => Err(Fault::NotWritable),
         Err(Unrepaired::TooLong) => Err(Fault::TooLong),
         Err(Unrepaired::NoRoom) => unreachable!(),
     }
@@ -67,7 +67,7 @@ pub(crate) fn repair_file(
             *found = repair_for_c(repair);
             Ok(length)
         }
-        Err(Unrepaired::Unsupported) => Err(Fault::OtherPair),
+        Err(Unrepaired::Unsupported) => Err(Fault::NotWritable),
         Err(Unrepaired::TooLong) => Err(Fault::TooLong),
         Err(Unrepaired::NoRoom) => Err(Fault::NoRoom),
     }

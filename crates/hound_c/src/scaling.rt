@@ -12,7 +12,7 @@ fn check_scale(bits: u16, count: usize, room: usize) -> Result<(), Fault>
     ensures fault { IfErr result (IsScaleFault bits count room) }
 {
     if bits == 0 || bits > 32 {
-        return Err(Fault::OtherPair);
+        return Err(Fault::NotWritable);
     }
     if count > room {
         return Err(Fault::NoRoom);

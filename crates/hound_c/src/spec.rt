@@ -1,6 +1,6 @@
 // The structs that C has; hound.h says what their fields are.
 ghost use Rattle.std.specs.Prelude.{◌≡◌, ◌<◌};
-ghost use Rattle.hound_c.specs.Writing.{IsExplicit, spec_of};
+ghost use Rattle.hound_c.specs.Writing.{IsExplicit, spec_from_c};
 
 use hound_reader::FileHead;
 use hound_spec::{SampleFormat, WavSpec, WavSpecEx};
@@ -57,8 +57,8 @@ pub struct HoundEffect {
 }
 
 /// The spec that C's is.
-pub(crate) fn spec_of(spec: HoundSpec) -> WavSpecEx
-    ensures { result ≡ spec_of spec }
+pub(crate) fn spec_from_c(spec: HoundSpec) -> WavSpecEx
+    ensures { result ≡ spec_from_c spec }
 {
     let sample_format = if spec.sample_format == 0 {
         SampleFormat::Int
@@ -84,7 +84,7 @@ pub(crate) fn spec_of(spec: HoundSpec) -> WavSpecEx
 /// A spec that was found, for C.
 pub(crate) fn spec_for_c(spec_ex: WavSpecEx) -> HoundSpec
     requires { 0 < spec_ex.bytes_per_sample }
-    ensures same { spec_of result ≡ spec_ex }
+    ensures same { spec_from_c result ≡ spec_ex }
     ensures explicit { IsExplicit result }
 {
     let spec = spec_ex.spec;
@@ -103,7 +103,7 @@ pub(crate) fn spec_for_c(spec_ex: WavSpecEx) -> HoundSpec
 /// What is before the data, for C.
 pub(crate) fn info_for_c(head: FileHead, samples: u32) -> HoundInfo
     requires { 0 < head.spec_ex.bytes_per_sample }
-    ensures spec { spec_of result.spec ≡ head.spec_ex }
+    ensures spec { spec_from_c result.spec ≡ head.spec_ex }
     ensures explicit { IsExplicit result.spec }
     ensures samples { result.samples ≡ samples }
     ensures start { result.data_start ≡ head.data_start }

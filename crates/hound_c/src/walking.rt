@@ -3,7 +3,7 @@ ghost use Rattle.std.specs.Prelude.{◌≡◌, take};
 ghost use Rattle.hound_reader.specs.{IsSoundOption, part_length};
 ghost use Rattle.hound_c.specs.Walks.{Asks, found_of, walk_of};
 
-use crate::spec::{HoundSpec, HoundWalk, spec_for_c, spec_of};
+use crate::spec::{HoundSpec, HoundWalk, spec_for_c, spec_from_c};
 use hound_reader::{HeadWalk, Part};
 use hound_spec::WavSpecEx;
 
@@ -12,7 +12,7 @@ fn found_of(spec: HoundSpec) -> Option<WavSpecEx>
     ensures is { result ≡ found_of spec }
     ensures sound { IsSoundOption result }
 {
-    let spec_ex = spec_of(spec);
+    let spec_ex = spec_from_c(spec);
     if spec_ex.spec.channels == 0 {
         return None;
     }

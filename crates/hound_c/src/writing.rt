@@ -2,10 +2,10 @@
 ghost use Rattle.std.specs.Prelude.{◌≡◌, ◌+◌, ◌*◌, ◌%◌, ◌^◌, ◌≤◌, ◌++◌, IsOk, IfOk, IfErr, length, take, drop};
 ghost use Rattle.hound_spec.specs.{IsWritable, greatest_u32, data_start, header, padded, padding, riff_size};
 ghost use Rattle.hound_sample.specs.{all_containers, joined_containers};
-ghost use Rattle.hound_c.specs.Writing.{Encodes, GivesHeader, GivesSizes, IsSizeFault, Sizes, Writes, check_of, spec_of};
+ghost use Rattle.hound_c.specs.Writing.{Encodes, GivesHeader, GivesSizes, IsSizeFault, Sizes, WritesFile, check_of, spec_from_c};
 
 use crate::fault::Fault;
-use crate::spec::{HoundSpec, spec_of};
+use crate::spec::{HoundSpec, spec_from_c};
 use hound_number::le_u32;
 use hound_sample::{Sample, check_containers, have_containers, store_containers};
 use hound_spec::{Error, SampleFormat, WavSpecEx, header_length, header_of, is_pair};
@@ -23,8 +23,8 @@ pub(crate) fn check_samples<S: Sample + Copy>(
     }
     match check_containers(samples, bits, width) {
         Ok(()) => Ok(()),
-        Err(Error::TooWide) => Err(Fault::Wider),
-        Err(_) => Err(Fault::OtherPair),
+        Err(Error::TooWide) => Err(Fault::TooWide),
+        Err(_) => Err(Fault::NotWritable),
     }
 }
 
@@ -95,24 +95,24 @@ pub(crate) fn sizes_of(
 
 /// How many bytes the file of so many samples has.
 pub(crate) fn file_size(spec: HoundSpec, samples: u64) -> Result<usize, Fault>
-    ensures sizes { Sizes (spec_of spec) samples result }
+    ensures sizes { Sizes (spec_from_c spec) samples result }
     ensures small { IfOk result (λ n. n ≤ 2 ^ 33) }
 {
-    let spec_ex = spec_of(spec);
+    let spec_ex = spec_from_c(spec);
     if !spec_ex.is_writable() {
-        return Err(Fault::OtherPair);
+        return Err(Fault::NotWritable);
     }
     Ok(sizes_of(spec_ex, header_length(spec_ex), samples)?.1)
 }
 
 /// Writes the header of a file of so many samples to the front of `out`, and returns its length.
 pub(crate) fn write_header(spec: HoundSpec, samples: u64, out: &mut [u8]) -> Result<usize, Fault>
-    ensures gives { GivesHeader (spec_of spec) samples out.old out.new result }
+    ensures gives { GivesHeader (spec_from_c spec) samples out.old out.new result }
     ensures small { IfOk result (λ n. n ≤ 68) }
 {
-    let spec_ex = spec_of(spec);
+    let spec_ex = spec_from_c(spec);
     if !spec_ex.is_writable() {
-        return Err(Fault::OtherPair);
+        return Err(Fault::NotWritable);
     }
     let data_start = header_length(spec_ex);
     let (data_length, size) = sizes_of(spec_ex, data_start, samples)?;
@@ -131,20 +131,20 @@ pub(crate) fn write_sizes(
     samples: u64,
     out: &mut [u8],
 ) -> Result<usize, Fault>
-    ensures gives { GivesSizes (spec_of spec) data_start samples out.old out.new result }
+    ensures gives { GivesSizes (spec_from_c spec) data_start samples out.old out.new result }
     ensures small { IfOk result (λ n. n ≤ 2 ^ 33) }
 {
-    let spec_ex = spec_of(spec);
+    let spec_ex = spec_from_c(spec);
     let spec = spec_ex.spec;
     if !is_pair(
         spec.sample_format,
         spec.bits_per_sample,
         spec_ex.bytes_per_sample,
     ) {
-        return Err(Fault::OtherPair);
+        return Err(Fault::NotWritable);
     }
     if spec.channels == 0 || data_start < 20 {
-        return Err(Fault::OtherPair);
+        return Err(Fault::NotWritable);
     }
     if data_start > u32::MAX as u64 + 8 {
         return Err(Fault::TooLong);
@@ -165,12 +165,12 @@ pub(crate) fn write_file<S: Sample + Copy>(
     samples: &[S],
     out: &mut [u8],
 ) -> Result<usize, Fault>
-    ensures writes { Writes format S.container (spec_of spec) samples.now out.old out.new result }
+    ensures writes { WritesFile format S.container (spec_from_c spec) samples.now out.old out.new result }
     ensures within { IfOk result (λ n. n ≤ length out.old) }
 {
-    let spec_ex = spec_of(spec);
+    let spec_ex = spec_from_c(spec);
     if !spec_ex.is_writable() {
-        return Err(Fault::OtherPair);
+        return Err(Fault::NotWritable);
     }
     if spec_ex.spec.sample_format != format {
         return Err(Fault::OtherFormat);
@@ -195,17 +195,17 @@ pub(crate) fn encode_block<S: Sample + Copy>(
     samples: &[S],
     out: &mut [u8],
 ) -> Result<usize, Fault>
-    ensures encodes { Encodes format S.container (spec_of spec) samples.now out.old out.new result }
+    ensures encodes { Encodes format S.container (spec_from_c spec) samples.now out.old out.new result }
     ensures within { IfOk result (λ n. n ≤ length out.old) }
 {
-    let spec_ex = spec_of(spec);
+    let spec_ex = spec_from_c(spec);
     if spec_ex.spec.sample_format != format {
         return Err(Fault::OtherFormat);
     }
     let bits = spec_ex.spec.bits_per_sample;
     let width = spec_ex.bytes_per_sample;
     if !is_pair(spec_ex.spec.sample_format, bits, width) {
-        return Err(Fault::OtherPair);
+        return Err(Fault::NotWritable);
     }
     check_samples(samples, bits, width)?;
     if samples.len() > out.len() / width as usize {

@@ -147,7 +147,7 @@ module _ (r : Recorder) (bytes : List ℕ) (whole : length bytes % r.bytes_per_s
         → PutsAt true place bytes result state log.state → (new : Recorder)
         → new ≡ longer r (length bytes) → RecordsTo (done (block bytes) ∷ []) w new log.state
     written (Ok x) ok puts new now = (
-      record w { medium = log; out = w.out + length bytes },
+      record w { medium = log; bytes_written = w.bytes_written + length bytes },
       (log, writes (Ok tt) puts, refl),
       record {
         none = is.none;
@@ -179,12 +179,12 @@ block_saved start bytes w last r new mid state log (Ok x) (Ok y) acts is same ok
     let none = is.none in
     let width = is.width in
     let head = is.after_head in
-    let new_is : new ≡ recorder_of last.data_start last.out last.spec_ex.bytes_per_sample = same ∙ is.is in
-    let all : Performed (checkpoint last.data_start last.out) (Ok tt) last.medium log = rw is.is at did in
+    let new_is : new ≡ recorder_of last.data_start last.bytes_written last.spec_ex.bytes_per_sample = same ∙ is.is in
+    let all : Performed (checkpoint last.data_start last.bytes_written) (Ok tt) last.medium log = rw is.is at did in
     (end, acts_then (done (block bytes) ∷ []) (done save ∷ []) w last end acts (log, all, refl), search rules)
 block_saved start bytes w last r new mid state log (Err e) (Err f) acts is same ok there did =
     let end = record last { medium = log } in
-    let all : Performed (checkpoint last.data_start last.out) (Err f) last.medium log = rw is.is at did in
+    let all : Performed (checkpoint last.data_start last.bytes_written) (Err f) last.medium log = rw is.is at did in
     let acts = acts_then (done (block bytes) ∷ []) (failed save f ∷ []) w last end acts (log, all, refl) in
     (done (block bytes) ∷ failed save f ∷ [], inr (inr (f, refl)), (end, acts, there))
 block_saved start bytes w last r new mid state log (Ok x) (Err f) acts is same ok there did = absurd (false≢true ok)

@@ -1,6 +1,6 @@
 -- The tables of a sample type that reads either format.
 use Rattle.std.specs.Prelude.{◌≡◌, ℕ, ℤ, pos, ◌≤◌, ⊤, List, length, Option, Result, Ok}
-use Rattle.hound.specs.{Refusal, int_container, pattern_container, ReadRefusal, float_refusal, int_meaning, int_refusal, low_short, pattern, int_container-in_width, pattern_container-in_width, SampleFormat}
+use Rattle.hound.specs.{Refusal, int_container, pattern_container, ReadRefusal, float_refusal, int_meaning, int_refusal, low_i16, pattern, int_container-in_width, pattern_container-in_width, SampleFormat}
 use Rattle.hound.specs.declared.SampleFormat.TheVariants.{Int, Float}
 use Rattle.hound_callers.specs.declared.either.EitherSample.{EitherSample}
 use Rattle.hound_callers.specs.declared.either.EitherSample.TheVariants.{Whole, Bits}
@@ -23,9 +23,9 @@ abbrev pub IsWhole : EitherSample → Type 0
 IsWhole (Whole value) = ⊤
 IsWhole (Bits value) = ⊥
 
-abbrev pub either_short : EitherSample → ℤ
-either_short (Whole value) = low_short value
-either_short (Bits value) = pos 0
+abbrev pub either_i16 : EitherSample → ℤ
+either_i16 (Whole value) = low_i16 value
+either_i16 (Bits value) = pos 0
 
 pub either_container-in_width : (v : EitherSample) (bits width : ℕ) (c : List ℕ)
     → either_container v bits width ≡ Ok c → (length c ≡ width) × (1 ≤ width) × (width ≤ 4)

@@ -51,10 +51,10 @@ ReadsBlocks s blocks contents =
 
 -- the recorder of this recording, in a file of this state
 pub record IsRecorderOf (r : Recorder) (w : WriterState Log) (state : MediumState) : Type 0 where
-  pub none : w.waiting ≡ []
+  pub none : w.buffered ≡ []
   pub width : 1 ≤ w.spec_ex.bytes_per_sample
   pub after_head : 20 ≤ w.data_start
-  pub is : r ≡ recorder_of w.data_start w.out w.spec_ex.bytes_per_sample
+  pub is : r ≡ recorder_of w.data_start w.bytes_written w.spec_ex.bytes_per_sample
   pub medium : w.medium.state ≡ state
 
 -- actions led from a recording to a file of this state

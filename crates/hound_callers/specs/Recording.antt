@@ -65,7 +65,7 @@ WritesAndFlushes {M} tells keeps state asked answer old new =
 -- the writer has
 abbrev pub IsNoBatch : {M : Type 0} → WriterState M → ℕ → Error → Type 0
 IsNoBatch w count e = ((e ≡ TooLong) × (HasRoom w (2 * count) → ⊥))
-    ⊎ ((e ≡ OutOfMemory) × (length w.buffer < 2 * count))
+    ⊎ ((e ≡ OutOfMemory) × (length w.batch_memory < 2 * count))
 
 -- the samples of a call follow those that were accepted before, and the file is read as all of these
 abbrev pub IsPublished : {M : Type 0} → (M → MediumState) → Result (List (List ℕ)) Refusal →

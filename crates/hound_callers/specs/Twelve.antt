@@ -2,7 +2,7 @@
 use Rattle.std.proofs.Common.{◌≡◌, ℕ, ℤ, pos, ◌%◌, ◌≤◌, ◌-ℤ◌, Bool, true, false, cond, ◌&&◌, eqb, List, length, Option, None, Some, Result, Ok, Err, refl, ap, arith}
 use Rattle.std.specs.Prelude.{◌==◌, nat_lt, if◌then◌else◌}
 use Rattle.std.proofs.lemmas.Bool.{and_parts, eqb-true}
-use Rattle.hound.specs.{twos_complement, signed_bytes_of, Refusal, too_wide, unsupported, fits, ReadRefusal, other_format, wider, other_pair, int_meaning, SampleFormat}
+use Rattle.hound.specs.{twos_complement, signed_bytes_of, Refusal, too_wide, unsupported, fits, ReadRefusal, other_format, misfit, int_meaning, SampleFormat}
 use Rattle.hound.specs.declared.SampleFormat.TheVariants.{Int, Float}
 
 -- the lowest twelve bits, as a signed number
@@ -19,8 +19,8 @@ twelve_container v bits width =
 abbrev pub twelve_refusal : SampleFormat → ℕ → ℕ → Option ReadRefusal
 twelve_refusal Float width bits = Some other_format
 twelve_refusal Int width bits =
-    if nat_lt 2 width then Some wider else if width == 2 && bits == 16 then None else Some
-    other_pair
+    if nat_lt 2 width then Some (misfit too_wide) else if width == 2 && bits == 16 then None else Some
+    (misfit unsupported)
 
 abbrev pub twelve_meaning : List ℕ → ℤ
 twelve_meaning container = low_twelve (int_meaning 2 16 container)

@@ -1,5 +1,5 @@
 // A sample type for files of either format.
-ghost use Rattle.hound_callers.specs.Either.{IsWhole, either_container, either_container-in_width, either_meaning, either_refusal, either_short};
+ghost use Rattle.hound_callers.specs.Either.{IsWhole, either_container, either_container-in_width, either_meaning, either_refusal, either_i16};
 
 use hound::{FloatBits, Result, Sample, SampleFormat};
 use std::io;
@@ -24,7 +24,7 @@ impl Sample for EitherSample {
 
     ghost can_cast = { IsWhole };
 
-    ghost as_short = { either_short };
+    ghost cast_value = { either_i16 };
 
     fn read<R: io::Read>(
         reader: &mut R,

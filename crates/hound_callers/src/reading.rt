@@ -5,7 +5,7 @@ ghost use Rattle.hound.specs.{Begun, Call, Error, IsUncut, Keeps, accepted_by_al
 
 use hound::{
     Error, Journal, Medium, Placed, Sample, Source, WavReader, WavWriter, a_block_is_its_items,
-    a_reader_stands_as_counted, one_append_answer, written_is_head, written_is_read,
+    a_reader_is_where_it_counts, one_append_answer, written_is_head, written_is_read,
 };
 use std::alloc::Global;
 use std::{io, result};
@@ -44,7 +44,7 @@ pub fn read_from<S: Sample, R: Source>(
         IfOk result (λ done. R.remaining done.1 ≡ Some (drop ((samples_before time reader.spec_ex
         + done.0) * reader.spec_ex.bytes_per_sample) bytes))) }
 {
-    a_reader_stands_as_counted::<R, S>();
+    a_reader_is_where_it_counts::<R, S>();
     let mut reader = reader;
     reader.seek(time)?;
     let (count, result) = reader.read_samples(block);

@@ -1,7 +1,7 @@
 // Recorders that make their calls themselves.
 ghost use Rattle.std.specs.Prelude.{◌≡◌, ◌⊎◌, ◌-◌, ◌/◌, ◌<◌, ◌≤◌, ℕ, Bool, false, true, List, ◌∷◌, ◌++◌, [], Err, Ok, Result, MatchResult, is_ok, IsFalse, IsOk, IfOk, IfErr, IsErrAnd, IsTrue, OnErr, OnOk, drop, length, map, replicate, take};
 ghost use Rattle.std.specs.List.{All, concat};
-ghost use Rattle.hound.specs.{Accepts, Asked, Checkpoints, Error, Finishes, accepted_as_seen, field, found_in, start_of, short_bytes, whole_containers, IsIoError, IsNotBegun, IsNotRepaired, Stays, MediumState, Repair, Repairs, SurvivesLoss, container_in, Begun, Call, Known, Left, Recorded, made, marked, new_file, publish, seen, write, int_container, Around, within, HasPublished, Kept, KeptWithin, accepted_by_all, canonical, data_start, AcceptsEach, Ascends, WritesToBatch, containers_in, fits, remaining, signed_bytes_of, ReadsFrames, IsSixteen, Ran, asked_by, containers_of, WhereKeeps, WhereTells, WriterState, IsWhole, accepted_samples, data_length, WavSpecEx};
+ghost use Rattle.hound.specs.{Accepts, Asked, Checkpoints, Error, Finishes, accepted_as_seen, field, found_in, start_of, i16_bytes, whole_containers, IsIoError, IsNotBegun, IsNotRepaired, Stays, MediumState, Repair, Repairs, SurvivesLoss, container_in, Begun, Call, Known, Left, Recorded, made, marked, new_file, publish, seen, write, int_container, Around, within, HasPublished, Kept, KeptWithin, accepted_by_all, canonical, data_start, AcceptsEach, Ascends, WritesToBatch, containers_in, fits, remaining, signed_bytes_of, ReadsFrames, IsSixteen, Ran, asked_by, containers_of, WhereKeeps, WhereTells, WriterState, IsWhole, accepted_samples, data_length, WavSpecEx};
 ghost use Rattle.hound.specs.declared.session.Begin.TheVariants.{New};
 ghost use Rattle.hound.specs.declared.session.End.TheVariants.{Drop, Finalize};
 ghost use Rattle.hound.specs.declared.session.Step.TheVariants.{Whole};
@@ -12,7 +12,7 @@ use hound::{
     Begin, Durable, End, Error, Medium, Placed, Repair, Sample, SampleWriter16, Source, Step,
     WavSpecEx, WavWriter, a_batch_is_its_values, a_block_is_its_samples, a_durable_medium_ascends,
     a_repair_loses_no_published_sample, a_run_leaves_its_calls, a_write_is_marked_by_its_ok,
-    calls_are_a_run, repair_to_end, run_session, sessions_leave_one_file, short_integers_are_kept,
+    calls_are_a_run, repair_to_end, run_session, sessions_leave_one_file, i16s_are_kept,
     what_a_loss_leaves, what_is_kept, what_is_known,
 };
 use std::alloc::Global;
@@ -345,7 +345,7 @@ pub fn record_batch<M: Medium>(
         → (IsErrAnd result (IsNoBatch writer.old (length batch.now))
         × Recorded M.tells M.keeps M.state s file known writer.new)
         ⊎ Recorded M.tells M.keeps M.state s file
-        (known ++ marked (write (whole_containers s (short_bytes batch.now))) (is_ok result) ∷ []) writer.new }
+        (known ++ marked (write (whole_containers s (i16_bytes batch.now))) (is_ok result) ∷ []) writer.new }
 {
     if batch.len() > u32::MAX as usize {
         return Err(Error::TooLong);
@@ -379,7 +379,7 @@ pub fn record_mixed<M: Source + Medium>(
         × Recorded M.tells M.keeps M.state spec_ex file asked w
         × Kept M.tells M.keeps M.state spec_ex file (asked ++ made publish ∷ []) done.0)
         ⊎ Kept M.tells M.keeps M.state spec_ex file
-        ((asked ++ marked (write (whole_containers spec_ex (short_bytes batch.now)))
+        ((asked ++ marked (write (whole_containers spec_ex (i16_bytes batch.now)))
         (is_ok done.1) ∷ []) ++ made publish ∷ []) done.0))
         (λ refused. IsNotBegun M.tells M.keeps M.state spec_ex medium refused.0 refused.1) }
 {
@@ -438,11 +438,11 @@ pub fn publish_and_continue<S: Sample + Copy, M: Medium>(
 /// alone drops the higher bits of any other.
 pub fn write_if_short<M: Medium>(batch: &mut SampleWriter16<'_, M>, value: i32) -> bool
     requires { 1 ≤ remaining batch.old }
-    ensures short { result ≡ fits 16 value }
+    ensures fits { result ≡ fits 16 value }
     ensures written { IsTrue result → WritesToBatch (signed_bytes_of 2 value) batch.old batch.new }
     ensures left { IsFalse result → batch.new ≡ batch.old }
 {
-    short_integers_are_kept();
+    i16s_are_kept();
     if value < i16::MIN as i32 || value > i16::MAX as i32 {
         return false;
     }

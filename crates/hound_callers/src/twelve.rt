@@ -32,7 +32,7 @@ impl Sample for Twelve {
 
     ghost can_cast = { λ _. ⊤ };
 
-    ghost as_short = { λ t. t.0 };
+    ghost cast_value = { λ t. t.0 };
 
     fn read<R: io::Read>(
         reader: &mut R,

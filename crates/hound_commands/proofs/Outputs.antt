@@ -68,7 +68,7 @@ gets-stopped old mid new text buffered (first, text_is, front) (part, begins, ba
 -- what a write that failed leaves
 pub part-written : (text : List ℕ) (old new : Option (List ℕ))
     → (n : ℕ) × (n < length text) × Appends old new (take n text) → GetsBeginning old new text
-part-written text old new (n, short, all) = grind (arith, common_steps)
+part-written text old new (n, fewer, all) = grind (arith, common_steps)
 
 -- a failed write of a buffer leaves a beginning of all that its text begins
 pub stopped-within : {T E : Type 0} (result : Result T E) (old mid new : Option (List ℕ)) (text buffered whole : List ℕ)

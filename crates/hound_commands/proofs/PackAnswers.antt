@@ -69,7 +69,7 @@ module _ {W : Type 0} (s : WavSpecEx) (integers : s.spec.sample_format ≡ Int) 
       subst (λ f. IsPair f s.spec.bits_per_sample s.bytes_per_sample) integers begun.writable.pair
 
   nothing : data_length first ≡ 0
-  nothing = λ i. begun.none_out i + length (begun.none_waits i)
+  nothing = λ i. begun.none_out i + length (begun.none_buffered i)
 
   -- whether there is room for containers
   room_is : (cs : List (List ℕ))

@@ -4,7 +4,7 @@ use Rattle.std.proofs.lemmas.Option.{IfSome_then}
 use Rattle.std.specs.Io.KnownBytes.{Appends, Keeps}
 use Rattle.std.proofs.Transfers.{starts_with_of_eq, starts_with_trans}
 use Rattle.hound_number.specs.{WhereKnown}
-use Rattle.hound_sample.specs.{ReadRefusal, other_format, wider, other_pair, int_meaning, items_of, Reads, error_of_read}
+use Rattle.hound_sample.specs.{ReadRefusal, other_format, misfit, int_meaning, items_of, Reads, error_of_read}
 use Rattle.hound_reader.specs.{ReaderState, meaning_at, refusal_at, GivesItems, IsRefusal, Readable, Unreadable}
 use Rattle.std.specs.List.{flat_map}
 use Rattle.hound_reader.specs.declared.cause.Cause.TheVariants as causes
@@ -214,8 +214,8 @@ read_stops {A} s zero count (Some refusal) meaning error (Some xs) (Some ys) nex
   where
     of : (r : ReadRefusal) → show_refusal s ≡ Some r → StopsAt s count (failure_of (error_of_read r)) xs first first
     of other_format shows = (within, (other_format, shows, refl), refl)
-    of wider shows = (within, (wider, shows, refl), refl)
-    of other_pair shows = (within, (other_pair, shows, refl), refl)
+    of (misfit too_wide) shows = (within, (misfit too_wide, shows, refl), refl)
+    of (misfit unsupported) shows = (within, (misfit unsupported, shows, refl), refl)
 read_stops s k count None meaning (errors.IoError e) (Some xs) (Some ys) next old new first text lines within same shown got read =
     read_part s k count (Some xs) (Some ys) old new first text lines (omega (arith, within)) shown got
 read_stops s k count None meaning _ (Some xs) (Some ys) next old new first text lines within same shown got read = absurd read

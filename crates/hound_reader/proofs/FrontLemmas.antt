@@ -39,9 +39,9 @@ front_cut h k o m n (Refused c) taken room part (is, end) =
     (known_then h o m n _ (λ xs ys. AreTaken (length xs) xs ys) taken end
     (λ ys zs p. (omega arith, p.1 ∙ sym (drop-length (h ++ ys)))))
 
-ended_short : (xs : List ℕ) → front_fault xs ≡ Some Ended → length xs < 12
+ends_in_front : (xs : List ℕ) → front_fault xs ≡ Some Ended → length xs < 12
 unfolding front_fault
-ended_short xs e = grind (arith, common_steps)
+ends_in_front xs e = grind (arith, common_steps)
 
 no_unsupported : (xs : List ℕ) → front_fault xs ≡ Some Unsupported → ⊥
 unfolding front_fault
@@ -50,7 +50,7 @@ no_unsupported xs e = grind (arith, common_steps)
 -- what callers get for it
 told : (e : HeadError) (error : Error) (xs ys : List ℕ) → ReportsError e error
     → Refuses e (λ c. front_fault xs ≡ Some c) → TakesFront e xs ys → ReportsFront error xs ys
-told e error xs ys r f t = grind (arith, common_steps, ended_short, no_unsupported)
+told e error xs ys r f t = grind (arith, common_steps, ends_in_front, no_unsupported)
 
 pub front_told : (e : HeadError) (error : Error) (o n : Option (List ℕ)) → ReportsError e error
     → Refuses e (λ c. WhereKnown o n (λ xs ys. front_fault xs ≡ Some c)) → WhereKnown o n (TakesFront e)

@@ -27,8 +27,8 @@ empty (y ∷ ys) e = absurd (omega (arith, e))
 pub refuses_at : (e : HeadError) (c : Cause) (P : Cause → Type 0) → e ≡ Caused c → Refuses e P → P c
 refuses_at e c P is r = subst (λ d. Refuses d P) is r
 
-cut_short : (n : ℕ) (after : List ℕ) → length after < n → cut_fault n after ≡ Some Ended
-cut_short n after less = grind (arith, common_steps)
+cut_at_end : (n : ℕ) (after : List ℕ) → length after < n → cut_fault n after ≡ Some Ended
+cut_at_end n after less = grind (arith, common_steps)
 
 -- the first twelve bytes of a file decide its front
 pub front_fault_of : (file : List ℕ) (c : Cause) → front_fault (take 12 file) ≡ Some c
@@ -67,10 +67,10 @@ pub over_fault : (c : ℕ) (found : Option WavSpecEx) (rest : List ℕ) → grea
 unfolding chunk_fault
 over_fault c found rest over = grind (arith, common_steps)
 
-pub short_fault : (c : ℕ) (found : Option WavSpecEx) (rest : List ℕ) → c + 8 ≤ greatest_u32
+pub header_cut : (c : ℕ) (found : Option WavSpecEx) (rest : List ℕ) → c + 8 ≤ greatest_u32
     → length (take 8 rest) < 8 → chunk_fault c found rest ≡ Some Ended
 unfolding chunk_fault
-short_fault c found rest room less = grind (arith, common_steps)
+header_cut c found rest room less = grind (arith, common_steps)
 
 pub header_fault : (c : ℕ) (found : Option WavSpecEx) (rest h : List ℕ) → c + 8 ≤ greatest_u32
     → h ≡ take 8 rest → 8 ≤ length h
@@ -143,7 +143,7 @@ cut_off c found tag size after len tag_four four says other limit sound less =
     let room = le-ltb greatest_u32 (c + 8) (omega (arith, limit)) in
     let within = le-ltb greatest_u32 (c + 8 + padded len) limit in
     rw (room, enough, is_tag, is_size, is_rest, says, other, within, sound)
-    (cut_short (padded len) after less)
+    (cut_at_end (padded len) after less)
 
 -- a whole chunk after whole chunks, or the file ends inside it
 pub passed : (file tag size after : List ℕ) (found next : Option WavSpecEx) (c len : ℕ)

@@ -11,7 +11,7 @@ use Rattle.hound_medium.specs.{MediumState, Shifts, IsMoved}
 use Rattle.std.proofs.lemmas.Option.{same_Some}
 use Rattle.hound_spec.specs.declared.spec.WavSpecEx.{WavSpecEx}
 use Rattle.hound_reader.specs.Reader.{ReaderState, IsNext, CountsTaken, refusal_at, meaning_at}
-use Rattle.hound_reader.specs.Seeking.{HasSought, Seeks, StandsAsCounted, IsAtCount, ReadsInPlace, PassesItem, Follows, IsMeaningOf, container_at, samples_before, bytes_before}
+use Rattle.hound_reader.specs.Seeking.{HasSought, Seeks, IsWhereCounted, IsAtCount, ReadsInPlace, PassesItem, Follows, IsMeaningOf, container_at, samples_before, bytes_before}
 use Rattle.hound_reader.specs.Sources.{unread}
 use Rattle.hound_spec.specs.{greatest_u32}
 
@@ -84,32 +84,32 @@ module _ {R A : Type 0} (state : R → MediumState) (left : R → Option (List �
 
 module _ {R : Type 0} (left : R → Option (List ℕ)) where
   -- what an item took is counted
-  pub took_counted : (bytes : List ℕ) (old new : ReaderState R) → StandsAsCounted left bytes old
-      → CountsTaken left old new → StandsAsCounted left bytes new
-  took_counted bytes old new stands (n, count, known) = grind (arith, common_steps)
+  pub took_counted : (bytes : List ℕ) (old new : ReaderState R) → IsWhereCounted left bytes old
+      → CountsTaken left old new → IsWhereCounted left bytes new
+  took_counted bytes old new in_place (n, count, known) = grind (arith, common_steps)
 
   -- an item leaves the rest as counted
   pub item_counted : {A : Type 0} (refusal : SampleFormat → ℕ → ℕ → Option ReadRefusal)
       (meaning : SampleFormat → ℕ → ℕ → List ℕ → A) (bytes : List ℕ) (old new : ReaderState R)
-      (next : Option (Result A Error)) → StandsAsCounted left bytes old
-      → IsNext left refusal meaning next old new → StandsAsCounted left bytes new
-  item_counted refusal meaning bytes old new next stands step = grind (arith, common_steps)
+      (next : Option (Result A Error)) → IsWhereCounted left bytes old
+      → IsNext left refusal meaning next old new → IsWhereCounted left bytes new
+  item_counted refusal meaning bytes old new next in_place step = grind (arith, common_steps)
 
 module _ {R : Type 0} (left : R → Option (List ℕ)) (state : R → MediumState) where
   -- and so does an Ok seek that doesn't go back
   pub ahead_counted : (bytes : List ℕ) (time : ℕ) (old new : ReaderState R)
       → left old.reader ≡ Some (unread (state old.reader))
-      → left new.reader ≡ Some (unread (state new.reader)) → StandsAsCounted left bytes old
+      → left new.reader ≡ Some (unread (state new.reader)) → IsWhereCounted left bytes old
       → Seeks state time old new
-      → old.bytes_read ≤ bytes_before time old.spec_ex → StandsAsCounted left bytes new
-  ahead_counted bytes time old new before behind stands seeks ahead =
+      → old.bytes_read ≤ bytes_before time old.spec_ex → IsWhereCounted left bytes new
+  ahead_counted bytes time old new before behind in_place seeks ahead =
       let from = old.bytes_read in
       let to = bytes_before time old.spec_ex in
       let p = (state old.reader).place in
       let c = (state old.reader).contents in
       let e = moved p (state new.reader).place (pos to -ℤ pos from) seeks.source.place in
       let q : (state new.reader).place ≡ p + (to - from) = omega (arith, ints, e, ahead) in
-      let here : drop p c ≡ drop from bytes = same_Some _ _ (sym before ∙ stands) in
+      let here : drop p c ≡ drop from bytes = same_Some _ _ (sym before ∙ in_place) in
       let sum : from + (to - from) ≡ to = omega (arith, ahead) in
       behind ∙ ap Some (ap (λ n. drop n (state new.reader).contents) q
       ∙ ap (drop (p + (to - from))) seeks.source.stays.contents
@@ -127,21 +127,21 @@ module _ {R : Type 0} (left : R → Option (List ℕ)) (state : R → MediumStat
     -- the source moved by what the item counts
     passed : (start : ℕ) (old new : ReaderState R) → IsAtCount state start old
         → PassesItem left state old new → IsAtCount state start new
-    passed start old new stood step = grind (arith, common_steps)
+    passed start old new at_count step = grind (arith, common_steps)
 
     -- after all calls the source is at the place counted, over the same contents
-    pub stands_after : (start : ℕ) (calls : List (Option ℕ)) (old new : ReaderState R)
+    pub counted_after : (start : ℕ) (calls : List (Option ℕ)) (old new : ReaderState R)
         → IsAtCount state start old → Follows left state calls old new
         → IsAtCount state start new × ((state new.reader).contents ≡ (state old.reader).contents)
         × (new.spec_ex ≡ old.spec_ex) × (new.num_samples ≡ old.num_samples)
-    stands_after start [] old new stood run = grind (arith, common_steps)
-    stands_after start (None ∷ calls) old new stood (mid, step, run) =
-        let p = stands_after start calls mid new (passed start old mid stood step) run in
+    counted_after start [] old new at_count run = grind (arith, common_steps)
+    counted_after start (None ∷ calls) old new at_count (mid, step, run) =
+        let p = counted_after start calls mid new (passed start old mid at_count step) run in
         (p.0, p.1 ∙ step.in_place.contents, p.2 ∙ step.spec_ex, p.3 ∙ step.num_samples)
-    stands_after start (Some time ∷ calls) old new stood (mid, step, run) =
-        let p = stands_after start calls mid new
+    counted_after start (Some time ∷ calls) old new at_count (mid, step, run) =
+        let p = counted_after start calls mid new
         (sought_counted state start time old mid
-        (record { stood = stood; seeks = step })) run in (
+        (record { at_count = at_count; seeks = step })) run in (
           p.0,
           p.1 ∙ step.source.stays.contents,
           p.2 ∙ step.counts.spec_ex,
@@ -161,7 +161,7 @@ module _ {R : Type 0} (left : R → Option (List ℕ)) (state : R → MediumStat
         (unread (state first.reader))) next
     item_after {A} refusal meaning calls time first old mid new next fresh run seeks t taken step =
         let start = (state first.reader).place in
-        let p = stands_after start calls first old (omega (arith, fresh)) run in
+        let p = counted_after start calls first old (omega (arith, fresh)) run in
         let bytes = drop start (state old.reader).contents in
         let P : WavSpecEx → List ℕ → Type 0 =
         λ s l. IsMeaningOf (meaning_at meaning s)
@@ -170,5 +170,5 @@ module _ {R : Type 0} (left : R → Option (List ℕ)) (state : R → MediumStat
         let takes : refusal_at refusal old.spec_ex ≡ None = rw p.2 taken in
         let there =
         sought_item state left refusal meaning start time old mid new next (told mid.reader)
-        (record { stood = p.0; seeks = seeks }) inside takes step in
+        (record { at_count = p.0; seeks = seeks }) inside takes step in
         subst (λ l. P first.spec_ex l) (ap (drop start) p.1) (subst (λ s. P s bytes) p.2 there)

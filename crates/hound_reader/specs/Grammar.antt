@@ -29,11 +29,11 @@ joined ps = flat_map chunk_bytes ps
 -- the spec or the fault of an answer
 abbrev pub ok_of : Result WavSpecEx Cause → Option WavSpecEx
 ok_of (Ok found) = Some found
-ok_of (Err c) = None
+ok_of (Err cause) = None
 
 abbrev pub fault_of : Result WavSpecEx Cause → Option Cause
 fault_of (Ok found) = None
-fault_of (Err c) = Some c
+fault_of (Err cause) = Some cause
 
 -- the fault of the content, if it is that of a fmt chunk and has one
 abbrev pub fmt_fault : List ℕ → ℕ → List ℕ → Option Cause
@@ -48,11 +48,11 @@ pub record IsChunk (p : Chunk) : Type 0 where
   pub other : bytes_eq p.tag data_tag ≡ false
   pub sound : fmt_fault p.tag (number p.size) p.content ≡ None
 
--- Chunks from c bytes after the WAVE tag on, each within the limit of 32 bits.
+-- Chunks, so many bytes after the WAVE tag, each within the limit of 32 bits.
 abbrev pub Chunks : ℕ → List Chunk → Type 0
-Chunks c [] = Unit {0}
-Chunks c (p ∷ ps) = IsChunk p × (c + 8 + padded (number p.size) ≤ greatest_u32)
-    × Chunks (c + length (chunk_bytes p)) ps
+Chunks taken [] = Unit {0}
+Chunks taken (p ∷ ps) = IsChunk p × (taken + 8 + padded (number p.size) ≤ greatest_u32)
+    × Chunks (taken + length (chunk_bytes p)) ps
 
 -- the spec after a chunk, and after chunks: that of the last fmt chunk
 unfoldable pub spec_after : Option WavSpecEx → List ℕ → ℕ → List ℕ → Option WavSpecEx
@@ -70,9 +70,9 @@ pub record Walk (bytes : List ℕ) (chunks : List Chunk) (rest : List ℕ) : Typ
   pub whole : bytes ≡ riff_tag ++ (size ++ (wave_tag ++ (joined chunks ++ rest)))
   pub each : Chunks 0 chunks
 
--- The first h bytes are a head: chunks, and the tag and length of a data chunk. The last fmt chunk
+-- The bytes before `data_start` are a head: chunks, and the tag and length of a data chunk. The last fmt chunk
 -- has this spec.
-pub record Head (bytes : List ℕ) (spec : WavSpecEx) (len h : ℕ) : Type 0 where
+pub record Head (bytes : List ℕ) (spec : WavSpecEx) (len data_start : ℕ) : Type 0 where
   pub chunks : List Chunk
   pub size : List ℕ
   pub rest : List ℕ
@@ -81,11 +81,11 @@ pub record Head (bytes : List ℕ) (spec : WavSpecEx) (len h : ℕ) : Type 0 whe
   pub data_len : number size ≡ len
   pub limit : length (joined chunks) + 8 ≤ greatest_u32
   pub spec_is : last_spec None chunks ≡ Some spec
-  pub place : h ≡ 12 + length (joined chunks) + 8
+  pub place : data_start ≡ 12 + length (joined chunks) + 8
 
 -- where data can begin: after the front and a chunk's header, and within the limit
 abbrev pub IsDataPlace : ℕ → Type 0
-IsDataPlace h = (20 ≤ h) × (h ≤ 20 + greatest_u32)
+IsDataPlace place = (20 ≤ place) × (place ≤ 20 + greatest_u32)
 
 -- The fault of the first twelve bytes, if they have one.
 unfoldable pub front_fault : List ℕ → Option Cause
@@ -99,26 +99,26 @@ front_fault bytes =
 -- the first of two faults
 abbrev pub first_fault : Option Cause → Option Cause → Option Cause
 first_fault None second = second
-first_fault (Some c) second = Some c
+first_fault (Some cause) second = Some cause
 
 -- the fault if there are fewer bytes than these
 abbrev pub cut_fault : ℕ → List ℕ → Option Cause
 cut_fault n bytes = if nat_lt (length bytes) n then Some Ended else None
 
--- The fault of a chunk with this tag and length, and the rest after them, if c bytes and a spec
--- so far came before.
+-- The fault of a chunk with this tag and length, and the rest after them, if so many
+-- bytes after the WAVE tag, and a spec so far, came before.
 unfoldable pub content_fault : ℕ → Option WavSpecEx → List ℕ → ℕ → List ℕ → Option Cause
-content_fault c found tag len rest =
+content_fault taken found tag len rest =
     if bytes_eq tag data_tag then (if is_none found then Some (Format NoFmtChunk) else None)
-    else if nat_lt greatest_u32 (c + 8 + padded len) then Some (Format NoDataChunk)
+    else if nat_lt greatest_u32 (taken + 8 + padded len) then Some (Format NoDataChunk)
     else first_fault (fmt_fault tag len (take (padded len) rest)) (cut_fault (padded len) rest)
 
 -- The fault of a chunk that begins here, if it has one.
 unfoldable pub chunk_fault : ℕ → Option WavSpecEx → List ℕ → Option Cause
-chunk_fault c found bytes =
-    if nat_lt greatest_u32 (c + 8) then Some (Format NoDataChunk)
+chunk_fault taken found bytes =
+    if nat_lt greatest_u32 (taken + 8) then Some (Format NoDataChunk)
     else if nat_lt (length bytes) 8 then Some Ended
-    else content_fault c found (take 4 bytes) (number (slice_range bytes 4 8)) (drop 8 bytes)
+    else content_fault taken found (take 4 bytes) (number (slice_range bytes 4 8)) (drop 8 bytes)
 
 -- The bytes have no head for this cause: the first twelve bytes have it, or what comes after
 -- whole chunks has it.
@@ -136,16 +136,16 @@ data_fault spec len =
     else None
 
 -- A head with whole frames: this many samples follow it.
-pub record Readable (bytes : List ℕ) (spec : WavSpecEx) (samples h : ℕ) : Type 0 where
+pub record Readable (bytes : List ℕ) (spec : WavSpecEx) (samples data_start : ℕ) : Type 0 where
   pub len : ℕ
-  pub head : Head bytes spec len h
+  pub head : Head bytes spec len data_start
   pub frames : data_fault spec len ≡ None
   pub count : samples ≡ len / spec.bytes_per_sample
 
 -- The bytes can't be read for this cause: they have no head, or its data length is at fault.
 abbrev pub Unreadable : List ℕ → Cause → Type 0
 Unreadable bytes cause = Refused bytes cause
-    ⊎ ((spec : WavSpecEx) × (len : ℕ) × (h : ℕ) × Head bytes spec len h
+    ⊎ ((spec : WavSpecEx) × (len : ℕ) × (data_start : ℕ) × Head bytes spec len data_start
     × (data_fault spec len ≡ Some cause))
 
 -- containers of the width of a spec, in whole frames, whose bytes 32 bits can count
@@ -161,7 +161,7 @@ pub data Answer : Type 0 where
 
 -- the bytes have this head, with the data's length, or none for this cause
 abbrev pub Answers : List ℕ → Answer → Type 0
-Answers bytes (readable spec len h) = Head bytes spec len h
+Answers bytes (readable spec len data_start) = Head bytes spec len data_start
 Answers bytes (unreadable cause) = Refused bytes cause
 
 -- the bytes have exactly one head, or exactly one cause
@@ -170,7 +170,7 @@ HasOneAnswer bytes = (a : Answer) × Answers bytes a × ((b : Answer) → Answer
 
 -- the bytes can be read, with this many samples, or not for this cause
 abbrev pub AnswersFile : List ℕ → Answer → Type 0
-AnswersFile bytes (readable spec samples h) = Readable bytes spec samples h
+AnswersFile bytes (readable spec samples data_start) = Readable bytes spec samples data_start
 AnswersFile bytes (unreadable cause) = Unreadable bytes cause
 
 -- the bytes can be read with exactly one spec, count and place, or not for exactly one cause

@@ -8,7 +8,7 @@ pub use Rattle.hound_reader.specs.Reader.{AnswersNext, AnswersRead, AnswersReadM
 pub use Rattle.hound_reader.specs.Refusals.{FailsAs, IsRefusal, Names, OpensAs, ReportsError, reason_text}
 pub use Rattle.hound_reader.specs.Samples.{LendsNext, TakesNext, lender, lent_reader, taken_reader}
 pub use Rattle.hound_reader.specs.Sources.{AnswersBytes, FindsData, Untouched, account_of, faults_after_walk, unread}
-pub use Rattle.hound_reader.specs.Seeking.{Follows, HasSought, IsAtCount, IsMeaningOf, PassesItem, ReadsInPlace, Recounts, Seeks, StandsAsCounted, bytes_before, container_at, count_after, samples_before, way_to}
+pub use Rattle.hound_reader.specs.Seeking.{Follows, HasSought, IsAtCount, IsMeaningOf, IsWhereCounted, PassesItem, ReadsInPlace, Recounts, Seeks, bytes_before, container_at, count_after, samples_before, way_to}
 pub use Rattle.hound_reader.specs.Parts.{IsAfter, IsAhead, IsAt, IsAtPart, IsNearer, IsSoundStep, LeadsTo, Reaches, part_bytes, part_length, part_start, parts_left}
 pub mod Fmt
 pub mod Grammar

@@ -48,12 +48,12 @@ IsAtCount state start reading = (state reading.reader).place ≡ start + reading
 -- `seek` was Ok, over a source whose bytes are known and whose place was the counted one
 pub record HasSought {R : Type 0} (state : R → MediumState) (start time : ℕ)
     (old new : ReaderState R) : Type 0 where
-  pub stood : IsAtCount state start old
+  pub at_count : IsAtCount state start old
   pub seeks : Seeks state time old new
 
 -- what is left to be read are the data after the bytes that the reader counts as taken
-abbrev pub StandsAsCounted : {R : Type 0} → (R → Option (List ℕ)) → List ℕ → ReaderState R → Type 0
-StandsAsCounted left bytes reading = left reading.reader ≡ Some (drop reading.bytes_read bytes)
+abbrev pub IsWhereCounted : {R : Type 0} → (R → Option (List ℕ)) → List ℕ → ReaderState R → Type 0
+IsWhereCounted left bytes reading = left reading.reader ≡ Some (drop reading.bytes_read bytes)
 
 -- reads of a source moved its place by what they took, and left its contents
 pub record ReadsInPlace (old new : MediumState) : Type 0 where

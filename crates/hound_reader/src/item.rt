@@ -25,10 +25,10 @@ pub(crate) fn error_of_item(no_sample: ItemError, fault: &io::Error) -> Error
     if let ItemError::OtherFormat = no_sample {
         error = Error::InvalidSampleFormat;
     }
-    if let ItemError::Wider = no_sample {
+    if let ItemError::TooWide = no_sample {
         error = Error::TooWide;
     }
-    if let ItemError::OtherPair = no_sample {
+    if let ItemError::Unsupported = no_sample {
         error = Error::Unsupported;
     }
     error
@@ -57,12 +57,12 @@ fn keep_end(fault: &mut io::Error) {
 /// An `io::Error` is large, and a read that is not inlined passes it in memory. So the one call
 /// of `read` returns a number, and the fault goes straight from here to where it is reported.
 #[derive(Drop)]
-pub(crate) struct KeepingReader<R> {
+pub(crate) struct SavingReader<R> {
     pub(crate) reader: R,
     pub(crate) fault: io::Error,
 }
 
-impl<R: io::Read> KeepingReader<R> {
+impl<R: io::Read> SavingReader<R> {
     /// How many bytes a read gives, or more than the buffer has if it fails. The fault is saved,
     /// and so is the end.
     #[inline]
@@ -144,7 +144,7 @@ impl CountStart for Brand {
 /// may read an item however it likes, and a later `seek` has to know what was really taken.
 #[derive(Drop)]
 pub(crate) struct CountingReader<'a, R: io::Read, B: CountStart> {
-    pub(crate) reader: &'a mut KeepingReader<R>,
+    pub(crate) reader: &'a mut SavingReader<R>,
     pub(crate) given: u64,
     pub(crate) since: PhantomData<B>,
     ghost counts: { HasGiven B.left given (R.remaining reader.now.reader) } by { HasGiven-prop B.left given (R.remaining reader.now.reader) },
@@ -185,10 +185,10 @@ impl<R: io::Read, B: CountStart> ContainerReader for CountingReader<'_, R, B> {
 /// where counting begins now. The reference comes back so that contracts know it for the same.
 #[inline(always)]
 pub(crate) fn read_item_since<'a, R: io::Read, S: Sample, B: CountStart>(
-    reader: &'a mut KeepingReader<R>,
+    reader: &'a mut SavingReader<R>,
     spec_ex: WavSpecEx,
     answer: &mut result::Result<S, ItemError>,
-) -> (&'a mut KeepingReader<R>, u64)
+) -> (&'a mut SavingReader<R>, u64)
     requires left { B.left ≡ R.remaining reader.now.reader }
     requires lender { B.lender ≡ reader.ghost_name }
     ensures answers { AnswersRead S.refusal S.meaning spec_ex (R.remaining reader.entry.now.reader)
@@ -245,11 +245,11 @@ fn read_many<R: io::Read, S: Sample>(
 /// Reads samples as [`read_item_since`] does, those that are requested at once.
 #[inline(always)]
 pub(crate) fn read_many_since<'a, R: io::Read, S: Sample, B: CountStart>(
-    reader: &'a mut KeepingReader<R>,
+    reader: &'a mut SavingReader<R>,
     spec_ex: WavSpecEx,
     samples: &mut [S],
     answer: &mut (usize, result::Result<(), ItemError>),
-) -> (&'a mut KeepingReader<R>, u64)
+) -> (&'a mut SavingReader<R>, u64)
     requires left { B.left ≡ R.remaining reader.now.reader }
     requires lender { B.lender ≡ reader.ghost_name }
     ensures answers { AnswersReadMany S.refusal S.meaning spec_ex

@@ -6,7 +6,7 @@ ghost use Rattle.hound_spec.specs.declared.spec.WavSpecEx.{WavSpecEx};
 ghost use Rattle.hound_reader.specs.Grammar.{HasOneAnswer, HasOneFileAnswer, Head, Readable, AreContainers};
 ghost use Rattle.hound_reader.specs.Reader.{GivesItemsOfBytes, ReadsBlock, over_bytes, AreItems, GivesItems, ReaderState, IsNext, refusal_at, meaning_at, samples_left};
 ghost use Rattle.hound_sample.specs.{containers};
-ghost use Rattle.hound_reader.specs.Seeking.{HasSought, Seeks, StandsAsCounted, IsAtCount, ReadsInPlace, PassesItem, Follows, IsMeaningOf, container_at, samples_before, bytes_before};
+ghost use Rattle.hound_reader.specs.Seeking.{HasSought, Seeks, IsWhereCounted, IsAtCount, ReadsInPlace, PassesItem, Follows, IsMeaningOf, container_at, samples_before, bytes_before};
 ghost use Rattle.hound_reader.specs.Sources.{unread};
 ghost use Rattle.hound_spec.specs.declared.error.Error.{Error};
 
@@ -79,19 +79,19 @@ pub fn a_block_is_its_items<R: io::Read, S: Sample>()
 /// A reader counts the bytes that its items took, whether they were read, rejected or torn: what is
 /// left are the data after these bytes. This still holds after an Ok `seek` that doesn't go back,
 /// and after any `seek` over a source whose reads only move its place.
-pub fn a_reader_stands_as_counted<R: Source, S: Sample>()
+pub fn a_reader_is_where_it_counts<R: Source, S: Sample>()
     ensures item { (bytes : List ℕ) (old new : ReaderState R) (next : Option (Result S Error)) →
-        StandsAsCounted R.remaining bytes old → IsNext R.remaining S.refusal S.meaning next old
+        IsWhereCounted R.remaining bytes old → IsNext R.remaining S.refusal S.meaning next old
         new →
-        StandsAsCounted R.remaining bytes new }
+        IsWhereCounted R.remaining bytes new }
     ensures block { (bytes : List ℕ) (old new : ReaderState R) (count : ℕ)
         (result : Result (Unit {0}) Error) (before after : List S) →
-        StandsAsCounted R.remaining bytes old →
+        IsWhereCounted R.remaining bytes old →
         ReadsBlock R.remaining S.refusal S.meaning count result before after old new →
-        StandsAsCounted R.remaining bytes new }
+        IsWhereCounted R.remaining bytes new }
     ensures ahead { (bytes : List ℕ) (time : ℕ) (old new : ReaderState R) → WhereTells R.tells (
-        StandsAsCounted R.remaining bytes old → Seeks R.state time old new →
-        old.bytes_read ≤ bytes_before time old.spec_ex → StandsAsCounted R.remaining bytes new) }
+        IsWhereCounted R.remaining bytes old → Seeks R.state time old new →
+        old.bytes_read ≤ bytes_before time old.spec_ex → IsWhereCounted R.remaining bytes new) }
     ensures passes { (old new : ReaderState R) (item : Result S Error) →
         IsNext R.remaining S.refusal S.meaning (Some item) old new →
         ReadsInPlace (R.state old.reader) (R.state new.reader) →

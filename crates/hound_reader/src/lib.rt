@@ -19,7 +19,7 @@ pub use cause::{Cause, HeadError, Reason, error_of};
 pub use chunks::{ChunkRead, FileHead, find_data, read_until_data};
 pub use input::Counted;
 pub use laws::{
-    a_block_is_its_items, a_reader_stands_as_counted, a_seek_leads_to_its_frame,
+    a_block_is_its_items, a_reader_is_where_it_counts, a_seek_leads_to_its_frame,
     an_iterator_gives_what_it_hints, items_are_of_the_file, one_answer, written_is_head,
     written_is_read,
 };

@@ -15,7 +15,7 @@ ghost use Rattle.hound_reader.specs.Samples.{lent_reader, lender, taken_reader};
 
 use crate::cause::{Cause, HeadError, error_of};
 use crate::chunks::{FileHead, read_riff_header, read_until_data};
-use crate::item::{KeepingReader, error_of_item, read_item_since, read_many_since, taken_without};
+use crate::item::{SavingReader, error_of_item, read_item_since, read_many_since, taken_without};
 use crate::parts::count_samples;
 use crate::samples::{WavIntoSamples, WavSamples};
 use hound_medium::{Placed, Source};
@@ -80,7 +80,7 @@ pub fn read_wave_header<R: io::Read>(reader: &mut R) -> Result<u64>
 /// ```
 #[derive(Drop)]
 pub struct WavReader<R> {
-    reader: KeepingReader<R>,
+    reader: SavingReader<R>,
     spec_ex: WavSpecEx,
     num_samples: u32,
     samples_read: u64,
@@ -137,7 +137,7 @@ impl<R: io::Read + Drop> WavReader<R> {
         let fault = io::Error::from(ErrorKind::Other);
         match read_until_samples(&mut reader) {
             Ok((head, num_samples)) => Ok(WavReader {
-                reader: KeepingReader { reader, fault },
+                reader: SavingReader { reader, fault },
                 spec_ex: head.spec_ex,
                 num_samples,
                 samples_read: 0,

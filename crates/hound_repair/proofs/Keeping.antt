@@ -120,14 +120,14 @@ module _ (looks : Bool) (old new : MediumState) (found : Repair)
       }
 
 -- samples that are stored are read first once a file is repaired
-pub keeps_stored : (looks : Bool) (old new : MediumState) (found : Repair) (s : WavSpecEx)
+pub stays_stored : (looks : Bool) (old new : MediumState) (found : Repair) (s : WavSpecEx)
     (len start : ℕ) (list : List (List ℕ)) → Repairs looks old found new
     → (IsTrue looks → found.was ≡ HasChunksAfterData → ⊥) → Head old.contents s len start
     → IsSoundSpec s → AllByRecursion (λ c. length c ≡ s.bytes_per_sample) list
     → IsStored start (concat list) 0 (length (concat list)) old.contents
     → IsNoPad s len (held start old.contents) list
     → (found.spec_ex ≡ s) × ReadsFrames found start list new.contents
-keeps_stored looks old new found s len start list r alone head sound wide stored no_pad =
+stays_stored looks old new found s len start list r alone head sound wide stored no_pad =
     let agree = heads_agree old.contents found.spec_ex s r.len len r.start start r.is.head head in
     let bytes = concat list in (
       agree.0,

@@ -8,24 +8,24 @@ use Rattle.hound_spec.specs.declared.spec.SampleFormat.TheVariants.{Int, Float}
 use Rattle.hound_spec.specs.declared.error.Error.{Error}
 use Rattle.hound_spec.specs.declared.error.Error.TheVariants.{IoError, TooWide, Unsupported, InvalidSampleFormat}
 use Rattle.std.specs.declared.io.Error.{Error as IoFault}
+use Rattle.hound_sample.specs.Container.{Refusal, too_wide, unsupported, error_of}
 use Rattle.hound_sample.specs.declared.item.ItemError.{ItemError}
-use Rattle.hound_sample.specs.declared.item.ItemError.TheVariants.{Failed, OtherFormat, Wider, OtherPair}
+use Rattle.hound_sample.specs.declared.item.ItemError.TheVariants as items
 
--- why a type doesn't read samples: they are of another format, wider than the type, or have bits
--- and bytes that it doesn't read
+-- why a type doesn't read samples: they are of another format, too wide for it, or have bits and bytes
+-- that it doesn't read
 pub data ReadRefusal : Type 0 where
   other_format : ReadRefusal
-  wider : ReadRefusal
-  other_pair : ReadRefusal
+  misfit : Refusal → ReadRefusal
 
 -- why an integer type of so many bytes doesn't read samples of a format, a width and used bits, if
 -- it doesn't
 abbrev pub int_refusal : ℕ → SampleFormat → ℕ → ℕ → Option ReadRefusal
 int_refusal most Float width bits = Some other_format
 int_refusal most Int width bits =
-    if nat_lt most width then Some wider
+    if nat_lt most width then Some (misfit too_wide)
     else if is_pair Int bits width then None
-    else Some other_pair
+    else Some (misfit unsupported)
 
 -- the integer of a container: one byte counts from -128; more are signed, and those after the used
 -- bits mean nothing
@@ -35,16 +35,16 @@ int_meaning width bits container =
     else signed_number (take (bits / 8) container)
 
 -- the lowest sixteen bits as a signed number: the two low bytes of the four
-abbrev pub low_short : ℤ → ℤ
-low_short v = signed_number (take 2 (signed_bytes_of 4 v))
+abbrev pub low_i16 : ℤ → ℤ
+low_i16 v = signed_number (take 2 (signed_bytes_of 4 v))
 
 -- why a pattern of 32 bits isn't read from samples of a format, a width and used bits, if it isn't
 abbrev pub float_refusal : SampleFormat → ℕ → ℕ → Option ReadRefusal
 float_refusal Int width bits = Some other_format
 float_refusal Float width bits =
-    if nat_lt 4 width then Some wider
+    if nat_lt 4 width then Some (misfit too_wide)
     else if is_pair Float bits width then None
-    else Some other_pair
+    else Some (misfit unsupported)
 
 -- the pattern of a container of four bytes
 abbrev pub pattern : List ℕ → ℕ
@@ -53,8 +53,7 @@ pattern container = number container
 -- the error for why a type doesn't read samples
 abbrev pub error_of_read : ReadRefusal → Error
 error_of_read other_format = InvalidSampleFormat
-error_of_read wider = TooWide
-error_of_read other_pair = Unsupported
+error_of_read (misfit refusal) = error_of refusal
 
 -- Ok if a type reads samples, else the error
 abbrev pub read_error : Option ReadRefusal → Result (Unit {0}) Error
@@ -88,17 +87,17 @@ Reads None meaning width old new result = ReadsContainer meaning width old new r
 
 -- the reason that an error of `read` gives
 abbrev pub reason_of : Error → ItemError
-reason_of (IoError fault) = Failed
-reason_of InvalidSampleFormat = OtherFormat
-reason_of TooWide = Wider
-reason_of _ = OtherPair
+reason_of (IoError fault) = items.Failed
+reason_of InvalidSampleFormat = items.OtherFormat
+reason_of TooWide = items.TooWide
+reason_of _ = items.Unsupported
 
 -- the error of that reason, with this saved fault
 abbrev pub error_of_item : ItemError → IoFault → Error
-error_of_item Failed fault = IoError fault
-error_of_item OtherFormat fault = InvalidSampleFormat
-error_of_item Wider fault = TooWide
-error_of_item OtherPair fault = Unsupported
+error_of_item items.Failed fault = IoError fault
+error_of_item items.OtherFormat fault = InvalidSampleFormat
+error_of_item items.TooWide fault = TooWide
+error_of_item items.Unsupported fault = Unsupported
 
 -- what `read` returns, with this fault
 abbrev pub answer_of : {A : Type 0} → Result A ItemError → IoFault → Result A Error

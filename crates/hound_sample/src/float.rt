@@ -81,7 +81,7 @@ impl Sample for FloatBits {
 
     ghost can_cast = { λ _. ⊥ };
 
-    ghost as_short = { λ _. pos 0 };
+    ghost cast_value = { λ _. pos 0 };
 
     #[inline(always)]
     fn read<R: io::Read>(

@@ -2,7 +2,7 @@
 ghost use Rattle.std.specs.Prelude.{◌≡◌, ◌<◌, ◌≤◌, ◌++◌, ◌∷◌, [], ℤ, take, None, Ok, Err, IsOk, if◌then◌else◌};
 ghost use Rattle.hound_number.specs.{signed_bytes_of};
 ghost use Rattle.hound_sample.specs.Container.{fits, if_fits, offset_byte, int_container, IsEncoded};
-ghost use Rattle.hound_sample.specs.Reading.{int_meaning, int_refusal, low_short, ReadsContainer, read_error};
+ghost use Rattle.hound_sample.specs.Reading.{int_meaning, int_refusal, low_i16, ReadsContainer, read_error};
 ghost use Rattle.hound_spec.specs.{IsPair};
 ghost use Rattle.hound_spec.specs.declared.error.Error.TheVariants.{InvalidSampleFormat, TooWide, Unsupported};
 ghost use Rattle.hound_spec.specs.declared.spec.SampleFormat.TheVariants.{Float, Int};
@@ -72,7 +72,7 @@ pub(crate) fn encode_integer(x: i32, bits: u16, byte_width: u16) -> Result<[u8; 
 /// The lowest sixteen bits, as a signed number.
 #[inline(always)]
 pub(crate) fn lowest_16_bits(x: i32) -> i16
-    ensures { result ≡ low_short x }
+    ensures { result ≡ low_i16 x }
 {
     let [low, high, _, _] = le_i32(x);
     i16_from_le([low, high])

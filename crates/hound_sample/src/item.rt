@@ -19,10 +19,10 @@ pub enum ItemError {
     OtherFormat,
 
     /// The samples have more bytes than the type.
-    Wider,
+    TooWide,
 
     /// Samples of these bits and bytes aren't read as the type.
-    OtherPair,
+    Unsupported,
 }
 
 /// The reason that an error of `Sample::read` gives; there are no others than these.
@@ -33,8 +33,8 @@ pub fn reason_of(error: Error) -> ItemError
     match error {
         Error::IoError(_) => ItemError::Failed,
         Error::InvalidSampleFormat => ItemError::OtherFormat,
-        Error::TooWide => ItemError::Wider,
-        _ => ItemError::OtherPair,
+        Error::TooWide => ItemError::TooWide,
+        _ => ItemError::Unsupported,
     }
 }
 

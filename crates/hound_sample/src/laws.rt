@@ -1,7 +1,7 @@
 // What holds for all integers and their containers.
 ghost use Rattle.std.specs.Prelude.{◌≡◌, ℕ, ℤ, List, Ok, None, IsTrue};
 ghost use Rattle.hound_sample.specs.Container.{fits, int_container};
-ghost use Rattle.hound_sample.specs.Reading.{int_meaning, int_refusal, low_short};
+ghost use Rattle.hound_sample.specs.Reading.{int_meaning, int_refusal, low_i16};
 ghost use Rattle.hound_spec.specs.declared.spec.SampleFormat.TheVariants.{Int};
 
 /// Each integer that has a container is read back from it as the same `i32`, whatever type it
@@ -14,6 +14,6 @@ pub fn integers_come_back()
 {}
 
 /// An integer of sixteen bits is its own lowest sixteen bits, so a batch takes it unchanged.
-pub fn short_integers_are_kept()
-    ensures { (v : ℤ) → IsTrue (fits 16 v) → low_short v ≡ v }
+pub fn i16s_are_kept()
+    ensures { (v : ℤ) → IsTrue (fits 16 v) → low_i16 v ≡ v }
 {}

@@ -13,7 +13,7 @@ mod slices;
 pub use decode::Decode;
 pub use float::FloatBits;
 pub use item::{ContainerReader, ItemError, reason_of};
-pub use laws::{integers_come_back, short_integers_are_kept};
+pub use laws::{integers_come_back, i16s_are_kept};
 pub use sample::Sample;
 pub use scale::{change_bits, float_to_int, int_to_float};
 pub use slices::{check_containers, decode_containers, have_containers, store_containers};

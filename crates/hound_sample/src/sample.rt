@@ -2,7 +2,7 @@
 ghost use Rattle.std.specs.Prelude.{◌≡◌, ◌≤◌, ◌/◌, ℕ, ℤ, ⊤, List, Option, Result, Ok, IsSome, IsErr, length, take};
 ghost use Rattle.hound_sample.specs.Container.{Refusal, int_container, IsEncoded, WritesContainer};
 ghost use Rattle.hound_sample.specs.ContainerLaws.{int_container-in_width};
-ghost use Rattle.hound_sample.specs.Reading.{ReadRefusal, int_refusal, int_meaning, low_short, ReadsItem, FillsFront, ReadsEach, items_of, Reads};
+ghost use Rattle.hound_sample.specs.Reading.{ReadRefusal, int_refusal, int_meaning, low_i16, ReadsItem, FillsFront, ReadsEach, items_of, Reads};
 ghost use Rattle.hound_spec.specs.declared.spec.SampleFormat.{SampleFormat};
 
 use crate::decode::{decode_next, read_container, read_containers};
@@ -43,7 +43,7 @@ pub trait Sample: Sized + Drop {
     ghost can_cast: { Self → Type 0 };
 
     /// The value cast to sixteen bits.
-    ghost as_short: { Self → ℤ };
+    ghost cast_value: { Self → ℤ };
 
     /// Writes the container of `bits / 8` bytes, rounded down, as [`Sample::write_padded`] does.
     fn write<W: io::Write>(self, writer: &mut W, bits: u16) -> Result<()>
@@ -129,7 +129,7 @@ pub trait Sample: Sized + Drop {
     /// that is generic over the type needs `can_cast`; for an integer type it always holds.
     fn as_i16(self) -> i16
         requires { can_cast self }
-        ensures { result ≡ as_short self };
+        ensures { result ≡ cast_value self };
 
     /// The container in the first `byte_width` bytes, and zeros after it, or the error of the
     /// type: `Unsupported` or `TooWide`, and no other. A writer makes each sample's bytes by it.
@@ -152,7 +152,7 @@ impl<T: Integer> Sample for T {
 
     ghost can_cast = { λ _. ⊤ };
 
-    ghost as_short = { λ v. low_short (T.number v) };
+    ghost cast_value = { λ v. low_i16 (T.number v) };
 
     #[inline(always)]
     fn read<R: io::Read>(reader: &mut R, fmt: SampleFormat, bytes: u16, bits: u16) -> Result<Self> {

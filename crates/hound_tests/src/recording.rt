@@ -155,7 +155,7 @@ fn takes_a_batch(alloc: Global) -> hound::Result<bool> {
 }
 
 // 40000 needs more than sixteen bits.
-fn takes_shorts(alloc: Global) -> hound::Result<bool> {
+fn takes_i16s(alloc: Global) -> hound::Result<bool> {
     let mut writer = WavWriter::new(empty_tape(alloc), sixteen(1))?;
     let mut batch = writer.get_i16_writer(alloc, 2)?;
     let marks = [
@@ -267,7 +267,7 @@ fn batches_steps_and_single_calls_are_recorded(rt: HostRuntime) -> Result<(), Fa
     let alloc = rt.alloc();
     let found = (
         takes_a_batch(alloc)?,
-        takes_shorts(alloc)?,
+        takes_i16s(alloc)?,
         packs(alloc),
         takes_steps(alloc),
         continues(alloc)?,

@@ -39,9 +39,9 @@ pair-copied n start text new small within copied =
     ∙ ap (λ l. pair n ++ l) (drop-drop (start + 2 - start) start text ∙ ap (λ m. drop (start + m) text) next)
 
 -- the digits of a number below 100, without a zero before one digit
-pub decimal_short : (n : ℕ) (tail : List ℕ) → n < 100
+pub decimal_small : (n : ℕ) (tail : List ℕ) → n < 100
     → drop (bool_byte (nat_lt n 10)) (pair n ++ tail) ≡ decimal n ++ tail
-decimal_short n tail small =
+decimal_small n tail small =
     elim (cases_lt n 10) [
       | inl few ↦ ap (λ b. drop (bool_byte b) (pair n ++ tail)) (lt-ltb n 10 few)
           ∙ ap (λ d. (48 + d) ∷ tail) (omega (arith, few)) ∙ ap (λ l. l ++ tail) (sym (decimal_digit n few))

@@ -13,14 +13,14 @@ use Rattle.hound_spec.specs.declared.error.Error.TheVariants.{IoError}
 use Rattle.hound_spec.specs.{riff_size, greatest_u32}
 use Rattle.hound_sample.specs.{Refusal, containers, error_of, too_wide, unsupported}
 use Rattle.hound_writer.specs.Accepting.{AcceptsBytes, Accepts, AddsAtEach, AcceptAnswer, IsIoError, OnRefused, faults_told, if_marked, mark_of}
-use Rattle.hound_writer.specs.Parts.{all_out, GoesAtEach, GoesToFile, PutsAt, IsStanding, StaysAround}
+use Rattle.hound_writer.specs.Parts.{all_out, GoesAtEach, GoesToFile, PutsAt, CountsAtMost, StaysAround}
 use Rattle.hound_writer.specs.Writer.{Counts, WriterState, HasRoom, IsCounted, IsSound, IsWhole, accepted_samples, data_length}
 use Rattle.hound_writer.proofs.Answers.{accept_as, on_refused, refused_then, unless_failed}
 use Rattle.hound_writer.proofs.Containers.{joined_bytes}
 use Rattle.hound_writer.proofs.PutsFrom.{puts_from}
 use Rattle.hound_writer.proofs.Storing.{stored_same, stored_still}
-use Rattle.hound_writer.proofs.Samples.{concat-samples, counts_at, samples_append, whole_out}
-use Rattle.hound_writer.proofs.Standing.{inside, stands_front, stands_more}
+use Rattle.hound_writer.proofs.Samples.{concat-samples, counts_at, samples_append, whole_written}
+use Rattle.hound_writer.proofs.AtMost.{inside, at_most_front, at_most_more}
 use Rattle.hound_writer.proofs.Sizes.{drop_overlay_after, take_front}
 pub use Rattle.hound_writer.proofs.Sizes.{length_overlay_max}
 
@@ -76,10 +76,10 @@ room_fits w bytes room whole = grind (arith, common_steps, le-leb, joined_bytes)
 
 -- bytes that are written after a writer's data, all or a beginning
 module _ {W : Type 0} (tells keeps : Bool) (state : W → MediumState) (w : WriterState W)
-    (stands : WhereTells tells
-    (IsStanding w.spec_ex w.data_start w.out (state w.medium).contents)) {T E : Type 0} (m : W)
+    (at_most : WhereTells tells
+    (CountsAtMost w.spec_ex w.data_start w.bytes_written (state w.medium).contents)) {T E : Type 0} (m : W)
     (bytes : List ℕ) (result : Result T E) (told : IsTrue tells)
-    (puts : PutsAt keeps (w.data_start + w.out) bytes result (state w.medium) (state m)) where
+    (puts : PutsAt keeps (w.data_start + w.bytes_written) bytes result (state w.medium) (state m)) where
   abbrev was : List ℕ
   was = (state w.medium).contents
 
@@ -87,7 +87,7 @@ module _ {W : Type 0} (tells keeps : Bool) (state : W → MediumState) (w : Writ
   now = (state m).contents
 
   abbrev at : ℕ
-  at = w.data_start + w.out
+  at = w.data_start + w.bytes_written
 
   pub front_stays : (n : ℕ) → n ≤ at → n ≤ length was
       → take n now ≡ take n was
@@ -97,17 +97,17 @@ module _ {W : Type 0} (tells keeps : Bool) (state : W → MediumState) (w : Writ
   grows = grind (arith, common_steps, length_overlay_le)
 
   there : w.data_start ≤ length was
-  there = inside w.spec_ex w.data_start w.out was was (stands told)
+  there = inside w.spec_ex w.data_start w.bytes_written was was (at_most told)
 
   pub front : take w.data_start now ≡ take w.data_start was
   front = front_stays w.data_start (omega arith) there
 
   pub data_stays : IsWhole state w
-      → take w.out (drop w.data_start now) ≡ take w.out (drop w.data_start was)
+      → take w.bytes_written (drop w.data_start now) ≡ take w.bytes_written (drop w.data_start was)
   data_stays whole = grind (arith, common_steps, front_part, front_stays)
 
-  pub still : IsStanding w.spec_ex w.data_start w.out now
-  still = stands_front w.spec_ex w.data_start w.out was now (stands told) front
+  pub still : CountsAtMost w.spec_ex w.data_start w.bytes_written now
+  still = at_most_front w.spec_ex w.data_start w.bytes_written was now (at_most told) front
       (omega (arith, there, grows))
 
   pub rest : drop (at + length bytes) now ≡ drop (at + length bytes) was
@@ -134,22 +134,22 @@ module _ {W : Type 0} (tells keeps : Bool) (state : W → MediumState) (w : Writ
         behind = puts_from w.data_start at bs old (state m) (omega arith) (puts.past kept);
       }
 
-  pub around : (far : ℕ) → w.data_start + w.out + length bytes ≡ far
+  pub around : (far : ℕ) → w.data_start + w.bytes_written + length bytes ≡ far
       → StaysAround state far w (state m)
   around far is = grind (arith, common_steps, still, front, front_stays, rest, grows, reach)
 
 -- a medium that changed only around the accepted bytes: all samples stay accepted, and count
 pub goes_beside : {W : Type 0} (state : W → MediumState) (far : ℕ) (all : Bool)
-    (w : WriterState W) (m : W) → IsSound w → w.out % w.spec_ex.bytes_per_sample ≡ 0
+    (w : WriterState W) (m : W) → IsSound w → w.bytes_written % w.spec_ex.bytes_per_sample ≡ 0
     → (state m).faults ≡ faults_after (all_out all) (state w.medium).faults
     → StaysAround state far w (state m) → GoesToFile state far all w (record w { medium = m })
-goes_beside state far all w m sound whole_out faults stays = grind (arith, common_steps, front_part, counts_at)
+goes_beside state far all w m sound whole_written faults stays = grind (arith, common_steps, front_part, counts_at)
 
 -- a writer with an empty block, and a medium with bytes written after its data
 module _ {W : Type 0} (tells keeps : Bool) (state : W → MediumState) (w : WriterState W)
-    (none : w.waiting ≡ []) (sound : IsSound w)
-    (stands : WhereTells tells
-    (IsStanding w.spec_ex w.data_start w.out (state w.medium).contents)) where
+    (none : w.buffered ≡ []) (sound : IsSound w)
+    (at_most : WhereTells tells
+    (CountsAtMost w.spec_ex w.data_start w.bytes_written (state w.medium).contents)) where
   abbrev old : MediumState
   old = state w.medium
 
@@ -157,24 +157,24 @@ module _ {W : Type 0} (tells keeps : Bool) (state : W → MediumState) (w : Writ
   width = w.spec_ex.bytes_per_sample
 
   abbrev end : ℕ
-  end = w.data_start + w.out
+  end = w.data_start + w.bytes_written
 
   -- nothing up to the end of the data changed: the samples count
   counts_front : IsTrue tells → IsWhole state w → (c : List ℕ)
-      → take (w.data_start + w.out) c ≡ take (w.data_start + w.out) (state w.medium).contents
+      → take (w.data_start + w.bytes_written) c ≡ take (w.data_start + w.bytes_written) (state w.medium).contents
       → Counts w.spec_ex w.data_start (accepted_samples state w) c
   counts_front told whole c same =
       let first : take w.data_start c ≡ take w.data_start old.contents =
       take_front w.data_start end old.contents c (omega arith) same in
       let long : w.data_start ≤ length c =
       omega (arith, ap length same, length-take end c, length-take-le end old.contents whole) in
-      counts_at state w sound (whole_out state w none sound) c whole
-      (stands_front w.spec_ex w.data_start w.out old.contents c (stands told) first long)
-      (front_part end w.data_start w.out c old.contents (omega arith) same)
+      counts_at state w sound (whole_written state w none sound) c whole
+      (at_most_front w.spec_ex w.data_start w.bytes_written old.contents c (at_most told) first long)
+      (front_part end w.data_start w.bytes_written c old.contents (omega arith) same)
 
   -- bytes that are written, all or a beginning
   module _ {T E : Type 0} (m : W) (bytes : List ℕ) (result : Result T E) (told : IsTrue tells)
-      (puts : PutsAt keeps (w.data_start + w.out) bytes result (state w.medium) (state m)) where
+      (puts : PutsAt keeps (w.data_start + w.bytes_written) bytes result (state w.medium) (state m)) where
     abbrev new : MediumState
     new = state m
 
@@ -199,14 +199,14 @@ module _ {W : Type 0} (tells keeps : Bool) (state : W → MediumState) (w : Writ
               (same whole k));
           front = fixed;
           stored =
-              λ whole. stored_same w.data_start w.out
+              λ whole. stored_same w.data_start w.bytes_written
               (concat (accepted_samples state w)) old.contents old new
               (omega (
                 arith,
                 ap length (concat-samples state w none sound),
-                length-take w.out (drop w.data_start old.contents),
+                length-take w.bytes_written (drop w.data_start old.contents),
               ))
-              (λ k from to. front_part end w.data_start w.out (moment new.start new.past k)
+              (λ k from to. front_part end w.data_start w.bytes_written (moment new.start new.past k)
               old.contents (omega arith) ((fixed whole).each k from to));
         }
 
@@ -220,16 +220,16 @@ module _ {W : Type 0} (tells keeps : Bool) (state : W → MediumState) (w : Writ
           (bytes ++ drop (end + length bytes) old.contents)
       parts whole = grind (arith, common_steps, put, overlay_is)
 
-      bytes_stand : IsWhole state w → take (length bytes) (drop end new.contents) ≡ bytes
-      bytes_stand whole = grind (arith, common_steps, parts, drop_at, length-take-le, take_at)
+      bytes_in_place : IsWhole state w → take (length bytes) (drop end new.contents) ≡ bytes
+      bytes_in_place whole = grind (arith, common_steps, parts, drop_at, length-take-le, take_at)
 
       pub bytes_inside : IsWhole state w
-          → w.data_start + (w.out + length bytes) ≤ length new.contents
+          → w.data_start + (w.bytes_written + length bytes) ≤ length new.contents
       bytes_inside whole = grind (arith, common_steps, parts, length-append, length-take-le)
 
   -- the same file with other bytes in it and another batch
   abbrev pub after_put : W → ℕ → WriterState W
-  after_put m out = record w { medium = m; out = out }
+  after_put m written = record w { medium = m; bytes_written = written }
 
   module _ (m : W) (bytes : List ℕ) (room : HasRoom w (length bytes))
       (whole_bytes : length bytes % w.spec_ex.bytes_per_sample ≡ 0) where
@@ -239,19 +239,19 @@ module _ {W : Type 0} (tells keeps : Bool) (state : W → MediumState) (w : Writ
     -- if the medium failed nothing is accepted
     pub accepts_none : (e : IoFault)
         → WhereTells tells
-        (PutsAt keeps (w.data_start + w.out) bytes (all_out false) (state w.medium) (state m))
+        (PutsAt keeps (w.data_start + w.bytes_written) bytes (all_out false) (state w.medium) (state m))
         → WhereKeeps tells keeps
         ((state w.medium).contents ≡ overlay (state w.medium).start (state w.medium).past)
-        → AcceptsBytes tells keeps state bytes (Err (IoError e)) w (after_put m w.out)
+        → AcceptsBytes tells keeps state bytes (Err (IoError e)) w (after_put m w.bytes_written)
     accepts_none e puts replays = record {
       adds =
           let fits = room_fits w bytes room whole_bytes in
           search rules;
       file = λ told.
           let p = puts told in
-          let f = goes_beside state (end + length bytes) false w m sound (whole_out state w none sound)
+          let f = goes_beside state (end + length bytes) false w m sound (whole_written state w none sound)
           p.faults
-          (around tells keeps state w stands m bytes (all_out false) told p (end + length bytes) refl)
+          (around tells keeps state w at_most m bytes (all_out false) told p (end + length bytes) refl)
           in
           let none = append-nil (accepted_samples state w) in
           search rules;
@@ -260,14 +260,14 @@ module _ {W : Type 0} (tells keeps : Bool) (state : W → MediumState) (w : Writ
     }
 
     -- else all of it
-    pub sound_more : IsSound (after_put m (w.out + length bytes))
+    pub sound_more : IsSound (after_put m (w.bytes_written + length bytes))
     sound_more = grind (arith, common_steps)
 
     pub accepts_all : WhereTells tells
-        (PutsAt keeps (w.data_start + w.out) bytes (all_out true) (state w.medium) (state m))
+        (PutsAt keeps (w.data_start + w.bytes_written) bytes (all_out true) (state w.medium) (state m))
         → WhereKeeps tells keeps
         ((state w.medium).contents ≡ overlay (state w.medium).start (state w.medium).past)
-        → AcceptsBytes tells keeps state bytes (Ok tt) w (after_put m (w.out + length bytes))
+        → AcceptsBytes tells keeps state bytes (Ok tt) w (after_put m (w.bytes_written + length bytes))
     accepts_all puts replays = record {
       adds =
           let fits = room_fits w bytes room whole_bytes in
@@ -275,33 +275,33 @@ module _ {W : Type 0} (tells keeps : Bool) (state : W → MediumState) (w : Writ
           search rules;
       file = λ told.
           let p = puts told in
-          let last = after_put m (w.out + length bytes) in
+          let last = after_put m (w.bytes_written + length bytes) in
           let samples = drop w.data_start (state m).contents in
           let more : IsWhole state w
           → accepted_samples state last ≡ accepted_samples state w ++ list =
           λ whole.
-          samples_append state w m (w.out + length bytes) w.waiting bytes sound whole
+          samples_append state w m (w.bytes_written + length bytes) w.buffered bytes sound whole
           (omega (arith, ap length none))
           (cc (
-            take-add w.out (length bytes) samples,
-            data_stays tells keeps state w stands m bytes (all_out true) told p whole,
-            drop-drop w.out w.data_start (state m).contents,
-            bytes_stand m bytes (all_out true) told p p.whole whole,
-            append-nil (take w.out (drop w.data_start old.contents) ++ bytes),
-            append-nil (take w.out (drop w.data_start old.contents)),
+            take-add w.bytes_written (length bytes) samples,
+            data_stays tells keeps state w at_most m bytes (all_out true) told p whole,
+            drop-drop w.bytes_written w.data_start (state m).contents,
+            bytes_in_place m bytes (all_out true) told p p.whole whole,
+            append-nil (take w.bytes_written (drop w.data_start old.contents) ++ bytes),
+            append-nil (take w.bytes_written (drop w.data_start old.contents)),
           )) in
-          let stands_now =
-          stands_more w.spec_ex w.data_start w.out (w.out + length bytes) (state m).contents
-          (omega arith) (still tells keeps state w stands m bytes (all_out true) told p) in
+          let at_most_now =
+          at_most_more w.spec_ex w.data_start w.bytes_written (w.bytes_written + length bytes) (state m).contents
+          (omega arith) (still tells keeps state w at_most m bytes (all_out true) told p) in
           let inside = bytes_inside m bytes (all_out true) told p p.whole in
-          let counts = counts_at state last sound_more (whole_out state last none sound_more)
+          let counts = counts_at state last sound_more (whole_written state last none sound_more)
           (state m).contents in
-          let before = front tells keeps state w stands m bytes (all_out true) told p in
-          let long = reach tells keeps state w stands m bytes (all_out true) told p in
+          let before = front tells keeps state w at_most m bytes (all_out true) told p in
+          let long = reach tells keeps state w at_most m bytes (all_out true) told p in
           let size = ap length none in
-          let at : end + length bytes ≡ w.data_start + (w.out + length bytes + length w.waiting) =
+          let at : end + length bytes ≡ w.data_start + (w.bytes_written + length bytes + length w.buffered) =
           omega (arith, size) in
-          let behind = rw at at (rest tells keeps state w stands m bytes (all_out true) told p) in
+          let behind = rw at at (rest tells keeps state w at_most m bytes (all_out true) told p) in
           search rules;
       moments =
           λ told kept. at_each m bytes (all_out true) told (puts told) kept (replays told kept);
@@ -317,16 +317,16 @@ not_refused P (Err e) failed = absurd failed
 pub accepts_beside : {W : Type 0} (tells keeps : Bool) (state : W → MediumState)
     (asked : Result (List (List ℕ)) Refusal) (answer : Result (Unit {0}) Error)
     (a b : WriterState W) (memory : List ℕ) → Accepts tells keeps state asked answer a b
-    → Accepts tells keeps state asked answer (record a { buffer = memory })
-    (record b { buffer = memory })
+    → Accepts tells keeps state asked answer (record a { batch_memory = memory })
+    (record b { batch_memory = memory })
 accepts_beside tells keeps state asked answer a b memory accepts =
     let adds = accepts.adds in
     record {
       adds =
-          let answers = accept_as asked answer a (record a { buffer = memory }) refl refl
+          let answers = accept_as asked answer a (record a { batch_memory = memory }) refl refl
           adds.answers in
           let refused = refused_then answer
-          (ap (λ (w : WriterState _). record w { buffer = memory })) adds.refused in
+          (ap (λ (w : WriterState _). record w { batch_memory = memory })) adds.refused in
           search rules;
       file = search rules;
       moments = search rules;

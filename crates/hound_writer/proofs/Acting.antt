@@ -21,16 +21,16 @@ use Rattle.hound_writer.specs.Parts.{GoesOut, IsPublishResult}
 use Rattle.hound_writer.specs.Recording.{Acted, Action, Acts, ActsAll, Opened, Resumed, asked_of, block, known_of, out_after, recording, resumed_file, resync, save}
 use Rattle.hound_writer.specs.Writer.{WriterState, IsSound, accepted_samples, data_end, sample_count}
 use Rattle.hound_writer.proofs.Accepting.{accepts_all, accepts_none, sound_more, still}
-use Rattle.hound_writer.proofs.Appending.{follows, sound_head, stands_on}
-use Rattle.hound_writer.proofs.Beginning.{header_file, sound_begin, stands_begin}
-use Rattle.hound_writer.proofs.Blocks.{accepts_waiting}
-use Rattle.hound_writer.proofs.Checkpoint.{Good, as_out, bad, fine, goes_still, good_over, known, publishes_checkpoint, stands_still}
+use Rattle.hound_writer.proofs.Appending.{follows, sound_head, at_most_on}
+use Rattle.hound_writer.proofs.Beginning.{header_file, sound_begin, at_most_begin}
+use Rattle.hound_writer.proofs.Blocks.{accepts_buffered}
+use Rattle.hound_writer.proofs.Checkpoint.{Good, as_out, bad, fine, goes_still, good_over, known, publishes_checkpoint, at_most_still}
 use Rattle.hound_writer.proofs.Containers.{count_bytes, none_whole, zero_div}
 use Rattle.hound_writer.proofs.Heads.{head_behind}
 use Rattle.hound_writer.proofs.Later.{accepts_cut, accepts_later}
 use Rattle.hound_writer.proofs.Recording.{call_at, call_spec}
 use Rattle.hound_writer.proofs.Samples.{samples_out}
-use Rattle.hound_writer.proofs.Standing.{stands_more}
+use Rattle.hound_writer.proofs.AtMost.{at_most_more}
 
 -- what an action did is what a call does, with this mark
 pub record IsCall (asked : Asked) (ok : Bool) (old new : WriterState Log) : Type 0 where
@@ -57,18 +57,18 @@ is_zero (suc n) = (false, (λ is. absurd (false≢true is)), (λ e. absurd (omeg
 
 -- a checkpoint is a call that publishes
 save_call : (r : Result (Unit {0}) IoFault) (w : WriterState Log) (m : Log) → Good w
-    → Performed (checkpoint w.data_start w.out) r w.medium m
+    → Performed (checkpoint w.data_start w.bytes_written) r w.medium m
     → IsCall publish (is_ok r) w (record w { medium = m })
 save_call r w m good did =
     let (frames, so, back) = is_zero (sample_count w % w.spec_ex.spec.channels) in
     let told = is_told r frames in
-    let (does, stands) =
+    let (does, at_most) =
     publishes_checkpoint r frames (told_of r frames) told.0 m w good (so, back) did in
     record {
       answer = told_of r frames;
       does = does;
       mark = told.1;
-      good = good_over w m good stands;
+      good = good_over w m good at_most;
     }
 
 -- a sync is a call for no samples
@@ -85,9 +85,9 @@ module _ (w : WriterState Log) (m : Log) (good : Good w) where
       → Accepts true true log_state (whole_containers w.spec_ex []) (Ok tt) w (record w { medium = m })
   accepts_no now out =
       let nothing : Accepts true true log_state none (Ok tt) over over =
-      subst (λ l. Accepts true true log_state none (Ok tt) over (record w { medium = m; waiting = l }))
-      (append-nil w.waiting)
-      (accepts_waiting true true log_state over true 0 (known over now) []
+      subst (λ l. Accepts true true log_state none (Ok tt) over (record w { medium = m; buffered = l }))
+      (append-nil w.buffered)
+      (accepts_buffered true true log_state over true 0 (known over now) []
       (omega (arith, good.sound.fits)) (none_whole w.spec_ex.bytes_per_sample) (λ _ _. m.replays)) in
       accepts_later true true log_state w over over none (Ok tt) out tt
       (subst (λ v. Accepts true true log_state none (Ok tt) v over) out.value nothing)
@@ -95,7 +95,7 @@ module _ (w : WriterState Log) (m : Log) (good : Good w) where
   sync_call : (r : Result (Unit {0}) IoFault) → Flushes r w.medium.state m.state
       → IsCall (write (whole_containers w.spec_ex [])) (is_ok r) w (record w { medium = m })
   sync_call r flush =
-      let now = good_over w m good (stands_still w good (data_end w) m r flush) in
+      let now = good_over w m good (at_most_still w good (data_end w) m r flush) in
       let out = goes_still w good (data_end w) m r flush in
       go r now out
     where
@@ -114,29 +114,29 @@ module _ (w : WriterState Log) (m : Log) (good : Good w) where
 -- an action is a call
 pub acts_call : (action : Action) (r : Result (Unit {0}) IoFault) (w : WriterState Log) (m : Log)
     → Good w → Acts action r w m
-    → IsCall (asked_of w.spec_ex action) (is_ok r) w (record w { medium = m; out = out_after action r w.out })
+    → IsCall (asked_of w.spec_ex action) (is_ok r) w (record w { medium = m; bytes_written = out_after action r w.bytes_written })
 acts_call (block bytes) (Ok x) w m good (room, whole, puts) =
-    let all = as_out (w.data_start + w.out) bytes (fine x) w.medium.state m.state puts in
+    let all = as_out (w.data_start + w.bytes_written) bytes (fine x) w.medium.state m.state puts in
     record {
       answer = Ok tt;
-      does = accepts_all true true log_state w good.none good.sound (λ _. good.stands) m bytes room
+      does = accepts_all true true log_state w good.none good.sound (λ _. good.at_most) m bytes room
           whole (λ _. all) (λ _ _. w.medium.replays);
       mark = refl;
       good =
           let none = good.none in
-          let sound = sound_more true true log_state w good.none good.sound (λ _. good.stands) m bytes room whole in
-          let stands = stands_more w.spec_ex w.data_start w.out (w.out + length bytes) m.state.contents
-          (omega arith) (still true true log_state w (λ _. good.stands) m bytes _ refl all) in
+          let sound = sound_more true true log_state w good.none good.sound (λ _. good.at_most) m bytes room whole in
+          let at_most = at_most_more w.spec_ex w.data_start w.bytes_written (w.bytes_written + length bytes) m.state.contents
+          (omega arith) (still true true log_state w (λ _. good.at_most) m bytes _ refl all) in
           search rules;
     }
 acts_call (block bytes) (Err e) w m good (room, whole, puts) =
-    let some = as_out (w.data_start + w.out) bytes (bad e) w.medium.state m.state puts in
+    let some = as_out (w.data_start + w.bytes_written) bytes (bad e) w.medium.state m.state puts in
     record {
       answer = Err (IoError e);
-      does = accepts_none true true log_state w good.none good.sound (λ _. good.stands) m bytes room
+      does = accepts_none true true log_state w good.none good.sound (λ _. good.at_most) m bytes room
           whole e (λ _. some) (λ _ _. w.medium.replays);
       mark = refl;
-      good = good_over w m good (still true true log_state w (λ _. good.stands) m bytes _ refl some);
+      good = good_over w m good (still true true log_state w (λ _. good.at_most) m bytes _ refl some);
     }
 acts_call save r w m good did = save_call r w m good did
 acts_call resync r w m good flush =
@@ -149,9 +149,9 @@ pub acts_lead : (s : WavSpecEx) (actions : List Acted) (w last : WriterState Log
     → ActsAll actions w last
     → (calls : List Call) × Lead true true log_state calls w last
     × AreKnown (map (known_of s) actions) calls
-acts_lead s [] w last spec good is = ([], (w.buffer, is), tt)
+acts_lead s [] w last spec good is = ([], (w.batch_memory, is), tt)
 acts_lead s (one ∷ rest) w last spec good (log, acts, then) =
-    let next = record w { medium = log; out = out_after one.action one.result w.out } in
+    let next = record w { medium = log; bytes_written = out_after one.action one.result w.bytes_written } in
     let call : IsCall (asked_of s one.action) (is_ok one.result) w next =
     subst (λ t. IsCall (asked_of t one.action) (is_ok one.result) w next) spec
     (acts_call one.action one.result w log good acts) in
@@ -159,7 +159,7 @@ acts_lead s (one ∷ rest) w last spec good (log, acts, then) =
     let same = call_spec true true log_state asked call.answer w next call.does ∙ spec in
     let (calls, lead, known) = acts_lead s rest next last same call.good then in (
       call_at true true log_state asked call.answer w ∷ calls,
-      (w.buffer, next, refl, call.does, lead),
+      (w.batch_memory, next, refl, call.does, lead),
       ((refl, call.mark), known),
     )
 
@@ -179,7 +179,7 @@ opened s old log opens =
       record {
         none = refl;
         sound = sound;
-        stands = stands_begin true log_state s old log opens.writable opens.begins opens.puts;
+        at_most = at_most_begin true log_state s old log opens.writable opens.begins opens.puts;
       },
     ))
 
@@ -209,7 +209,7 @@ resumed s samples start log is =
     let count : len / s.bytes_per_sample ≡ samples = mul-div_cancel samples is.sound.1 in
     let found : accepted_samples log_state w ≡ containers s.bytes_per_sample samples (drop start old.contents) =
     rw count at (samples_out log_state w refl sound) in
-    let stands = stands_on s len start old.contents old.contents head refl in
+    let at_most = at_most_on s len start old.contents old.contents head refl in
     let kind = is.sound in
     let held = is.held in
     search rules

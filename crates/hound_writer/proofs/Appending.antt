@@ -11,11 +11,11 @@ use Rattle.hound_reader.specs.declared.cause.HeadError.TheVariants.{Failed, Refu
 use Rattle.hound_reader.specs.{IsSoundSpec as IsSoundHead, Head, Refused as RefusedFor, ReportsError, FindsData}
 use Rattle.std.specs.declared.io.Error.{Error as IoFault}
 use Rattle.hound_writer.specs.Accepting.{IsIoError}
-use Rattle.hound_writer.specs.Parts.{of_fields, IsStanding}
+use Rattle.hound_writer.specs.Parts.{of_fields, CountsAtMost}
 use Rattle.hound_writer.specs.Writer.{field, WriterState, IsSound, IsWhole}
 use Rattle.hound_writer.specs.Appending.{AppendFault, Appends, FollowsData, IsAppendFault, NamesFault, by_bytes, head_fault, IsNotAppended, PutsNothing}
 use Rattle.hound_writer.proofs.Heads.{head_field}
-use Rattle.hound_writer.proofs.Samples.{counts_at, whole_out}
+use Rattle.hound_writer.proofs.Samples.{counts_at, whole_written}
 
 -- if a row of a table isn't met, the rows after it decide
 pub none_behind : {A : Type 0} (b : Bool) (x : A) (rest : Option A) → cond b (Some x) rest ≡ None
@@ -30,9 +30,9 @@ unfolding head_fault
 sound_head medium s len h sound after none = grind (arith, common_steps)
 
 -- the file of a writer that appends
-pub stands_on : (s : WavSpecEx) (len h : ℕ) (contents new : List ℕ) → Head contents s len h
-    → new ≡ contents → IsStanding s h len new
-stands_on s len h contents new head same =
+pub at_most_on : (s : WavSpecEx) (len h : ℕ) (contents new : List ℕ) → Head contents s len h
+    → new ≡ contents → CountsAtMost s h len new
+at_most_on s len h contents new head same =
     let says : field (h - 4) new ≡ len =
     ap (field (h - 4)) same ∙ head_field contents s len h head in
     record {
@@ -53,8 +53,8 @@ follows state medium s len h old sound after head check goes =
     let none = ap (λ n. head_fault s n h) all in
     let sounds = sound_head medium s len h sound after check in
     let counts = λ (whole : IsWhole state w).
-    counts_at state w sounds (whole_out state w refl sounds) (state medium).contents whole
-    (stands_on s len h old.contents (state medium).contents head goes.stays.contents) refl in
+    counts_at state w sounds (whole_written state w refl sounds) (state medium).contents whole
+    (at_most_on s len h old.contents (state medium).contents head goes.stays.contents) refl in
     search rules
 
 -- a walk changes only the place and the faults

@@ -5,64 +5,64 @@ use Rattle.hound_number.specs.{signed_bytes_of}
 use Rattle.hound_spec.specs.declared.error.Error.{Error}
 use Rattle.hound_medium.specs.{MediumState}
 use Rattle.hound_sample.specs.{Refusal, int_bytes, int_container, too_wide, all_containers, bytes_in, joined_containers, contained, int_container-in_width}
-use Rattle.hound_writer.specs.Accepting.{AcceptsBytes, Accepts, AreShort, containers_in, sample_bytes, short_bytes}
-use Rattle.hound_writer.specs.Parts.{bytes_kept}
+use Rattle.hound_writer.specs.Accepting.{AcceptsBytes, Accepts, AreI16, containers_in, sample_bytes, i16_bytes}
+use Rattle.hound_writer.specs.Parts.{memory_bytes}
 use Rattle.hound_writer.specs.Writer.{WriterState}
 use Rattle.hound_writer.proofs.Accepting.{accepts_beside}
 use Rattle.hound_writer.proofs.AcceptingMany.{asked_is}
 use Rattle.hound_sample.proofs.Joined.{head_ok, ok_append, tail_ok}
 
 -- each takes two bytes
-pub length-short_bytes : (values : List ℤ) → length (short_bytes values) ≡ 2 * length values
-length-short_bytes [] = refl
-length-short_bytes (v ∷ values) =
-    length-append (signed_bytes_of 2 v) (short_bytes values)
-    ∙ omega (arith, length-short_bytes values)
+pub length-i16_bytes : (values : List ℤ) → length (i16_bytes values) ≡ 2 * length values
+length-i16_bytes [] = refl
+length-i16_bytes (v ∷ values) =
+    length-append (signed_bytes_of 2 v) (i16_bytes values)
+    ∙ omega (arith, length-i16_bytes values)
 
 -- a number of sixteen bits has a container of them
-short_ok : (v : ℤ) → FitsSigned w16 v → IsOk (int_container v 16 2)
+i16_ok : (v : ℤ) → FitsSigned w16 v → IsOk (int_container v 16 2)
 unfolding int_container
-short_ok (pos n) fit =
+i16_ok (pos n) fit =
     ap (λ b. is_ok (cond b (Ok (int_bytes (pos n) 16 2)) (Err too_wide)))
     (lt-ltb n (2 ^ 15) fit.sfits)
-short_ok (negsuc n) fit =
+i16_ok (negsuc n) fit =
     ap (λ b. is_ok (cond b (Ok (int_bytes (negsuc n) 16 2)) (Err too_wide)))
     (lt-ltb n (2 ^ 15) fit.sfits)
 
 -- and so have those after which it comes
-pub short_more : (values : List ℤ) (v : ℤ) → AreShort values → FitsSigned w16 v
-    → AreShort (values ++ v ∷ [])
-short_more values v short fit =
-    ok_append (λ v. int_container v 16 2) values v ∙ (λ i. short i && short_ok v fit i)
+pub i16s_more : (values : List ℤ) (v : ℤ) → AreI16 values → FitsSigned w16 v
+    → AreI16 (values ++ v ∷ [])
+i16s_more values v fits fit =
+    ok_append (λ v. int_container v 16 2) values v ∙ (λ i. fits i && i16_ok v fit i)
 
-bytes_of_short : (v : ℤ) (asked : Result (List ℕ) Refusal) → int_container v 16 2 ≡ asked
+bytes_of_i16 : (v : ℤ) (asked : Result (List ℕ) Refusal) → int_container v 16 2 ≡ asked
     → IsOk asked → bytes_in asked ≡ signed_bytes_of 2 v
-bytes_of_short v (Err refusal) is have = cc
-bytes_of_short v (Ok c) is have =
+bytes_of_i16 v (Err refusal) is have = cc
+bytes_of_i16 v (Ok c) is have =
     let (_, _, same) = contained v 16 2 c is in same ∙ append-nil (signed_bytes_of 2 v)
 
 -- their containers, joined
-pub joined_short : (values : List ℤ) → AreShort values
-    → joined_containers (λ v. int_container v 16 2) values ≡ short_bytes values
-joined_short [] short = refl
-joined_short (v ∷ values) short =
+pub joined_i16s : (values : List ℤ) → AreI16 values
+    → joined_containers (λ v. int_container v 16 2) values ≡ i16_bytes values
+joined_i16s [] fits = refl
+joined_i16s (v ∷ values) fits =
     let container : ℤ → Result (List ℕ) Refusal = λ v. int_container v 16 2 in
-    λ i. bytes_of_short v (container v) refl
-    (head_ok (container v) (all_containers container values) short) i
-    ++ joined_short values (tail_ok (container v) (all_containers container values) short) i
+    λ i. bytes_of_i16 v (container v) refl
+    (head_ok (container v) (all_containers container values) fits) i
+    ++ joined_i16s values (tail_ok (container v) (all_containers container values) fits) i
 
 -- a batch whose samples were accepted as those of a slice, beside the writer's memory
 pub batch_accepted : {W : Type 0} (tells keeps : Bool) (state : W → MediumState)
     (answer : Result (Unit {0}) Error) (a b : WriterState W) (values : List ℤ) (memory : List ℕ)
-    → AreShort values → a.spec_ex.spec.bits_per_sample ≡ 16 → a.spec_ex.bytes_per_sample ≡ 2
+    → AreI16 values → a.spec_ex.spec.bits_per_sample ≡ 16 → a.spec_ex.bytes_per_sample ≡ 2
     → Accepts tells keeps state (containers_in int_container a.spec_ex values) answer a b
-    → AcceptsBytes tells keeps state (short_bytes values) answer (record a { buffer = memory })
-    (record b { buffer = memory })
-batch_accepted tells keeps state answer a b values memory short bits width accepts =
+    → AcceptsBytes tells keeps state (i16_bytes values) answer (record a { batch_memory = memory })
+    (record b { batch_memory = memory })
+batch_accepted tells keeps state answer a b values memory fits bits width accepts =
     let s = a.spec_ex in
-    let have : IsOk (containers_in int_container s values) = rw (bits, width) short in
-    let bytes : sample_bytes int_container s values ≡ short_bytes values =
-    rw (bits, width) (joined_short values short) in
+    let have : IsOk (containers_in int_container s values) = rw (bits, width) fits in
+    let bytes : sample_bytes int_container s values ≡ i16_bytes values =
+    rw (bits, width) (joined_i16s values fits) in
     let some : 1 ≤ s.bytes_per_sample = omega (arith, width) in
     accepts_beside tells keeps state _ answer a b memory
     (rw (← bytes, asked_is int_container int_container-in_width values s some have) accepts)
@@ -70,8 +70,8 @@ batch_accepted tells keeps state answer a b values memory short bits width accep
 -- the memory that is kept for batches, or a new one
 pub kept_or_new : {V : Type 0} (items : V → List ℤ) (kept taken : Option V) (new memory : V)
     → taken ≡ kept → memory ≡ unwrap_or taken new → items new ≡ []
-    → short_bytes (items memory) ≡ bytes_kept items kept
+    → i16_bytes (items memory) ≡ memory_bytes items kept
 kept_or_new items kept None new memory same is empty =
-    ap (λ m. short_bytes (items m)) is ∙ ap short_bytes empty ∙ ap (bytes_kept items) same
+    ap (λ m. i16_bytes (items m)) is ∙ ap i16_bytes empty ∙ ap (memory_bytes items) same
 kept_or_new items kept (Some one) new memory same is empty =
-    ap (λ m. short_bytes (items m)) is ∙ ap (bytes_kept items) same
+    ap (λ m. i16_bytes (items m)) is ∙ ap (memory_bytes items) same

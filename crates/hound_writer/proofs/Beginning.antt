@@ -11,9 +11,9 @@ use Rattle.hound_spec.proofs.HeaderLemmas.{described, header-parts, length-heade
 use Rattle.hound_reader.proofs.WrittenLemmas.{header_head}
 use Rattle.std.specs.declared.io.Error.{Error as IoFault}
 use Rattle.hound_writer.specs.Beginning.{PutsHeader}
-use Rattle.hound_writer.specs.Parts.{of_fields, IsStanding}
+use Rattle.hound_writer.specs.Parts.{of_fields, CountsAtMost}
 use Rattle.hound_writer.specs.Writer.{field, IsSound, IsWhole, HasHeader}
-use Rattle.hound_writer.proofs.Samples.{counts_at, whole_out}
+use Rattle.hound_writer.proofs.Samples.{counts_at, whole_written}
 
 -- the data length of a header with 0 in it
 field-header : (s : WavSpecEx) (p : ℕ) (rest : List ℕ) → p + 4 ≡ data_start s
@@ -51,8 +51,8 @@ module _ {W : Type 0} (keeps : Bool) (state : W → MediumState) (s : WavSpecEx)
     contents_begin = grind (arith, common_steps, take_all, overlay_is)
 
     -- its file
-    pub stands_begin : IsStanding s (length (header s 0 0)) 0 (state medium).contents
-    stands_begin =
+    pub at_most_begin : CountsAtMost s (length (header s 0 0)) 0 (state medium).contents
+    at_most_begin =
         let size = length-header s 0 0 in
         let p = length (header s 0 0) - 4 in
         let none : field p (state medium).contents ≡ 0 =
@@ -79,6 +79,6 @@ module _ {W : Type 0} (keeps : Bool) (state : W → MediumState) (s : WavSpecEx)
           length-append h rest,
           length-drop (length h) old.contents,
         ) in
-        let counts = counts_at state w sound (whole_out state w refl sound)
-        (state medium).contents whole stands_begin refl in
+        let counts = counts_at state w sound (whole_written state w refl sound)
+        (state medium).contents whole at_most_begin refl in
         search rules

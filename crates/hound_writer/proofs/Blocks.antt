@@ -7,15 +7,15 @@ use Rattle.std.specs.List.{concat}
 use Rattle.hound_medium.specs.{overlay, MediumState, WhereTells, WhereKeeps}
 use Rattle.hound_medium.proofs.Spans.{span_still, span_weaker}
 use Rattle.hound_sample.specs.{containers}
-use Rattle.hound_writer.specs.Accepting.{AcceptsBytes, AddsAtEach, KeepsStored}
-use Rattle.hound_writer.specs.Parts.{GoesAtEach, GoesOut, IsLimit, StaysAround, after_out, all_out, IsConsistent, IsStanding, PutsAt}
+use Rattle.hound_writer.specs.Accepting.{AcceptsBytes, AddsAtEach, StaysStored}
+use Rattle.hound_writer.specs.Parts.{GoesAtEach, GoesOut, IsLimit, StaysAround, after_out, all_out, IsConsistent, CountsAtMost, PutsAt}
 use Rattle.hound_writer.specs.Writer.{Counts, WriterState, block_length, HasRoom, IsSound, IsWhole, accepted_samples, data_length, data_end}
 use Rattle.hound_writer.proofs.Accepting.{accepts_all, adds_nothing, around, at_each, goes_at_each, goes_beside, room_fits, sound_more, still}
 use Rattle.hound_writer.proofs.Containers.{joined_bytes, none_whole, whole_more}
 use Rattle.hound_writer.proofs.Counted.{counts_more}
 use Rattle.hound_writer.proofs.Keeping.{consistent_moved, sound_with}
 use Rattle.hound_writer.proofs.Samples.{counts_at, samples_append, valid_of}
-use Rattle.hound_writer.proofs.Standing.{stands_more}
+use Rattle.hound_writer.proofs.AtMost.{at_most_more}
 use Rattle.hound_writer.proofs.Storing.{joined_samples, puts_stored}
 
 -- a writer over a medium that stays
@@ -30,28 +30,28 @@ module _ {W : Type 0} (tells keeps : Bool) (state : W → MediumState) (w : Writ
   width = w.spec_ex.bytes_per_sample
 
   abbrev longer : WriterState W
-  longer = record w { waiting = w.waiting ++ bytes }
+  longer = record w { buffered = w.buffered ++ bytes }
 
-  more : w.out + length (w.waiting ++ bytes) ≡ data_length w + length bytes
-  more = omega (arith, length-append w.waiting bytes)
+  more : w.bytes_written + length (w.buffered ++ bytes) ≡ data_length w + length bytes
+  more = omega (arith, length-append w.buffered bytes)
 
-  sound_longer : IsSound (record w { waiting = w.waiting ++ bytes })
+  sound_longer : IsSound (record w { buffered = w.buffered ++ bytes })
   sound_longer = grind (arith, common_steps, sound_with, more, whole_more)
 
-  pub consistent_longer : length w.waiting + length bytes ≤ block_length
-      → IsConsistent tells state (record w { waiting = w.waiting ++ bytes }) moved limit
+  pub consistent_longer : length w.buffered + length bytes ≤ block_length
+      → IsConsistent tells state (record w { buffered = w.buffered ++ bytes }) moved limit
   consistent_longer few =
       let sound = sound_longer in
-      let size = length-append w.waiting bytes in
+      let size = length-append w.buffered bytes in
       let whole = ap (λ n. n % width) size
-      ∙ whole_more (length w.waiting) (length bytes) width known.whole_waiting whole_bytes in
+      ∙ whole_more (length w.buffered) (length bytes) width known.whole_buffered whole_bytes in
       search rules
 
   -- samples join the buffered ones
-  pub accepts_waiting : WhereKeeps tells keeps
+  pub accepts_buffered : WhereKeeps tells keeps
       ((state w.medium).contents ≡ overlay (state w.medium).start (state w.medium).past)
-      → AcceptsBytes tells keeps state bytes (Ok tt) w (record w { waiting = w.waiting ++ bytes })
-  accepts_waiting replays =
+      → AcceptsBytes tells keeps state bytes (Ok tt) w (record w { buffered = w.buffered ++ bytes })
+  accepts_buffered replays =
       let old = state w.medium in
       record {
         adds =
@@ -61,9 +61,9 @@ module _ {W : Type 0} (tells keeps : Bool) (state : W → MediumState) (w : Writ
             search rules;
         file = λ told.
             let more = λ (whole : IsWhole state w).
-            samples_append state w w.medium w.out (w.waiting ++ bytes) bytes sound whole more
-            (sym (append_assoc (take w.out (drop w.data_start old.contents)) w.waiting bytes)) in
-            let counts = counts_at state longer sound_longer known.whole_out old.contents in
+            samples_append state w w.medium w.bytes_written (w.buffered ++ bytes) bytes sound whole more
+            (sym (append_assoc (take w.bytes_written (drop w.data_start old.contents)) w.buffered bytes)) in
+            let counts = counts_at state longer sound_longer known.whole_written old.contents in
             search rules;
         moments = λ told kept. adds_nothing state w
             ((valid_of tells state moved limit w known).counts told) (replays told kept);
@@ -75,13 +75,13 @@ module _ {W : Type 0} (tells keeps : Bool) (state : W → MediumState) (w : Writ
     (replays : WhereKeeps tells keeps
     ((state w.medium).contents ≡ overlay (state w.medium).start (state w.medium).past))
     (m : W) where
-  abbrev stands : WhereTells tells
-      (IsStanding w.spec_ex w.data_start w.out (state w.medium).contents)
-  stands = known.stands
+  abbrev at_most : WhereTells tells
+      (CountsAtMost w.spec_ex w.data_start w.bytes_written (state w.medium).contents)
+  at_most = known.at_most
 
   -- the writer without the buffered samples
   abbrev shorter : WriterState W
-  shorter = record w { waiting = [] }
+  shorter = record w { buffered = [] }
 
   abbrev old : MediumState
   old = state w.medium
@@ -90,22 +90,22 @@ module _ {W : Type 0} (tells keeps : Bool) (state : W → MediumState) (w : Writ
   wide = w.spec_ex.bytes_per_sample
 
   abbrev end : ℕ
-  end = w.data_start + w.out
+  end = w.data_start + w.bytes_written
 
-  sound_shorter : IsSound (record w { waiting = [] })
+  sound_shorter : IsSound (record w { buffered = [] })
   sound_shorter = grind (arith, common_steps)
 
   -- its samples are the first ones of the writer's
   samples_first : IsWhole state w
       → accepted_samples state w ≡ accepted_samples state shorter ++ containers wide
-      (length w.waiting / wide) w.waiting
+      (length w.buffered / wide) w.buffered
   samples_first whole =
-      samples_append state shorter w.medium w.out w.waiting w.waiting sound_shorter whole
+      samples_append state shorter w.medium w.bytes_written w.buffered w.buffered sound_shorter whole
       (omega arith)
-      (ap (λ l. l ++ w.waiting) (sym (append-nil (take w.out (drop w.data_start old.contents)))))
+      (ap (λ l. l ++ w.buffered) (sym (append-nil (take w.bytes_written (drop w.data_start old.contents)))))
 
   moments : (IsWhole state w
-      → KeepsStored w.data_start (concat (accepted_samples state w)) (state w.medium) (state m))
+      → StaysStored w.data_start (concat (accepted_samples state w)) (state w.medium) (state m))
       → AddsAtEach state shorter (state m) → AddsAtEach state w (state m)
   moments stored at_each = record {
     counts =
@@ -113,7 +113,7 @@ module _ {W : Type 0} (tells keeps : Bool) (state : W → MediumState) (w : Writ
         (λ _. Counts w.spec_ex w.data_start (accepted_samples state w)) 0 old (state m)
         (λ j c counts. rw (samples_first whole)
         (counts_more w.spec_ex w.data_start (accepted_samples state shorter)
-        (containers wide (length w.waiting / wide) w.waiting) c known.sound.width counts))
+        (containers wide (length w.buffered / wide) w.buffered) c known.sound.width counts))
         (at_each.counts whole);
     front = at_each.front;
     stored = stored;
@@ -122,43 +122,43 @@ module _ {W : Type 0} (tells keeps : Bool) (state : W → MediumState) (w : Writ
   -- all of it, or a beginning
   module _ (all : Bool)
       (puts : WhereTells tells
-      (PutsAt keeps (w.data_start + w.out) w.waiting (all_out all) (state w.medium) (state m)))
+      (PutsAt keeps (w.data_start + w.bytes_written) w.buffered (all_out all) (state w.medium) (state m)))
     where
       stored_out : IsTrue tells → IsTrue keeps → IsWhole state w
-          → KeepsStored w.data_start (concat (accepted_samples state w)) (state w.medium) (state m)
+          → StaysStored w.data_start (concat (accepted_samples state w)) (state w.medium) (state m)
       stored_out told kept whole =
           let held = drop w.data_start old.contents in
-          let size : w.data_start + length (take w.out held) ≡ end =
+          let size : w.data_start + length (take w.bytes_written held) ≡ end =
           ap (λ n. w.data_start + n)
-          (length-take-le w.out held
+          (length-take-le w.bytes_written held
           (omega (arith, whole, length-drop w.data_start old.contents))) in
           rw (joined_samples state w known.sound whole)
-          (puts_stored w.data_start end (take w.out held) w.waiting (puts told).count old (state m)
+          (puts_stored w.data_start end (take w.bytes_written held) w.buffered (puts told).count old (state m)
           size ((puts told).past kept))
 
       moments_out : WhereKeeps tells keeps (GoesAtEach state w (state m))
       moments_out told kept =
-          goes_at_each tells keeps state w stands m w.waiting (all_out all) told (puts told) kept
+          goes_at_each tells keeps state w at_most m w.buffered (all_out all) told (puts told) kept
           (replays told kept)
           (moments (stored_out told kept)
-          (at_each tells keeps state shorter refl sound_shorter stands m w.waiting
+          (at_each tells keeps state shorter refl sound_shorter at_most m w.buffered
           (all_out all) told (puts told) kept (replays told kept)))
 
       stays_around : IsTrue tells → StaysAround state (data_end w) w (state m)
       stays_around told =
-          around tells keeps state w stands m w.waiting (all_out all) told (puts told) (data_end w)
+          around tells keeps state w at_most m w.buffered (all_out all) told (puts told) (data_end w)
           (omega arith)
 
   pub goes_out : (all : Bool)
       → WhereTells tells
-      (PutsAt keeps (w.data_start + w.out) w.waiting (all_out all) (state w.medium) (state m))
+      (PutsAt keeps (w.data_start + w.bytes_written) w.buffered (all_out all) (state w.medium) (state m))
       → GoesOut tells keeps state (data_end w) all w (after_out all m w)
   goes_out true puts = record {
     value = refl;
     sound = known.sound;
     file = λ told.
-        let f = (accepts_all tells keeps state shorter refl sound_shorter stands m w.waiting
-        (omega (arith, known.sound.fits)) known.whole_waiting puts replays).file told in
+        let f = (accepts_all tells keeps state shorter refl sound_shorter at_most m w.buffered
+        (omega (arith, known.sound.fits)) known.whole_buffered puts replays).file told in
         let around = stays_around true puts told in
         let first = samples_first in
         search rules;
@@ -168,7 +168,7 @@ module _ {W : Type 0} (tells keeps : Bool) (state : W → MediumState) (w : Writ
     value = refl;
     sound = known.sound;
     file = λ told.
-        goes_beside state (data_end w) false w m known.sound known.whole_out (puts told).faults
+        goes_beside state (data_end w) false w m known.sound known.whole_written (puts told).faults
         (stays_around false puts told);
     moments = moments_out false puts;
   }
@@ -179,35 +179,35 @@ module _ {W : Type 0} (tells keeps : Bool) (state : W → MediumState) (w : Writ
 
   pub consistent_out : (next : ℕ) → IsLimit w.data_start (data_length w) next
       → WhereTells tells
-      (PutsAt keeps (w.data_start + w.out) w.waiting (all_out true) (state w.medium) (state m))
+      (PutsAt keeps (w.data_start + w.bytes_written) w.buffered (all_out true) (state w.medium) (state m))
       → IsConsistent tells state (after_out true m w) false next
   consistent_out next room puts =
       let sound = sound_out in
       let none = none_whole wide in
-      let stands = λ (told : IsTrue tells).
-      stands_more w.spec_ex w.data_start w.out (data_length w) (state m).contents (omega arith)
-      (stays_around true puts told).stands in
+      let at_most = λ (told : IsTrue tells).
+      at_most_more w.spec_ex w.data_start w.bytes_written (data_length w) (state m).contents (omega arith)
+      (stays_around true puts told).at_most in
       search rules
 
   pub consistent_cut : WhereTells tells
-      (PutsAt keeps (w.data_start + w.out) w.waiting (all_out false) (state w.medium) (state m))
+      (PutsAt keeps (w.data_start + w.bytes_written) w.buffered (all_out false) (state w.medium) (state m))
       → IsConsistent tells state (record w { medium = m }) true limit
   consistent_cut puts =
-      consistent_moved tells state w m moved limit known (λ told. (stays_around false puts told).stands)
+      consistent_moved tells state w m moved limit known (λ told. (stays_around false puts told).at_most)
 
 -- if nothing is buffered nothing is written
 pub goes_out_nothing : {W : Type 0} (tells keeps : Bool) (state : W → MediumState) (far : ℕ)
     (w : WriterState W) (moved : Bool) (limit : ℕ) → IsConsistent tells state w moved limit
     → WhereKeeps tells keeps
     ((state w.medium).contents ≡ overlay (state w.medium).start (state w.medium).past)
-    → length w.waiting ≡ 0 → GoesOut tells keeps state far true w w
+    → length w.buffered ≡ 0 → GoesOut tells keeps state far true w w
 goes_out_nothing tells keeps state far w moved limit known replays none =
     let old = state w.medium in
     let counts = (valid_of tells state moved limit w known).counts in
     record {
       value =
-          let out : w.out ≡ data_length w = omega (arith, none) in
-          let waiting = nil_from_length w.waiting none in
+          let out : w.bytes_written ≡ data_length w = omega (arith, none) in
+          let buffered = nil_from_length w.buffered none in
           search rules;
       sound = known.sound;
       file = search rules;
@@ -222,24 +222,24 @@ goes_out_nothing tells keeps state far w moved limit known replays none =
 -- containers are written at once, if nothing is buffered
 module _ {W : Type 0} (tells keeps : Bool) (state : W → MediumState) (w : WriterState W)
     (moved : Bool) (limit : ℕ) (known : IsConsistent tells state w moved limit)
-    (none : w.waiting ≡ [])
+    (none : w.buffered ≡ [])
     (m : W) (bytes : List ℕ) where
   pub cut_at_once : (all : Bool)
       → WhereTells tells
-      (PutsAt keeps (w.data_start + w.out) bytes (all_out all) (state w.medium) (state m))
+      (PutsAt keeps (w.data_start + w.bytes_written) bytes (all_out all) (state w.medium) (state m))
       → IsConsistent tells state (record w { medium = m }) true limit
   cut_at_once all puts = grind (arith, common_steps, consistent_moved, still)
 
-  pub kept_at_once : (next : ℕ) → IsLimit w.data_start (w.out + length bytes) next
+  pub kept_at_once : (next : ℕ) → IsLimit w.data_start (w.bytes_written + length bytes) next
       → HasRoom w (length bytes) → length bytes % w.spec_ex.bytes_per_sample ≡ 0
       → WhereTells tells
-      (PutsAt keeps (w.data_start + w.out) bytes (all_out true) (state w.medium) (state m))
+      (PutsAt keeps (w.data_start + w.bytes_written) bytes (all_out true) (state w.medium) (state m))
       → IsConsistent tells state
-      (record w { medium = m; out = w.out + length bytes }) false next
+      (record w { medium = m; bytes_written = w.bytes_written + length bytes }) false next
   kept_at_once next limit_next room whole puts =
-      let sound = sound_more tells keeps state w none known.sound known.stands m bytes room whole in
-      let both = whole_more w.out (length bytes) w.spec_ex.bytes_per_sample known.whole_out whole in
-      let stands = λ (told : IsTrue tells).
-      stands_more w.spec_ex w.data_start w.out (w.out + length bytes) (state m).contents (omega arith)
-      (still tells keeps state w known.stands m bytes (all_out true) told (puts told)) in
+      let sound = sound_more tells keeps state w none known.sound known.at_most m bytes room whole in
+      let both = whole_more w.bytes_written (length bytes) w.spec_ex.bytes_per_sample known.whole_written whole in
+      let at_most = λ (told : IsTrue tells).
+      at_most_more w.spec_ex w.data_start w.bytes_written (w.bytes_written + length bytes) (state m).contents (omega arith)
+      (still tells keeps state w known.at_most m bytes (all_out true) told (puts told)) in
       search rules

@@ -11,7 +11,7 @@ use Rattle.hound_medium.proofs.Outcomes.{on_ok, on_ok_self}
 use Rattle.hound_medium.proofs.Spans.{flushed_since, span_still}
 use Rattle.hound_writer.specs.Accepting.{AddsAtEach}
 use Rattle.hound_writer.specs.Effects.{Log, Performed, checkpoint, log_state, pad_effects, size_effects}
-use Rattle.hound_writer.specs.Parts.{all_out, after_out, GoesOut, HasSize, IsConsistent, IsPublishResult, IsStanding, Patches, PatchesAtEach, PutsAt, StaysAround}
+use Rattle.hound_writer.specs.Parts.{all_out, after_out, GoesOut, HasSize, IsConsistent, IsPublishResult, CountsAtMost, Patches, PatchesAtEach, PutsAt, StaysAround}
 use Rattle.hound_writer.specs.Publishing.{PublishesTo}
 use Rattle.hound_writer.specs.Writer.{WriterState, AreFrames, IsPadded, IsSound, data_length, padded_end}
 use Rattle.hound_writer.specs.declared.effects.Effect.{Effect}
@@ -23,8 +23,8 @@ use Rattle.hound_writer.proofs.Padding.{goes_out, padded_odd}
 use Rattle.hound_writer.proofs.Patching.{cut, first_half, patched, second_half}
 use Rattle.hound_writer.proofs.PatchMoments.{patches_none, patches_both, patches_still, publishes_to, riff_span}
 use Rattle.hound_writer.proofs.PublishLater.{published_cut, published_later}
-use Rattle.hound_writer.proofs.Samples.{length_out, valid_of, whole_out}
-use Rattle.hound_writer.proofs.Standing.{inside, stands_patched}
+use Rattle.hound_writer.proofs.Samples.{length_written, valid_of, whole_written}
+use Rattle.hound_writer.proofs.AtMost.{inside, at_most_patched}
 
 -- what an effect returned
 abbrev pub fine : Unit {0} → Result (Unit {0}) IoFault
@@ -46,34 +46,34 @@ as_out at bytes (Err e) old new puts = search rules
 
 -- a writer between the actions of a recording: nothing is buffered
 pub record Good (w : WriterState Log) : Type 0 where
-  pub none : w.waiting ≡ []
+  pub none : w.buffered ≡ []
   pub sound : IsSound w
-  pub stands : IsStanding w.spec_ex w.data_start w.out w.medium.state.contents
+  pub at_most : CountsAtMost w.spec_ex w.data_start w.bytes_written w.medium.state.contents
 
 -- the same over what an effect has left
 pub good_over : (w : WriterState Log) (m : Log) → Good w
-    → IsStanding w.spec_ex w.data_start w.out m.state.contents → Good (record w { medium = m })
-good_over w m good stands = grind (arith, common_steps, sound_with)
+    → CountsAtMost w.spec_ex w.data_start w.bytes_written m.state.contents → Good (record w { medium = m })
+good_over w m good at_most = grind (arith, common_steps, sound_with)
 
 -- the effects after the first sync
 abbrev sizes_of : WriterState Log → List Effect
-sizes_of w = Size 4 (riff_size w.data_start w.out) ∷ Size (w.data_start - 4) w.out ∷ Sync ∷ []
+sizes_of w = Size 4 (riff_size w.data_start w.bytes_written) ∷ Size (w.data_start - 4) w.bytes_written ∷ Sync ∷ []
 
 module _ (w : WriterState Log) (good : Good w) where
   abbrev p : ℕ
   p = w.data_start - 4
 
   abbrev size : ℕ
-  size = riff_size w.data_start w.out
+  size = riff_size w.data_start w.bytes_written
 
   abbrev a : MediumState
   a = w.medium.state
 
-  long : data_length w ≡ w.out
-  long = length_out log_state w good.none
+  long : data_length w ≡ w.bytes_written
+  long = length_written log_state w good.none
 
   pub known : IsConsistent true log_state w true 0
-  known = grind (arith, common_steps, whole_out, none_whole)
+  known = grind (arith, common_steps, whole_written, none_whole)
 
   has : HasSize p a.contents
   has = grind (arith, common_steps, inside)
@@ -83,18 +83,18 @@ module _ (w : WriterState Log) (good : Good w) where
 
   abbrev Both : Result (Unit {0}) IoFault → Log → Type 0
   Both outcome end =
-      Patches p size w.out outcome a end.state × PatchesAtEach p size w.out outcome a end.state
+      Patches p size w.bytes_written outcome a end.state × PatchesAtEach p size w.bytes_written outcome a end.state
 
   synced : (r : Result (Unit {0}) IoFault) (b c d : Log)
       → PutsAt true 4 (bytes_of 4 size) (fine tt) a b.state
-      → PutsAt true p (bytes_of 4 w.out) (fine tt) b.state c.state
+      → PutsAt true p (bytes_of 4 w.bytes_written) (fine tt) b.state c.state
       → Flushes r c.state d.state → Both r d
   synced r b c d first second flush = (
-    patched true p size w.out (fine tt) (fine tt) r a b.state c.state d.state has b.small first second
+    patched true p size w.bytes_written (fine tt) (fine tt) r a b.state c.state d.state has b.small first second
         first.whole second.whole fits (second.faults ∙ first.faults) flush,
-    patches_still p size w.out r r a c.state d.state c.replays flush.stays
+    patches_still p size w.bytes_written r r a c.state d.state c.replays flush.stays
         (flushed_since r c.state d.state flush) (on_ok_self r)
-        (patches_both true p size w.out (fine tt) (fine tt) r a b.state c.state refl
+        (patches_both true p size w.bytes_written (fine tt) (fine tt) r a b.state c.state refl
         w.medium.replays b.replays has b.small first first.whole fits second (on_ok r refl)),
   )
 
@@ -103,18 +103,18 @@ module _ (w : WriterState Log) (good : Good w) where
       → Performed (sizes_of w) outcome w.medium end → Both outcome end
   sizes outcome end (b, Err e, first, (is, last)) =
       rw (is, last) (
-        cut p size w.out 0 (bad e) a b.state refl (omega arith)
-            (first_half true p size w.out (bad e) a b.state has first) first.faults,
-        patches_none p size w.out (bad e) a b.state
-            (riff_span true p size w.out (bad e) a b.state refl w.medium.replays has first) tt,
+        cut p size w.bytes_written 0 (bad e) a b.state refl (omega arith)
+            (first_half true p size w.bytes_written (bad e) a b.state has first) first.faults,
+        patches_none p size w.bytes_written (bad e) a b.state
+            (riff_span true p size w.bytes_written (bad e) a b.state refl w.medium.replays has first) tt,
       )
   sizes outcome end (b, Ok x, first, (c, Err e, second, (is, last))) =
       rw (is, last) (
-        cut p size w.out second.count (bad e) a c.state refl second.within
-            (second_half true p size w.out (fine tt) a b.state has first (bad e) c.state
+        cut p size w.bytes_written second.count (bad e) a c.state refl second.within
+            (second_half true p size w.bytes_written (fine tt) a b.state has first (bad e) c.state
             b.small first.whole fits second)
             (second.faults ∙ ap (λ n. faults_after (bad e) n) first.faults),
-        patches_both true p size w.out (fine tt) (bad e) (bad e) a b.state c.state refl
+        patches_both true p size w.bytes_written (fine tt) (bad e) (bad e) a b.state c.state refl
             w.medium.replays b.replays has b.small first first.whole fits second tt,
       )
   sizes outcome end (b, Ok x, first, (c, Ok y, second, (d, Ok z, flush, (is, last)))) =
@@ -123,16 +123,16 @@ module _ (w : WriterState Log) (good : Good w) where
       rw (is, last) (synced (bad e) b c d first second flush)
 
   value : (all : Bool) (m : Log) → record w { medium = m } ≡ after_out all m w
-  value true m = λ i. record w { medium = m; out = sym long i; waiting = good.none i }
+  value true m = λ i. record w { medium = m; bytes_written = sym long i; buffered = good.none i }
   value false m = refl
 
   -- a sync writes nothing
   module _ (far : ℕ) (m : Log) (r : Result (Unit {0}) IoFault) (flush : Flushes r a m.state) where
-    pub stands_still : IsStanding w.spec_ex w.data_start w.out m.state.contents
-    stands_still = rw flush.stays.contents good.stands
+    pub at_most_still : CountsAtMost w.spec_ex w.data_start w.bytes_written m.state.contents
+    at_most_still = rw flush.stays.contents good.at_most
 
     around_still : StaysAround log_state far w m.state
-    around_still = grind (arith, common_steps, stands_still)
+    around_still = grind (arith, common_steps, at_most_still)
 
     adds_still : AddsAtEach log_state w m.state
     adds_still =
@@ -145,7 +145,7 @@ module _ (w : WriterState Log) (good : Good w) where
     goes_still = record {
       value = value (is_ok r) m;
       sound = good.sound;
-      file = λ _. goes_beside log_state far (is_ok r) w m good.sound (whole_out log_state w good.none good.sound)
+      file = λ _. goes_beside log_state far (is_ok r) w m good.sound (whole_written log_state w good.none good.sound)
           (flush.faults ∙ faults_as r a.faults) around_still;
       moments = λ _ _.
           let adds = adds_still in
@@ -160,7 +160,7 @@ module _ (outcome : Result (Unit {0}) IoFault) (are_frames : Bool) (answer : Res
   -- all that is published, and the file that is left
   abbrev Left : WriterState Log → Type 0
   Left w = PublishesTo true true log_state end.state.place answer w (record w { medium = end })
-      × IsStanding w.spec_ex w.data_start w.out end.state.contents
+      × CountsAtMost w.spec_ex w.data_start w.bytes_written end.state.contents
 
   abbrev HasFrames : WriterState Log → Type 0
   HasFrames w = (IsTrue are_frames → AreFrames w) × (AreFrames w → IsTrue are_frames)
@@ -171,11 +171,11 @@ module _ (outcome : Result (Unit {0}) IoFault) (are_frames : Bool) (answer : Res
   after_pad w good frames padded did =
       let both = sizes w good outcome end did in
       let half = both.0.half in (
-        publishes_to true true log_state w end good.none good.sound (λ _. good.stands) (λ _. padded)
+        publishes_to true true log_state w end good.none good.sound (λ _. good.at_most) (λ _. padded)
             outcome are_frames answer is (record w { medium = end }) refl frames (λ _. w.medium.small)
             (λ _. end.small) (λ _. both.0) (λ _ _. both.1) end.state.place (λ _. on_ok outcome refl),
-        stands_patched w.spec_ex w.data_start w.out w.medium.state.contents end.state.contents
-            good.stands half.0 half.2.same half.2.field,
+        at_most_patched w.spec_ex w.data_start w.bytes_written w.medium.state.contents end.state.contents
+            good.at_most half.0 half.2.same half.2.field,
       )
 
   -- an effect before the sizes, and then those that follow
@@ -194,18 +194,18 @@ module _ (outcome : Result (Unit {0}) IoFault) (are_frames : Bool) (answer : Res
       rw (cut_is, last) (
         published_cut true true log_state (padded_end w) m.state.place w (record w { medium = m }) e
             (omega arith) goes (λ _. w.medium.small),
-        (goes.file refl).around.stands,
+        (goes.file refl).around.at_most,
       )
 
   after_sync : (w : WriterState Log) → Good w → HasFrames w → IsPadded w w.medium.state.contents
       → Performed (Sync ∷ sizes_of w) outcome w.medium end → Left w
   after_sync w good frames padded (m, r, flush, rest) =
       step w m r (sizes_of w) (goes_still w good (padded_end w) m r flush) rest
-      (λ ok did. after_pad (record w { medium = m }) (good_over w m good (stands_still w good (padded_end w) m r flush))
+      (λ ok did. after_pad (record w { medium = m }) (good_over w m good (at_most_still w good (padded_end w) m r flush))
       frames (rw flush.stays.contents padded) did)
 
-  by_parity : (w : WriterState Log) → Good w → HasFrames w → (odd : ℕ) → w.out % 2 ≡ odd
-      → Performed (pad_effects (w.data_start + w.out) odd ++ size_effects w.data_start w.out) outcome
+  by_parity : (w : WriterState Log) → Good w → HasFrames w → (odd : ℕ) → w.bytes_written % 2 ≡ odd
+      → Performed (pad_effects (w.data_start + w.bytes_written) odd ++ size_effects w.data_start w.bytes_written) outcome
       w.medium end → Left w
   by_parity w good frames zero even did =
       let none : padding (data_length w) ≡ [] =
@@ -213,15 +213,15 @@ module _ (outcome : Result (Unit {0}) IoFault) (are_frames : Bool) (answer : Res
       let padded : IsPadded w w.medium.state.contents = rw none refl in
       after_sync w good frames padded did
   by_parity w good frames (suc n) odd (m, r, puts, rest) =
-      let put = as_out (w.data_start + w.out) (0 ∷ []) r w.medium.state m.state puts in
-      let no : w.out % 2 ≡ 0 → ⊥ = λ even. omega (arith, even, odd) in
+      let put = as_out (w.data_start + w.bytes_written) (0 ∷ []) r w.medium.state m.state puts in
+      let no : w.bytes_written % 2 ≡ 0 → ⊥ = λ even. omega (arith, even, odd) in
       let goes = goes_out true true log_state w true 0 (known w good) good.none (λ _ _. w.medium.replays) no m
       (is_ok r) (λ _. put) in
-      step w m r (size_effects w.data_start w.out) goes rest
-      (λ ok did. after_sync (record w { medium = m }) (good_over w m good (goes.file refl).around.stands) frames
+      step w m r (size_effects w.data_start w.bytes_written) goes rest
+      (λ ok did. after_sync (record w { medium = m }) (good_over w m good (goes.file refl).around.at_most) frames
       (padded_odd true true log_state w true 0 (known w good) good.none (λ _ _. w.medium.replays) no m (is_ok r)
       (λ _. put) refl ok) did)
 
   pub publishes_checkpoint : (w : WriterState Log) → Good w → HasFrames w
-      → Performed (checkpoint w.data_start w.out) outcome w.medium end → Left w
-  publishes_checkpoint w good frames did = by_parity w good frames (w.out % 2) refl did
+      → Performed (checkpoint w.data_start w.bytes_written) outcome w.medium end → Left w
+  publishes_checkpoint w good frames did = by_parity w good frames (w.bytes_written % 2) refl did

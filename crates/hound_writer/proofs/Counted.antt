@@ -29,12 +29,12 @@ reads_first s start n count contents le head None is = (
 reads_first s start n count contents le head (Some cause) is = inr (s, n, start, head, is)
 
 -- if the head is there and the field is at most n, the first n bytes of the data are counted
-pub counts_standing : (s : WavSpecEx) (start n : ℕ) (contents : List ℕ) → 1 ≤ s.bytes_per_sample
+pub counts_at_most : (s : WavSpecEx) (start n : ℕ) (contents : List ℕ) → 1 ≤ s.bytes_per_sample
     → n % s.bytes_per_sample ≡ 0 → Head contents s (field (start - 4) contents) start
     → field (start - 4) contents ≤ n
     → Counts s start
     (containers s.bytes_per_sample (n / s.bytes_per_sample) (drop start contents)) contents
-counts_standing s start n contents some whole head counted =
+counts_at_most s start n contents some whole head counted =
     let width = s.bytes_per_sample in
     let bytes = drop start contents in
     let count = n / width in
@@ -45,7 +45,7 @@ counts_standing s start n contents some whole head counted =
       samples = count;
       among = omega (arith, length-containers width count bytes);
       covers = omega (arith, counted, count_bytes n width whole);
-      stand = sym (concat-containers width count bytes) ∙ ap concat (sym all);
+      stored = sym (concat-containers width count bytes) ∙ ap concat (sym all);
       reads = reads_first s start (field (start - 4) contents) count contents
           (samples_le (field (start - 4) contents) n width some counted) head
           (data_fault s (field (start - 4) contents)) refl;
@@ -76,7 +76,7 @@ counts_more s start accepted more contents some counts =
       samples = counts.samples;
       among = omega (arith, counts.among, length-append accepted more);
       covers = counts.covers;
-      stand = counts.stand
+      stored = counts.stored
           ∙ ap concat (sym (take-append-le counts.samples accepted more counts.among));
       reads = reads_more s start n accepted more contents few (data_fault s n) counts.reads;
     }

@@ -15,7 +15,7 @@ use Rattle.hound_writer.proofs.Sizes.{header_front}
 
 -- a writer with no accepted bytes has no samples
 pub none_accepted : {M : Type 0} (state : M → MediumState) (w : WriterState M) → IsSound w
-    → w.waiting ≡ [] → w.out ≡ 0 → accepted_samples state w ≡ []
+    → w.buffered ≡ [] → w.bytes_written ≡ 0 → accepted_samples state w ≡ []
 none_accepted state w sound none empty = grind (arith, common_steps)
 
 -- what is before the data stays, so the header does
@@ -40,14 +40,14 @@ module _ {W : Type 0} (tells keeps : Bool) (state : W → MediumState) (told : I
       let p = finishes.publishes told in
       let whole = a.whole f.whole in
       let samples : accepted_samples state last ≡ list =
-      a.accepted f.whole ∙ ap (λ l. l ++ list) (none_accepted state first b.sound b.none_waits b.none_out) in
+      a.accepted f.whole ∙ ap (λ l. l ++ list) (none_accepted state first b.sound b.none_buffered b.none_out) in
       let spec : last.spec_ex ≡ s = accepts.adds.spec_ex ∙ b.spec in
       let begun = begun_front state first last accepts.adds.spec_ex accepts.adds.data_start a.front
       (f.header, b.start ∙ ap data_start (sym b.spec)) in
       let starts : StartsWith (state end).contents (canonical s list) =
       rw (samples, spec) at (p.canonical whole begun) in
       let nothing : data_length first ≡ 0 =
-      (λ i. b.none_out i + length (b.none_waits i)) in
+      (λ i. b.none_out i + length (b.none_buffered i)) in
       sym (take_all (length (canonical s list)) (state end).contents
       (omega (
         arith,

@@ -40,7 +40,7 @@ module _ {W : Type 0} (tells keeps : Bool) (state : W → MediumState) (far : �
   then = (state m).contents
 
   abbrev reach_out : ℕ
-  reach_out = a.data_start + a.out
+  reach_out = a.data_start + a.bytes_written
 
   -- what was up to the end of the bytes in the medium at first
   front_later : (told : IsTrue tells) → IsWhole state a → (c : List ℕ)

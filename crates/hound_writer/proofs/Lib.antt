@@ -2,7 +2,7 @@ pub mod Containers
 pub mod Heads
 pub mod Counted
 pub mod Sizes
-pub mod Standing
+pub mod AtMost
 pub mod Keeping
 pub mod Answers
 pub mod Samples

@@ -110,7 +110,7 @@ checkpoint_ordered start n (suc odd) after =
 
 -- the end of the data
 abbrev end_of : WriterState Log → ℕ
-end_of w = w.data_start + w.out
+end_of w = w.data_start + w.bytes_written
 
 -- what an action needs: a sync needs no order
 abbrev Ready : List Acted → ℕ → MediumState → Type 0
@@ -124,15 +124,15 @@ ready (one ∷ rest) high m order = inl order
 -- what an action leaves
 action_ordered : (action : Action) (r : Result (Unit {0}) IoFault) (w : WriterState Log) (log : Log)
     → 20 ≤ w.data_start → InOrder (end_of w) w.medium.state ⊎ (Calm w.medium.state × (action ≡ resync))
-    → Acts action r w log → Leaves (is_ok r) (w.data_start + out_after action r w.out) log.state
+    → Acts action r w log → Leaves (is_ok r) (w.data_start + out_after action r w.bytes_written) log.state
 action_ordered (block bytes) (Ok x) w log after (inl order) (room, whole, puts) =
-    later true (end_of w + length bytes) (w.data_start + (w.out + length bytes)) log.state (omega arith)
+    later true (end_of w + length bytes) (w.data_start + (w.bytes_written + length bytes)) log.state (omega arith)
     (puts_in_order (end_of w) (end_of w) bytes (fine x) w.medium.state log.state (omega arith) order puts)
 action_ordered (block bytes) (Err e) w log after (inl order) (room, whole, puts) =
     (puts_in_order (end_of w) (end_of w) bytes (bad e) w.medium.state log.state (omega arith) order puts).calm
 action_ordered save r w log after (inl order) did =
-    all_ordered (checkpoint w.data_start w.out) (end_of w) (end_of w) r w.medium log
-    (checkpoint_ordered w.data_start w.out (w.out % 2) after) order did
+    all_ordered (checkpoint w.data_start w.bytes_written) (end_of w) (end_of w) r w.medium log
+    (checkpoint_ordered w.data_start w.bytes_written (w.bytes_written % 2) after) order did
 action_ordered resync r w log after (inl order) did =
     syncs (end_of w) r w.medium.state log.state order.calm did
 action_ordered resync r w log after (inr (calm, is)) did =
@@ -156,14 +156,14 @@ ready_ordered : (actions : List Acted) (w last : WriterState Log) → 20 ≤ w.d
     → Calm last.medium.state
 ready_ordered [] w last after order careful is = rw is order
 ready_ordered (one ∷ rest) w last after order careful (log, acts, then) =
-    let next = record w { medium = log; out = out_after one.action one.result w.out } in
+    let next = record w { medium = log; bytes_written = out_after one.action one.result w.bytes_written } in
     ready_ordered rest next last after
     (next_ready one rest (end_of next) log.state (is_ok one.result) refl careful
     (action_ordered one.action one.result w log after order acts)) (careful_rest one rest careful) then
 
 -- careful actions after bytes in order
 pub actions_ordered : (actions : List Acted) (w last : WriterState Log) → 20 ≤ w.data_start
-    → InOrder (w.data_start + w.out) w.medium.state → IsCareful actions → ActsAll actions w last
+    → InOrder (w.data_start + w.bytes_written) w.medium.state → IsCareful actions → ActsAll actions w last
     → Calm last.medium.state
 actions_ordered actions w last after order careful did =
     ready_ordered actions w last after (ready actions (end_of w) w.medium.state order) careful did

@@ -8,28 +8,28 @@ use Rattle.hound_writer.specs.Writer.{WriterState, IsPadded, data_length, padded
 use Rattle.hound_writer.proofs.Accepting.{around, at_each, goes_at_each, goes_beside}
 
 -- a byte that was written is at its place
-put_stands : (p b : ℕ) (c : List ℕ) → take 1 (drop p (put_at p b c)) ≡ b ∷ []
-put_stands zero b [] = refl
-put_stands zero b (x ∷ c) = refl
-put_stands (suc p) b [] = put_stands p b []
-put_stands (suc p) b (x ∷ c) = put_stands p b c
+put_in_place : (p b : ℕ) (c : List ℕ) → take 1 (drop p (put_at p b c)) ≡ b ∷ []
+put_in_place zero b [] = refl
+put_in_place zero b (x ∷ c) = refl
+put_in_place (suc p) b [] = put_in_place p b []
+put_in_place (suc p) b (x ∷ c) = put_in_place p b c
 
 -- a writer with an empty block, whose data have an odd length, and a byte written after them
 module _ {W : Type 0} (tells keeps : Bool) (state : W → MediumState) (w : WriterState W)
     (moved : Bool) (limit : ℕ) (known : IsConsistent tells state w moved limit)
-    (none : w.waiting ≡ [])
+    (none : w.buffered ≡ [])
     (replays : WhereKeeps tells keeps
     ((state w.medium).contents ≡ overlay (state w.medium).start (state w.medium).past))
-    (odd : w.out % 2 ≡ 0 → ⊥)
+    (odd : w.bytes_written % 2 ≡ 0 → ⊥)
     (m : W) (all : Bool)
     (puts : WhereTells tells
-    (PutsAt keeps (w.data_start + w.out) (0 ∷ []) (all_out all) (state w.medium) (state m)))
+    (PutsAt keeps (w.data_start + w.bytes_written) (0 ∷ []) (all_out all) (state w.medium) (state m)))
   where
     abbrev old : MediumState
     old = state w.medium
 
     abbrev end : ℕ
-    end = w.data_start + w.out
+    end = w.data_start + w.bytes_written
 
     abbrev pad : List ℕ
     pad = 0 ∷ []
@@ -37,7 +37,7 @@ module _ {W : Type 0} (tells keeps : Bool) (state : W → MediumState) (w : Writ
     abbrev new : WriterState W
     new = record w { medium = m }
 
-    size : data_length w ≡ w.out
+    size : data_length w ≡ w.bytes_written
     size = omega (arith, ap length none)
 
     odd_size : data_length w % 2 ≡ 1
@@ -45,7 +45,7 @@ module _ {W : Type 0} (tells keeps : Bool) (state : W → MediumState) (w : Writ
 
     -- nothing buffered is no less than all of it
     value : (all : Bool) → record w { medium = m } ≡ after_out all m w
-    value true = λ i. record w { medium = m; out = sym size i; waiting = none i }
+    value true = λ i. record w { medium = m; bytes_written = sym size i; buffered = none i }
     value false = refl
 
     pub goes_out : GoesOut tells keeps state (padded_end w) all w (record w { medium = m })
@@ -53,16 +53,16 @@ module _ {W : Type 0} (tells keeps : Bool) (state : W → MediumState) (w : Writ
       value = value all;
       sound = known.sound;
       file = λ told.
-          goes_beside state (padded_end w) all w m known.sound known.whole_out (puts told).faults
-          (around tells keeps state w known.stands m pad (all_out all) told (puts told)
+          goes_beside state (padded_end w) all w m known.sound known.whole_written (puts told).faults
+          (around tells keeps state w known.at_most m pad (all_out all) told (puts told)
           (padded_end w) (omega (arith, size, odd_size)));
       moments = λ told kept.
-          goes_at_each tells keeps state w known.stands m pad (all_out all) told (puts told) kept
+          goes_at_each tells keeps state w known.at_most m pad (all_out all) told (puts told) kept
           (replays told kept)
-          (at_each tells keeps state w none known.sound known.stands m pad (all_out all) told
+          (at_each tells keeps state w none known.sound known.at_most m pad (all_out all) told
           (puts told) kept (replays told kept));
     }
 
     -- once it is written it is there
     pub padded_odd : WhereTells tells (IsTrue all → IsPadded w (state m).contents)
-    padded_odd told done = grind (arith, common_steps, take_all, put_stands, odd_size, size)
+    padded_odd told done = grind (arith, common_steps, take_all, put_in_place, odd_size, size)

@@ -15,7 +15,7 @@ use Rattle.hound_medium.proofs.Spans.{span_puts, span_end_zero, span_weaker, joi
 use Rattle.hound_medium.proofs.Torn.{number_at_small}
 use Rattle.hound_spec.specs.declared.error.Error.{Error}
 use Rattle.hound_writer.specs.Writer.{Counts, field, WriterState, AreFrames, IsPadded, IsSound, IsWhole, accepted_samples, data_length, data_end}
-use Rattle.hound_writer.specs.Parts.{HasSize, IsPatched, Patches, PatchesAtEach, PutsAt, IsStanding, IsPublishResult}
+use Rattle.hound_writer.specs.Parts.{HasSize, IsPatched, Patches, PatchesAtEach, PutsAt, CountsAtMost, IsPublishResult}
 use Rattle.hound_writer.specs.Accepting.{IsPublishing}
 use Rattle.hound_durable.specs.{place_of}
 use Rattle.hound_durable.proofs.Ascending.{length_put, place_after}
@@ -25,8 +25,8 @@ use Rattle.hound_writer.proofs.Later.{drop_later}
 use Rattle.hound_writer.proofs.Patching.{has_size, patched_field, patched_riff, riff_put}
 use Rattle.hound_writer.proofs.Publishing.{in_medium, publishes}
 use Rattle.hound_writer.proofs.Storing.{stored_same}
-use Rattle.hound_writer.proofs.Samples.{concat-samples, counts_at, length_out, whole_out}
-use Rattle.hound_writer.proofs.Standing.{inside, stands_patched}
+use Rattle.hound_writer.proofs.Samples.{concat-samples, counts_at, length_written, whole_written}
+use Rattle.hound_writer.proofs.AtMost.{inside, at_most_patched}
 
 -- the parts of a patch, all of their bytes or a beginning
 module _ {T E : Type 0} (keeps : Bool) (p size new : ℕ) (result : Result T E)
@@ -118,34 +118,34 @@ old_or_new p size new split a b has small span puts k from to outside = grind (a
 
 -- each intermediate state of a patch of a writer's file, by the result of the call that does it
 pub publishes_at_each : {W : Type 0} (state : W → MediumState) (w : WriterState W)
-    (none : w.waiting ≡ []) → IsSound w
-    → IsStanding w.spec_ex w.data_start w.out (state w.medium).contents
+    (none : w.buffered ≡ []) → IsSound w
+    → CountsAtMost w.spec_ex w.data_start w.bytes_written (state w.medium).contents
     → IsPadded w (state w.medium).contents → AreBytes (state w.medium).contents
     → (end : W) (patched : Result (Unit {0}) IoFault) (are_frames : Bool)
     (told : Result (Unit {0}) Error) → IsPublishResult patched are_frames told
-    → PatchesAtEach (w.data_start - 4) (riff_size w.data_start w.out) w.out patched
+    → PatchesAtEach (w.data_start - 4) (riff_size w.data_start w.bytes_written) w.bytes_written patched
     (state w.medium) (state end) → PublishesAtEach state w told end
-publishes_at_each state w none sound stands padded small end patched are_frames told is patches =
+publishes_at_each state w none sound at_most padded small end patched are_frames told is patches =
     let p = w.data_start - 4 in
     let old = (state w.medium).contents in
     let split = patches.split in
     let span = patches.span in
     let start : p + 4 ≡ w.data_start = omega (arith, sound.after_head) in
-    let all : w.out ≡ data_length w = sym (length_out state w none) in
+    let all : w.bytes_written ≡ data_length w = sym (length_written state w none) in
     let has = has_size p old (omega (arith, sound.after_head))
-    (omega (arith, start, inside w.spec_ex w.data_start w.out old old stands)) small in
+    (omega (arith, start, inside w.spec_ex w.data_start w.bytes_written old old at_most)) small in
     let samples : (c : List ℕ) → drop (p + 4) c ≡ drop (p + 4) old
-    → take w.out (drop w.data_start c) ≡ take w.out (drop w.data_start old) =
-    λ c same. ap (take w.out) (rw start at same) in
-    let counts : IsWhole state w → (j : ℕ) (c : List ℕ) → IsPatched p (riff_size w.data_start w.out) old w.out j c
+    → take w.bytes_written (drop w.data_start c) ≡ take w.bytes_written (drop w.data_start old) =
+    λ c same. ap (take w.bytes_written) (rw start at same) in
+    let counts : IsWhole state w → (j : ℕ) (c : List ℕ) → IsPatched p (riff_size w.data_start w.bytes_written) old w.bytes_written j c
     → Counts w.spec_ex w.data_start (accepted_samples state w) c =
-    λ whole j c at. counts_at state w sound (whole_out state w none sound) c whole
-    (stands_patched w.spec_ex w.data_start w.out old c stands j at.same at.field)
+    λ whole j c at. counts_at state w sound (whole_written state w none sound) c whole
+    (at_most_patched w.spec_ex w.data_start w.bytes_written old c at_most j at.same at.field)
     (samples c at.same.behind) in
     let behind : (c : List ℕ) → drop (p + 4) c ≡ drop (p + 4) old
     → drop (data_end w) c ≡ drop (data_end w) old =
     λ c same. drop_later (p + 4) (data_end w) c old (omega (arith, start)) same in
-    let half : (j : ℕ) (c : List ℕ) → IsPatched p (riff_size w.data_start w.out) old w.out j c → IsHalfPublished w old j c =
+    let half : (j : ℕ) (c : List ℕ) → IsPatched p (riff_size w.data_start w.bytes_written) old w.bytes_written j c → IsHalfPublished w old j c =
     λ j c at.
     let out = samples c at.same.behind in
     let length_is = at.field ∙ ap (mix j (field p old)) all in
@@ -163,24 +163,24 @@ publishes_at_each state w none sound stands padded small end patched are_frames 
                 (span.each k from to);
           };
       split = split;
-      half = span_weaker (IsPatched p (riff_size w.data_start w.out) old w.out)
+      half = span_weaker (IsPatched p (riff_size w.data_start w.bytes_written) old w.bytes_written)
           (IsHalfPublished w old) split (state w.medium) (state end) half span;
       puts = patches.puts;
       whole = published _ patched are_frames told is patches.whole;
       old_or_new = rw all at
-          (old_or_new p (riff_size w.data_start w.out) w.out split (state w.medium) (state end) has
+          (old_or_new p (riff_size w.data_start w.bytes_written) w.bytes_written split (state w.medium) (state end) has
           (omega (arith, sound.fits, sound.after_head, all)) span patches.puts);
       padded = λ i k from more before later to.
           rw (behind _ (span.each k (omega (arith, from, later)) to).same.behind) padded;
       there = λ whole i k from more before later to.
           omega (arith, whole, all, (span.each k (omega (arith, from, later)) to).same.long);
       stored =
-          λ whole. stored_same w.data_start w.out (concat (accepted_samples state w)) old
+          λ whole. stored_same w.data_start w.bytes_written (concat (accepted_samples state w)) old
           (state w.medium) (state end)
           (omega (
             arith,
             ap length (concat-samples state w none sound),
-            length-take w.out (drop w.data_start old),
+            length-take w.bytes_written (drop w.data_start old),
           ))
           (λ k from to. samples (moment (state end).start (state end).past k)
           (span.each k from to).same.behind);
@@ -188,8 +188,8 @@ publishes_at_each state w none sound stands padded small end patched are_frames 
 
 -- a call of a writer that patches, and its result by the frames
 module _ {W : Type 0} (tells keeps : Bool) (state : W → MediumState) (w : WriterState W) (end : W)
-    (none : w.waiting ≡ []) (sound : IsSound w)
-    (stands : WhereTells tells (IsStanding w.spec_ex w.data_start w.out (state w.medium).contents))
+    (none : w.buffered ≡ []) (sound : IsSound w)
+    (at_most : WhereTells tells (CountsAtMost w.spec_ex w.data_start w.bytes_written (state w.medium).contents))
     (padded : WhereTells tells (IsPadded w (state w.medium).contents))
     (patched : Result (Unit {0}) IoFault) (are_frames : Bool) (told : Result (Unit {0}) Error)
     (is : IsPublishResult patched are_frames told)
@@ -198,10 +198,10 @@ module _ {W : Type 0} (tells keeps : Bool) (state : W → MediumState) (w : Writ
     (before : WhereTells tells (AreBytes (state w.medium).contents))
     (after : WhereTells tells (AreBytes (state end).contents))
     (patches : WhereTells tells
-    (Patches (w.data_start - 4) (riff_size w.data_start w.out) w.out patched (state w.medium)
+    (Patches (w.data_start - 4) (riff_size w.data_start w.bytes_written) w.bytes_written patched (state w.medium)
     (state end)))
     (moments : WhereKeeps tells keeps
-    (PatchesAtEach (w.data_start - 4) (riff_size w.data_start w.out) w.out patched
+    (PatchesAtEach (w.data_start - 4) (riff_size w.data_start w.bytes_written) w.bytes_written patched
     (state w.medium) (state end))) where
   frames : (IsTrue are_frames → AreFrames w) × (AreFrames w → IsTrue are_frames)
   frames =
@@ -212,12 +212,12 @@ module _ {W : Type 0} (tells keeps : Bool) (state : W → MediumState) (w : Writ
 
   published_all : WhereTells tells (Publishes state w told end)
   published_all known =
-      publishes state w none sound (stands known)
+      publishes state w none sound (at_most known)
       (padded known) end patched are_frames told is frames.0 (after known) (patches known)
 
   at_each : WhereKeeps tells keeps (PublishesAtEach state w told end)
   at_each known kept =
-      publishes_at_each state w none sound (stands known) (padded known)
+      publishes_at_each state w none sound (at_most known) (padded known)
       (before known) end patched are_frames told is (moments known kept)
 
   -- all was published, and the medium left somewhere

@@ -46,9 +46,9 @@ module _ {W : Type 0} (state : W → MediumState) (a : WriterState W) (sound : I
       → HasHeader a.spec_ex c
   header_of c same (has, at) = header_front a.spec_ex start first c at same has
 
-  data_of : (c : List ℕ) → take (start + a.out) c ≡ take (start + a.out) first
-      → take a.out (drop start c) ≡ take a.out (drop start first)
-  data_of c same = front_part (start + a.out) start a.out c first (omega arith) same
+  data_of : (c : List ℕ) → take (start + a.bytes_written) c ≡ take (start + a.bytes_written) first
+      → take a.bytes_written (drop start c) ≡ take a.bytes_written (drop start first)
+  data_of c same = front_part (start + a.bytes_written) start a.bytes_written c first (omega arith) same
 
   -- while the buffered samples are written the data length is the old one
   module _ {far : ℕ} (small : AreBytes (state a.medium).contents) (m : MediumState)
@@ -163,9 +163,9 @@ module _ {W : Type 0} (tells keeps : Bool) (state : W → MediumState) (a : Writ
           faults = g.faults ∙ ap (faults_told answer) f.faults;
           front = sizes_then a.data_start old mid new (sizes_of state a sound mid around.front)
               g.front;
-          out = λ whole. take_front a.out (data_length a) (drop a.data_start mid)
-              (drop a.data_start new) (omega arith) (g.out (f.whole whole))
-              ∙ data_of state a sound mid (around.out whole);
+          bytes_written = λ whole. take_front a.bytes_written (data_length a) (drop a.data_start mid)
+              (drop a.data_start new) (omega arith) (g.bytes_written (f.whole whole))
+              ∙ data_of state a sound mid (around.bytes_written whole);
           rest = (rw same_length at g.rest) ∙ around.rest;
           grows = omega (arith, around.grows, g.grows);
           reach = omega (arith, around.reach, g.reach, ap (λ n. n % 2) same_length);
@@ -174,7 +174,7 @@ module _ {W : Type 0} (tells keeps : Bool) (state : W → MediumState) (a : Writ
           flushed = g.flushed;
           riff_says = rw same_length at g.riff_says;
           length_says = rw same_length at g.length_says;
-          stand = λ whole. rw (f.accepted whole, same_length) at (g.stand (f.whole whole));
+          stored = λ whole. rw (f.accepted whole, same_length) at (g.stored (f.whole whole));
           padded = rw same_length at g.padded;
           read = λ whole. rw (f.accepted whole) at (g.read (f.whole whole));
           canonical = λ whole is. rw (f.accepted whole) at (g.canonical (f.whole whole) (begun is));
@@ -192,9 +192,9 @@ module _ {W : Type 0} (tells keeps : Bool) (state : W → MediumState) (a : Writ
       half_later j c half = record {
         front = sizes_then a.data_start old mid c
             (sizes_of state a sound mid (out.file told).around.front) half.front;
-        out = λ whole. take_front a.out (data_length a) (drop a.data_start mid)
-            (drop a.data_start c) (omega arith) (half.out ((out.file told).whole whole))
-            ∙ data_of state a sound mid ((out.file told).around.out whole);
+        bytes_written = λ whole. take_front a.bytes_written (data_length a) (drop a.data_start mid)
+            (drop a.data_start c) (omega arith) (half.bytes_written ((out.file told).whole whole))
+            ∙ data_of state a sound mid ((out.file told).around.bytes_written whole);
         length_is = half.length_is ∙ (λ i. mix j (field_same i) (same_length i));
       }
 

@@ -15,17 +15,17 @@ use Rattle.hound_spec.specs.declared.spec.WavSpecEx.{WavSpecEx}
 use Rattle.hound_spec.specs.{riff_tag, data_start, header, riff_size, padding, canonical}
 use Rattle.hound_spec.proofs.HeaderLemmas.{described, header-parts, length-header, length-described}
 use Rattle.hound_sample.specs.{containers}
-use Rattle.hound_writer.specs.Parts.{IsConsistent, IsPublishResult, Patches, IsStanding}
+use Rattle.hound_writer.specs.Parts.{IsConsistent, IsPublishResult, Patches, CountsAtMost}
 use Rattle.hound_writer.specs.Writer.{SameButSizes, with_sizes, field, Counts, WriterState, AreFrames, IsPadded, IsSound, IsWhole, IsBegun, HasHeader, accepted_samples, data_length, data_end, padded_end}
 use Rattle.hound_writer.specs.Accepting.{IsPublishing, OnPublished}
 use Rattle.hound_writer.specs.Publishing.{Publishes, PublishesAtEach, PublishesTo, ReadsAs}
 use Rattle.hound_writer.proofs.Answers.{published, told_faults, told_ok}
 use Rattle.hound_writer.proofs.Keeping.{consistent_moved}
 use Rattle.hound_writer.proofs.Later.{drop_later}
-use Rattle.hound_writer.proofs.Samples.{concat-samples, counts_at, length-samples, length_out, whole_out}
+use Rattle.hound_writer.proofs.Samples.{concat-samples, counts_at, length-samples, length_written, whole_written}
 use Rattle.hound_writer.proofs.Patching.{riff_size_of_sizes, data_length_of_sizes}
 use Rattle.hound_writer.proofs.Heads.{in_parts}
-use Rattle.hound_writer.proofs.Standing.{inside, stands_patched}
+use Rattle.hound_writer.proofs.AtMost.{inside, at_most_patched}
 
 -- a file that begins with the header of a spec, once other sizes are in it
 module _ (s : WavSpecEx) (size length_before : ℕ) (start p : ℕ) (before : p + 4 ≡ start)
@@ -121,39 +121,39 @@ pub reads_all : (s : WavSpecEx) (start n : ℕ) (samples : List (List ℕ)) (con
 reads_all s start n samples contents whole frames size says counts = grind (arith, common_steps)
 
 -- a writer's file with its sizes
-module _ {W : Type 0} (state : W → MediumState) (w : WriterState W) (none : w.waiting ≡ [])
-    (sound : IsSound w) (stands : IsStanding w.spec_ex w.data_start w.out (state w.medium).contents)
+module _ {W : Type 0} (state : W → MediumState) (w : WriterState W) (none : w.buffered ≡ [])
+    (sound : IsSound w) (at_most : CountsAtMost w.spec_ex w.data_start w.bytes_written (state w.medium).contents)
     (padded : IsPadded w (state w.medium).contents) (end : W) where
   abbrev p : ℕ
   p = w.data_start - 4
 
   abbrev size : ℕ
-  size = riff_size w.data_start w.out
+  size = riff_size w.data_start w.bytes_written
 
   before : p + 4 ≡ w.data_start
   before = omega (arith, sound.after_head)
 
-  all : w.out ≡ data_length w
-  all = sym (length_out state w none)
+  all : w.bytes_written ≡ data_length w
+  all = sym (length_written state w none)
 
   abbrev old : List ℕ
   old = (state w.medium).contents
 
   there : p + 4 ≤ length old
-  there = omega (arith, before, inside w.spec_ex w.data_start w.out old old stands)
+  there = omega (arith, before, inside w.spec_ex w.data_start w.bytes_written old old at_most)
 
   module _
       (put : (state end).contents ≡ with_sizes (w.data_start - 4)
-      (riff_size w.data_start w.out) w.out (state w.medium).contents) where
+      (riff_size w.data_start w.bytes_written) w.bytes_written (state w.medium).contents) where
     riff_says : field 4 (state end).contents ≡ riff_size w.data_start (data_length w)
     riff_says = grind (arith, common_steps, riff_size_of_sizes, there, all)
 
-    length_says : field p (state end).contents ≡ w.out
+    length_says : field p (state end).contents ≡ w.bytes_written
     length_says = grind (arith, common_steps, data_length_of_sizes, there, all)
 
     -- the pad byte, seen from the first data byte on
-    pad_stands : StartsWith (drop w.out (drop w.data_start old)) (padding w.out)
-    pad_stands = rw (drop-drop w.out w.data_start old, all) padded
+    pad_in_place : StartsWith (drop w.bytes_written (drop w.data_start old)) (padding w.bytes_written)
+    pad_in_place = rw (drop-drop w.bytes_written w.data_start old, all) padded
 
     is_canonical : IsWhole state w → IsBegun state w
         → StartsWith (state end).contents (canonical w.spec_ex (accepted_samples state w))
@@ -162,18 +162,18 @@ module _ {W : Type 0} (state : W → MediumState) (w : WriterState W) (none : w.
         length-header w.spec_ex size_before length_before ∙ sym at in
         let front : take w.data_start old ≡ header w.spec_ex size_before length_before =
         ap (λ n. take n old) (sym long) ∙ begins in
-        canonical_begins w.spec_ex (accepted_samples state w) w.out w.data_start
+        canonical_begins w.spec_ex (accepted_samples state w) w.bytes_written w.data_start
         (drop w.data_start old) (state end).contents (sym at)
         (omega (arith, whole, length-drop w.data_start old))
-        (concat-samples state w none sound) pad_stands
+        (concat-samples state w none sound) pad_in_place
         (put ∙ header_with w.spec_ex size_before length_before w.data_start p before
-        (sym at) old front size w.out)
+        (sym at) old front size w.bytes_written)
 
   -- What a patch leaves, and the result of a call that has done one.
   pub publishes : (patched : Result (Unit {0}) IoFault) (are_frames : Bool)
       (told : Result (Unit {0}) Error) → IsPublishResult patched are_frames told
       → (are_frames ≡ true → AreFrames w) → AreBytes (state end).contents
-      → Patches (w.data_start - 4) (riff_size w.data_start w.out) w.out patched (state w.medium)
+      → Patches (w.data_start - 4) (riff_size w.data_start w.bytes_written) w.bytes_written patched (state w.medium)
       (state end) → Publishes state w told end
   publishes patched are_frames told is frames small patches =
       let half = patches.half.2 in
@@ -182,19 +182,19 @@ module _ {W : Type 0} (state : W → MediumState) (w : WriterState W) (none : w.
       omega (arith, before, there, same.long) in
       let samples = rw before at same.behind in
       let still =
-      stands_patched w.spec_ex w.data_start w.out old
-      (state end).contents stands patches.half.0 same half.field in
+      at_most_patched w.spec_ex w.data_start w.bytes_written old
+      (state end).contents at_most patches.half.0 same half.field in
       let counts : IsWhole state w
       → Counts w.spec_ex w.data_start (accepted_samples state w) (state end).contents =
-      λ whole. counts_at state w sound (whole_out state w none sound)
-      (state end).contents whole still (ap (take w.out) samples) in
+      λ whole. counts_at state w sound (whole_written state w none sound)
+      (state end).contents whole still (ap (take w.bytes_written) samples) in
       let behind = drop_later w.data_start (data_end w) (state end).contents old (omega arith) samples in
       record {
         faults =
             told_faults patched are_frames told (state w.medium).faults
             (state end).faults is patches.faults;
         front = search rules;
-        out = λ _. ap (take w.out) samples;
+        bytes_written = λ _. ap (take w.bytes_written) samples;
         rest = drop_later (data_end w) (padded_end w) (state end).contents old (omega arith) behind;
         grows = omega (arith, same.long);
         reach = omega (arith, same.long);
@@ -207,14 +207,14 @@ module _ {W : Type 0} (state : W → MediumState) (w : WriterState W) (none : w.
             (on_ok_weaker patched riff_says patches.contents);
         length_says = published _ patched are_frames told is
             (on_ok_weaker patched (λ put. length_says put ∙ all) patches.contents);
-        stand = λ whole. published _ patched are_frames told is
+        stored = λ whole. published _ patched are_frames told is
             (on_ok patched
             ((λ i. take (sym all i) (samples i)) ∙ sym (concat-samples state w none sound)));
         padded = published _ patched are_frames told is (on_ok patched (rw behind padded));
         read = λ whole. told_ok _ patched are_frames told is
             (λ yes. on_ok_weaker patched
-            (λ put. reads_all w.spec_ex w.data_start w.out (accepted_samples state w)
-            (state end).contents (whole_out state w none sound)
+            (λ put. reads_all w.spec_ex w.data_start w.bytes_written (accepted_samples state w)
+            (state end).contents (whole_written state w none sound)
             (ap (λ n. n / w.spec_ex.bytes_per_sample % w.spec_ex.spec.channels) all ∙ frames yes)
             (length-samples state w none sound) (length_says put)
             (counts whole)) patches.contents);
@@ -227,12 +227,12 @@ module _ {W : Type 0} (state : W → MediumState) (w : WriterState W) (none : w.
 pub consistent_patched : {W : Type 0} (tells : Bool) (state : W → MediumState) (w : WriterState W)
     (end : W) (may_have_moved : Bool) (limit : ℕ) (riff : ℕ) (result : Result (Unit {0}) IoFault)
     → IsConsistent tells state w may_have_moved limit
-    → WhereTells tells (Patches (w.data_start - 4) riff w.out result (state w.medium) (state end))
+    → WhereTells tells (Patches (w.data_start - 4) riff w.bytes_written result (state w.medium) (state end))
     → IsConsistent tells state (record w { medium = end }) true limit
 consistent_patched tells state w end may_have_moved limit riff result keeps patches =
     consistent_moved tells state w end may_have_moved limit keeps
-    (λ told. let half = (patches told).half in stands_patched w.spec_ex w.data_start w.out
-    (state w.medium).contents (state end).contents (keeps.stands told) half.0 half.2.same half.2.field)
+    (λ told. let half = (patches told).half in at_most_patched w.spec_ex w.data_start w.bytes_written
+    (state w.medium).contents (state end).contents (keeps.at_most told) half.0 half.2.same half.2.field)
 
 -- a call that publishes, of a writer of which only the medium changes
 pub in_medium : {W : Type 0} (tells keeps : Bool) (state : W → MediumState) (at : ℕ)

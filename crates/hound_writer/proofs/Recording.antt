@@ -17,7 +17,7 @@ use Rattle.hound_writer.proofs.Answers.{on_published_then}
 
 -- a writer of the same file is the same but for its memory
 pub same_but_memory : {W : Type 0} (a b : WriterState W) → IsSameFile a b
-    → with_memory a b.buffer ≡ b
+    → with_memory a b.batch_memory ≡ b
 same_but_memory a b same = search rules
 
 -- one call more of which this is known
@@ -44,7 +44,7 @@ module _ {W : Type 0} (tells keeps : Bool) (state : W → MediumState) where
     c,
     ap (λ (w : WriterState W). length (state w.medium).past) same,
     subst (λ w. Does tells keeps state asked answer w c) same does,
-    (c.buffer, refl),
+    (c.batch_memory, refl),
   )
   lead_more (call ∷ calls) asked answer a b c (memory, mid, at, first, rest) does =
       (memory, mid, at, first, lead_more calls asked answer mid b c rest does)
@@ -144,7 +144,7 @@ module _ {W : Type 0} (tells keeps : Bool) (state : W → MediumState) where
     first = r.first;
     calls = r.calls;
     opens = r.opens;
-    lead = rw (← same_but_memory a b same) (lead_same r.calls r.first a b.buffer r.lead);
+    lead = rw (← same_but_memory a b same) (lead_same r.calls r.first a b.batch_memory r.lead);
     are_known = r.are_known;
   }
 
@@ -153,7 +153,7 @@ module _ {W : Type 0} (tells keeps : Bool) (state : W → MediumState) where
       → Opens tells keeps state s file w → Recorded tells keeps state s file [] w
   unfolding Recorded
   recorded_first s file w opens =
-      record { first = w; calls = []; opens = opens; lead = (w.buffer, refl); are_known = tt }
+      record { first = w; calls = []; opens = opens; lead = (w.batch_memory, refl); are_known = tt }
 
   pub recorded_new : (s : WavSpecEx) (old : MediumState) (w : WriterState W)
       → Begins tells keeps state s old w → Recorded tells keeps state s (new_file old) [] w

@@ -9,7 +9,7 @@ use Rattle.hound_medium.specs.{moment, placed, put_at, MediumState}
 use Rattle.hound_medium.proofs.Overlays.{front_part, overlay_more}
 use Rattle.hound_medium.proofs.Spans.{moment_before}
 use Rattle.hound_durable.specs.{place_of}
-use Rattle.hound_writer.specs.Accepting.{IsStored, KeepsStored, StaysTrue}
+use Rattle.hound_writer.specs.Accepting.{IsStored, StaysStored, StaysTrue}
 use Rattle.hound_writer.specs.Writer.{WriterState, IsSound, IsWhole, accepted_bytes, accepted_samples}
 use Rattle.hound_writer.proofs.Containers.{joined_bytes}
 use Rattle.hound_writer.proofs.Samples.{length-accepted}
@@ -75,7 +75,7 @@ byte_placed at (b ∷ bytes) (suc j) few = byte_placed (suc at) bytes j (omega (
 -- bytes that are written at their own places keep what is stored of them, and of those before them
 pub puts_stored : (start at : ℕ) (before bytes : List ℕ) (count : ℕ) (old new : MediumState)
     → start + length before ≡ at → new.past ≡ old.past ++ placed at (take count bytes)
-    → KeepsStored start (before ++ bytes) old new
+    → StaysStored start (before ++ bytes) old new
 puts_stored start at before bytes count old new is past a len within =
     let all = before ++ bytes in
     let xs = take len (drop a all) in
@@ -117,7 +117,7 @@ puts_stored start at before bytes count old new is past a len within =
 pub stored_same : (start n : ℕ) (bytes first : List ℕ) (old new : MediumState) → length bytes ≤ n
     → ((k : ℕ) → length old.past ≤ k → k ≤ length new.past
     → take n (drop start (moment new.start new.past k)) ≡ take n (drop start first))
-    → KeepsStored start bytes old new
+    → StaysStored start bytes old new
 stored_same start n bytes first old new few same a len within k m from le to here =
     let part : (c : List ℕ) → take n (drop start c) ≡ take n (drop start first)
     → take len (drop (start + a) c) ≡ take len (drop (start + a) first) =
@@ -128,13 +128,13 @@ stored_same start n bytes first old new few same a len within k m from le to her
     ∙ sym (part (moment new.start new.past k) (same k from (omega (arith, le, to)))) ∙ here
 
 -- and if nothing is written
-pub stored_still : (start : ℕ) (bytes : List ℕ) (s : MediumState) → KeepsStored start bytes s s
+pub stored_still : (start : ℕ) (bytes : List ℕ) (s : MediumState) → StaysStored start bytes s s
 stored_still start bytes s a len within k m from le to here = grind (arith, common_steps)
 
 -- by one call and then another
 pub stored_join : (start : ℕ) (bytes : List ℕ) (a b c : MediumState) (earlier later : List (ℕ × ℕ))
     → b.past ≡ a.past ++ earlier → c.start ≡ b.start → c.past ≡ b.past ++ later
-    → KeepsStored start bytes a b → KeepsStored start bytes b c → KeepsStored start bytes a c
+    → StaysStored start bytes a b → StaysStored start bytes b c → StaysStored start bytes a c
 stored_join start bytes a b c earlier later was begins past first then p len within k m from le to
     here =
     let P : List ℕ → Type 0 = IsStored start bytes p len in
@@ -163,7 +163,7 @@ stored_join start bytes a b c earlier later was begins past first then p len wit
 
 -- fewer bytes
 pub stored_fewer : (start : ℕ) (xs ys : List ℕ) (old new : MediumState)
-    → KeepsStored start (xs ++ ys) old new → KeepsStored start xs old new
+    → StaysStored start (xs ++ ys) old new → StaysStored start xs old new
 stored_fewer start xs ys old new all a len within k m from le to here = grind (arith, common_steps)
 
 -- the accepted samples, joined, are the accepted bytes

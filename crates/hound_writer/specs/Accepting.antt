@@ -10,7 +10,7 @@ use Rattle.hound_writer.specs.Writer.{WriterState, AreFrames, data_length, Count
 use Rattle.hound_number.specs.{signed_bytes_of}
 use Rattle.hound_spec.specs.declared.spec.WavSpecEx.{WavSpecEx}
 use Rattle.hound_writer.specs.declared.outcome.Outcome.{Outcome}
-use Rattle.hound_writer.specs.declared.outcome.Outcome.TheVariants.{Accepted, OutOfRange, WrongPair}
+use Rattle.hound_writer.specs.declared.outcome.Outcome.TheVariants as outcomes
 
 -- the medium failed
 abbrev pub IsIoError : Error → Type 0
@@ -92,8 +92,8 @@ IsStored start bytes a len contents =
     take len (drop (start + a) contents) ≡ take len (drop a bytes)
 
 -- each part of these bytes, once stored at its place, stays stored
-abbrev pub KeepsStored : ℕ → List ℕ → MediumState → MediumState → Type 0
-KeepsStored start bytes old new =
+abbrev pub StaysStored : ℕ → List ℕ → MediumState → MediumState → Type 0
+StaysStored start bytes old new =
     (a len : ℕ) → a + len ≤ length bytes → StaysTrue (IsStored start bytes a len) old new
 
 -- What a call with these containers did to its writer, by its result, over every medium: it accepts
@@ -107,7 +107,7 @@ pub record Adds {W : Type 0} (asked : Result (List (List ℕ)) Refusal)
   pub data_start : new.data_start ≡ old.data_start
   pub data_length : data_length new
       ≡ data_length old + length (concat (if_marked (mark_of answer) asked))
-  pub buffer : new.buffer ≡ old.buffer
+  pub batch_memory : new.batch_memory ≡ old.batch_memory
 
 -- What it left in the medium. A fault is counted exactly at an `IoError`; what is before the data
 -- stays, and unless the medium failed what is after the accepted data. If the bytes in the medium
@@ -137,11 +137,11 @@ pub record AddsAtEach {W : Type 0} (state : W → MediumState) (old : WriterStat
       Span (λ _. Counts old.spec_ex old.data_start (accepted_samples state old)) 0
       (state old.medium) new
   pub front : IsWhole state old →
-      Span (λ _ c. take (old.data_start + old.out) c
-      ≡ take (old.data_start + old.out) (state old.medium).contents)
+      Span (λ _ c. take (old.data_start + old.bytes_written) c
+      ≡ take (old.data_start + old.bytes_written) (state old.medium).contents)
       0 (state old.medium) new
   pub stored : IsWhole state old →
-      KeepsStored old.data_start (concat (accepted_samples state old)) (state old.medium) new
+      StaysStored old.data_start (concat (accepted_samples state old)) (state old.medium) new
 
 -- What a call with these containers does, by its result.
 pub record Accepts {W : Type 0} (tells keeps : Bool) (state : W → MediumState)
@@ -164,9 +164,9 @@ AcceptsBytes tells keeps state bytes answer old new =
 
 -- the outcome of samples by their containers only
 abbrev pub outcome_of : {T : Type 0} → Result T Refusal → Outcome
-outcome_of (Ok list) = Accepted
-outcome_of (Err too_wide) = OutOfRange
-outcome_of (Err unsupported) = WrongPair
+outcome_of (Ok list) = outcomes.Accepted
+outcome_of (Err too_wide) = outcomes.TooWide
+outcome_of (Err unsupported) = outcomes.Unsupported
 
 -- the container of a sample in a file of this spec, by its type's table, or the error
 abbrev pub container_in : {V : Type 0} → (V → ℕ → ℕ → Result (List ℕ) Refusal) → WavSpecEx → V →
@@ -186,12 +186,12 @@ sample_bytes container s values =
     joined_containers (λ v. container v s.spec.bits_per_sample s.bytes_per_sample) values
 
 -- these integers have sixteen bits each
-abbrev pub AreShort : List ℤ → Type 0
-AreShort values = IsOk (all_containers (λ v. int_container v 16 2) values)
+abbrev pub AreI16 : List ℤ → Type 0
+AreI16 values = IsOk (all_containers (λ v. int_container v 16 2) values)
 
 -- the bytes of integers of sixteen bits
-abbrev pub short_bytes : List ℤ → List ℕ
-short_bytes values = flat_map (signed_bytes_of 2) values
+abbrev pub i16_bytes : List ℤ → List ℕ
+i16_bytes values = flat_map (signed_bytes_of 2) values
 
 -- Samples that were written one by one, each where the one before ended, and all accepted.
 abbrev pub AcceptsEach : {V W : Type 0} → Bool → Bool → (W → MediumState) →

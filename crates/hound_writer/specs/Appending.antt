@@ -80,8 +80,8 @@ pub record Appends {W : Type 0} (tells : Bool) (state : W → MediumState) (old 
     (w : WriterState W) : Type 0 where
   pub sound : IsSound w
   pub sound_spec : IsSoundSpec w.spec_ex
-  pub none_waits : w.waiting ≡ []
-  pub buffer : w.buffer ≡ []
+  pub none_buffered : w.buffered ≡ []
+  pub batch_memory : w.batch_memory ≡ []
   pub file : WhereTells tells (FollowsData old state w)
 
 -- A file that isn't appended to, for a fault that its bytes have, or since the medium failed.

@@ -3,8 +3,8 @@ use Rattle.std.specs.Prelude.{◌≡◌, ◌+◌, ◌++◌, ℕ, List, length, t
 use Rattle.std.specs.Borrow.{GName}
 use Rattle.hound_medium.specs.declared.medium.Placed.{Ghosts}
 use Rattle.hound_writer.specs.declared.memory.BatchMemory.{Ghosts as MemoryGhosts}
-use Rattle.hound_writer.specs.Accepting.{short_bytes}
-use Rattle.hound_writer.specs.Calls.{KeepsCalls}
+use Rattle.hound_writer.specs.Accepting.{i16_bytes}
+use Rattle.hound_writer.specs.Calls.{HasSameCalls}
 use Rattle.hound_writer.specs.Writer.{WriterState}
 use Rattle.hound_writer.specs.declared.batch.SampleWriter16.{SampleWriter16}
 
@@ -13,14 +13,14 @@ pub record IsSameFile {W : Type 0} (old new : WriterState W) : Type 0 where
   pub medium : new.medium ≡ old.medium
   pub spec_ex : new.spec_ex ≡ old.spec_ex
   pub data_start : new.data_start ≡ old.data_start
-  pub out : new.out ≡ old.out
-  pub waiting : new.waiting ≡ old.waiting
+  pub bytes_written : new.bytes_written ≡ old.bytes_written
+  pub buffered : new.buffered ≡ old.buffered
 
 module _ {W B : Type 0} {medium : Ghosts W} {memory : MemoryGhosts B} where
   -- the writer that a batch goes to, as it is now, with the memory that it has lent to the batch
   abbrev pub batch_writer : SampleWriter16 W B medium memory → WriterState W
   batch_writer batch = record batch.parent.now {
-    buffer = short_bytes (memory.samples batch.memory);
+    batch_memory = i16_bytes (memory.samples batch.memory);
   }
 
   -- the ghost name of the reference to it
@@ -29,7 +29,7 @@ module _ {W B : Type 0} {medium : Ghosts W} {memory : MemoryGhosts B} where
 
   -- the bytes of the samples that were written to a batch
   abbrev pub batch_bytes : SampleWriter16 W B medium memory → List ℕ
-  batch_bytes batch = short_bytes (take batch.written (memory.samples batch.memory))
+  batch_bytes batch = i16_bytes (take batch.written (memory.samples batch.memory))
 
   -- how many samples are still to be written
   abbrev pub remaining : SampleWriter16 W B medium memory → ℕ
@@ -43,6 +43,6 @@ module _ {W B : Type 0} {medium : Ghosts W} {memory : MemoryGhosts B} where
       pub written : batch_bytes new ≡ batch_bytes old ++ bytes
       pub left : remaining new + 1 ≡ remaining old
       pub stays : IsSameFile (batch_writer old) (batch_writer new)
-      pub kept : length (batch_writer new).buffer ≡ length (batch_writer old).buffer
-      pub recorded : KeepsCalls medium.tells medium.keeps medium.state (batch_writer old)
+      pub kept : length (batch_writer new).batch_memory ≡ length (batch_writer old).batch_memory
+      pub recorded : HasSameCalls medium.tells medium.keeps medium.state (batch_writer old)
           (batch_writer new)

@@ -26,9 +26,9 @@ pub record HasBegun {W : Type 0} (spec_ex : WavSpecEx) (w : WriterState W) : Typ
   pub sound : IsSound w
   pub spec : w.spec_ex ≡ spec_ex
   pub start : w.data_start ≡ data_start spec_ex
-  pub none_out : w.out ≡ 0
-  pub none_waits : w.waiting ≡ []
-  pub buffer : w.buffer ≡ []
+  pub none_out : w.bytes_written ≡ 0
+  pub none_buffered : w.buffered ≡ []
+  pub batch_memory : w.batch_memory ≡ []
 
 -- the result of creating a file on disk: it has begun, or why it hasn't
 abbrev pub BeginsFile : {W : Type 0} → WavSpecEx → Result (WriterState W) Error → Type 0

@@ -61,7 +61,7 @@ Does tells keeps state publish answer old new = LeavesWriter tells keeps state a
 
 -- the writer with this memory for batches
 abbrev pub with_memory : {W : Type 0} → WriterState W → List ℕ → WriterState W
-with_memory w memory = record w { buffer = memory }
+with_memory w memory = record w { batch_memory = memory }
 
 -- These calls led from the one writer to the other, each from where the one before it ended; between
 -- them only the memory for batches may have changed.
@@ -126,9 +126,9 @@ unfoldable pub Recorded : {W : Type 0} → Bool → Bool → (W → MediumState)
 Recorded tells keeps state s file known last = RecordedBy tells keeps state s file known last
 
 -- what is known of the calls of the one writer is known of those of the other
-abbrev pub KeepsCalls : {W : Type 0} → Bool → Bool → (W → MediumState) → WriterState W →
+abbrev pub HasSameCalls : {W : Type 0} → Bool → Bool → (W → MediumState) → WriterState W →
     WriterState W → Type 0
-KeepsCalls tells keeps state old new = (s : WavSpecEx) (file : Begun) (known : List Known) →
+HasSameCalls tells keeps state old new = (s : WavSpecEx) (file : Begun) (known : List Known) →
     Recorded tells keeps state s file known old → Recorded tells keeps state s file known new
 
 -- a call appends this to what is known, by the spec of the file

@@ -1,13 +1,13 @@
 -- The words of this crate, for those above it. The file is made by `scripts/make_words`.
-pub use Rattle.hound_writer.specs.Accepting.{AcceptAnswer, Accepts, AcceptsBytes, AcceptsEach, Adds, AddsAtEach, AddsToFile, AreShort, FitAnswer, IsIoError, IsPublishing, IsStored, KeepsStored, OnPublished, OnRefused, StaysTrue, UnlessFailed, container_in, containers_in, faults_told, if_marked, mark_of, one, outcome_of, sample_bytes, short_bytes, whole_containers}
+pub use Rattle.hound_writer.specs.Accepting.{AcceptAnswer, Accepts, AcceptsBytes, AcceptsEach, Adds, AddsAtEach, AddsToFile, AreI16, FitAnswer, IsIoError, IsPublishing, IsStored, OnPublished, OnRefused, StaysStored, StaysTrue, UnlessFailed, container_in, containers_in, faults_told, i16_bytes, if_marked, mark_of, one, outcome_of, sample_bytes, whole_containers}
 pub use Rattle.hound_writer.specs.Appending.{AnswersAppend, AppendAnswer, AppendFault, Appends, FailsCheck, FollowsData, HasOneAppendAnswer, IsAppendFault, IsNotAppended, NamesFault, PutsNothing, appendable, by_bytes, faulty, too_long}
 unfoldable pub use Rattle.hound_writer.specs.Appending.{head_fault}
 pub use Rattle.hound_writer.specs.Batch.{IsSameFile, WritesToBatch, batch_bytes, batch_lender, batch_writer, remaining}
 pub use Rattle.hound_writer.specs.Beginning.{Begins, BeginsFile, HasBegun, IsNotBegun, PutsHeader}
-pub use Rattle.hound_writer.specs.Parts.{GoesAtEach, GoesOut, GoesToFile, HasSize, IsConsistent, IsLimit, IsPatched, IsPublishResult, IsStanding, Patches, PatchesAtEach, PutsAt, StaysAround, after_out, all_out, bytes_kept, of_fields, or_fault, result_of}
-pub use Rattle.hound_writer.specs.Calls.{AreKnown, Asked, Begun, Call, Does, Ends, Extends, HadData, IsKnown, KeepsCalls, Known, Lead, LeftBy, Opens, RecordedBy, appended, asked_by_all, found_in, handed_in, made, marked, new_file, publish, start_of, with_memory, write}
+pub use Rattle.hound_writer.specs.Parts.{CountsAtMost, GoesAtEach, GoesOut, GoesToFile, HasSize, IsConsistent, IsLimit, IsPatched, IsPublishResult, Patches, PatchesAtEach, PutsAt, StaysAround, after_out, all_out, memory_bytes, of_fields, or_fault, result_of}
+pub use Rattle.hound_writer.specs.Calls.{AreKnown, Asked, Begun, Call, Does, Ends, Extends, HadData, HasSameCalls, IsKnown, Known, Lead, LeftBy, Opens, RecordedBy, appended, asked_by_all, found_in, handed_in, made, marked, new_file, publish, start_of, with_memory, write}
 unfoldable pub use Rattle.hound_writer.specs.Calls.{Left, Recorded}
-pub use Rattle.hound_writer.specs.Writer.{AreFrames, ChangesSizesOnly, Counts, HasHeader, HasRoom, IsBegun, IsCounted, IsPadded, IsSixteen, IsSound, IsValid, IsWhole, KeepsSamples, ReadsFirst, SameButSizes, WriterState, accepted_bytes, accepted_samples, block_length, data_end, data_length, field, padded_end, sample_count}
+pub use Rattle.hound_writer.specs.Writer.{AreFrames, ChangesSizesOnly, Counts, HasHeader, HasRoom, HasSameSamples, IsBegun, IsCounted, IsPadded, IsSixteen, IsSound, IsValid, IsWhole, ReadsFirst, SameButSizes, WriterState, accepted_bytes, accepted_samples, block_length, data_end, data_length, field, padded_end, sample_count}
 unfoldable pub use Rattle.hound_writer.specs.Writer.{with_sizes}
 pub use Rattle.hound_writer.specs.Publishing.{Checkpoints, Finishes, IsHalfPublished, IsOldOrNew, IsOutside, LeavesWriter, OncePutBefore, Publishes, PublishesAtEach, PublishesTo, PutsFrom, PutsLast, ReadsAs, place_after}
 pub use Rattle.hound_writer.specs.Effects.{Log, Performed, Performs, checkpoint, log_state, nth, pad_effects, size_effects}

@@ -11,9 +11,9 @@ use Rattle.hound_reader.specs.{Head}
 use Rattle.hound_writer.specs.Publishing.{PutsLast, PutsFrom}
 use Rattle.hound_writer.specs.Writer.{SameButSizes, block_length, field, with_sizes, WriterState, IsSound, IsWhole, IsCounted, accepted_samples, data_length}
 use Rattle.hound_spec.specs.{riff_size, greatest_u32}
-use Rattle.hound_writer.specs.Accepting.{AddsAtEach, short_bytes}
+use Rattle.hound_writer.specs.Accepting.{AddsAtEach, i16_bytes}
 use Rattle.hound_writer.specs.declared.outcome.Outcome.{Outcome}
-use Rattle.hound_writer.specs.declared.outcome.Outcome.TheVariants.{Accepted, OutOfRange, WrongPair, NoRoom, Failed}
+use Rattle.hound_writer.specs.declared.outcome.Outcome.TheVariants as outcomes
 
 -- these bytes were written at a place, or at an Err a beginning of them
 pub record PutsAt {T E : Type 0} (keeps : Bool) (at : ℕ) (bytes : List ℕ) (result : Result T E)
@@ -61,7 +61,7 @@ pub record PatchesAtEach {T E : Type 0} (p size new : ℕ) (result : Result T E)
   pub whole : OnOk result (length after.past ≡ split + 4)
 
 -- a file between a writer's calls: its head is there, and the data length counts at most n bytes
-pub record IsStanding (s : WavSpecEx) (start n : ℕ) (contents : List ℕ) : Type 0 where
+pub record CountsAtMost (s : WavSpecEx) (start n : ℕ) (contents : List ℕ) : Type 0 where
   pub head : Head contents s (field (start - 4) contents) start
   pub counted : field (start - 4) contents ≤ n
 
@@ -83,26 +83,26 @@ or_fault false fault = Err (IoError fault)
 
 -- the result for a sample with this outcome, with this saved fault
 abbrev pub result_of : Outcome → IoFault → Result (Unit {0}) Error
-result_of Accepted fault = Ok tt
-result_of OutOfRange fault = Err TooWide
-result_of WrongPair fault = Err Unsupported
-result_of NoRoom fault = Err TooLong
-result_of Failed fault = Err (IoError fault)
+result_of outcomes.Accepted fault = Ok tt
+result_of outcomes.TooWide fault = Err TooWide
+result_of outcomes.Unsupported fault = Err Unsupported
+result_of outcomes.TooLong fault = Err TooLong
+result_of outcomes.Failed fault = Err (IoError fault)
 
 -- a writer over this medium once the buffered samples are written, or else as it was
 abbrev pub after_out : {W : Type 0} → Bool → W → WriterState W → WriterState W
-after_out true medium w = record w { medium = medium; out = data_length w; waiting = [] }
+after_out true medium w = record w { medium = medium; bytes_written = data_length w; buffered = [] }
 after_out false medium w = record w { medium = medium }
 
 -- What bytes after those in the medium, up to `end`, leave as is: the head is there, and nothing
 -- before them nor after `end` has changed.
 pub record StaysAround {W : Type 0} (state : W → MediumState) (end : ℕ) (old : WriterState W)
     (new : MediumState) : Type 0 where
-  pub stands : IsStanding old.spec_ex old.data_start old.out new.contents
+  pub at_most : CountsAtMost old.spec_ex old.data_start old.bytes_written new.contents
   pub front : take old.data_start new.contents ≡ take old.data_start (state old.medium).contents
-  pub out : IsWhole state old →
-      take (old.data_start + old.out) new.contents
-      ≡ take (old.data_start + old.out) (state old.medium).contents
+  pub bytes_written : IsWhole state old →
+      take (old.data_start + old.bytes_written) new.contents
+      ≡ take (old.data_start + old.bytes_written) (state old.medium).contents
   pub rest : drop end new.contents ≡ drop end (state old.medium).contents
   pub grows : length (state old.medium).contents ≤ length new.contents
   pub reach : length new.contents ≤ max (length (state old.medium).contents) end
@@ -136,20 +136,20 @@ pub record GoesOut {W : Type 0} (tells keeps : Bool) (state : W → MediumState)
 
 -- Below this many buffered bytes there is room for a sample of any width: in the block, and in the
 -- file for a whole block.
-pub record IsLimit (start out limit : ℕ) : Type 0 where
+pub record IsLimit (start written limit : ℕ) : Type 0 where
   pub block : limit + 3 ≤ block_length
-  pub file : 1 ≤ limit → riff_size start (out + block_length) ≤ greatest_u32
+  pub file : 1 ≤ limit → riff_size start (written + block_length) ≤ greatest_u32
 
 -- the value of a writer's fields
 abbrev pub of_fields : {W : Type 0} → W → WavSpecEx → ℕ → ℕ → List ℕ → List ℕ →
     WriterState W
-of_fields medium spec_ex start out waiting buffer = record {
+of_fields medium spec_ex start written buffered memory = record {
   medium = medium;
   spec_ex = spec_ex;
   data_start = start;
-  out = out;
-  waiting = waiting;
-  buffer = buffer;
+  bytes_written = written;
+  buffered = buffered;
+  batch_memory = memory;
 }
 
 -- What a writer keeps true between its calls: the samples in the medium are whole and so are the
@@ -158,15 +158,15 @@ of_fields medium spec_ex start out waiting buffer = record {
 pub record IsConsistent {W : Type 0} (tells : Bool) (state : W → MediumState) (w : WriterState W)
     (may_have_moved : Bool) (limit : ℕ) : Type 0 where
   pub sound : IsSound w
-  pub whole_out : w.out % w.spec_ex.bytes_per_sample ≡ 0
-  pub whole_waiting : length w.waiting % w.spec_ex.bytes_per_sample ≡ 0
-  pub block : length w.waiting ≤ block_length
-  pub room : IsLimit w.data_start w.out limit
-  pub stands : WhereTells tells (IsStanding w.spec_ex w.data_start w.out (state w.medium).contents)
+  pub whole_written : w.bytes_written % w.spec_ex.bytes_per_sample ≡ 0
+  pub whole_buffered : length w.buffered % w.spec_ex.bytes_per_sample ≡ 0
+  pub block : length w.buffered ≤ block_length
+  pub room : IsLimit w.data_start w.bytes_written limit
+  pub at_most : WhereTells tells (CountsAtMost w.spec_ex w.data_start w.bytes_written (state w.medium).contents)
   pub place : WhereTells tells
-      (may_have_moved ≡ false → (state w.medium).place ≡ w.data_start + w.out)
+      (may_have_moved ≡ false → (state w.medium).place ≡ w.data_start + w.bytes_written)
 
 -- the bytes of the memory that a writer holds for its batches, if it has some
-abbrev pub bytes_kept : {V : Type 0} → (V → List ℤ) → Option V → List ℕ
-bytes_kept items None = []
-bytes_kept items (Some buffer) = short_bytes (items buffer)
+abbrev pub memory_bytes : {V : Type 0} → (V → List ℤ) → Option V → List ℕ
+memory_bytes items None = []
+memory_bytes items (Some memory) = i16_bytes (items memory)

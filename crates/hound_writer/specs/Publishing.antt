@@ -10,8 +10,8 @@ use Rattle.hound_sample.specs.{containers}
 use Rattle.hound_medium.specs.{moment, MediumState, WhereTells, WhereKeeps, Span}
 use Rattle.hound_durable.specs.{place_of}
 use Rattle.hound_reader.specs.{Readable}
-use Rattle.hound_writer.specs.Accepting.{IsPublishing, OnPublished, faults_told, KeepsStored}
-use Rattle.hound_writer.specs.Writer.{Counts, ChangesSizesOnly, field, WriterState, KeepsSamples, IsWhole, IsBegun, IsPadded, HasHeader, accepted_samples, data_end, data_length, padded_end}
+use Rattle.hound_writer.specs.Accepting.{IsPublishing, OnPublished, faults_told, StaysStored}
+use Rattle.hound_writer.specs.Writer.{Counts, ChangesSizesOnly, field, WriterState, HasSameSamples, IsWhole, IsBegun, IsPadded, HasHeader, accepted_samples, data_end, data_length, padded_end}
 
 -- The contents are read as exactly these samples, with this spec, from this place on.
 pub record ReadsAs (s : WavSpecEx) (start : ℕ) (samples : List (List ℕ))
@@ -29,9 +29,9 @@ pub record Publishes {W : Type 0} (state : W → MediumState) (w : WriterState W
     (answer : Result (Unit {0}) Error) (end : W) : Type 0 where
   pub faults : (state end).faults ≡ faults_told answer (state w.medium).faults
   pub front : ChangesSizesOnly w.data_start (state w.medium).contents (state end).contents
-  pub out : IsWhole state w →
-      take w.out (drop w.data_start (state end).contents)
-      ≡ take w.out (drop w.data_start (state w.medium).contents)
+  pub bytes_written : IsWhole state w →
+      take w.bytes_written (drop w.data_start (state end).contents)
+      ≡ take w.bytes_written (drop w.data_start (state w.medium).contents)
   pub rest : drop (padded_end w) (state end).contents
       ≡ drop (padded_end w) (state w.medium).contents
   pub grows : length (state w.medium).contents ≤ length (state end).contents
@@ -44,7 +44,7 @@ pub record Publishes {W : Type 0} (state : W → MediumState) (w : WriterState W
       (field 4 (state end).contents ≡ riff_size w.data_start (data_length w))
   pub length_says : OnPublished answer
       (field (w.data_start - 4) (state end).contents ≡ data_length w)
-  pub stand : IsWhole state w → OnPublished answer
+  pub stored : IsWhole state w → OnPublished answer
       (take (data_length w) (drop w.data_start (state end).contents)
       ≡ concat (accepted_samples state w))
   pub padded : OnPublished answer (IsPadded w (state end).contents)
@@ -60,8 +60,8 @@ pub record Publishes {W : Type 0} (state : W → MediumState) (w : WriterState W
 pub record IsHalfPublished {W : Type 0} (w : WriterState W) (first : List ℕ) (j : ℕ)
     (contents : List ℕ) : Type 0 where
   pub front : ChangesSizesOnly w.data_start first contents
-  pub out : w.data_start + w.out ≤ length first →
-      take w.out (drop w.data_start contents) ≡ take w.out (drop w.data_start first)
+  pub bytes_written : w.data_start + w.bytes_written ≤ length first →
+      take w.bytes_written (drop w.data_start contents) ≡ take w.bytes_written (drop w.data_start first)
   pub length_is : field (w.data_start - 4) contents
       ≡ mix j (field (w.data_start - 4) first) (data_length w)
 
@@ -115,14 +115,14 @@ pub record PublishesAtEach {W : Type 0} (state : W → MediumState) (w : WriterS
   pub there : IsWhole state w →
       OncePutBefore w.data_start (λ c. data_end w ≤ length c) (state w.medium) (state end)
   pub stored : IsWhole state w →
-      KeepsStored w.data_start (concat (accepted_samples state w)) (state w.medium) (state end)
+      StaysStored w.data_start (concat (accepted_samples state w)) (state w.medium) (state end)
 
 -- What a call that publishes does, by its result: the writer keeps the same samples. If all was
 -- published its medium is at this place.
 pub record PublishesTo {W : Type 0} (tells keeps : Bool) (state : W → MediumState) (at : ℕ)
     (answer : Result (Unit {0}) Error) (old new : WriterState W) : Type 0 where
   pub answers : IsPublishing answer old
-  pub samples : KeepsSamples old new
+  pub samples : HasSameSamples old new
   pub publishes : WhereTells tells (Publishes state old answer new.medium)
   pub whole : WhereTells tells (IsWhole state old → IsWhole state new)
   pub accepted : WhereTells tells

@@ -34,8 +34,8 @@ out_after action result out = out
 abbrev pub Acts : Action → Result (Unit {0}) IoFault → WriterState Log → Log → Type 0
 Acts (block bytes) result w log =
     HasRoom w (length bytes) × (length bytes % w.spec_ex.bytes_per_sample ≡ 0)
-    × PutsAt true (w.data_start + w.out) bytes result w.medium.state log.state
-Acts save result w log = Performed (checkpoint w.data_start w.out) result w.medium log
+    × PutsAt true (w.data_start + w.bytes_written) bytes result w.medium.state log.state
+Acts save result w log = Performed (checkpoint w.data_start w.bytes_written) result w.medium log
 Acts resync result w log = Flushes result w.medium.state log.state
 
 -- actions, each from where the one before it ended
@@ -43,7 +43,7 @@ abbrev pub ActsAll : List Acted → WriterState Log → WriterState Log → Type
 ActsAll [] old new = new ≡ old
 ActsAll (one ∷ rest) old new = (log : Log) × Acts one.action one.result old log
     × ActsAll rest
-    (record old { medium = log; out = out_after one.action one.result old.out }) new
+    (record old { medium = log; bytes_written = out_after one.action one.result old.bytes_written }) new
 
 -- A new file is recorded: its header was written, with both sizes 0.
 pub record Opened (s : WavSpecEx) (old : MediumState) (log : Log) : Type 0 where

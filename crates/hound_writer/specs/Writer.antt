@@ -50,7 +50,7 @@ pub record Counts (s : WavSpecEx) (start : ℕ) (accepted : List (List ℕ))
   pub samples : ℕ
   pub among : samples ≤ length accepted
   pub covers : field (start - 4) contents ≤ samples * s.bytes_per_sample
-  pub stand : take (samples * s.bytes_per_sample) (drop start contents)
+  pub stored : take (samples * s.bytes_per_sample) (drop start contents)
       ≡ concat (take samples accepted)
   pub reads : ReadsFirst (data_fault s (field (start - 4) contents)) s start
       (field (start - 4) contents) accepted contents
@@ -62,13 +62,13 @@ pub record WriterState (W : Type 0) : Type 0 where
   pub medium : W
   pub spec_ex : WavSpecEx
   pub data_start : ℕ
-  pub out : ℕ
-  pub waiting : List ℕ
-  pub buffer : List ℕ
+  pub bytes_written : ℕ
+  pub buffered : List ℕ
+  pub batch_memory : List ℕ
 
 -- how many bytes were accepted
 abbrev pub data_length : {W : Type 0} → WriterState W → ℕ
-data_length w = w.out + length w.waiting
+data_length w = w.bytes_written + length w.buffered
 
 -- the place after the last of them
 abbrev pub data_end : {W : Type 0} → WriterState W → ℕ
@@ -109,7 +109,7 @@ pub record IsSound {W : Type 0} (w : WriterState W) : Type 0 where
 -- The accepted bytes: those in the medium are where the data begin, and the buffered ones follow
 -- them.
 abbrev pub accepted_bytes : {W : Type 0} → (W → MediumState) → WriterState W → List ℕ
-accepted_bytes state w = take w.out (drop w.data_start (state w.medium).contents) ++ w.waiting
+accepted_bytes state w = take w.bytes_written (drop w.data_start (state w.medium).contents) ++ w.buffered
 
 -- the accepted samples, as their containers
 abbrev pub accepted_samples : {W : Type 0} → (W → MediumState) → WriterState W → List (List ℕ)
@@ -118,7 +118,7 @@ accepted_samples state w =
 
 -- the medium has all accepted bytes that were written
 abbrev pub IsWhole : {W : Type 0} → (W → MediumState) → WriterState W → Type 0
-IsWhole state w = w.data_start + w.out ≤ length (state w.medium).contents
+IsWhole state w = w.data_start + w.bytes_written ≤ length (state w.medium).contents
 
 -- the data length counts no more than the accepted samples, and reading gives the first of them
 abbrev pub IsCounted : {W : Type 0} → (W → MediumState) → WriterState W → Type 0
@@ -134,7 +134,7 @@ block_length = 4096
 pub record IsValid {W : Type 0} (tells : Bool) (state : W → MediumState)
     (w : WriterState W) : Type 0 where
   pub sound : IsSound w
-  pub buffered : length w.waiting ≤ block_length
+  pub buffered : length w.buffered ≤ block_length
   pub counts : WhereTells tells (IsWhole state w → IsCounted state w)
 
 -- the contents begin with the header of this spec, with any two sizes
@@ -149,11 +149,11 @@ IsBegun state w =
 
 -- A writer of the same samples: of its value only the medium has changed, and the buffered samples
 -- may have been written.
-pub record KeepsSamples {W : Type 0} (old new : WriterState W) : Type 0 where
+pub record HasSameSamples {W : Type 0} (old new : WriterState W) : Type 0 where
   pub spec_ex : new.spec_ex ≡ old.spec_ex
   pub data_start : new.data_start ≡ old.data_start
   pub data_length : data_length new ≡ data_length old
-  pub buffer : new.buffer ≡ old.buffer
+  pub batch_memory : new.batch_memory ≡ old.batch_memory
 
 -- samples of sixteen bits, as integers
 abbrev pub IsSixteen : WavSpecEx → Type 0

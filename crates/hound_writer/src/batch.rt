@@ -4,8 +4,8 @@ ghost use Rattle.std.specs.Borrow.{sem, RestsIfErr};
 ghost use Rattle.hound_number.specs.{signed_bytes_of};
 ghost use Rattle.hound_spec.specs.declared.error.Error.TheVariants.{OutOfMemory, TooLong};
 ghost use Rattle.hound_writer.specs.contracts.write.WavWriter.{the_row};
-ghost use Rattle.hound_writer.specs.Accepting.{Accepts, AreShort, mark_of, short_bytes, whole_containers};
-ghost use Rattle.hound_writer.specs.Calls.{Extends, KeepsCalls, made, marked, write};
+ghost use Rattle.hound_writer.specs.Accepting.{Accepts, AreI16, mark_of, i16_bytes, whole_containers};
+ghost use Rattle.hound_writer.specs.Calls.{Extends, HasSameCalls, made, marked, write};
 ghost use Rattle.hound_writer.specs.Writer.{IsSixteen, HasRoom};
 
 use crate::WavWriter;
@@ -35,7 +35,7 @@ pub struct SampleWriter16<'parent, W: Medium, B: BatchMemory = Vec<i16>> {
 
     ghost long: { written + left ≤ length (B.samples memory) },
     ghost few: { written + left < 2 ^ 32 },
-    ghost short: { AreShort (take written (B.samples memory)) },
+    ghost fits: { AreI16 (take written (B.samples memory)) },
     ghost bits: { parent.now.spec_ex.spec.bits_per_sample ≡ 16 },
     ghost width: { parent.now.spec_ex.bytes_per_sample ≡ 2 },
 }
@@ -68,7 +68,7 @@ impl<W: Medium, B: BatchMemory> SampleWriter16<'_, W, B> {
         } = self;
         let memory = memory.into_vec();
         let accepted = parent.write_samples(&memory[..written]);
-        parent.output.buffer = Some(memory);
+        parent.output.batch_memory = Some(memory);
         accepted
     }
 }
@@ -86,29 +86,29 @@ impl<W: Medium, B: BatchMemory> Drop for SampleWriter16<'_, W, B> {
             written: _,
             left: _,
         } = self;
-        parent.output.buffer = Some(memory.into_vec());
+        parent.output.batch_memory = Some(memory.into_vec());
     }
 }
 
 impl<W: Medium> Output<W> {
     // Lends the memory for batches, with at least this many samples.
     fn lend_memory(&mut self, alloc: Global, num_samples: usize) -> Result<Vec<i16>>
-        ensures stays { self.new ≡ record self.old { buffer = self.new.buffer } }
-        ensures lent { OnOk result (self.new.buffer ≡ []) }
+        ensures stays { self.new ≡ record self.old { batch_memory = self.new.batch_memory } }
+        ensures lent { OnOk result (self.new.batch_memory ≡ []) }
         ensures long { IfOk result (λ memory. num_samples ≤ length memory.items) }
-        ensures length { IfOk result (λ memory. length (short_bytes memory.items)
-            ≡ max (length self.old.buffer) (2 * num_samples)) }
+        ensures length { IfOk result (λ memory. length (i16_bytes memory.items)
+            ≡ max (length self.old.batch_memory) (2 * num_samples)) }
         ensures refused { IfErr result (λ e. (e ≡ OutOfMemory) × (self.new ≡ self.old)
-            × (length self.old.buffer < 2 * num_samples)) }
+            × (length self.old.batch_memory < 2 * num_samples)) }
     {
-        let mut memory = self.buffer.take().unwrap_or(Vec::new(alloc));
+        let mut memory = self.batch_memory.take().unwrap_or(Vec::new(alloc));
         if memory.len() >= num_samples {
             return Ok(memory);
         }
         match memory.resize(num_samples, 0) {
             Ok(()) => Ok(memory),
             Err(error) => {
-                self.buffer = Some(memory);
+                self.batch_memory = Some(memory);
                 Err(Error::from(error))
             }
         }
@@ -147,14 +147,14 @@ impl<W: Medium> WavWriter<W> {
         ensures room { OnOk result (HasRoom self.old (2 * num_samples)) }
         ensures width { OnOk result (self.old.spec_ex.bytes_per_sample ≡ 2) }
         ensures no_memory { HasRoom self.old (2 * num_samples) → IfErr result (λ e.
-            (e ≡ OutOfMemory) × (length self.old.buffer < 2 * num_samples)) }
+            (e ≡ OutOfMemory) × (length self.old.batch_memory < 2 * num_samples)) }
         ensures size { IfOk result (λ batch. (remaining batch ≡ num_samples)
             × (batch_bytes batch ≡ [])) }
         ensures stays { IfOk result (λ batch. IsSameFile self.old (batch_writer batch)) }
-        ensures kept { IfOk result (λ batch. length (batch_writer batch).buffer
-            ≡ max (length self.old.buffer) (2 * num_samples)) }
+        ensures kept { IfOk result (λ batch. length (batch_writer batch).batch_memory
+            ≡ max (length self.old.batch_memory) (2 * num_samples)) }
         ensures recorded { IfOk result (λ batch.
-            KeepsCalls W.tells W.keeps W.state self.old (batch_writer batch)) }
+            HasSameCalls W.tells W.keeps W.state self.old (batch_writer batch)) }
     {
         if !self.output.has_room(num_samples as u64 * 2) {
             return Err(Error::TooLong);
@@ -181,8 +181,8 @@ impl<'parent, W: Medium, B: BatchMemory> SampleWriter16<'parent, W, B> {
     #[inline]
     pub fn write_sample<S: Sample>(&mut self, sample: S)
         requires room { 1 ≤ remaining self.old }
-        requires short { S.can_cast sample }
-        ensures { WritesToBatch (signed_bytes_of 2 (S.as_short sample)) self.old self.new }
+        requires integer { S.can_cast sample }
+        ensures { WritesToBatch (signed_bytes_of 2 (S.cast_value sample)) self.old self.new }
     {
         let index = self.written;
         self.written = index + 1;
@@ -195,8 +195,8 @@ impl<'parent, W: Medium, B: BatchMemory> SampleWriter16<'parent, W, B> {
     #[inline]
     pub fn write_sample_unchecked<S: Sample>(&mut self, sample: S)
         requires room { 1 ≤ remaining self.old }
-        requires short { S.can_cast sample }
-        ensures { WritesToBatch (signed_bytes_of 2 (S.as_short sample)) self.old self.new }
+        requires integer { S.can_cast sample }
+        ensures { WritesToBatch (signed_bytes_of 2 (S.cast_value sample)) self.old self.new }
     {
         self.write_sample(sample);
     }

@@ -16,7 +16,7 @@ pub(crate) struct Block {
     bytes: [u8; BLOCK_LENGTH],
 
     // How many bytes they have.
-    waiting: usize,
+    buffered: usize,
 }
 
 impl Model for Block {
@@ -25,9 +25,9 @@ impl Model for Block {
 
     ghost Value = { List ℕ };
 
-    ghost view = { λ block. take block.waiting block.bytes };
+    ghost view = { λ block. take block.buffered block.bytes };
 
-    ghost invariant = { λ block. block.waiting ≤ block_length };
+    ghost invariant = { λ block. block.buffered ≤ block_length };
 }
 
 impl Block {
@@ -37,7 +37,7 @@ impl Block {
     {
         Block {
             bytes: [0; BLOCK_LENGTH],
-            waiting: 0,
+            buffered: 0,
         }
     }
 
@@ -47,14 +47,14 @@ impl Block {
         ensures length { result ≡ length self.now }
         ensures within { result ≤ block_length }
     {
-        self.waiting
+        self.buffered
     }
 
     /// The buffered bytes.
     pub(crate) fn as_slice(&self) -> &[u8]
         ensures { result.now ≡ self.now }
     {
-        &self.bytes[..self.waiting]
+        &self.bytes[..self.buffered]
     }
 
     /// Appends a container of this many bytes, if there is room for four.
@@ -65,12 +65,12 @@ impl Block {
         ensures { self.new ≡ self.old ++ take width container }
     {
         let [a, b, c, d] = container;
-        let at = self.waiting;
+        let at = self.buffered;
         self.bytes[at] = a;
         self.bytes[at + 1] = b;
         self.bytes[at + 2] = c;
         self.bytes[at + 3] = d;
-        self.waiting = at + width;
+        self.buffered = at + width;
     }
 
     /// Appends containers, if there is room.
@@ -78,10 +78,10 @@ impl Block {
         requires { length self.old + length containers.now ≤ block_length }
         ensures { self.new ≡ self.old ++ containers.now }
     {
-        let at = self.waiting;
+        let at = self.buffered;
         let end = at + containers.len();
         self.bytes[at..end].copy_from_slice(containers);
-        self.waiting = end;
+        self.buffered = end;
     }
 
     /// Appends the containers of samples, each of which has one, if there is room.
@@ -93,16 +93,16 @@ impl Block {
         ensures { self.new ≡ self.old
             ++ joined_containers (λ s. S.container s bits width) samples.now }
     {
-        let at = self.waiting;
+        let at = self.buffered;
         let end = at + width as usize * samples.len();
         store_containers(&mut self.bytes[at..end], samples, bits, width);
-        self.waiting = end;
+        self.buffered = end;
     }
 
     /// Empties the block.
     pub(crate) fn clear(&mut self)
         ensures { self.new ≡ [] }
     {
-        self.waiting = 0;
+        self.buffered = 0;
     }
 }

@@ -20,8 +20,8 @@ pub(crate) fn first_outcome<S: Sample + Copy>(samples: &[S], bits: u16, width: u
 {
     match check_containers(samples, bits, width) {
         Ok(()) => Outcome::Accepted,
-        Err(Error::TooWide) => Outcome::OutOfRange,
-        Err(_) => Outcome::WrongPair,
+        Err(Error::TooWide) => Outcome::TooWide,
+        Err(_) => Outcome::Unsupported,
     }
 }
 
@@ -66,7 +66,7 @@ pub(crate) fn put_samples_at_end<M: Medium, S: Sample + Copy>(
     requires have { IsOk (containers_in S.container spec_ex samples.now) }
     requires some { 1 ≤ spec_ex.bytes_per_sample }
     requires width { spec_ex.bytes_per_sample ≤ 4 }
-    requires stands { WhereTells M.tells (may_have_moved.old ≡ false → (M.state medium.old).place ≡ end) }
+    requires in_place { WhereTells M.tells (may_have_moved.old ≡ false → (M.state medium.old).place ≡ end) }
     ensures puts { WhereTells M.tells
         (PutsAt M.keeps end (sample_bytes S.container spec_ex samples.now) (all_out result)
         (M.state medium.old) (M.state medium.new)) }

@@ -16,13 +16,13 @@ pub(crate) enum Outcome {
     Accepted,
 
     /// It doesn't fit in the file's bits.
-    OutOfRange,
+    TooWide,
 
     /// Its type isn't written with the file's bits and bytes.
-    WrongPair,
+    Unsupported,
 
     /// The file has no room for it.
-    NoRoom,
+    TooLong,
 
     /// The medium failed, by a fault that was saved.
     Failed,
@@ -37,13 +37,13 @@ pub(crate) fn error_of_outcome(outcome: Outcome, fault: &io::Error) -> Error
     ensures { (outcome ≡ Accepted → ⊥) → result_of outcome fault.now ≡ Err result }
 {
     let mut error = Error::IoError(*fault);
-    if let Outcome::OutOfRange = outcome {
+    if let Outcome::TooWide = outcome {
         error = Error::TooWide;
     }
-    if let Outcome::WrongPair = outcome {
+    if let Outcome::Unsupported = outcome {
         error = Error::Unsupported;
     }
-    if let Outcome::NoRoom = outcome {
+    if let Outcome::TooLong = outcome {
         error = Error::TooLong;
     }
     error

@@ -38,21 +38,21 @@ pub(crate) struct Output<W: Medium> {
     fast_path_limit: usize,
 
     // The memory that batches use, which later ones reuse.
-    pub(crate) buffer: Option<Vec<i16>>,
+    pub(crate) batch_memory: Option<Vec<i16>>,
 }
 
 impl<W: Medium> Model for Output<W> {
     ghost use Rattle.hound_writer.specs.Writer.{WriterState};
-    ghost use Rattle.hound_writer.specs.Parts.{IsConsistent, of_fields, bytes_kept};
+    ghost use Rattle.hound_writer.specs.Parts.{IsConsistent, of_fields, memory_bytes};
 
     ghost Value = { WriterState W };
 
     ghost view = { λ w. of_fields w.writer w.spec_ex w.data_start w.data_bytes_written w.block
-        (bytes_kept (λ buffer. buffer.items) w.buffer) };
+        (memory_bytes (λ memory. memory.items) w.batch_memory) };
 
     ghost invariant = { λ w. IsConsistent W.tells W.state
         (of_fields w.writer w.spec_ex w.data_start w.data_bytes_written w.block
-        (bytes_kept (λ buffer. buffer.items) w.buffer)) w.may_have_moved w.fast_path_limit };
+        (memory_bytes (λ memory. memory.items) w.batch_memory)) w.may_have_moved w.fast_path_limit };
 }
 
 // Below how many buffered bytes a block has room for a sample of any width, if this many bytes are
@@ -86,7 +86,7 @@ impl<W: Medium> Output<W> {
     ghost use Rattle.hound_spec.specs.{riff_size};
     ghost use Rattle.hound_medium.specs.{WhereTells, WhereKeeps};
     ghost use Rattle.hound_writer.specs.Accepting.{Accepts, AcceptsBytes, container_in, containers_in, sample_bytes};
-    ghost use Rattle.hound_writer.specs.Parts.{GoesOut, result_of, or_fault, of_fields, IsStanding, Patches, PatchesAtEach};
+    ghost use Rattle.hound_writer.specs.Parts.{GoesOut, result_of, or_fault, of_fields, CountsAtMost, Patches, PatchesAtEach};
     ghost use Rattle.hound_writer.specs.Publishing.{PublishesTo, place_after};
     ghost use Rattle.hound_writer.specs.Writer.{AreFrames, HasRoom, block_length, IsPadded, IsSound, IsValid, data_end, data_length, padded_end, sample_count};
 
@@ -98,7 +98,7 @@ impl<W: Medium> Output<W> {
         data_length: u32,
     ) -> Output<W>
         requires sound { IsSound (of_fields writer spec_ex data_start data_length [] []) }
-        requires stands { WhereTells W.tells (IsStanding spec_ex data_start data_length
+        requires at_most { WhereTells W.tells (CountsAtMost spec_ex data_start data_length
             (W.state writer).contents) }
         requires place { WhereTells W.tells ((W.state writer).place ≡ data_start + data_length) }
         ensures { result ≡ of_fields writer spec_ex data_start data_length [] [] }
@@ -111,7 +111,7 @@ impl<W: Medium> Output<W> {
             may_have_moved: false,
             block: Block::new(),
             fast_path_limit: fast_path_limit_of(data_start, data_length),
-            buffer: None,
+            batch_memory: None,
         }
     }
 
@@ -161,7 +161,7 @@ impl<W: Medium> Output<W> {
     // Writes the pad byte after data of an odd length, once nothing is buffered, and saves a fault.
     // The medium is then elsewhere than where the next sample goes.
     fn put_pad(&mut self, fault: &mut io::Error) -> bool
-        requires { self.old.waiting ≡ [] }
+        requires { self.old.buffered ≡ [] }
         ensures goes { GoesOut W.tells W.keeps W.state
             (padded_end self.old) result self.old self.new }
         ensures padded { WhereTells W.tells (IsTrue result
@@ -180,7 +180,7 @@ impl<W: Medium> Output<W> {
     fn accept_in_block(&mut self, bytes: &[u8])
         requires room { HasRoom self.old (length bytes.now) }
         requires whole { length bytes.now % self.old.spec_ex.bytes_per_sample ≡ 0 }
-        requires few { length self.old.waiting + length bytes.now ≤ block_length }
+        requires few { length self.old.buffered + length bytes.now ≤ block_length }
         ensures { AcceptsBytes W.tells W.keeps W.state bytes.now (Ok tt) self.old self.new }
     {
         self.block.extend(bytes);
@@ -196,7 +196,7 @@ impl<W: Medium> Output<W> {
     {
         let width = self.spec_ex.bytes_per_sample as usize;
         if !self.has_room(width as u64) {
-            return Outcome::NoRoom;
+            return Outcome::TooLong;
         }
         if width <= BLOCK_LENGTH - self.block.len() {
             self.accept_in_block(&container[..width]);
@@ -225,8 +225,8 @@ impl<W: Medium> Output<W> {
                 self.accept_slowly(container, fault)
             }
             Err(refusal) => match refusal {
-                Error::TooWide => Outcome::OutOfRange,
-                _ => Outcome::WrongPair,
+                Error::TooWide => Outcome::TooWide,
+                _ => Outcome::Unsupported,
             },
         }
     }
@@ -237,7 +237,7 @@ impl<W: Medium> Output<W> {
         requires have { IsOk (containers_in S.container self.old.spec_ex samples.now) }
         requires room { HasRoom self.old
             (self.old.spec_ex.bytes_per_sample * length samples.now) }
-        requires few { length self.old.waiting
+        requires few { length self.old.buffered
             + self.old.spec_ex.bytes_per_sample * length samples.now ≤ block_length }
         ensures { AcceptsBytes W.tells W.keeps W.state
             (sample_bytes S.container self.old.spec_ex samples.now) (Ok tt) self.old self.new }
@@ -256,7 +256,7 @@ impl<W: Medium> Output<W> {
         requires have { IsOk (containers_in S.container self.old.spec_ex samples.now) }
         requires room { HasRoom self.old
             (self.old.spec_ex.bytes_per_sample * length samples.now) }
-        requires none_waits { self.old.waiting ≡ [] }
+        requires none_buffered { self.old.buffered ≡ [] }
         ensures { AcceptsBytes W.tells W.keeps W.state
             (sample_bytes S.container self.old.spec_ex samples.now) (or_fault result fault.new) self.old self.new }
     {
@@ -325,10 +325,10 @@ impl<W: Medium> Output<W> {
             return Outcome::Accepted;
         }
         if samples.len() > u32::MAX as usize {
-            return Outcome::NoRoom;
+            return Outcome::TooLong;
         }
         if !self.has_room(samples.len() as u64 * width as u64) {
-            return Outcome::NoRoom;
+            return Outcome::TooLong;
         }
         if !self.accept_encoded(samples, fault) {
             return Outcome::Failed;
@@ -346,20 +346,20 @@ impl<W: Medium> Output<W> {
     // Writes both sizes, once nothing is buffered, and flushes the medium. It is then at the end of
     // the accepted samples if the writer continues, or else where the data begin.
     fn publish(&mut self, continues: bool) -> io::Result<()>
-        requires { self.old.waiting ≡ [] }
+        requires { self.old.buffered ≡ [] }
         ensures stays { self.new ≡ record self.old { medium = self.new.medium } }
         ensures sound { IsSound self.old }
-        ensures stands { WhereTells W.tells
-            (IsStanding self.old.spec_ex self.old.data_start self.old.out
+        ensures at_most { WhereTells W.tells
+            (CountsAtMost self.old.spec_ex self.old.data_start self.old.bytes_written
             (W.state self.old.medium).contents) }
         ensures patches { WhereTells W.tells (Patches (self.old.data_start - 4)
-            (riff_size self.old.data_start self.old.out) self.old.out result
+            (riff_size self.old.data_start self.old.bytes_written) self.old.bytes_written result
             (W.state self.old.medium) (W.state self.new.medium)) }
         ensures place { WhereTells W.tells (OnOk result ((W.state self.new.medium).place
             ≡ place_after continues self.new)) }
         ensures moments { WhereKeeps W.tells W.keeps
             (PatchesAtEach (self.old.data_start - 4)
-            (riff_size self.old.data_start self.old.out) self.old.out result
+            (riff_size self.old.data_start self.old.bytes_written) self.old.bytes_written result
             (W.state self.old.medium) (W.state self.new.medium)) }
     {
         self.may_have_moved = true;

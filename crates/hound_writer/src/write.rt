@@ -3,7 +3,7 @@ ghost use Rattle.std.specs.Prelude.{◌≡◌, ◌+◌, [], IfOk, MatchResult};
 ghost use Rattle.hound_medium.specs.{WhereTells};
 ghost use Rattle.hound_writer.specs.Beginning.{Begins, IsNotBegun};
 ghost use Rattle.hound_writer.specs.Calls.{Recorded, new_file};
-ghost use Rattle.hound_writer.specs.Parts.{IsStanding, of_fields};
+ghost use Rattle.hound_writer.specs.Parts.{CountsAtMost, of_fields};
 
 use crate::outcome::{Outcome, error_of_outcome};
 use crate::output::Output;
@@ -58,8 +58,8 @@ fn begin<W: Medium>(writer: &mut W, spec_ex: WavSpecEx) -> Result<u64>
         (λ e. IsNotBegun W.tells W.keeps W.state spec_ex writer.old writer.new e) }
     ensures recorded { IfOk result (λ start. Recorded W.tells W.keeps W.state spec_ex
         (new_file (W.state writer.old)) [] (of_fields writer.new spec_ex start 0 [] [])) }
-    ensures stands { IfOk result (λ start. WhereTells W.tells
-        (IsStanding spec_ex start 0 (W.state writer.new).contents)) }
+    ensures at_most { IfOk result (λ start. WhereTells W.tells
+        (CountsAtMost spec_ex start 0 (W.state writer.new).contents)) }
     ensures place { IfOk result (λ start. WhereTells W.tells
         ((W.state writer.new).place ≡ start + 0)) }
 {

@@ -6,7 +6,7 @@ pub loop-i-init : goal.loop-i-init
 loop-i-init g c = record {
   size = search rules;
   within = omega arith;
-  runs = ([], refl, refl, (c.args.writer.now.buffer, refl));
+  runs = ([], refl, refl, (c.args.writer.now.batch_memory, refl));
 }
 
 pub loop-i-preserved : goal.loop-i-preserved

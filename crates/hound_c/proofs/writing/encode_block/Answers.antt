@@ -15,14 +15,14 @@ returns-in_err-check_samples-clause-encodes g c =
     rw (p.1, p.2) (
       refl,
       subst (λ s. IsEncodeFault c.args.format g.S.Sample.container s c.args.samples.now (length c.args.out.now) fault)
-          c.spec_of-spec_ex.ensures
-          (failed (IsEncodeFault c.args.format g.S.Sample.container c.spec_of-spec_ex.result c.args.samples.now (length c.args.out.now))
+          c.spec_from_c-spec_ex.ensures
+          (failed (IsEncodeFault c.args.format g.S.Sample.container c.spec_from_c-spec_ex.result c.args.samples.now (length c.args.out.now))
           _ fault c.in_err-check_samples.ensures (λ wide. wide) inr),
     )
 
 pub returns-clause-encodes : goal.returns-clause-encodes
 returns-clause-encodes g c =
-    let s = c.spec_of-spec_ex.result in
+    let s = c.spec_from_c-spec_ex.result in
     let w = s.bytes_per_sample in
     let values = c.args.samples.now in
     let n = length values * w in
@@ -34,7 +34,7 @@ returns-clause-encodes g c =
     let size : length c.store_containers.new.bytes ≡ n = ap length body_is ∙ omega (arith, j.size) in
     let same : s.spec.sample_format ≡ c.args.format = search rules in
     subst (λ t. Encodes c.args.format g.S.Sample.container t values c.args.out.now (c.store_containers.new.bytes ++ rest) (Ok n))
-    c.spec_of-spec_ex.ensures (
+    c.spec_from_c-spec_ex.ensures (
       same,
       search rules,
       list,

@@ -9,7 +9,7 @@ use Rattle.hound_spec.proofs.HeaderLemmas.{data_start_least, length-header, leng
 use Rattle.hound_sample.specs.{joined_containers}
 use Rattle.hound_writer.specs.{containers_in}
 use Rattle.hound_sample.proofs.Joined.{joined}
-use Rattle.hound_c.specs.Writing.{Writes, IsWriteFault}
+use Rattle.hound_c.specs.Writing.{WritesFile, IsWriteFault}
 use Rattle.hound_c.proofs.Checks.{failed, passed}
 use Rattle.hound_c.proofs.writing.write_file.Goals as goal
 
@@ -21,14 +21,14 @@ returns-in_err-check_samples-clause-writes g c =
     rw (p.1, p.2) (
       refl,
       subst (λ s. IsWriteFault c.args.format g.S.Sample.container s c.args.samples.now (length c.args.out.now) fault)
-          c.spec_of-spec_ex.ensures
-          (failed (IsWriteFault c.args.format g.S.Sample.container c.spec_of-spec_ex.result c.args.samples.now (length c.args.out.now))
+          c.spec_from_c-spec_ex.ensures
+          (failed (IsWriteFault c.args.format g.S.Sample.container c.spec_from_c-spec_ex.result c.args.samples.now (length c.args.out.now))
           _ fault c.in_err-check_samples.ensures (λ wide. wide) inr),
     )
 
 pub returns-clause-writes : goal.returns-clause-writes
 returns-clause-writes g c =
-    let s = c.spec_of-spec_ex.result in
+    let s = c.spec_from_c-spec_ex.result in
     let w = s.bytes_per_sample in
     let values = c.args.samples.now in
     let old = c.args.out.now in
@@ -59,8 +59,8 @@ returns-clause-writes g c =
     ∙ take_put start k (head ++ drop start old) body size within end end_is
     ∙ ap (λ l. l ++ body) (take_at head (drop start old) start head_long)
     ∙ (λ i. header s (riff i) (long i) ++ (j.bytes i ++ padding (long i))) in
-    subst (λ t. Writes c.args.format g.S.Sample.container t values old c.write_data_at.new.out (Ok end))
-    c.spec_of-spec_ex.ensures (
+    subst (λ t. WritesFile c.args.format g.S.Sample.container t values old c.write_data_at.new.out (Ok end))
+    c.spec_from_c-spec_ex.ensures (
       search rules,
       search rules,
       list,

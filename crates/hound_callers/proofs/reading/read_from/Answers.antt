@@ -1,6 +1,6 @@
 use Rattle.std.proofs.Common.{◌≡◌, ◌∙◌, ℕ, ◌+◌, ◌*◌, List, [], ◌∷◌, length, map, drop, take, Option, Some, Result, Ok, ap, arith, subst, sym}
 use Rattle.std.proofs.lemmas.List.{length-take-le}
-use Rattle.hound.specs.{Error, GivesItems, GivesItemsOfBytes, ReaderState, ReadRefusal, Seeks, StandsAsCounted, items_of, samples_before}
+use Rattle.hound.specs.{Error, GivesItems, GivesItemsOfBytes, ReaderState, ReadRefusal, Seeks, IsWhereCounted, items_of, samples_before}
 use Rattle.hound.specs.declared.SampleFormat.{SampleFormat}
 use Rattle.hound_callers.proofs.reading.read_from.Goals as goal
 
@@ -34,12 +34,12 @@ returns-clause-rest g c told bytes is =
       counts = c.in_ok-seek.ensures.counts;
       source = c.in_ok-seek.ensures.source told;
     } in
-    let law = c.a_reader_stands_as_counted.ensures in
-    let first : StandsAsCounted left bytes reader =
+    let law = c.a_reader_is_where_it_counts.ensures in
+    let first : IsWhereCounted left bytes reader =
     subst (λ n. left reader.reader ≡ Some (drop n bytes)) (sym c.requires) is in
-    let sought : StandsAsCounted left bytes mid =
+    let sought : IsWhereCounted left bytes mid =
     law.ahead bytes c.args.time reader mid told first seeks (omega (arith, c.requires)) in
-    let block : StandsAsCounted left bytes last =
+    let block : IsWhereCounted left bytes last =
     law.block bytes mid last count read.result.1 c.args.block.now read.new.samples sought
     read.ensures in
     let long : length samples ≡ count =

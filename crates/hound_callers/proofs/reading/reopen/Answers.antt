@@ -37,7 +37,7 @@ module _ {M : Type 0} (state : M → MediumState) (s : WavSpecEx) (len : ℕ) (o
   this = answer.2 (appendable s len (data_start s)) (head, sound)
 
   -- a writer that appends has these samples
-  opened : (w : WriterState M) → w.waiting ≡ [] → IsSound w → FollowsData old state w
+  opened : (w : WriterState M) → w.buffered ≡ [] → IsSound w → FollowsData old state w
       → (w.spec_ex ≡ s) × (data_start s + len ≤ length old.contents → IsWhole state w)
       × (accepted_samples state w
       ≡ containers s.bytes_per_sample (len / s.bytes_per_sample) (drop (data_start s) old.contents))
@@ -48,7 +48,7 @@ module _ {M : Type 0} (state : M → MediumState) (s : WavSpecEx) (len : ℕ) (o
       let long : data_length w ≡ len = cc in
       let start : w.data_start ≡ data_start s = cc in
       let same = found.puts.stays.contents in
-      let out : w.out ≡ len = omega (arith, long, ap length none) in
+      let out : w.bytes_written ≡ len = omega (arith, long, ap length none) in
       let all = samples_out state w none is_sound
       ∙ (λ i. containers (spec i).bytes_per_sample (out i / (spec i).bytes_per_sample)
       (drop (start i) (same i))) in
@@ -68,7 +68,7 @@ returns-clause-begun g c told s size len rest writable none fits is =
     let sound = no_fault s len writable none fits in
     MatchResult-weaker c.try_append.result c.try_append.ensures.appends
     (λ w appends.
-    let (spec, whole, all) = opened M.state s len old answer head sound w appends.none_waits
+    let (spec, whole, all) = opened M.state s len old answer head sound w appends.none_buffered
     appends.sound (appends.file told) in (
       spec,
       λ within. whole (omega (

@@ -1,7 +1,7 @@
 use Rattle.std.proofs.Common.{◌≡◌, ◌/◌, ℕ, List, Result, Ok, Err, OnOk, length, refl, sym, ap, subst, ◌∙◌, rules}
 use Rattle.std.proofs.lemmas.List.{take_all}
 use Rattle.std.specs.List.{flat_map}
-use Rattle.hound.specs.{Accepts, batch_bytes, batch_writer, containers, short_bytes, signed_bytes_of, accepted_samples, data_length, Error}
+use Rattle.hound.specs.{Accepts, batch_bytes, batch_writer, containers, i16_bytes, signed_bytes_of, accepted_samples, data_length, Error}
 use Rattle.hound_callers.proofs.recording.record_batch.Goals as goal
 
 -- at an Ok two values are those of each of these, if two that are equal to them are
@@ -20,7 +20,7 @@ returns-clause-same g c told =
     let first = c.args.writer.now in
     let batch = c.args.batch.now in
     let values = c.loop-value.values in
-    let bytes : batch_bytes values ≡ short_bytes batch =
+    let bytes : batch_bytes values ≡ i16_bytes batch =
     c.loop-value.invariant.written
     ∙ ap (flat_map (signed_bytes_of 2)) (take_all _ batch c.loop-value-test.false) in
     let list = λ (bytes : List ℕ). containers (batch_writer values).spec_ex.bytes_per_sample

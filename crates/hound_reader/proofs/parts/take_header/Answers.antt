@@ -4,7 +4,7 @@ use Rattle.hound_spec.specs.{padded, fmt_tag}
 use Rattle.hound_reader.specs.declared.cause.Cause.TheVariants.{Ended, Format}
 use Rattle.hound_reader.specs.declared.cause.Reason.TheVariants.{NoDataChunk}
 use Rattle.hound_reader.proofs.WalkLemmas.{same_tag}
-use Rattle.hound_reader.proofs.PartLemmas.{over_fault, short_fault, refused_at, refused_header, head_at, header_parts, size_long, reaches, passed_header, header_inside}
+use Rattle.hound_reader.proofs.PartLemmas.{over_fault, header_cut, refused_at, refused_header, head_at, header_parts, size_long, reaches, passed_header, header_inside}
 use Rattle.hound_reader.proofs.parts.take_header.Goals as goal
 
 pub returns-then-taken-clause-leads : goal.returns-then-taken-clause-leads
@@ -18,7 +18,7 @@ returns-then-bytes-lt8-clause-leads c = λ file w is.
     let t = c.args.taken in
     let rest = drop (12 + t) file in
     refused_at file rest c.args.found t Ended w
-    (short_fault t c.args.found rest (omega arith) (subst (λ h. length h < 8) is c.if-bytes-lt8.true))
+    (header_cut t c.args.found rest (omega arith) (subst (λ h. length h < 8) is c.if-bytes-lt8.true))
 
 pub returns-in_err-spec_ex-clause-leads : goal.returns-in_err-spec_ex-clause-leads
 returns-in_err-spec_ex-clause-leads c = λ file w is.

@@ -1,5 +1,5 @@
 use Rattle.std.proofs.Common.{rules}
-use Rattle.hound_writer.proofs.Appending.{sound_head, stands_on, follows}
+use Rattle.hound_writer.proofs.Appending.{sound_head, at_most_on, follows}
 use Rattle.hound_writer.proofs.append.append_at.Goals as goal
 
 pub at_end-requires-clause-sound : goal.at_end-requires-clause-sound
@@ -8,10 +8,10 @@ at_end-requires-clause-sound g c =
     sound_head _ head.spec_ex head.data_length head.data_start c.requires.sound c.requires.start.0
     c.in_default.ensures
 
-pub at_end-requires-clause-stands : goal.at_end-requires-clause-stands
-at_end-requires-clause-stands g c tells =
+pub at_end-requires-clause-at_most : goal.at_end-requires-clause-at_most
+at_end-requires-clause-at_most g c tells =
     let head = c.args.head in
-    stands_on head.spec_ex head.data_length head.data_start
+    at_most_on head.spec_ex head.data_length head.data_start
     (g.W.Placed.state c.args.writer).contents _ (c.requires.head tells)
     (c.in_default-go.ensures tells).stays.contents
 
@@ -23,8 +23,8 @@ returns g c =
       sound = sound_head _ head.spec_ex head.data_length head.data_start c.requires.sound
           c.requires.start.0 c.in_default.ensures;
       sound_spec = c.requires.sound;
-      none_waits = search rules;
-      buffer = search rules;
+      none_buffered = search rules;
+      batch_memory = search rules;
       file = λ tells. follows g.W.Placed.state _ head.spec_ex head.data_length head.data_start
           (g.W.Placed.state c.args.writer) c.requires.sound c.requires.start.0
           (c.requires.head tells) c.in_default.ensures (c.in_default-go.ensures tells);

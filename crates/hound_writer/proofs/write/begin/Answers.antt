@@ -1,7 +1,7 @@
 use Rattle.std.proofs.Common.{◌∙◌, rules}
 use Rattle.hound_spec.proofs.HeaderLemmas.{length-header}
 use Rattle.hound_spec.specs.{IsWritable}
-use Rattle.hound_writer.proofs.Beginning.{sound_begin, stands_begin, header_file}
+use Rattle.hound_writer.proofs.Beginning.{sound_begin, at_most_begin, header_file}
 use Rattle.hound_writer.proofs.Recording.{recorded_new}
 use Rattle.hound_writer.proofs.write.begin.Goals as goal
 
@@ -26,11 +26,11 @@ returns-clause-recorded g c =
     recorded_new W.tells W.keeps W.state c.args.spec_ex (W.state c.args.writer.now) _
     (returns-clause-begins g c)
 
-pub returns-clause-stands : goal.returns-clause-stands
-returns-clause-stands g c tells =
+pub returns-clause-at_most : goal.returns-clause-at_most
+returns-clause-at_most g c tells =
     let W = g.W.Placed in
     let s = c.args.spec_ex in
     let is = c.as_slice-bytes.ensures ∙ c.header_of-header.ensures in
     let writable : IsWritable s = search rules in
-    rw is (stands_begin W.keeps W.state s _ _ writable (c.requires tells)
+    rw is (at_most_begin W.keeps W.state s _ _ writable (c.requires tells)
     (rw is at (c.in_ok-put_all.ensures tells)))

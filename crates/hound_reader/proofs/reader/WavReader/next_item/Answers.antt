@@ -1,7 +1,7 @@
 use Rattle.std.proofs.Common.{◌≡◌, ◌<◌, ◌^◌, ℕ, ap, subst, sym, ◌∙◌, arith, ◌+◌, Some, Ok, Err}
 use Rattle.hound_spec.specs.declared.spec.WavSpecEx.{WavSpecEx}
 use Rattle.hound_reader.specs.Reader.{AnswersNext, taken_without, ReaderState}
-use Rattle.hound_reader.specs.declared.item.KeepingReader.{KeepingReader}
+use Rattle.hound_reader.specs.declared.item.SavingReader.{SavingReader}
 use Rattle.hound_reader.proofs.BlockLemmas.{no_sample_is_given}
 use Rattle.hound_reader.proofs.ItemLemmas.{a_sample_is_given}
 use Rattle.hound_reader.proofs.reader.WavReader.next_item.Goals as goal
@@ -29,7 +29,7 @@ returns-in-Ok-clause-answers g c =
     (a_sample_is_given left refusal meaning _ (new c.args.spec_ex.bytes_per_sample) read.new.answer
     read.result.0.now.fault c.in-Ok.sample (omega (arith, c.if-self.false))
     (ap new (ap (λ (s : WavSpecEx). s.bytes_per_sample) same)) (given read.result.0.now.fault)
-    (λ some. ap (λ (k : KeepingReader _). k.reader) ((rw same at read.ensures.untouched) some)) c.in-Ok.is)
+    (λ some. ap (λ (k : SavingReader _). k.reader) ((rw same at read.ensures.untouched) some)) c.in-Ok.is)
 
 pub returns-in-Err-clause-answers : goal.returns-in-Err-clause-answers
 returns-in-Err-clause-answers g c =
@@ -58,5 +58,5 @@ returns-in-Err-clause-answers g c =
     (omega (arith, c.if-self.false)) small
     (ap new (c.taken_without.ensures
     ∙ ap (λ (s : WavSpecEx). taken_without reason read.result.1 s.bytes_per_sample) same)) given
-    (λ some. ap (λ (k : KeepingReader _). k.reader) ((rw same at read.ensures.untouched) some))
+    (λ some. ap (λ (k : SavingReader _). k.reader) ((rw same at read.ensures.untouched) some))
     read.ensures.given)

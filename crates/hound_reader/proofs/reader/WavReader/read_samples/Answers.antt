@@ -3,7 +3,7 @@ use Rattle.std.proofs.Common.{◌≡◌, ◌+◌, ◌*◌, ◌-◌, ◌++◌, �
 use Rattle.hound_sample.specs.{error_of_item}
 use Rattle.hound_reader.specs.Reader.{ReadsBlock, ReaderState, samples_left, taken_without}
 use Rattle.std.proofs.Math.Nat.{le-mul_of_pos_right}
-use Rattle.hound_reader.specs.declared.item.KeepingReader.{KeepingReader}
+use Rattle.hound_reader.specs.declared.item.SavingReader.{SavingReader}
 use Rattle.hound_reader.proofs.BlockLemmas.{is_block, taken_few}
 use Rattle.hound_reader.proofs.reader.WavReader.read_samples.Goals as goal
 
@@ -29,7 +29,7 @@ returns-in_default g c =
     (omega (arith, c.min-wanted.ensures, c.samples_left.ensures, ap (λ (s : ReaderState _). samples_left s) c.self.view_is))
     read.auto.samples (omega (arith, c.self.ranges)) (omega (arith, c.self.ranges)) read.ensures.front
     (read.ensures.answers read.result.0.now.fault) read.ensures.given
-    (λ some. ap (λ (k : KeepingReader _). k.reader) (read.ensures.untouched some)) refl)
+    (λ some. ap (λ (k : SavingReader _). k.reader) (read.ensures.untouched some)) refl)
 
 pub invariant_of-self-2 : goal.invariant_of-self-2
 invariant_of-self-2 g c = grind (arith, common_steps, taken_few, length-take, le-mul_of_pos_right)
@@ -62,7 +62,7 @@ returns g c =
     (omega (arith, c.min-wanted.ensures, c.samples_left.ensures, ap (λ (s : ReaderState _). samples_left s) c.self.view_is))
     read.auto.samples (omega (arith, c.self.ranges)) (omega (arith, c.self.ranges)) read.ensures.front
     (read.ensures.answers fault) read.ensures.given
-    (λ some. ap (λ (k : KeepingReader _). k.reader) (read.ensures.untouched some))
+    (λ some. ap (λ (k : SavingReader _). k.reader) (read.ensures.untouched some))
     (grind (arith, common_steps, torn))))
 
 pub overflow_add-self-2 : goal.overflow_add-self-2

@@ -2,7 +2,7 @@ use Rattle.std.proofs.lemmas.Grind.{common_steps}
 use Rattle.std.proofs.Common.{◌≡◌, ◌+◌, ◌-◌, ◌%◌, ◌++◌, nat_lt, decimal, drop, drop-drop, length-drop, ap, sym, ◌∙◌, append_assoc, arith}
 use Rattle.std.proofs.lemmas.List.{take_all}
 use Rattle.std.proofs.lemmas.Nat.{pow-add}
-use Rattle.hound_text.proofs.Decimals.{decimal_more, decimal_short, pair, pair-copied}
+use Rattle.hound_text.proofs.Decimals.{decimal_more, decimal_small, pair, pair-copied}
 use Rattle.hound_text.proofs.lines.Lines.push_decimal.Goals as goal
 use borrow.Rule.Slice.PartMut.{put_mid, same_len_mid}
 use mir.Val.{bool_byte}
@@ -23,7 +23,7 @@ returns c =
     ∙ ap (drop zeros)
     (pair-copied (number % 100) loop.start loop.text _ (omega arith) (omega (arith, loop.invariant.within, loop.array_long)) c.copy_from_slice.ensures.after
     ∙ ap (λ n. pair n ++ tail) (omega (arith, small)))
-    ∙ decimal_short number tail small in
+    ∙ decimal_small number tail small in
     c.append.ensures
     ∙ ap (λ l. c.args.self.now ++ l)
     (take_all (10 - (loop.start + zeros)) (drop (loop.start + zeros) text)

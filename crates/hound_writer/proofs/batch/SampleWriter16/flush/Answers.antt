@@ -1,5 +1,5 @@
 use Rattle.std.proofs.Common.{◌∙◌, ap, refl, subst, sym, take}
-use Rattle.hound_writer.specs.Accepting.{Accepts, mark_of, short_bytes, whole_containers}
+use Rattle.hound_writer.specs.Accepting.{Accepts, mark_of, i16_bytes, whole_containers}
 use Rattle.hound_writer.specs.Batch.{batch_bytes, batch_writer}
 use Rattle.hound_writer.specs.Calls.{made, marked}
 use Rattle.hound_writer.specs.Writer.{WriterState}
@@ -17,11 +17,11 @@ returns-clause-accepts g c =
     let same = c.deref.ensures.value ∙ c.into_vec-memory.ensures in
     subst (Accepts W.tells W.keeps W.state (whole_containers w.spec_ex (batch_bytes batch))
     write.result (batch_writer batch))
-    ((λ j. record write.new.self { buffer = short_bytes (sym c.into_vec-memory.ensures j) })
-    ∙ ap (λ (w : WriterState _). record w { buffer = short_bytes c.into_vec-memory.result.items })
+    ((λ j. record write.new.self { batch_memory = i16_bytes (sym c.into_vec-memory.ensures j) })
+    ∙ ap (λ (w : WriterState _). record w { batch_memory = i16_bytes c.into_vec-memory.result.items })
     (sym c.parent.view_is ∙ sym (λ j. (c.parent-inside.view_is j).output)))
     (batch_accepted W.tells W.keeps W.state write.result w write.new.self
-    (take batch.written items) (short_bytes items) batch.short batch.bits batch.width
+    (take batch.written items) (i16_bytes items) batch.fits batch.bits batch.width
     (rw same at write.ensures.accepts))
 
 pub returns-clause-recorded : goal.returns-clause-recorded

@@ -1,7 +1,7 @@
 use Rattle.std.proofs.Common.{◌*◌, ◌∙◌, FitsSigned, w16, ap, arith, rules, subst, sym, to_z-of_z}
 use Rattle.std.proofs.lemmas.Grind.{common_steps}
-use Rattle.hound_writer.specs.Accepting.{AreShort}
-use Rattle.hound_writer.proofs.Batches.{length-short_bytes, short_more}
+use Rattle.hound_writer.specs.Accepting.{AreI16}
+use Rattle.hound_writer.proofs.Batches.{length-i16_bytes, i16s_more}
 use Rattle.hound_writer.proofs.Recording.{recorded_same}
 use Rattle.hound_writer.proofs.batch.SampleWriter16.write_sample.Goals as goal
 
@@ -12,8 +12,8 @@ invariant_of-self g c =
     record {
       long = omega (arith, batch.long, c.requires.room, c.store.ensures.kept);
       few = omega (arith, batch.few, c.requires.room);
-      short = subst AreShort
-          (sym (simp to_z-of_z at c.store.ensures.written)) (short_more _ _ batch.short fits);
+      fits = subst AreI16
+          (sym (simp to_z-of_z at c.store.ensures.written)) (i16s_more _ _ batch.fits fits);
       bits = batch.bits;
       width = batch.width;
     }
@@ -26,8 +26,8 @@ returns g c =
       written = grind (arith, common_steps);
       left = search rules;
       stays = search rules;
-      kept = length-short_bytes _ ∙ ap (λ n. 2 * n) c.store.ensures.kept
-          ∙ sym (length-short_bytes _);
+      kept = length-i16_bytes _ ∙ ap (λ n. 2 * n) c.store.ensures.kept
+          ∙ sym (length-i16_bytes _);
       recorded = λ s file known. recorded_same W.tells W.keeps W.state s file known _ _
           (search rules);
     }

@@ -1,10 +1,10 @@
 use Rattle.std.proofs.Common.{rules}
-use Rattle.hound_writer.proofs.Blocks.{accepts_waiting}
+use Rattle.hound_writer.proofs.Blocks.{accepts_buffered}
 use Rattle.hound_writer.proofs.output.Output.accept_in_block.Goals as goal
 
 pub returns : goal.returns
 returns g c =
     let W = g.W.Placed in
     rw (c.extend.ensures, ← c.self.view_is)
-    (accepts_waiting W.tells W.keeps W.state _ _ _ c.self.invariant c.args.bytes.now (search rules)
+    (accepts_buffered W.tells W.keeps W.state _ _ _ c.self.invariant c.args.bytes.now (search rules)
     (search rules) (g.met.W.Medium.replays _))

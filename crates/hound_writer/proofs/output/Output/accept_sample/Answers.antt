@@ -1,6 +1,6 @@
 use Rattle.std.proofs.Common.{Ok, arith, take}
 use Rattle.hound_sample.proofs.Joined.{encoded_bytes}
-use Rattle.hound_writer.proofs.Blocks.{accepts_waiting}
+use Rattle.hound_writer.proofs.Blocks.{accepts_buffered}
 use Rattle.hound_writer.proofs.Containers.{one_whole}
 use Rattle.hound_writer.proofs.Writing.{else_unsupported, sample_refused, sample_accepts}
 use Rattle.hound_writer.proofs.output.Output.accept_sample.Goals as goal
@@ -29,7 +29,7 @@ returns-then-len-self g c =
     let width = sized _ is in
     rw (c.push.ensures, ← c.self.view_is)
     (sample_accepts W.tells W.keeps W.state _ _ _ known _ _ (Ok tt) _ is width.0
-    (accepts_waiting W.tells W.keeps W.state _ _ _ known (take s.bytes_per_sample c.in-Ok.container)
+    (accepts_buffered W.tells W.keeps W.state _ _ _ known (take s.bytes_per_sample c.in-Ok.container)
     (omega (
       arith,
       width,

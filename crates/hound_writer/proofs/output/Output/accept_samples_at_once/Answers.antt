@@ -26,7 +26,7 @@ returns-then-not-put_samples_at_end g c =
     let fits = rw (← c.self.view_is) at (fit g.S.Sample.container g.met.S.Sample.in_width values
     c.args.self.now c.requires.have c.requires.room) in
     rw (c.clear.ensures, ← none, ← c.self.view_is)
-    (accepts_none W.tells W.keeps W.state _ none known.sound known.stands _
+    (accepts_none W.tells W.keeps W.state _ none known.sound known.at_most _
     (sample_bytes g.S.Sample.container i.spec_ex values) fits.room fits.whole _
     c.if-not-put_samples_at_end.ensures.puts (g.met.W.Medium.replays _))
 
@@ -59,5 +59,5 @@ returns g c =
     let more : length values * i.spec_ex.bytes_per_sample ≡ length bytes = omega
     (arith, fits.size) in
     rw (c.clear-2.ensures, ← none, more, ← c.self.view_is)
-    (accepts_all W.tells W.keeps W.state _ none known.sound known.stands _ bytes
+    (accepts_all W.tells W.keeps W.state _ none known.sound known.at_most _ bytes
     fits.room fits.whole c.if-not-put_samples_at_end.ensures.puts (g.met.W.Medium.replays _))

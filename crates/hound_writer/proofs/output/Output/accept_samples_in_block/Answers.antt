@@ -1,7 +1,7 @@
 use Rattle.std.proofs.Common.{arith}
 use Rattle.hound_writer.specs.Accepting.{sample_bytes}
 use Rattle.hound_writer.proofs.AcceptingMany.{fit}
-use Rattle.hound_writer.proofs.Blocks.{accepts_waiting, consistent_longer}
+use Rattle.hound_writer.proofs.Blocks.{accepts_buffered, consistent_longer}
 use Rattle.hound_writer.proofs.output.Output.accept_samples_in_block.Goals as goal
 
 pub invariant_of-self : goal.invariant_of-self
@@ -25,6 +25,6 @@ returns g c =
     let fits = rw (← c.self.view_is) at (fit g.S.Sample.container g.met.S.Sample.in_width values
     c.args.self.now c.requires.have c.requires.room) in
     rw (c.extend_by.ensures, ← c.self.view_is)
-    (accepts_waiting W.tells W.keeps W.state _ _ _ c.self.invariant
+    (accepts_buffered W.tells W.keeps W.state _ _ _ c.self.invariant
     (sample_bytes g.S.Sample.container i.spec_ex values) fits.room fits.whole
     (g.met.W.Medium.replays i.writer))

@@ -32,7 +32,7 @@ returns g c =
     let mid = c.put_block.new.self in
     let pad = c.if-not-put_pad.ensures in
     let padded = c.put_pad.new.self in
-    let none = ap (λ w. w.waiting) pad.goes.value in
+    let none = ap (λ w. w.buffered) pad.goes.value in
     let publish = c.publish-published in
     let e = publish.ensures in
     let at = place_after c.args.continues publish.new.self in
@@ -42,7 +42,7 @@ returns g c =
     (published_later W.tells W.keeps W.state
     (padded_end mid) at mid padded publish.new.self c.publish_result.result (omega arith) pad.goes
     (g.met.W.Placed.bytes mid.medium)
-    (publishes_to W.tells W.keeps W.state padded publish.new.self.medium none e.sound e.stands
+    (publishes_to W.tells W.keeps W.state padded publish.new.self.medium none e.sound e.at_most
     (λ told.
     pad.padded told refl) publish.result c.are_frames.result c.publish_result.result c.publish_result.ensures
     publish.new.self e.stays c.are_frames.ensures (g.met.W.Placed.bytes padded.medium)

@@ -1,15 +1,15 @@
 use Rattle.std.proofs.lemmas.Grind.{common_steps}
 use Rattle.std.proofs.Common.{arith}
-use Rattle.hound_reader.proofs.SeekLemmas.{item_counted, took_counted, ahead_counted, item_passes, stands_after}
+use Rattle.hound_reader.proofs.SeekLemmas.{item_counted, took_counted, ahead_counted, item_passes, counted_after}
 use Rattle.hound_reader.proofs.BlockLemmas.{run_takes}
-use Rattle.hound_reader.proofs.laws.a_reader_stands_as_counted.Goals as goal
+use Rattle.hound_reader.proofs.laws.a_reader_is_where_it_counts.Goals as goal
 
 pub returns-clause-item : goal.returns-clause-item
 returns-clause-item g c = item_counted g.R.Read.remaining g.S.Sample.refusal g.S.Sample.meaning
 
 pub returns-clause-block : goal.returns-clause-block
-returns-clause-block g c bytes old new count result before after stood block =
-    took_counted g.R.Read.remaining bytes old new stood
+returns-clause-block g c bytes old new count result before after at_count block =
+    took_counted g.R.Read.remaining bytes old new at_count
     (run_takes g.S.Sample.refusal g.S.Sample.meaning _ _ _ block.items).0
 
 pub returns-clause-passes_block : goal.returns-clause-passes_block
@@ -25,6 +25,6 @@ returns-clause-passes g c =
     item_passes g.R.Read.remaining g.R.Placed.state g.S.Sample.refusal g.S.Sample.meaning
 
 pub returns-clause-place : goal.returns-clause-place
-returns-clause-place g c start calls old new tells stood run =
-    (stands_after g.R.Read.remaining g.R.Placed.state
-    (λ r. g.met.R.Source.left r tells) start calls old new stood run).0
+returns-clause-place g c start calls old new tells at_count run =
+    (counted_after g.R.Read.remaining g.R.Placed.state
+    (λ r. g.met.R.Source.left r tells) start calls old new at_count run).0

@@ -1,6 +1,6 @@
 use Rattle.std.proofs.Common.{◌≤◌, ◌-◌, length, take}
 use Rattle.std.specs.Io.KnownBytes.{Consumes}
-use Rattle.hound_reader.proofs.item.KeepingReader.fill_rest.Given as goal
+use Rattle.hound_reader.proofs.item.SavingReader.fill_rest.Given as goal
 
 abbrev pub invariant-loop-at : goal.invariant-loop-at
 invariant-loop-at g l = record {

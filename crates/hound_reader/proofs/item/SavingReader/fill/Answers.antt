@@ -1,7 +1,7 @@
 use Rattle.std.proofs.lemmas.Grind.{common_steps}
 use Rattle.std.proofs.Common.{arith}
 use Rattle.hound_number.proofs.Pieces.{taken_behind}
-use Rattle.hound_reader.proofs.item.KeepingReader.fill.Goals as goal
+use Rattle.hound_reader.proofs.item.SavingReader.fill.Goals as goal
 
 pub returns-clause-bytes : goal.returns-clause-bytes
 returns-clause-bytes g c = grind (arith, common_steps, taken_behind)
