@@ -234,8 +234,10 @@ function play(found, isCurrent) {
     tell(", so a copy in 16 bits is made");
     const copy = await copied(found, isCurrent).catch(() => null); // There is no memory for it, or the rate is 0.
     if (!isCurrent()) return;
-    tell(copy ? ", so the player has a copy in 16 bits" : ", and a copy in 16 bits can't be made");
-    if (copy) audio.src = urlOf(copy);
+    if (!copy) return tell(", and a copy in 16 bits can't be made");
+    tell(", so the player has a copy in 16 bits");
+    audio.onerror = () => isCurrent() && tell(", nor a copy in 16 bits"); // There are too many channels.
+    audio.src = urlOf(copy);
   };
   audio.src = urlOf(found.file);
 }
