@@ -3,11 +3,10 @@
 // It prints nothing; `merge` makes one file of them again. A frame has a sample of each channel, in their
 // order, so a channel is each so many-th sample of a block of whole frames. Of a file that ends early
 // the whole frames before that are written.
-use hound::{Medium, WavReader, WavSpec, WavSpecEx, WavWriter};
-use std::alloc::Global;
+use hound::{WavReader, WavSpec, WavSpecEx, WavWriter};
+use std::env;
 use std::path::Path;
 use std::process::ExitCode;
-use std::{env, io};
 
 // How many frames a block has.
 const FRAMES: usize = 1024;
@@ -40,23 +39,9 @@ pub fn main(rt: HostRuntime) -> hound::Result<ExitCode> {
         let path = Path::new(name.as_str());
         writers.push(WavWriter::create_with_spec_ex(&rt, rt.alloc(), path, mono)?)?;
     }
-    let end = split(rt.alloc(), &mut reader, &mut writers)?;
-    for writer in writers {
-        writer.finalize()?;
-    }
-    end?;
-    Ok(ExitCode::SUCCESS)
-}
-
-// Writes each channel of the whole frames, up to the end of the file: the error where it ended early.
-fn split<R: io::Read + Drop, W: Medium>(
-    alloc: Global,
-    reader: &mut WavReader<R>,
-    writers: &mut [WavWriter<W>],
-) -> hound::Result<hound::Result<()>> {
-    let channels = writers.len();
-    let mut block = vec![in alloc; 0i32; FRAMES.saturating_mul(channels)]?;
-    let mut samples = Vec::with_capacity(alloc, FRAMES)?;
+    let mut block = vec![in rt.alloc(); 0i32; FRAMES * channels]?;
+    let mut samples = Vec::with_capacity(rt.alloc(), FRAMES)?;
+    let mut end = Ok(());
     // Up to a block that isn't full, the last one. A `for` is known to end; a `loop` needs a proof.
     for _ in 0..u64::MAX {
         let (count, result) = reader.read_samples(&mut block);
@@ -69,8 +54,13 @@ fn split<R: io::Read + Drop, W: Medium>(
             writer.write_samples(&samples)?;
         }
         if count < block.len() {
-            return Ok(result);
+            end = result;
+            break;
         }
     }
-    Ok(Ok(()))
+    for writer in writers {
+        writer.finalize()?;
+    }
+    end?;
+    Ok(ExitCode::SUCCESS)
 }
