@@ -58,10 +58,10 @@ fn cut(rt: &HostRuntime, from: Path<'_>, prefix: &str) -> hound::Result<u32> {
     Ok(parts.count)
 }
 
-// The magnitude of -50 dBFS.
+// The least magnitude that isn't below -50 dBFS.
 fn limit_of(spec_ex: WavSpecEx) -> u32 {
     let full = f64::from(1u32 << (spec_ex.spec.bits_per_sample.clamp(1, 32) - 1));
-    saturating_f64_to_u32(full * 10f64.powf(-50.0 / 20.0))
+    saturating_f64_to_u32((full * 10f64.powf(-50.0 / 20.0)).ceil())
 }
 
 // Writes a frame to the open file, after the silence before it; or the frame alone to a new file.
