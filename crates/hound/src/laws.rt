@@ -169,11 +169,10 @@ pub fn a_checkpoint_publishes()
         → LeavesWriter true true log_state answer w (record w { medium = end }) }
 {}
 
-/// A recording that a recorder directed ([`a_recorder_directs`](crate::a_recorder_directs)) keeps all that a list of calls promises
-/// (`kept`). If all was synced in the file
-/// as it was handed in, it has written at ascending places only since it was synced, within a
-/// checkpoint too (`ascends`); so a loss of power loses no sample of a checkpoint, and what it
-/// leaves counts (`survives`).
+/// A recording that a recorder directed ([`a_recorder_directs`](crate::a_recorder_directs)) keeps all
+/// that a list of calls promises (`kept`). If all was synced in the file as it was handed in, it has
+/// written at ascending places only since it was last synced, within a checkpoint too (`ascends`); so a
+/// loss of power loses no sample of a checkpoint, and what it leaves counts (`survives`).
 pub fn a_recording_is_kept()
     ensures kept { (s : WavSpecEx) (file : Begun) (known : List Known) (r : Recorder) (m : MediumState)
         → Directed s file known r true m → r.number ≡ 0

@@ -3,7 +3,7 @@ ghost use Rattle.std.specs.Prelude.{◌≡◌};
 ghost use Rattle.hound.specs.{IsSixteen};
 
 use crate::pattern::{Pattern, Sixteen};
-use hound::{Medium, Result, WavWriter};
+use hound::{Error, Medium, Result, SampleFormat, WavWriter};
 use std::alloc::Global;
 
 /// How many samples a batch has.
@@ -29,10 +29,11 @@ fn write_batch<W: Medium>(
 }
 
 /// Writes this many samples of sixteen bits in batches of 1024, and closes the file.
-pub fn write_batches<W: Medium>(writer: WavWriter<W>, alloc: Global, count: u32) -> Result<()>
-    requires { IsSixteen writer.spec_ex }
-{
-    let mut writer = writer;
+pub fn write_batches<W: Medium>(mut writer: WavWriter<W>, alloc: Global, count: u32) -> Result<()> {
+    let spec = writer.spec();
+    if spec.bits_per_sample != 16 || spec.sample_format != SampleFormat::Int {
+        return Err(Error::Unsupported);
+    }
     let mut first = 0;
     while first < count {
         let length = (count - first).min(BATCH);

@@ -1,6 +1,6 @@
 // Which workloads there are.
 
-/// What the samples of a file in memory are.
+/// What the samples of a file are.
 #[derive(Clone, Copy)]
 pub enum Kind {
     Eight,
@@ -23,134 +23,87 @@ impl Kind {
     }
 }
 
-/// What the frames of a file on disk are.
-#[derive(Clone, Copy)]
-pub enum Frames {
-    Sixteen,
-    TwoOfSixteen,
-    TwentyFour,
-}
-
 /// Where a file is.
 #[derive(Clone, Copy)]
 pub enum Place {
+    /// In memory of its full size.
     Memory,
+    /// In memory that grows with it.
+    Growing,
+    /// On disk.
     Disk,
+    /// On disk, synced at each flush.
+    Durable,
 }
 
 impl Place {
     fn named(name: &str) -> Option<Place> {
         match name {
             "mem" => Some(Place::Memory),
+            "grow" => Some(Place::Growing),
             "file" => Some(Place::Disk),
+            "durable" => Some(Place::Durable),
             _ => None,
         }
     }
 }
 
-/// Blocks of samples of a file.
+/// How the samples of a file are written or read.
 #[derive(Clone, Copy)]
-pub struct Blocks {
+pub enum Call {
+    /// One a call.
+    Sample,
+    /// So many a call.
+    Block(u16),
+    /// One a call, with a flush after each 4800 samples.
+    Flush,
+    /// Batches of 1024.
+    Batch,
+}
+
+/// A file of samples.
+#[derive(Clone, Copy)]
+pub struct Samples {
     pub kind: Kind,
-    /// How many samples a call has.
-    pub length: u16,
+    pub channels: u16,
+    pub call: Call,
     pub place: Place,
 }
 
 /// A workload, over the requested number of samples, of all channels together.
 #[derive(Clone, Copy)]
 pub enum Case {
-    /// A file in memory of its full size, written a sample at a time.
-    WriteMemory(Kind),
-    /// The same in memory that grows with the file.
-    WriteGrowing,
-    /// A file on disk, written a sample at a time.
-    WriteFile(Frames),
-    /// A file in memory of its full size, written in batches.
-    BatchMemory,
-    /// A file on disk, written in batches.
-    BatchFile,
+    /// A file that is written.
+    Write(Samples),
+    /// A file that is read.
+    Read(Samples),
+    /// The requested number of seeks in a file, to each thousandth frame in turn, with a sample read
+    /// there.
+    Seek(Place),
     /// A file in memory of its full size, written by a session with a step for each sample. Further
     /// sessions write it anew until all samples are written.
-    SessionMemory,
-    /// The samples of a file in memory.
-    ReadMemory(Kind),
-    /// The samples of a file on disk.
-    ReadFile(Frames),
-    /// The samples of a file, by blocks.
-    ReadBlocks(Blocks),
-    /// A file that is written by blocks. One in memory has its full size.
-    WriteBlocks(Blocks),
-    /// The requested number of seeks in a file in memory, to each thousandth frame in turn, with a
-    /// sample read there.
-    SeekMemory,
-    /// The same in a file on disk.
-    SeekFile,
-    /// A file in memory of its full size, published again and again while it is written.
-    FlushMemory,
-    /// A file on disk, published again and again while it is written.
-    FlushFile,
-    /// The same, with a file that syncs at each flush.
-    FlushDurable,
-    /// A file on disk that syncs at each flush, written a sample at a time.
-    WriteDurable,
+    Session,
     /// A small file in memory, opened as often as requested.
-    OpenMemory,
+    Open,
 }
 
 impl Case {
-    /// The case of this name.
+    /// The case of this name: `open_mem`, or what is done, what the samples are, and where the file is, as
+    /// in `write_i16_stereo_file`.
     pub fn named(name: &str) -> Option<Case> {
-        let case = match name {
-            "write_i8_mem" => Case::WriteMemory(Kind::Eight),
-            "write_i16_mem" => Case::WriteMemory(Kind::Sixteen),
-            "write_i24_mem" => Case::WriteMemory(Kind::TwentyFour),
-            "write_i32_mem" => Case::WriteMemory(Kind::ThirtyTwo),
-            "write_f32_mem" => Case::WriteMemory(Kind::Float),
-            "write_i16_mem_grow" => Case::WriteGrowing,
-            "write_i16_file" => Case::WriteFile(Frames::Sixteen),
-            "write_i16_stereo_file" => Case::WriteFile(Frames::TwoOfSixteen),
-            "write_i24_file" => Case::WriteFile(Frames::TwentyFour),
-            "batch_i16_mem" => Case::BatchMemory,
-            "batch_i16_file" => Case::BatchFile,
-            "session_i16_mem" => Case::SessionMemory,
-            "read_i8_mem" => Case::ReadMemory(Kind::Eight),
-            "read_i16_mem" => Case::ReadMemory(Kind::Sixteen),
-            "read_i24_mem" => Case::ReadMemory(Kind::TwentyFour),
-            "read_i32_mem" => Case::ReadMemory(Kind::ThirtyTwo),
-            "read_f32_mem" => Case::ReadMemory(Kind::Float),
-            "read_i16_file" => Case::ReadFile(Frames::Sixteen),
-            "read_i16_stereo_file" => Case::ReadFile(Frames::TwoOfSixteen),
-            "read_i24_file" => Case::ReadFile(Frames::TwentyFour),
-            "seek_f32_mem" => Case::SeekMemory,
-            "seek_f32_file" => Case::SeekFile,
-            "flush_i16_mem" => Case::FlushMemory,
-            "flush_i16_file" => Case::FlushFile,
-            "flush_i16_durable" => Case::FlushDurable,
-            "write_i16_durable" => Case::WriteDurable,
-            "open_mem" => Case::OpenMemory,
-            _ => return Case::of_blocks(name),
-        };
-        Some(case)
-    }
-
-    // `read_block_i16_mem` and so on, of 4096 samples a call, or `read_block_64_i16_mem` of 64.
-    fn of_blocks(name: &str) -> Option<Case> {
-        let (call, others) = name.split_once("_block_")?;
-        let (samples, place) = others.rsplit_once("_")?;
-        let (length, kind) = samples.split_once("_").unwrap_or(("4096", samples));
-        let length: u16 = length.parse().ok()?;
-        if length == 0 {
-            return None;
+        if name == "open_mem" {
+            return Some(Case::Open);
         }
-        let blocks = Blocks {
-            kind: Kind::named(kind)?,
-            length,
-            place: Place::named(place)?,
-        };
-        match call {
-            "read" => Some(Case::ReadBlocks(blocks)),
-            "write" => Some(Case::WriteBlocks(blocks)),
+        let (call, others) = name.split_once("_")?;
+        let (others, place) = others.rsplit_once("_")?;
+        let place = Place::named(place)?;
+        match (call, others) {
+            ("seek", "f32") => Some(Case::Seek(place)),
+            ("session", "i16") => Some(Case::Session),
+            ("read", others) => Some(Case::Read(samples_of(Call::Sample, others, place)?)),
+            ("write", others) => Some(Case::Write(samples_of(Call::Sample, others, place)?)),
+            ("flush", others) => Some(Case::Write(samples_of(Call::Flush, others, place)?)),
+            ("batch", "i16") => Some(Case::Write(samples_of(Call::Batch, others, place)?)),
             _ => None,
         }
     }
@@ -158,12 +111,39 @@ impl Case {
     /// Whether the workload has a file on disk.
     pub fn needs_file(self) -> bool {
         match self {
-            Case::WriteFile(_) | Case::BatchFile | Case::ReadFile(_) | Case::SeekFile => true,
-            Case::FlushFile | Case::FlushDurable | Case::WriteDurable => true,
-            Case::ReadBlocks(blocks) | Case::WriteBlocks(blocks) => {
-                matches!(blocks.place, Place::Disk)
-            }
-            _ => false,
+            Case::Write(samples) | Case::Read(samples) => is_on_disk(samples.place),
+            Case::Seek(place) => is_on_disk(place),
+            Case::Session | Case::Open => false,
         }
     }
+}
+
+fn is_on_disk(place: Place) -> bool {
+    matches!(place, Place::Disk | Place::Durable)
+}
+
+// `i16` or `i16_stereo`; `block_i16` for 4096 samples a call, or `block_64_i16` for 64.
+fn samples_of(call: Call, name: &str, place: Place) -> Option<Samples> {
+    let (call, name) = match name.split_once("block_") {
+        None => (call, name),
+        Some((_, others)) => block_of(others)?,
+    };
+    let (name, channels) = match name.split_once("_stereo") {
+        None => (name, 1),
+        Some((kind, _)) => (kind, 2),
+    };
+    Some(Samples {
+        kind: Kind::named(name)?,
+        channels,
+        call,
+        place,
+    })
+}
+
+fn block_of(name: &str) -> Option<(Call, &str)> {
+    let (length, name) = name.split_once("_").unwrap_or(("4096", name));
+    let length @ 1.. = length.parse().ok()? else {
+        return None;
+    };
+    Some((Call::Block(length), name))
 }

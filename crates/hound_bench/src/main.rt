@@ -2,7 +2,6 @@
 #![tactic(auto)]
 
 mod batches;
-mod blocks;
 mod case;
 mod measure;
 mod pattern;

@@ -1,15 +1,11 @@
 // Cases from end to end: what is made before, what is timed, and what is checked after it.
 ghost use Rattle.std.specs.Prelude.{◌≡◌, IfOk};
 
-use crate::batches::write_batches;
-use crate::blocks;
-use crate::case::{Case, Frames, Kind};
-use crate::pattern::{Eight, Float, Pattern, Sixteen, ThirtyTwo, TwentyFour, spec_of};
+use crate::case::{Call, Case, Kind, Place, Samples};
+use crate::pattern::{Eight, Float, Pattern, Sixteen, Summed, ThirtyTwo, TwentyFour};
 use crate::sessions::{SESSION, write_sessions};
-use crate::workloads::{open_often, read_all, seek_often, write_all, write_flushing};
-use hound::{
-    Error, FloatBits, Placed, Result, SampleFormat, Step, Tape, WavReader, WavSpec, WavWriter,
-};
+use crate::workloads::{open_often, read_all, seek_often, write_all};
+use hound::{Error, FloatBits, Placed, Result, Step, Tape, WavReader, WavSpec, WavWriter};
 use std::alloc::Global;
 use std::fs;
 use std::path::Path;
@@ -32,48 +28,28 @@ pub struct Measured {
 /// Runs a case with this many samples; the path is that of its file on disk, if it has one.
 pub fn measure(rt: &HostRuntime, case: Case, count: u32, path: Path<'_>) -> Result<Measured> {
     match case {
-        Case::WriteMemory(kind) => match kind {
-            Kind::Eight => write_memory::<Eight>(rt, count),
-            Kind::Sixteen => write_memory::<Sixteen>(rt, count),
-            Kind::TwentyFour => write_memory::<TwentyFour>(rt, count),
-            Kind::ThirtyTwo => write_memory::<ThirtyTwo>(rt, count),
-            Kind::Float => write_memory::<Float>(rt, count),
+        Case::Write(samples) => match samples.kind {
+            Kind::Eight => write::<Eight>(rt, samples, count, path),
+            Kind::Sixteen => write::<Sixteen>(rt, samples, count, path),
+            Kind::TwentyFour => write::<TwentyFour>(rt, samples, count, path),
+            Kind::ThirtyTwo => write::<ThirtyTwo>(rt, samples, count, path),
+            Kind::Float => write::<Float>(rt, samples, count, path),
         },
-        Case::WriteGrowing => write_growing(rt, count),
-        Case::WriteFile(frames) => match frames {
-            Frames::Sixteen => write_file::<Sixteen>(rt, 1, count, path),
-            Frames::TwoOfSixteen => write_file::<Sixteen>(rt, 2, count, path),
-            Frames::TwentyFour => write_file::<TwentyFour>(rt, 1, count, path),
+        Case::Read(samples) => match samples.kind {
+            Kind::Eight => read::<Eight>(rt, samples, count, path),
+            Kind::Sixteen => read::<Sixteen>(rt, samples, count, path),
+            Kind::TwentyFour => read::<TwentyFour>(rt, samples, count, path),
+            Kind::ThirtyTwo => read::<ThirtyTwo>(rt, samples, count, path),
+            Kind::Float => read::<Float>(rt, samples, count, path),
         },
-        Case::BatchMemory => batch_memory(rt, count),
-        Case::BatchFile => batch_file(rt, count, path),
-        Case::SessionMemory => session_memory(rt, count),
-        Case::ReadMemory(kind) => match kind {
-            Kind::Eight => read_memory::<Eight>(rt, count),
-            Kind::Sixteen => read_memory::<Sixteen>(rt, count),
-            Kind::TwentyFour => read_memory::<TwentyFour>(rt, count),
-            Kind::ThirtyTwo => read_memory::<ThirtyTwo>(rt, count),
-            Kind::Float => read_memory::<Float>(rt, count),
-        },
-        Case::ReadFile(frames) => match frames {
-            Frames::Sixteen => read_file::<Sixteen>(rt, 1, count, path),
-            Frames::TwoOfSixteen => read_file::<Sixteen>(rt, 2, count, path),
-            Frames::TwentyFour => read_file::<TwentyFour>(rt, 1, count, path),
-        },
-        Case::ReadBlocks(blocks) => blocks::read(rt, blocks, count, path),
-        Case::WriteBlocks(blocks) => blocks::write(rt, blocks, count, path),
-        Case::SeekMemory => seek_memory(rt, count),
-        Case::SeekFile => seek_file(rt, count, path),
-        Case::FlushMemory => flush_memory(rt, count),
-        Case::FlushFile => flush_file(rt, count, path),
-        Case::FlushDurable => flush_durable(rt, count, path),
-        Case::WriteDurable => write_durable(rt, count, path),
-        Case::OpenMemory => open_memory(rt, count),
+        Case::Seek(place) => seek(rt, place, count, path),
+        Case::Session => write_by_sessions(rt, count),
+        Case::Open => open(rt, count),
     }
 }
 
-/// A tape of zeros, as long as the file of this many samples will be.
-pub fn full_tape(alloc: Global, spec: WavSpec, count: u32) -> Result<Tape>
+// A tape of zeros, as long as the file of this many samples will be.
+fn full_tape(alloc: Global, spec: WavSpec, count: u32) -> Result<Tape>
     ensures { IfOk result (λ t. (⟦<Tape as Placed>⟧.state t).place ≡ 0) }
 {
     let header = spec.into_header_for_infinite_file(alloc)?;
@@ -86,16 +62,27 @@ pub fn full_tape(alloc: Global, spec: WavSpec, count: u32) -> Result<Tape>
     Ok(Tape::new(bytes))
 }
 
-/// The file of this many samples, in this many channels.
-pub fn file_of<P: Pattern>(alloc: Global, channels: u16, count: u32) -> Result<Vec<u8>> {
+// The file of this many samples, in this many channels.
+fn file_of<P: Pattern>(alloc: Global, channels: u16, count: u32) -> Result<Vec<u8>> {
     let mut tape = Tape::new(Vec::new(alloc));
     let writer = WavWriter::new(&mut tape, P::spec(channels))?;
-    write_all::<P, _>(writer, count)?;
+    write_all::<P, _>(writer, alloc, Call::Sample, count, &[])?;
     Ok(tape.into_bytes())
 }
 
-/// What a run gave that wrote these bytes.
-pub fn written(file: &[u8], nanoseconds: u128) -> Measured {
+// This many samples, by their numbers.
+fn samples_of<P: Pattern>(alloc: Global, count: u32) -> Result<Vec<P::Sample>> {
+    let mut samples = Vec::new(alloc);
+    for index in 0..count {
+        samples
+            .push(P::sample(index))
+            .map_err(|_| Error::OutOfMemory)?;
+    }
+    Ok(samples)
+}
+
+// What a run gave that wrote these bytes.
+fn written(file: &[u8], nanoseconds: u128) -> Measured {
     let mut check = 0i64;
     for byte in file {
         check = check.wrapping_add(*byte as i64);
@@ -107,77 +94,135 @@ pub fn written(file: &[u8], nanoseconds: u128) -> Measured {
     }
 }
 
-fn write_memory<P: Pattern>(rt: &HostRuntime, count: u32) -> Result<Measured> {
-    let mut tape = full_tape(rt.alloc(), P::spec(1), count)?;
-    let start = Instant::now(rt)?;
-    write_all::<P, _>(WavWriter::new(&mut tape, P::spec(1))?, count)?;
-    let time = start.elapsed(rt)?;
-    Ok(written(tape.bytes(), time.as_nanos()))
+fn write<P: Pattern>(
+    rt: &HostRuntime,
+    file: Samples,
+    count: u32,
+    path: Path<'_>,
+) -> Result<Measured> {
+    // Blocks are made before they are written.
+    let length = if matches!(file.call, Call::Block(_)) {
+        count
+    } else {
+        0
+    };
+    let samples = samples_of::<P>(rt.alloc(), length)?;
+    let spec = P::spec(file.channels);
+    let tape = match file.place {
+        Place::Memory => full_tape(rt.alloc(), spec, count)?,
+        Place::Growing => Tape::new(Vec::new(rt.alloc())),
+        Place::Disk | Place::Durable => return write_file::<P>(rt, file, count, &samples, path),
+    };
+    write_tape::<P>(rt, tape, file, count, &samples)
 }
 
-fn write_growing(rt: &HostRuntime, count: u32) -> Result<Measured> {
-    let mut tape = Tape::new(Vec::new(rt.alloc()));
+fn write_tape<P: Pattern>(
+    rt: &HostRuntime,
+    mut tape: Tape,
+    file: Samples,
+    count: u32,
+    samples: &[P::Sample],
+) -> Result<Measured>
+    requires { (⟦<Tape as Placed>⟧.state tape).place ≡ 0 }
+{
     let start = Instant::now(rt)?;
-    write_all::<Sixteen, _>(WavWriter::new(&mut tape, Sixteen::spec(1))?, count)?;
+    let writer = WavWriter::new(&mut tape, P::spec(file.channels))?;
+    write_all::<P, _>(writer, rt.alloc(), file.call, count, samples)?;
     let time = start.elapsed(rt)?;
     Ok(written(tape.bytes(), time.as_nanos()))
 }
 
 fn write_file<P: Pattern>(
     rt: &HostRuntime,
-    channels: u16,
+    file: Samples,
+    count: u32,
+    samples: &[P::Sample],
+    path: Path<'_>,
+) -> Result<Measured> {
+    let spec = P::spec(file.channels);
+    let start = Instant::now(rt)?;
+    if matches!(file.place, Place::Durable) {
+        let writer = WavWriter::create_durable(rt, rt.alloc(), path, spec)?;
+        write_all::<P, _>(writer, rt.alloc(), file.call, count, samples)?;
+    } else {
+        let writer = WavWriter::create(rt, rt.alloc(), path, spec)?;
+        write_all::<P, _>(writer, rt.alloc(), file.call, count, samples)?;
+    }
+    let time = start.elapsed(rt)?;
+    Ok(written(&fs::read(rt, path)?, time.as_nanos()))
+}
+
+fn read<P: Pattern>(
+    rt: &HostRuntime,
+    file: Samples,
     count: u32,
     path: Path<'_>,
 ) -> Result<Measured> {
-    let start = Instant::now(rt)?;
-    let writer = WavWriter::create(rt, rt.alloc(), path, P::spec(channels))?;
-    write_all::<P, _>(writer, count)?;
-    let time = start.elapsed(rt)?;
-    Ok(written(&fs::read(rt, path)?, time.as_nanos()))
+    let bytes = file_of::<P>(rt.alloc(), file.channels, count)?;
+    let length = if let Call::Block(length) = file.call {
+        length
+    } else {
+        0
+    };
+    let mut block = samples_of::<P>(rt.alloc(), length as u32)?;
+    let (check, nanoseconds) = match file.place {
+        Place::Memory | Place::Growing => read_memory(rt, &bytes, &mut block)?,
+        Place::Disk | Place::Durable => {
+            fs::write(rt, path, bytes.as_slice())?;
+            read_file(rt, path, &mut block)?
+        }
+    };
+    Ok(Measured {
+        bytes: bytes.len() as u64,
+        nanoseconds,
+        check,
+    })
 }
 
-fn flush_file(rt: &HostRuntime, count: u32, path: Path<'_>) -> Result<Measured> {
+// The sum of all samples of a file in memory, and how long it took.
+fn read_memory<S: Summed>(rt: &HostRuntime, file: &[u8], block: &mut [S]) -> Result<(i64, u128)> {
     let start = Instant::now(rt)?;
-    let writer = WavWriter::create(rt, rt.alloc(), path, Sixteen::spec(1))?;
-    write_flushing::<Sixteen, _>(writer, count)?;
-    let time = start.elapsed(rt)?;
-    Ok(written(&fs::read(rt, path)?, time.as_nanos()))
+    let check = read_all(WavReader::new(file)?, block)?;
+    Ok((check, start.elapsed(rt)?.as_nanos()))
 }
 
-fn flush_durable(rt: &HostRuntime, count: u32, path: Path<'_>) -> Result<Measured> {
+// The same of one on disk.
+fn read_file<S: Summed>(rt: &HostRuntime, path: Path<'_>, block: &mut [S]) -> Result<(i64, u128)> {
     let start = Instant::now(rt)?;
-    let writer = WavWriter::create_durable(rt, rt.alloc(), path, Sixteen::spec(1))?;
-    write_flushing::<Sixteen, _>(writer, count)?;
-    let time = start.elapsed(rt)?;
-    Ok(written(&fs::read(rt, path)?, time.as_nanos()))
+    let check = read_all(WavReader::open(rt, rt.alloc(), path)?, block)?;
+    Ok((check, start.elapsed(rt)?.as_nanos()))
 }
 
-fn write_durable(rt: &HostRuntime, count: u32, path: Path<'_>) -> Result<Measured> {
-    let start = Instant::now(rt)?;
-    let writer = WavWriter::create_durable(rt, rt.alloc(), path, Sixteen::spec(1))?;
-    write_all::<Sixteen, _>(writer, count)?;
-    let time = start.elapsed(rt)?;
-    Ok(written(&fs::read(rt, path)?, time.as_nanos()))
+// A sample of four bytes is read at each place.
+fn seek(rt: &HostRuntime, place: Place, count: u32, path: Path<'_>) -> Result<Measured> {
+    let file = file_of::<Float>(rt.alloc(), 1, SOUGHT)?;
+    let (check, nanoseconds) = match place {
+        Place::Memory | Place::Growing => seek_memory(rt, Tape::new(file), count)?,
+        Place::Disk | Place::Durable => {
+            fs::write(rt, path, file.as_slice())?;
+            seek_file(rt, path, count)?
+        }
+    };
+    Ok(Measured {
+        bytes: 4 * count as u64,
+        nanoseconds,
+        check,
+    })
 }
 
-fn batch_memory(rt: &HostRuntime, count: u32) -> Result<Measured> {
-    let mut tape = full_tape(rt.alloc(), Sixteen::spec(1), count)?;
+fn seek_memory(rt: &HostRuntime, tape: Tape, count: u32) -> Result<(i64, u128)> {
     let start = Instant::now(rt)?;
-    let writer = WavWriter::new(&mut tape, spec_of(1, 16, SampleFormat::Int))?;
-    write_batches(writer, rt.alloc(), count)?;
-    let time = start.elapsed(rt)?;
-    Ok(written(tape.bytes(), time.as_nanos()))
+    let check = seek_often::<FloatBits, _>(WavReader::new(tape)?, count)?;
+    Ok((check, start.elapsed(rt)?.as_nanos()))
 }
 
-fn batch_file(rt: &HostRuntime, count: u32, path: Path<'_>) -> Result<Measured> {
+fn seek_file(rt: &HostRuntime, path: Path<'_>, count: u32) -> Result<(i64, u128)> {
     let start = Instant::now(rt)?;
-    let writer = WavWriter::create(rt, rt.alloc(), path, spec_of(1, 16, SampleFormat::Int))?;
-    write_batches(writer, rt.alloc(), count)?;
-    let time = start.elapsed(rt)?;
-    Ok(written(&fs::read(rt, path)?, time.as_nanos()))
+    let check = seek_often::<FloatBits, _>(WavReader::open(rt, rt.alloc(), path)?, count)?;
+    Ok((check, start.elapsed(rt)?.as_nanos()))
 }
 
-fn session_memory(rt: &HostRuntime, count: u32) -> Result<Measured> {
+fn write_by_sessions(rt: &HostRuntime, count: u32) -> Result<Measured> {
     let steps: Vec<Step> = (0..SESSION)
         .map(|index| Step::Whole(Sixteen::sample(index) as i32))
         .collect(rt.alloc())
@@ -189,73 +234,8 @@ fn session_memory(rt: &HostRuntime, count: u32) -> Result<Measured> {
     Ok(written(tape.bytes(), time.as_nanos()))
 }
 
-fn read_memory<P: Pattern>(rt: &HostRuntime, count: u32) -> Result<Measured> {
-    let file = file_of::<P>(rt.alloc(), 1, count)?;
-    let bytes = file.as_slice();
-    let start = Instant::now(rt)?;
-    let check = read_all::<P::Sample, _>(WavReader::new(bytes)?)?;
-    let time = start.elapsed(rt)?;
-    Ok(Measured {
-        bytes: bytes.len() as u64,
-        nanoseconds: time.as_nanos(),
-        check,
-    })
-}
-
-fn read_file<P: Pattern>(
-    rt: &HostRuntime,
-    channels: u16,
-    count: u32,
-    path: Path<'_>,
-) -> Result<Measured> {
-    let file = file_of::<P>(rt.alloc(), channels, count)?;
-    fs::write(rt, path, file.as_slice())?;
-    let start = Instant::now(rt)?;
-    let check = read_all::<P::Sample, _>(WavReader::open(rt, rt.alloc(), path)?)?;
-    let time = start.elapsed(rt)?;
-    Ok(Measured {
-        bytes: file.len() as u64,
-        nanoseconds: time.as_nanos(),
-        check,
-    })
-}
-
-// What this many seeks gave, with a float of four bytes read at each.
-fn sought(count: u32, nanoseconds: u128, check: i64) -> Measured {
-    Measured {
-        bytes: 4 * count as u64,
-        nanoseconds,
-        check,
-    }
-}
-
-fn seek_memory(rt: &HostRuntime, count: u32) -> Result<Measured> {
-    let tape = Tape::new(file_of::<Float>(rt.alloc(), 1, SOUGHT)?);
-    let start = Instant::now(rt)?;
-    let check = seek_often::<FloatBits, _>(WavReader::new(tape)?, count)?;
-    let time = start.elapsed(rt)?;
-    Ok(sought(count, time.as_nanos(), check))
-}
-
-fn seek_file(rt: &HostRuntime, count: u32, path: Path<'_>) -> Result<Measured> {
-    let file = file_of::<Float>(rt.alloc(), 1, SOUGHT)?;
-    fs::write(rt, path, file.as_slice())?;
-    let start = Instant::now(rt)?;
-    let check = seek_often::<FloatBits, _>(WavReader::open(rt, rt.alloc(), path)?, count)?;
-    let time = start.elapsed(rt)?;
-    Ok(sought(count, time.as_nanos(), check))
-}
-
-fn flush_memory(rt: &HostRuntime, count: u32) -> Result<Measured> {
-    let mut tape = full_tape(rt.alloc(), Sixteen::spec(1), count)?;
-    let start = Instant::now(rt)?;
-    write_flushing::<Sixteen, _>(WavWriter::new(&mut tape, Sixteen::spec(1))?, count)?;
-    let time = start.elapsed(rt)?;
-    Ok(written(tape.bytes(), time.as_nanos()))
-}
-
 // The small file has sixteen samples.
-fn open_memory(rt: &HostRuntime, count: u32) -> Result<Measured> {
+fn open(rt: &HostRuntime, count: u32) -> Result<Measured> {
     let file = file_of::<Sixteen>(rt.alloc(), 1, 16)?;
     let start = Instant::now(rt)?;
     let check = open_often(&file, count)?;

@@ -1,6 +1,4 @@
 // The samples that the workloads write and read.
-ghost use Rattle.std.specs.Prelude.{◌≡◌};
-
 use hound::{FloatBits, Sample, SampleFormat, WavSpec};
 
 /// A type of samples.
@@ -42,10 +40,8 @@ fn mixed(index: u32) -> u32 {
     index.wrapping_mul(2_654_435_761)
 }
 
-/// A file of such samples.
-pub fn spec_of(channels: u16, bits: u16, sample_format: SampleFormat) -> WavSpec
-    ensures { (result.sample_format ≡ sample_format) × (result.bits_per_sample ≡ bits) }
-{
+// A file of such samples.
+fn spec_of(channels: u16, bits: u16, sample_format: SampleFormat) -> WavSpec {
     WavSpec {
         channels,
         sample_rate: 44100,

@@ -1,6 +1,9 @@
 // What is timed, over any medium and any reader.
+use crate::batches::write_batches;
+use crate::case::Call;
 use crate::pattern::{Pattern, Summed};
 use hound::{Medium, Result, Source, WavReader, WavWriter};
+use std::alloc::Global;
 use std::io;
 
 /// How many samples are written between two flushes.
@@ -9,18 +12,30 @@ const CHECKPOINT: u32 = 4800;
 /// How many frames are between two seeks.
 const STRIDE: u32 = 1000;
 
-/// Writes this many samples, one at a time, and closes the file.
-pub fn write_all<P: Pattern, W: Medium>(writer: WavWriter<W>, count: u32) -> Result<()> {
-    let mut writer = writer;
+/// Writes this many samples by such calls, and closes the file. Blocks are of these samples.
+pub fn write_all<P: Pattern, W: Medium>(
+    writer: WavWriter<W>,
+    alloc: Global,
+    call: Call,
+    count: u32,
+    samples: &[P::Sample],
+) -> Result<()> {
+    match call {
+        Call::Sample => write_samples::<P, _>(writer, count),
+        Call::Flush => write_flushing::<P, _>(writer, count),
+        Call::Batch => write_batches(writer, alloc, count),
+        Call::Block(length) => write_blocks(writer, samples, length as usize),
+    }
+}
+
+fn write_samples<P: Pattern, W: Medium>(mut writer: WavWriter<W>, count: u32) -> Result<()> {
     for index in 0..count {
         writer.write_sample(P::sample(index))?;
     }
     writer.finalize()
 }
 
-/// The same, with a flush after each 4800 samples.
-pub fn write_flushing<P: Pattern, W: Medium>(writer: WavWriter<W>, count: u32) -> Result<()> {
-    let mut writer = writer;
+fn write_flushing<P: Pattern, W: Medium>(mut writer: WavWriter<W>, count: u32) -> Result<()> {
     for index in 0..count {
         writer.write_sample(P::sample(index))?;
         if index % CHECKPOINT == CHECKPOINT - 1 {
@@ -30,12 +45,51 @@ pub fn write_flushing<P: Pattern, W: Medium>(writer: WavWriter<W>, count: u32) -
     writer.finalize()
 }
 
-/// The sum of all samples.
-pub fn read_all<S: Summed, R: io::Read + Drop>(reader: WavReader<R>) -> Result<i64> {
-    let mut reader = reader;
+fn write_blocks<S: Summed, W: Medium>(
+    mut writer: WavWriter<W>,
+    samples: &[S],
+    length: usize,
+) -> Result<()> {
+    for block in samples.chunks(length.max(1)) {
+        writer.write_samples(block)?;
+    }
+    writer.finalize()
+}
+
+/// The sum of all samples, by blocks of as many as the slice has, or one at a time if it has none.
+pub fn read_all<S: Summed, R: io::Read + Drop>(
+    reader: WavReader<R>,
+    block: &mut [S],
+) -> Result<i64> {
+    if block.is_empty() {
+        read_samples::<S, R>(reader)
+    } else {
+        read_blocks(reader, block)
+    }
+}
+
+fn read_samples<S: Summed, R: io::Read + Drop>(mut reader: WavReader<R>) -> Result<i64> {
     let mut sum = 0i64;
     for sample in reader.samples::<S>() {
         sum = sum.wrapping_add(sample?.value());
+    }
+    Ok(sum)
+}
+
+fn read_blocks<S: Summed, R: io::Read + Drop>(
+    mut reader: WavReader<R>,
+    block: &mut [S],
+) -> Result<i64> {
+    let mut sum = 0i64;
+    for _ in 0..u64::MAX {
+        let (count, result) = reader.read_samples(block);
+        result?;
+        if count == 0 {
+            break;
+        }
+        for sample in block.iter().take(count) {
+            sum = sum.wrapping_add(sample.value());
+        }
     }
     Ok(sum)
 }

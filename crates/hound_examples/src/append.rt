@@ -10,15 +10,19 @@ use std::process::ExitCode;
 
 pub fn main(rt: HostRuntime) -> hound::Result<ExitCode> {
     let words: Vec<String> = env::args(&rt)?.collect(rt.alloc())?;
-    let [_, file, numbers @ ..] = words.as_slice() else {
-        return usage(&rt);
+    run(&rt, &words)
+}
+
+fn run(rt: &HostRuntime, words: &[String]) -> hound::Result<ExitCode> {
+    let [_, file, numbers @ ..] = words else {
+        return usage(rt);
     };
     let Some(samples) = samples_of(rt.alloc(), numbers)? else {
-        return usage(&rt);
+        return usage(rt);
     };
     let path = Path::new(file.as_str());
-    let before = append(&rt, path, &samples)?;
-    show(&rt, path, before)?;
+    let before = append(rt, path, &samples)?;
+    show(rt, path, before)?;
     Ok(ExitCode::SUCCESS)
 }
 

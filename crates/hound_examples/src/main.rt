@@ -4,26 +4,16 @@
 #![tactic(auto)]
 
 mod append;
-mod convert;
-mod dither;
 mod faulty;
 mod floats;
 mod info;
-mod join;
 mod levels;
 mod memory;
 mod mend;
-mod merge;
-mod mix;
 mod mulaw;
-mod normalize;
 mod pipe;
 mod record;
-mod resample;
-mod reverse;
-mod silences;
 mod sine;
-mod split;
 mod stream;
 mod tone;
 
@@ -36,32 +26,21 @@ fn main(rt: HostRuntime) -> hound::Result<ExitCode> {
     };
     match file_name(program.as_str()) {
         "append" => append::main(rt),
-        "convert" => convert::main(rt),
-        "dither" => dither::main(rt),
         "faulty" => faulty::main(rt),
         "floats" => floats::main(rt),
         "info" => info::main(rt),
-        "join" => join::main(rt),
         "levels" => levels::main(rt),
         "memory" => memory::main(rt),
         "mend" => mend::main(rt),
-        "merge" => merge::main(rt),
-        "mix" => mix::main(rt),
         "mulaw" => mulaw::main(rt),
-        "normalize" => normalize::main(rt),
         "pipe" => pipe::main(rt),
         "record" => record::main(rt),
-        "resample" => resample::main(rt),
-        "reverse" => reverse::main(rt),
-        "silences" => silences::main(rt),
         "sine" => sine::main(rt),
-        "split" => split::main(rt),
         "stream" => stream::main(rt),
         "tone" => tone::main(rt),
         _ => {
             println!(rt;
-                "append convert dither faulty floats info join levels memory mend merge mix mulaw \
-                 normalize pipe record resample reverse silences sine split stream tone"
+                "append faulty floats info levels memory mend mulaw pipe record sine stream tone"
             )?;
             Ok(ExitCode::SUCCESS)
         }

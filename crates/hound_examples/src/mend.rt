@@ -12,14 +12,18 @@ use std::process::ExitCode;
 
 pub fn main(rt: HostRuntime) -> hound::Result<ExitCode> {
     let words: Vec<String> = env::args(&rt)?.collect(rt.alloc())?;
-    let (file, option) = match words.as_slice() {
+    run(&rt, &words)
+}
+
+fn run(rt: &HostRuntime, words: &[String]) -> hound::Result<ExitCode> {
+    let (file, option) = match words {
         [_, file] => (file, None),
         [_, file, option] => (file, Some(option.as_str())),
-        _ => return usage(&rt),
+        _ => return usage(rt),
     };
     let path = Path::new(file.as_str());
-    let Some(found) = mend(&rt, path, option)? else {
-        return usage(&rt);
+    let Some(found) = mend(rt, path, option)? else {
+        return usage(rt);
     };
     println!(rt;
         "{} frames, {} bytes left over",
@@ -27,7 +31,7 @@ pub fn main(rt: HostRuntime) -> hound::Result<ExitCode> {
     )?;
     println!(rt; "{}", found.was)?;
     if option.is_some() || found.was != RepairState::CutOff {
-        println!(rt; "read {} frames", count_frames(&rt, path)?)?;
+        println!(rt; "read {} frames", count_frames(rt, path)?)?;
     }
     Ok(ExitCode::SUCCESS)
 }

@@ -12,7 +12,11 @@ use std::{env, io};
 
 pub fn main(rt: HostRuntime) -> hound::Result<ExitCode> {
     let words: Vec<String> = env::args(&rt)?.collect(rt.alloc())?;
-    let [_, channels, rate] = words.as_slice() else {
+    run(&rt, &words)
+}
+
+fn run(rt: &HostRuntime, words: &[String]) -> hound::Result<ExitCode> {
+    let [_, channels, rate] = words else {
         eprintln!(rt; "usage: pipe CHANNELS RATE")?;
         return Ok(ExitCode::from(2));
     };

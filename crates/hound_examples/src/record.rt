@@ -29,22 +29,22 @@ struct Options {
 
 pub fn main(rt: HostRuntime) -> hound::Result<ExitCode> {
     let words: Vec<String> = env::args(&rt)?.collect(rt.alloc())?;
-    let [_, file, count, options @ ..] = words.as_slice() else {
-        return usage(&rt);
+    run(&rt, &words)
+}
+
+fn run(rt: &HostRuntime, words: &[String]) -> hound::Result<ExitCode> {
+    let [_, file, count, options @ ..] = words else {
+        return usage(rt);
     };
     let (Ok(count @ 1..), Some(options)) = (count.parse::<u32>(), options_of(options)) else {
-        return usage(&rt);
+        return usage(rt);
     };
     let (alloc, path, spec) = (rt.alloc(), Path::new(file.as_str()), options.spec);
     let is_whole = match (options.is_durable, options.is_appended) {
-        (false, false) => record(&rt, WavWriter::create(&rt, alloc, path, spec)?, count)?,
-        (false, true) => record(&rt, WavWriter::append(&rt, alloc, path)?, count)?,
-        (true, false) => record(
-            &rt,
-            WavWriter::create_durable(&rt, alloc, path, spec)?,
-            count,
-        )?,
-        (true, true) => record(&rt, WavWriter::append_durable(&rt, alloc, path)?, count)?,
+        (false, false) => record(rt, WavWriter::create(rt, alloc, path, spec)?, count)?,
+        (false, true) => record(rt, WavWriter::append(rt, alloc, path)?, count)?,
+        (true, false) => record(rt, WavWriter::create_durable(rt, alloc, path, spec)?, count)?,
+        (true, true) => record(rt, WavWriter::append_durable(rt, alloc, path)?, count)?,
     };
     Ok(ExitCode::from(if is_whole { 0 } else { 1 }))
 }

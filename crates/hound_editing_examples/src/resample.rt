@@ -10,13 +10,17 @@ use std::process::ExitCode;
 
 pub fn main(rt: HostRuntime) -> hound::Result<ExitCode> {
     let words: Vec<String> = env::args(&rt)?.collect(rt.alloc())?;
-    let [_, from, to, rate] = words.as_slice() else {
-        return usage(&rt);
+    run(&rt, &words)
+}
+
+fn run(rt: &HostRuntime, words: &[String]) -> hound::Result<ExitCode> {
+    let [_, from, to, rate] = words else {
+        return usage(rt);
     };
     let Ok(rate @ 1..) = rate.parse::<u32>() else {
-        return usage(&rt);
+        return usage(rt);
     };
-    resample(&rt, Path::new(from.as_str()), Path::new(to.as_str()), rate)?;
+    resample(rt, Path::new(from.as_str()), Path::new(to.as_str()), rate)?;
     Ok(ExitCode::SUCCESS)
 }
 

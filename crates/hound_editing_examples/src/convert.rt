@@ -14,23 +14,30 @@ use std::process::ExitCode;
 
 pub fn main(rt: HostRuntime) -> hound::Result<ExitCode> {
     let words: Vec<String> = env::args(&rt)?.collect(rt.alloc())?;
-    let [_, from, to, bits] = words.as_slice() else {
-        eprintln!(rt; "usage: convert IN OUT BITS")?;
-        return Ok(ExitCode::from(2));
+    run(&rt, &words)
+}
+
+fn run(rt: &HostRuntime, words: &[String]) -> hound::Result<ExitCode> {
+    let [_, from, to, bits] = words else {
+        return refuse(rt, "usage: convert IN OUT BITS", 2);
     };
     let Ok(bits @ (8 | 16 | 24 | 32)) = bits.parse::<u16>() else {
-        eprintln!(rt; "usage: convert IN OUT BITS")?;
-        return Ok(ExitCode::from(2));
+        return refuse(rt, "usage: convert IN OUT BITS", 2);
     };
     if from == to {
-        eprintln!(rt; "a file can't be read and written at once")?;
-        return Ok(ExitCode::from(1));
+        return refuse(rt, "a file can't be read and written at once", 1);
     }
     let (from, to) = (Path::new(from.as_str()), Path::new(to.as_str()));
-    let (clipped, end) = convert(&rt, from, to, bits)?;
+    let (clipped, end) = convert(rt, from, to, bits)?;
     println!(rt; "{clipped} samples clipped")?;
     end?;
     Ok(ExitCode::SUCCESS)
+}
+
+// Prints why nothing is done, and returns a status.
+fn refuse(rt: &HostRuntime, why: &str, status: u8) -> hound::Result<ExitCode> {
+    eprintln!(rt; "{why}")?;
+    Ok(ExitCode::from(status))
 }
 
 // How many samples were clipped, and whether the file ended early.

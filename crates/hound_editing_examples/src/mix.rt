@@ -9,18 +9,26 @@ use std::{env, io};
 
 pub fn main(rt: HostRuntime) -> hound::Result<ExitCode> {
     let words: Vec<String> = env::args(&rt)?.collect(rt.alloc())?;
-    let [_, one, other, to] = words.as_slice() else {
-        eprintln!(rt; "usage: mix IN IN OUT")?;
-        return Ok(ExitCode::from(2));
+    run(&rt, &words)
+}
+
+fn run(rt: &HostRuntime, words: &[String]) -> hound::Result<ExitCode> {
+    let [_, one, other, to] = words else {
+        return refuse(rt, "usage: mix IN IN OUT", 2);
     };
     if one == to || other == to {
-        eprintln!(rt; "a file can't be read and written at once")?;
-        return Ok(ExitCode::from(1));
+        return refuse(rt, "a file can't be read and written at once", 1);
     }
     let (one, other) = (Path::new(one.as_str()), Path::new(other.as_str()));
-    let clipped = mix(&rt, one, other, Path::new(to.as_str()))?;
+    let clipped = mix(rt, one, other, Path::new(to.as_str()))?;
     println!(rt; "{clipped} samples clipped")?;
     Ok(ExitCode::SUCCESS)
+}
+
+// Prints why nothing is done, and returns a status.
+fn refuse(rt: &HostRuntime, why: &str, status: u8) -> hound::Result<ExitCode> {
+    eprintln!(rt; "{why}")?;
+    Ok(ExitCode::from(status))
 }
 
 // How many samples were clipped.

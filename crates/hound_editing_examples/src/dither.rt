@@ -11,18 +11,26 @@ use std::process::ExitCode;
 
 pub fn main(rt: HostRuntime) -> hound::Result<ExitCode> {
     let words: Vec<String> = env::args(&rt)?.collect(rt.alloc())?;
-    let [_, from, to] = words.as_slice() else {
-        eprintln!(rt; "usage: dither IN OUT")?;
-        return Ok(ExitCode::from(2));
+    run(&rt, &words)
+}
+
+fn run(rt: &HostRuntime, words: &[String]) -> hound::Result<ExitCode> {
+    let [_, from, to] = words else {
+        return refuse(rt, "usage: dither IN OUT", 2);
     };
     if from == to {
-        eprintln!(rt; "a file can't be read and written at once")?;
-        return Ok(ExitCode::from(1));
+        return refuse(rt, "a file can't be read and written at once", 1);
     }
     let (from, to) = (Path::new(from.as_str()), Path::new(to.as_str()));
-    let clipped = dither(&rt, from, to)?;
+    let clipped = dither(rt, from, to)?;
     println!(rt; "{clipped} samples clipped")?;
     Ok(ExitCode::SUCCESS)
+}
+
+// Prints why nothing is done, and returns a status.
+fn refuse(rt: &HostRuntime, why: &str, status: u8) -> hound::Result<ExitCode> {
+    eprintln!(rt; "{why}")?;
+    Ok(ExitCode::from(status))
 }
 
 // How many samples were clipped.

@@ -10,23 +10,30 @@ use std::{env, io};
 
 pub fn main(rt: HostRuntime) -> hound::Result<ExitCode> {
     let words: Vec<String> = env::args(&rt)?.collect(rt.alloc())?;
-    let [_, to, first, others @ ..] = words.as_slice() else {
-        eprintln!(rt; "usage: join OUT IN..")?;
-        return Ok(ExitCode::from(2));
+    run(&rt, &words)
+}
+
+fn run(rt: &HostRuntime, words: &[String]) -> hound::Result<ExitCode> {
+    let [_, to, first, others @ ..] = words else {
+        return refuse(rt, "usage: join OUT IN..", 2);
     };
     if first == to || others.contains(to) {
-        eprintln!(rt; "a file can't be read and written at once")?;
-        return Ok(ExitCode::from(1));
+        return refuse(rt, "a file can't be read and written at once", 1);
     }
-    let spec_ex = spec_of(&rt, first)?;
+    let spec_ex = spec_of(rt, first)?;
     for from in others {
-        if spec_of(&rt, from)? != spec_ex {
-            eprintln!(rt; "the files differ in channels, rate, bits or format")?;
-            return Ok(ExitCode::from(1));
+        if spec_of(rt, from)? != spec_ex {
+            return refuse(rt, "the files differ in channels, rate, bits or format", 1);
         }
     }
-    join(&rt, Path::new(to.as_str()), spec_ex, &words[2..])?;
+    join(rt, Path::new(to.as_str()), spec_ex, &words[2..])?;
     Ok(ExitCode::SUCCESS)
+}
+
+// Prints why nothing is done, and returns a status.
+fn refuse(rt: &HostRuntime, why: &str, status: u8) -> hound::Result<ExitCode> {
+    eprintln!(rt; "{why}")?;
+    Ok(ExitCode::from(status))
 }
 
 // The spec of a file, with the width of its containers.

@@ -11,51 +11,63 @@ use std::{env, fs};
 
 pub fn main(rt: HostRuntime) -> hound::Result<ExitCode> {
     let words: Vec<String> = env::args(&rt)?.collect(rt.alloc())?;
-    let [_, from, prefix] = words.as_slice() else {
+    run(&rt, &words)
+}
+
+fn run(rt: &HostRuntime, words: &[String]) -> hound::Result<ExitCode> {
+    let [_, from, prefix] = words else {
         eprintln!(rt; "usage: silences IN PREFIX")?;
         return Ok(ExitCode::from(2));
     };
-    let count = cut(&rt, Path::new(from.as_str()), prefix)?;
+    let count = cut(rt, Path::new(from.as_str()), prefix)?;
     println!(rt; "{count} files")?;
     Ok(ExitCode::SUCCESS)
 }
 
-// The files that are written: the open one, if there is one, and how many there were.
+// The files that are written: the open one, if there is one, how many there were, and silent frames
+// that aren't written yet.
 #[derive(Drop)]
 struct Parts {
     writer: Option<WavWriter<BufWriter<fs::File>>>,
     count: u32,
+    quiet: Vec<i32>,
 }
 
 // How many files were written.
 fn cut(rt: &HostRuntime, from: Path<'_>, prefix: &str) -> hound::Result<u32> {
     let mut reader = WavReader::open(rt, rt.alloc(), from)?;
     let spec_ex = reader.spec_ex();
-    let channels = usize::from(spec_ex.spec.channels.max(1));
     let limit = limit_of(spec_ex);
-    let gap = spec_ex.spec.sample_rate as usize * 3 / 10 * channels;
-    let mut block = vec![in rt.alloc(); 0i32; channels]?;
-    let mut quiet = Vec::new(rt.alloc()); // Silent frames that aren't written yet.
+    let channels = usize::from(spec_ex.spec.channels.max(1));
+    let mut frame = vec![in rt.alloc(); 0i32; channels]?;
     let mut parts = Parts {
         writer: None,
         count: 0,
+        quiet: Vec::new(rt.alloc()),
     };
     for _ in 0..reader.duration() {
-        let (_, result) = reader.read_samples(&mut block);
+        let (_, result) = reader.read_samples(&mut frame);
         result?;
-        if block.iter().all(|sample| sample.unsigned_abs() < limit) {
-            quiet.extend_from_slice(&block)?;
-            if quiet.len() >= gap {
-                end(&mut parts)?;
-                quiet.clear();
-            }
-            continue;
+        if frame.iter().all(|sample| sample.unsigned_abs() < limit) {
+            wait(&mut parts, spec_ex, &frame)?;
+        } else {
+            write(rt, &mut parts, prefix, spec_ex, &frame)?;
         }
-        write(rt, &mut parts, prefix, spec_ex, &quiet, &block)?;
-        quiet.clear();
     }
     end(&mut parts)?;
     Ok(parts.count)
+}
+
+// Takes a silent frame. It is written before the next one that isn't silent; a long silence ends the file
+// and is left out.
+fn wait(parts: &mut Parts, spec_ex: WavSpecEx, frame: &[i32]) -> hound::Result<()> {
+    parts.quiet.extend_from_slice(frame)?;
+    let gap = spec_ex.spec.sample_rate as usize * 3 / 10 * frame.len();
+    if parts.quiet.len() >= gap {
+        end(parts)?;
+        parts.quiet.clear();
+    }
+    Ok(())
 }
 
 // The least magnitude that isn't below -50 dBFS.
@@ -70,19 +82,20 @@ fn write(
     parts: &mut Parts,
     prefix: &str,
     spec_ex: WavSpecEx,
-    quiet: &[i32],
     frame: &[i32],
 ) -> hound::Result<()> {
-    if let Some(writer) = parts.writer.as_mut() {
-        writer.write_samples(quiet)?;
-        return writer.write_samples(frame);
+    if parts.writer.is_none() {
+        parts.count = parts.count.saturating_add(1);
+        parts.quiet.clear();
+        let name = format!(in rt.alloc(); "{prefix}-{:03}.wav", parts.count)?;
+        let path = Path::new(name.as_str());
+        parts.writer = Some(WavWriter::create_with_spec_ex(rt, rt.alloc(), path, spec_ex)?);
     }
-    parts.count = parts.count.saturating_add(1);
-    let name = format!(in rt.alloc(); "{prefix}-{:03}.wav", parts.count)?;
-    let path = Path::new(name.as_str());
-    let mut writer = WavWriter::create_with_spec_ex(rt, rt.alloc(), path, spec_ex)?;
-    writer.write_samples(frame)?;
-    parts.writer = Some(writer);
+    if let Some(writer) = parts.writer.as_mut() {
+        writer.write_samples(&parts.quiet)?;
+        writer.write_samples(frame)?;
+    }
+    parts.quiet.clear();
     Ok(())
 }
 

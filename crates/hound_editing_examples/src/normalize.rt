@@ -5,18 +5,23 @@
 ghost use Rattle.std.specs.Prelude.{◌<◌, ◌≤◌};
 
 use hound::{FloatBits, SampleFormat, WavReader, WavSpec, WavWriter, int_to_float};
-use std::env;
+use std::alloc::Global;
 use std::num::saturating_f64_to_i16;
 use std::path::Path;
 use std::process::ExitCode;
+use std::{env, io};
 
 pub fn main(rt: HostRuntime) -> hound::Result<ExitCode> {
     let words: Vec<String> = env::args(&rt)?.collect(rt.alloc())?;
-    let [_, from, to] = words.as_slice() else {
+    run(&rt, &words)
+}
+
+fn run(rt: &HostRuntime, words: &[String]) -> hound::Result<ExitCode> {
+    let [_, from, to] = words else {
         eprintln!(rt; "usage: normalize IN OUT")?;
         return Ok(ExitCode::from(2));
     };
-    let (spec, samples) = load(&rt, Path::new(from.as_str()))?;
+    let (spec, samples) = load(rt, Path::new(from.as_str()))?;
     let peak = samples
         .iter()
         .fold(0f64, |peak, sample| peak.max(sample.abs()));
@@ -26,7 +31,7 @@ pub fn main(rt: HostRuntime) -> hound::Result<ExitCode> {
     } else {
         1.0
     };
-    write(&rt, Path::new(to.as_str()), spec, &samples, gain)?;
+    write(rt, Path::new(to.as_str()), spec, &samples, gain)?;
     Ok(ExitCode::SUCCESS)
 }
 
@@ -34,18 +39,34 @@ pub fn main(rt: HostRuntime) -> hound::Result<ExitCode> {
 fn load(rt: &HostRuntime, path: Path<'_>) -> hound::Result<(WavSpec, Vec<f64>)> {
     let reader = WavReader::open(rt, rt.alloc(), path)?;
     let spec = reader.spec();
-    let mut samples = Vec::new(rt.alloc());
-    if spec.sample_format == SampleFormat::Float {
-        for sample in reader.into_samples::<FloatBits>() {
-            samples.push(f64::from(sample?.to_f32()))?;
-        }
-        return Ok((spec, samples));
-    }
-    for sample in reader.into_samples::<i32>() {
-        let sample = int_to_float(sample?, spec.bits_per_sample.clamp(1, 32));
-        samples.push(f64::from(sample))?;
-    }
+    let samples = match spec.sample_format {
+        SampleFormat::Float => floats_of(rt.alloc(), reader)?,
+        SampleFormat::Int => integers_of(rt.alloc(), reader, spec.bits_per_sample.clamp(1, 32))?,
+    };
     Ok((spec, samples))
+}
+
+fn floats_of<R: io::Read + Drop>(alloc: Global, reader: WavReader<R>) -> hound::Result<Vec<f64>> {
+    let mut samples = Vec::new(alloc);
+    for sample in reader.into_samples::<FloatBits>() {
+        samples.push(f64::from(sample?.to_f32()))?;
+    }
+    Ok(samples)
+}
+
+fn integers_of<R: io::Read + Drop>(
+    alloc: Global,
+    reader: WavReader<R>,
+    bits: u16,
+) -> hound::Result<Vec<f64>>
+    requires some { 0 < bits }
+    requires most { bits ≤ 32 }
+{
+    let mut samples = Vec::new(alloc);
+    for sample in reader.into_samples::<i32>() {
+        samples.push(f64::from(int_to_float(sample?, bits)))?;
+    }
+    Ok(samples)
 }
 
 fn write(
