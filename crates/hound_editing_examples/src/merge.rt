@@ -76,7 +76,7 @@ fn merge(
     merged: WavSpecEx,
 ) -> hound::Result<()> {
     let mut writer = WavWriter::create_with_spec_ex(rt, rt.alloc(), to, merged)?;
-    let channels = readers.len();
+    let channels = usize::from(merged.spec.channels);
     let mut samples = vec![in rt.alloc(); 0i32; FRAMES]?;
     let mut block = vec![in rt.alloc(); 0i32; FRAMES * channels]?;
     // Up to a block that isn't full, the last one. A `for` is known to end; a `loop` needs a proof.

@@ -62,7 +62,8 @@ fn cut(rt: &HostRuntime, from: Path<'_>, prefix: &str) -> hound::Result<u32> {
 // and is left out.
 fn wait(parts: &mut Parts, spec_ex: WavSpecEx, frame: &[i32]) -> hound::Result<()> {
     parts.quiet.extend_from_slice(frame)?;
-    let gap = spec_ex.spec.sample_rate as usize * 3 / 10 * frame.len();
+    let spec = spec_ex.spec;
+    let gap = spec.sample_rate as usize * 3 / 10 * usize::from(spec.channels);
     if parts.quiet.len() >= gap {
         end(parts)?;
         parts.quiet.clear();
