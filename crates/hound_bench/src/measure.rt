@@ -5,7 +5,7 @@ use crate::case::{Call, Case, Kind, Place, Samples};
 use crate::pattern::{Eight, Float, Pattern, Sixteen, Summed, ThirtyTwo, TwentyFour};
 use crate::sessions::{SESSION, write_sessions};
 use crate::workloads::{open_often, read_all, seek_often, write_all};
-use hound::{Error, FloatBits, Placed, Result, Step, Tape, WavReader, WavSpec, WavWriter};
+use hound::{FloatBits, Placed, Result, Step, Tape, WavReader, WavSpec, WavWriter};
 use std::alloc::Global;
 use std::fs;
 use std::path::Path;
@@ -56,9 +56,7 @@ fn full_tape(alloc: Global, spec: WavSpec, count: u32) -> Result<Tape>
     let width = spec.bits_per_sample.div_ceil(8) as usize;
     let data_length = count as usize * width;
     let mut bytes = Vec::new(alloc);
-    bytes
-        .resize(header.len() + data_length + data_length % 2, 0)
-        .map_err(|_| Error::OutOfMemory)?;
+    bytes.resize(header.len() + data_length + data_length % 2, 0)?;
     Ok(Tape::new(bytes))
 }
 
@@ -74,9 +72,7 @@ fn file_of<P: Pattern>(alloc: Global, channels: u16, count: u32) -> Result<Vec<u
 fn samples_of<P: Pattern>(alloc: Global, count: u32) -> Result<Vec<P::Sample>> {
     let mut samples = Vec::new(alloc);
     for index in 0..count {
-        samples
-            .push(P::sample(index))
-            .map_err(|_| Error::OutOfMemory)?;
+        samples.push(P::sample(index))?;
     }
     Ok(samples)
 }
@@ -225,8 +221,7 @@ fn seek_file(rt: &HostRuntime, path: Path<'_>, count: u32) -> Result<(i64, u128)
 fn write_by_sessions(rt: &HostRuntime, count: u32) -> Result<Measured> {
     let steps: Vec<Step> = (0..SESSION)
         .map(|index| Step::Whole(Sixteen::sample(index) as i32))
-        .collect(rt.alloc())
-        .map_err(|_| Error::OutOfMemory)?;
+        .collect(rt.alloc())?;
     let mut tape = full_tape(rt.alloc(), Sixteen::spec(1), count.min(SESSION))?;
     let start = Instant::now(rt)?;
     write_sessions(rt.alloc(), &mut tape, &steps, count)?;
