@@ -6,7 +6,7 @@ use Rattle.std.proofs.lemmas.List.{append-nil}
 use Rattle.std.proofs.lemmas.List.Concat.{concat_is}
 use Rattle.std.proofs.lemmas.List.Folds.{flat_map-map}
 use Rattle.std.specs.List.{AllByRecursion, concat, flat_map}
-use Rattle.hound_reader.proofs.WrittenLemmas.{containers-concat, length-concat}
+use Rattle.hound_sample.proofs.Joined.{containers-concat, length-concat}
 use Rattle.hound_number.specs.{signed_bytes_of}
 use Rattle.hound_sample.specs.{Refusal, containers, int_bytes, int_container, contained}
 use Rattle.hound_medium.specs.{MediumState}

@@ -14,7 +14,7 @@ use Rattle.hound_medium.specs.{moment, overlay, MediumState, WhereKeeps, WhereTe
 use Rattle.hound_medium.proofs.Overlays.{front_part}
 use Rattle.hound_medium.proofs.Spans.{moment_last}
 use Rattle.hound_durable.specs.{Ascends, SurvivesLoss}
-use Rattle.hound_reader.specs.{Head, IsSoundSpec}
+use Rattle.hound_walk.specs.{Head, IsSoundSpec}
 use Rattle.hound_writer.specs.{Begun, Call, Does, Known, Lead, Left, Opens, appended, found_in, handed_in, new_file, publish, start_of, with_memory, Counts, ChangesSizesOnly, field, WriterState, HasHeader, IsBegun, IsCounted, IsSound, IsWhole, accepted_bytes, accepted_samples, data_length}
 use Rattle.hound_writer.proofs.Containers.{none_whole, zero_div}
 use Rattle.hound_writer.proofs.Fresh.{none_accepted}

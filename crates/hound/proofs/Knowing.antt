@@ -13,7 +13,7 @@ use Rattle.hound.specs.Headline.{HasPublished, HoldsAtEnd, accepted_as_seen, acc
 use Rattle.hound.specs.Run.{asked_by}
 use Rattle.hound.specs.declared.session.Step.{Step}
 pub use Rattle.hound_spec.proofs.HeaderLemmas.{length-header}
-pub use Rattle.hound_reader.proofs.WrittenLemmas.{length-concat}
+pub use Rattle.hound_sample.proofs.Joined.{length-concat}
 pub use Rattle.hound_writer.proofs.Heads.{head_inside}
 pub use Rattle.hound_writer.proofs.Publishing.{reads_all}
 pub use Rattle.hound_writer.proofs.Samples.{samples_out}

@@ -9,7 +9,7 @@ use Rattle.hound_spec.specs.declared.spec.WavSpecEx.{WavSpecEx}
 use Rattle.hound_medium.specs.{moment, put_at, overlay}
 use Rattle.hound_medium.proofs.Overlays.{front_part, length-put_at, overlay-append, overlay_more, take_overlay_before}
 use Rattle.hound_medium.proofs.Inside.{drop_behind}
-use Rattle.hound_reader.specs.{Head}
+use Rattle.hound_walk.specs.{Head}
 use Rattle.hound_writer.specs.{ChangesSizesOnly, field, IsStored}
 use Rattle.hound_writer.proofs.Heads.{head_with}
 use Rattle.hound_durable.specs.{Ascends, SurvivesLoss, place_of}

@@ -8,8 +8,8 @@ use Rattle.std.specs.List.{concat, AllByRecursion}
 use Rattle.hound_spec.specs.declared.spec.WavSpecEx.{WavSpecEx}
 use Rattle.hound_sample.specs.{containers}
 use Rattle.hound_medium.specs.{moment, MediumState}
-use Rattle.hound_reader.specs.{Head}
-use Rattle.hound_reader.proofs.WrittenLemmas.{containers-concat, length-concat}
+use Rattle.hound_walk.specs.{Head}
+use Rattle.hound_sample.proofs.Joined.{containers-concat, length-concat}
 use Rattle.hound_writer.specs.{mark_of, Call, Counts, ChangesSizesOnly, field}
 use Rattle.hound_writer.proofs.Containers.{containers_front}
 use Rattle.hound_writer.proofs.Counted.{counts_more, counts_at_most}

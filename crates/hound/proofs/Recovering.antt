@@ -9,8 +9,8 @@ use Rattle.hound_spec.specs.declared.spec.WavSpecEx.{WavSpecEx}
 use Rattle.hound_number.specs.{bytes_of, mix, number}
 use Rattle.hound_medium.specs.{moment, MediumState}
 use Rattle.hound_medium.proofs.Overlays.{front_part}
-use Rattle.hound_reader.specs.{Head, IsSoundSpec}
-use Rattle.hound_reader.proofs.WrittenLemmas.{length-concat}
+use Rattle.hound_walk.specs.{Head, IsSoundSpec}
+use Rattle.hound_sample.proofs.Joined.{length-concat}
 use Rattle.hound_repair.proofs.Joining.{AreWide, wide_front}
 use Rattle.hound_repair.proofs.Keeping.{stays_stored}
 use Rattle.hound_repair.specs.{held, IsNoPad, ReadsFrames, Repairs}

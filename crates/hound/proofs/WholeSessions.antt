@@ -13,8 +13,8 @@ use Rattle.hound_spec.proofs.HeaderLemmas.{length-canonical, length-header, data
 use Rattle.hound_sample.specs.{containers}
 use Rattle.hound_medium.specs.{MediumState, one_more}
 use Rattle.hound_medium.proofs.Torn.{number_at_small}
-use Rattle.hound_reader.proofs.Exists.{one_answer}
-use Rattle.hound_reader.proofs.Unique.{heads_agree}
+use Rattle.hound_walk.proofs.Exists.{one_answer}
+use Rattle.hound_walk.proofs.Unique.{heads_agree}
 use Rattle.hound_writer.specs.{IsPublishing, IsIoError, mark_of, Does, Asked, publish, write, WriterState, data_length, HasHeader, IsWhole, IsBegun, accepted_samples, padded_end, field, Appends, IsAppendFault, AppendFault, appendable, faulty, Begins, Finishes, ReadsAs}
 use Rattle.hound_writer.proofs.Answers.{all_marked, where_marked, no_io, publishing_as, refused_of}
 use Rattle.hound_writer.proofs.Accepting.{length_overlay_max}

@@ -8,7 +8,7 @@ use Rattle.hound_spec.specs.{canonical, data_start}
 use Rattle.hound_number.specs.{mix}
 use Rattle.hound_medium.specs.{moment, MediumState}
 use Rattle.hound_durable.specs.{Ascends, SurvivesLoss, place_of}
-use Rattle.hound_reader.specs.{Head, IsSoundSpec}
+use Rattle.hound_walk.specs.{Head, IsSoundSpec}
 use Rattle.hound_writer.specs.{if_marked, mark_of, IsStored, Asked, Begun, Call, Known, LeftBy, appended, found_in, handed_in, marked, new_file, publish, write, start_of, ChangesSizesOnly, Counts, field, HasHeader}
 
 -- what a call accepted, by what it asked and its mark

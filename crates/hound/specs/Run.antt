@@ -12,7 +12,7 @@ use Rattle.hound_writer.specs.{container_in, containers_in, mark_of, Asked, Does
 use Rattle.hound.specs.Headline.{accepted_of, HoldsAtEnd, Promises, SurvivesAtEnd}
 use Rattle.hound.specs.declared.session.Step.{Step}
 use Rattle.hound.specs.declared.session.Step.TheVariants.{Whole, Bits, Batch, Flush}
-use Rattle.hound_reader.specs.{Head}
+use Rattle.hound_walk.specs.{Head}
 use Rattle.hound.specs.declared.session.Begin.{Begin}
 use Rattle.hound.specs.declared.session.Begin.TheVariants.{New, Append}
 use Rattle.hound.specs.declared.session.End.{End}

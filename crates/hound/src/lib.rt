@@ -83,8 +83,8 @@ pub use hound_durable::{Durable, SyncedFile, a_durable_medium_ascends};
 pub use hound_medium::{Journal, Medium, Placed, Source, Tape, put_all};
 pub use hound_reader::{
     WavIntoSamples, WavReader, WavSamples, a_block_is_its_items, a_reader_is_where_it_counts,
-    a_seek_leads_to_its_frame, an_iterator_gives_what_it_hints, items_are_of_the_file, one_answer,
-    read_wave_header, written_is_head, written_is_read,
+    a_seek_leads_to_its_frame, an_iterator_gives_what_it_hints, items_are_of_the_file,
+    written_is_read,
 };
 pub use hound_repair::{
     Repair, RepairState, a_half_mended_file_is_repaired, a_repair_keeps_stored_samples,
@@ -98,6 +98,7 @@ pub use hound_spec::{
     Error, Result, SampleFormat, WavSpec, WavSpecEx, extensions_come_back, fields_come_back,
     header_of,
 };
+pub use hound_walk::{one_answer, read_wave_header, written_is_head};
 pub use hound_writer::{
     Effect, Recorder, RecorderError, SampleWriter16, WavWriter, a_block_is_its_samples,
     a_recorder_directs, one_append_answer,

@@ -1,6 +1,6 @@
 -- What repairing does.
 use Rattle.std.specs.Prelude.{◌≡◌, ◌⊎◌, ℕ, Bool, ◌<◌, ◌≤◌, List, length, take, true, Result, Ok, Err}
-use Rattle.hound_reader.specs.declared.cause.Cause.TheVariants.{Unsupported}
+use Rattle.hound_walk.specs.declared.cause.Cause.TheVariants.{Unsupported}
 use Rattle.hound_writer.specs.{by_bytes, too_long}
 use Rattle.hound_repair.specs.{IsFoundAt, IsRepairFault, LacksRoom, RepairsBytes}
 use Rattle.hound_repair.specs.declared.sizes.Repair.{Repair}

@@ -2,11 +2,11 @@
 use Rattle.std.specs.Prelude.{◌≡◌, ℕ, ◌+◌, ◌*◌, ◌≤◌, ◌<◌, ℤ, pos, List, take, Option, Some, None, ◌==◌, nat_lt, if◌then◌else◌}
 use Rattle.hound_spec.specs.{greatest_u16}
 use Rattle.hound_spec.specs.declared.spec.WavSpecEx.{WavSpecEx}
-use Rattle.hound_reader.specs.{IsAt, Readable, Unreadable, part_bytes, part_length, part_start, parts_left}
-use Rattle.hound_reader.specs.declared.cause.Cause.{Cause}
-use Rattle.hound_reader.specs.declared.parts.HeadWalk.{HeadWalk}
-use Rattle.hound_reader.specs.declared.parts.Part.{Part}
-use Rattle.hound_reader.specs.declared.parts.Part.TheVariants.{Front, Header, Last, Fmt}
+use Rattle.hound_walk.specs.{IsAt, Readable, Unreadable, part_bytes, part_length, part_start, parts_left}
+use Rattle.hound_walk.specs.declared.cause.Cause.{Cause}
+use Rattle.hound_walk.specs.declared.parts.HeadWalk.{HeadWalk}
+use Rattle.hound_walk.specs.declared.parts.Part.{Part}
+use Rattle.hound_walk.specs.declared.parts.Part.TheVariants.{Front, Header, Last, Fmt}
 use Rattle.hound_c.specs.Codes.{fault_code}
 use Rattle.hound_c.specs.Writing.{IsExplicit, spec_from_c}
 use Rattle.hound_c.specs.declared.fault.Fault.TheVariants.{Head}

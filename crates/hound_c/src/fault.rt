@@ -2,7 +2,7 @@
 ghost use Rattle.std.specs.Prelude.{◌≡◌, ◌<◌, ◌^◌, IfOk};
 ghost use Rattle.hound_c.specs.Codes.{fault_code, code_for};
 
-use hound_reader::Cause;
+use hound_walk::Cause;
 use hound_writer::RecorderError;
 
 /// Why a call doesn't do its work.

@@ -1,10 +1,10 @@
 // What is before the data.
 ghost use Rattle.std.specs.Prelude.{◌≡◌, ◌≤◌, IfOk, IfErr, length};
-ghost use Rattle.hound_reader.specs.{Head, IsDataPlace, IsSoundSpec, Readable, Refused, Unreadable};
+ghost use Rattle.hound_walk.specs.{Head, IsDataPlace, IsSoundSpec, Readable, Refused, Unreadable};
 ghost use Rattle.hound_c.specs.Codes.{IsHeadFault};
 
 use crate::fault::Fault;
-use hound_reader::{FileHead, count_samples, find_by_parts};
+use hound_walk::{FileHead, count_samples, find_by_parts};
 
 /// Walks over a file up to its data.
 pub(crate) fn find_head(file: &[u8]) -> Result<FileHead, Fault>

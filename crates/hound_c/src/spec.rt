@@ -2,8 +2,8 @@
 ghost use Rattle.std.specs.Prelude.{◌≡◌, ◌<◌};
 ghost use Rattle.hound_c.specs.Writing.{IsExplicit, spec_from_c};
 
-use hound_reader::FileHead;
 use hound_spec::{SampleFormat, WavSpec, WavSpecEx};
+use hound_walk::FileHead;
 
 /// A spec.
 #[repr(C)]

@@ -1,11 +1,11 @@
 // The walk of a caller who hands in the bytes before the data.
 ghost use Rattle.std.specs.Prelude.{◌≡◌, take};
-ghost use Rattle.hound_reader.specs.{IsSoundOption, part_length};
+ghost use Rattle.hound_walk.specs.{IsSoundOption, part_length};
 ghost use Rattle.hound_c.specs.Walks.{Asks, found_of, walk_of};
 
 use crate::spec::{HoundSpec, HoundWalk, spec_for_c, spec_from_c};
-use hound_reader::{HeadWalk, Part};
 use hound_spec::WavSpecEx;
+use hound_walk::{HeadWalk, Part};
 
 // The spec that was found so far, if C's is one of a file.
 fn found_of(spec: HoundSpec) -> Option<WavSpecEx>

@@ -10,7 +10,7 @@ use Rattle.hound_spec.specs.declared.error.Error.{Error}
 use Rattle.hound_spec.specs.declared.error.Error.TheVariants.{IoError, TooLong, TooWide, UnfinishedSample}
 use Rattle.hound_spec.specs.declared.spec.SampleFormat.TheVariants.{Int}
 use Rattle.hound_spec.specs.declared.spec.WavSpecEx.{WavSpecEx}
-use Rattle.hound_reader.proofs.WrittenLemmas.{length-concat}
+use Rattle.hound_sample.proofs.Joined.{length-concat}
 use Rattle.hound_writer.proofs.Fresh.{fresh_file}
 use Rattle.hound_commands.specs.Commands.{failure_of, HasRoom, IsPackError, IsPackFailure, IsPacked, containers_of}
 

@@ -5,9 +5,10 @@ use Rattle.std.specs.Io.KnownBytes.{Appends, Keeps}
 use Rattle.std.proofs.Transfers.{starts_with_of_eq, starts_with_trans}
 use Rattle.hound_number.specs.{WhereKnown}
 use Rattle.hound_sample.specs.{ReadRefusal, other_format, misfit, too_wide, unsupported, int_meaning, items_of, Reads, error_of_read}
-use Rattle.hound_reader.specs.{ReaderState, meaning_at, refusal_at, GivesItems, IsRefusal, Readable, Unreadable}
+use Rattle.hound_reader.specs.{ReaderState, meaning_at, refusal_at, GivesItems}
+use Rattle.hound_walk.specs.{IsRefusal, Readable, Unreadable}
 use Rattle.std.specs.List.{flat_map}
-use Rattle.hound_reader.specs.declared.cause.Cause.TheVariants as causes
+use Rattle.hound_walk.specs.declared.cause.Cause.TheVariants as causes
 use Rattle.hound_spec.specs.declared.error.Error.{Error}
 use Rattle.hound_spec.specs.declared.error.Error.TheVariants as errors
 use Rattle.hound_spec.specs.declared.spec.SampleFormat.{SampleFormat}

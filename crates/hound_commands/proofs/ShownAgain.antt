@@ -4,7 +4,8 @@ use Rattle.std.specs.Prelude.{FitsSigned}
 use Rattle.std.proofs.Common.{◌≡◌, ℕ, ℤ, ◌%◌, ◌⊎◌, inl, inr, List, [], ◌∷◌, ◌++◌, length, drop, Result, Ok, Some, refl, sym, ◌∙◌, ap, subst, arith}
 use Rattle.std.specs.Int.{w32}
 use Rattle.std.specs.List.{AllByRecursion, flat_map}
-use Rattle.hound_reader.specs.{HasOneFileAnswer, readable, Readable, AreContainers}
+use Rattle.hound_reader.specs.{AreContainers}
+use Rattle.hound_walk.specs.{HasOneFileAnswer, readable, Readable}
 use Rattle.hound_sample.specs.{Refusal, containers, int_container, int_meaning}
 use Rattle.hound_spec.specs.{canonical, data_start, IsWritable, with_default_width}
 use Rattle.hound_spec.specs.declared.error.Error.{Error}

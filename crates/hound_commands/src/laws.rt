@@ -10,9 +10,10 @@ ghost use Rattle.hound_commands.specs.Showing.{Shows, spec_line};
 ghost use Rattle.hound_commands.specs.declared.failure.Failure.{Failure};
 ghost use Rattle.hound_commands.specs.declared.failure.Failure.TheVariants.{InputOrOutput, Refused};
 
-use hound_reader::{one_answer, written_is_read};
+use hound_reader::written_is_read;
 use hound_sample::integers_come_back;
 use hound_text::lines_say_their_numbers;
+use hound_walk::one_answer;
 
 /// The lines of samples that `show` writes of a file that `pack` made are packed as the same file,
 /// by the spec of the first line.

@@ -3,10 +3,11 @@ ghost use Rattle.std.specs.Prelude.{◌≡◌, ◌∷◌, ◌++◌, [], true, fa
 ghost use Rattle.hound_repair.specs.{is_followed};
 ghost use Rattle.hound_spec.specs.{canonical, header, mask, riff_size};
 ghost use Rattle.hound_sample.specs.{int_container};
-ghost use Rattle.hound_reader.specs.{Head, Refused, way_to, container_at};
+ghost use Rattle.hound_reader.specs.{way_to, container_at};
+ghost use Rattle.hound_walk.specs.{Head, Refused};
 ghost use Rattle.hound_layer_tests.specs.Rows.{four_samples, four_containers, padded_containers, long_fact, empty_fact, odd_junk, long_fmt, past_the_limit, odd_at_the_limit, even_at_the_limit, fmt_at_the_limit, mono_16, mono_float, stereo_24, counted, AreRead};
-ghost use Rattle.hound_reader.specs.declared.cause.Cause.TheVariants.{Ended, Format};
-ghost use Rattle.hound_reader.specs.declared.cause.Reason.TheVariants.{NoDataChunk};
+ghost use Rattle.hound_walk.specs.declared.cause.Cause.TheVariants.{Ended, Format};
+ghost use Rattle.hound_walk.specs.declared.cause.Reason.TheVariants.{NoDataChunk};
 
 use hound_spec::{SampleFormat, WavSpec, WavSpecEx};
 

@@ -1,7 +1,8 @@
 // The walk to the data, which appending shares with reading.
 use hound_medium::Tape;
-use hound_reader::{WavReader, find_data};
+use hound_reader::WavReader;
 use hound_spec::Error;
+use hound_walk::find_data;
 use std::test::Fail;
 
 // Mono, 44100 Hz, 16 bits: 2, -3, 5, -7.

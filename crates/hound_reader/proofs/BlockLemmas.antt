@@ -9,7 +9,8 @@ use Rattle.hound_spec.specs.declared.error.Error.{Error}
 use Rattle.hound_spec.specs.declared.spec.SampleFormat.{SampleFormat}
 use Rattle.hound_sample.specs.{FillsFront, items_of, answer_of, ReadsEach, ReadRefusal, Reads, error_of_read, ReadsItem, reason_of, error_of_item}
 use Rattle.std.proofs.lemmas.Nat.{mul-le}
-use Rattle.hound_reader.specs.Reader.{ReadsBlock, requested, GivesItemsOfBytes, over_bytes, HasGiven, taken_without, GivesItems, ReaderState, IsNext, AreTaken, CountsTaken, refusal_at, meaning_at, samples_left}
+use Rattle.hound_walk.specs.{AreTaken}
+use Rattle.hound_reader.specs.Reader.{ReadsBlock, requested, GivesItemsOfBytes, over_bytes, HasGiven, taken_without, GivesItems, ReaderState, IsNext, CountsTaken, refusal_at, meaning_at, samples_left}
 use Rattle.hound_sample.specs.declared.item.ItemError.{ItemError}
 use Rattle.hound_reader.proofs.ItemLemmas.{a_container_is_taken, later}
 

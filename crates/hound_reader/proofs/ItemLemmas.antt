@@ -7,7 +7,8 @@ use Rattle.hound_number.specs.{WhereKnown}
 use Rattle.hound_spec.specs.declared.error.Error.{Error}
 use Rattle.hound_spec.specs.declared.spec.SampleFormat.{SampleFormat}
 use Rattle.hound_sample.specs.{ReadRefusal, Reads, answer_of}
-use Rattle.hound_reader.specs.Reader.{ReaderState, IsNext, AreTaken, refusal_at, meaning_at, samples_left, AreItems, GivesItems}
+use Rattle.hound_walk.specs.{AreTaken}
+use Rattle.hound_reader.specs.Reader.{ReaderState, IsNext, refusal_at, meaning_at, samples_left, AreItems, GivesItems}
 use Rattle.hound_sample.specs.declared.item.ItemError.{ItemError}
 
 -- an Ok took exactly a container

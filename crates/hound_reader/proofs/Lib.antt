@@ -1,14 +1,6 @@
 pub mod BlockLemmas
+pub mod CanonicalLemmas
 pub mod CountingLemmas
-pub mod Exists
-pub mod FmtLemmas
-pub mod FrontLemmas
-pub mod Gives
 pub mod ItemLemmas
 pub mod ReaderLemmas
 pub mod SeekLemmas
-pub mod TakenLemmas
-pub mod Unique
-pub mod WalkLemmas
-pub mod PartLemmas
-pub mod WrittenLemmas

@@ -12,7 +12,7 @@ use Rattle.std.proofs.lemmas.Option.{same_Some}
 use Rattle.hound_spec.specs.declared.spec.WavSpecEx.{WavSpecEx}
 use Rattle.hound_reader.specs.Reader.{ReaderState, IsNext, CountsTaken, refusal_at, meaning_at}
 use Rattle.hound_reader.specs.Seeking.{HasSought, Seeks, IsWhereCounted, IsAtCount, ReadsInPlace, PassesItem, Follows, IsMeaningOf, container_at, samples_before, bytes_before}
-use Rattle.hound_reader.specs.Sources.{unread}
+use Rattle.hound_walk.specs.{unread}
 use Rattle.hound_spec.specs.{greatest_u32}
 
 -- the place of a frame fits in 63 bits

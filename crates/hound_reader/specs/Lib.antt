@@ -1,21 +1,7 @@
 -- The words of this crate, for those above it. The file is made by `scripts/make_words`.
-pub use Rattle.hound_reader.specs.Fmt.{IsSoundSpec, by_subformat, fmt_len, fmt_of, spec_of, width_of, with_format, with_valid_bits}
-unfoldable pub use Rattle.hound_reader.specs.Fmt.{by_tag, fmt_said, wave_format, wave_format_extensible, wave_format_ieee_float, wave_format_pcm}
-pub use Rattle.hound_reader.specs.Grammar.{Answer, Answers, AnswersFile, AreContainers, Chunk, Chunks, HasOneAnswer, HasOneFileAnswer, Head, IsChunk, IsDataPlace, Readable, Refused, Unreadable, Walk, chunk_bytes, cut_fault, data_fault, fault_of, first_fault, fmt_fault, joined, last_spec, ok_of, readable, unreadable}
-unfoldable pub use Rattle.hound_reader.specs.Grammar.{chunk_fault, content_fault, front_fault, spec_after}
-pub use Rattle.hound_reader.specs.Walking.{CountsFailed, Gives, IsSoundChunk, IsSoundOption, ReadsChunk, ReadsContent, ReadsFormat, RefusedAfter, Refuses, RefusesFront, ReportsFront, SaysContent, TakesAll, TakesFor, TakesFront, TakesLess, UnreadableAfter, Walked, Walks, chunk_taken, content_taken, content_takes, front_taken}
-pub use Rattle.hound_reader.specs.Reader.{AnswersNext, AnswersRead, AnswersReadMany, AreItems, AreTaken, CountsTaken, GivesItem, GivesItems, GivesItemsOfBytes, HasGiven, HasGiven-prop, HasSoundCounts, HasWholeFrames, IsNext, ReaderState, ReadsBlock, TookBytes, meaning_at, over_bytes, refusal_at, requested, samples_left, taken_without}
-pub use Rattle.hound_reader.specs.Refusals.{FailsAs, IsRefusal, Names, OpensAs, ReportsError, reason_text}
+pub use Rattle.hound_reader.specs.Reader.{AnswersNext, AnswersRead, AnswersReadMany, AreContainers, AreItems, CountsTaken, GivesItem, GivesItems, GivesItemsOfBytes, HasGiven, HasGiven-prop, HasSoundCounts, HasWholeFrames, IsNext, ReaderState, ReadsBlock, TookBytes, meaning_at, over_bytes, refusal_at, requested, samples_left, taken_without}
 pub use Rattle.hound_reader.specs.Samples.{LendsNext, TakesNext, lender, lent_reader, taken_reader}
-pub use Rattle.hound_reader.specs.Sources.{AnswersBytes, FindsData, Untouched, account_of, faults_after_walk, unread}
 pub use Rattle.hound_reader.specs.Seeking.{Follows, HasSought, IsAtCount, IsMeaningOf, IsWhereCounted, PassesItem, ReadsInPlace, Recounts, Seeks, bytes_before, container_at, count_after, samples_before, way_to}
-pub use Rattle.hound_reader.specs.Parts.{IsAfter, IsAhead, IsAt, IsAtPart, IsNearer, IsSoundStep, LeadsTo, Reaches, part_bytes, part_length, part_start, parts_left}
-pub mod Fmt
-pub mod Grammar
-pub mod Walking
 pub mod Reader
-pub mod Refusals
 pub mod Samples
-pub mod Sources
 pub mod Seeking
-pub mod Parts

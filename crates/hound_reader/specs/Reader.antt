@@ -1,12 +1,13 @@
 -- A reader at its samples: its items, blocks of them, and how many bytes it gave.
 use Rattle.std.specs.Prelude.{◌≡◌, ℕ, ◌+◌, ◌-◌, ◌*◌, ◌%◌, ◌<◌, ◌≤◌, List, length, drop, Option, Some, None, IsSome, Result, Ok, Err, [], ◌∷◌, take, ⊤, min, OnOk, OnErr, ◌^◌}
+use Rattle.std.specs.List.{AllByRecursion}
 use Rattle.hound_number.specs.{WhereKnown}
 use Rattle.hound_spec.specs.declared.error.Error.{Error}
 use Rattle.hound_spec.specs.declared.error.Error.TheVariants.{IoError}
 use Rattle.hound_spec.specs.declared.spec.SampleFormat.{SampleFormat}
 use Rattle.hound_spec.specs.declared.spec.WavSpecEx.{WavSpecEx}
 use Rattle.hound_sample.specs.{ReadRefusal, Reads, error_of_read, ReadsItem, error_of_item, ReadsEach, items_of, answer_of}
-use Rattle.hound_reader.specs.Fmt.{IsSoundSpec}
+use Rattle.hound_walk.specs.{IsSoundSpec, AreTaken}
 use Rattle.hound_spec.specs.{greatest_u32}
 use Rattle.std.specs.declared.io.Error.{Error as IoFault}
 use Rattle.hound_sample.specs.declared.item.ItemError.{ItemError}
@@ -49,10 +50,6 @@ TookBytes width (Ok value) old new = new ≡ old + width
 TookBytes width (Err (IoError e)) old new = (old ≤ new) × (new ≤ old + width)
 TookBytes width (Err _) old new = new ≡ old
 
--- the first n bytes were taken
-abbrev pub AreTaken : ℕ → List ℕ → List ℕ → Type 0
-AreTaken n old new = (n ≤ length old) × (new ≡ drop n old)
-
 -- the count of bytes grew by exactly what was taken of those that were left, if these are known
 abbrev pub CountsTaken : {R : Type 0} → (R → Option (List ℕ)) → ReaderState R → ReaderState R
     → Type 0
@@ -87,6 +84,12 @@ abbrev pub IsNext : {R A : Type 0} → (R → Option (List ℕ))
 IsNext left refusal meaning None old new = (old.num_samples ≤ old.samples_read) × (new ≡ old)
 IsNext left refusal meaning (Some item) old new = GivesItem left (refusal_at refusal old.spec_ex)
     (meaning_at meaning old.spec_ex) item old new
+
+-- containers of the width of a spec, in whole frames, whose bytes 32 bits can count
+pub record AreContainers (s : WavSpecEx) (list : List (List ℕ)) : Type 0 where
+  pub each : AllByRecursion (λ c. length c ≡ s.bytes_per_sample) list
+  pub frames : length list % s.spec.channels ≡ 0
+  pub fits : length list * s.bytes_per_sample ≤ greatest_u32
 
 -- The first items of data with containers of this width: each is the error of the type, or each
 -- is the meaning of its own container, which is complete. Nothing is claimed after the first

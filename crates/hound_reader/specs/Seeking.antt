@@ -6,7 +6,7 @@ use Rattle.hound_spec.specs.declared.spec.WavSpecEx.{WavSpecEx}
 use Rattle.std.specs.declared.io.Error.{Error as IoFault}
 use Rattle.hound_medium.specs.{MediumState, Shifts}
 use Rattle.hound_reader.specs.Reader.{ReaderState, CountsTaken}
-use Rattle.hound_reader.specs.Sources.{unread}
+use Rattle.hound_walk.specs.{unread}
 
 -- how many samples come before a frame
 abbrev pub samples_before : ℕ → WavSpecEx → ℕ

@@ -1,7 +1,7 @@
 // Readers of files on disk.
 ghost use Rattle.std.specs.Prelude.{◌≡◌, ◌⊎◌, ⊤, IfOk, IfErr};
 ghost use Rattle.hound_reader.specs.Reader.{HasWholeFrames};
-ghost use Rattle.hound_reader.specs.Refusals.{IsRefusal};
+ghost use Rattle.hound_walk.specs.{IsRefusal};
 ghost use Rattle.hound_spec.specs.declared.error.Error.TheVariants.{OutOfMemory};
 
 use crate::WavReader;

@@ -1,32 +1,17 @@
-// What holds for all bytes, all files that are written, and all readers.
+// What holds for all files that are written, and all readers.
 ghost use Rattle.hound_medium.specs.{WhereTells};
-ghost use Rattle.std.specs.Prelude.{◌≡◌, ℕ, ◌+◌, ◌*◌, ◌/◌, List, length, map, drop, ◌++◌, ◌<◌, ◌≤◌, IsTrue, IsSome, Option, None, Some, Ok, Result, IfSome};
-ghost use Rattle.hound_spec.specs.{IsWritable, header, data_start, canonical, greatest_u32};
+ghost use Rattle.std.specs.Prelude.{◌≡◌, ℕ, ◌+◌, ◌*◌, ◌/◌, List, length, map, drop, ◌<◌, ◌≤◌, IsTrue, IsSome, Option, None, Some, Ok, Result, IfSome};
+ghost use Rattle.hound_spec.specs.{IsWritable, data_start, canonical};
 ghost use Rattle.hound_spec.specs.declared.spec.WavSpecEx.{WavSpecEx};
-ghost use Rattle.hound_reader.specs.Grammar.{HasOneAnswer, HasOneFileAnswer, Head, Readable, AreContainers};
-ghost use Rattle.hound_reader.specs.Reader.{GivesItemsOfBytes, ReadsBlock, over_bytes, AreItems, GivesItems, ReaderState, IsNext, refusal_at, meaning_at, samples_left};
+ghost use Rattle.hound_walk.specs.{Readable, unread};
+ghost use Rattle.hound_reader.specs.Reader.{AreContainers, GivesItemsOfBytes, ReadsBlock, over_bytes, AreItems, GivesItems, ReaderState, IsNext, refusal_at, meaning_at, samples_left};
 ghost use Rattle.hound_sample.specs.{containers};
 ghost use Rattle.hound_reader.specs.Seeking.{HasSought, Seeks, IsWhereCounted, IsAtCount, ReadsInPlace, PassesItem, Follows, IsMeaningOf, container_at, samples_before, bytes_before};
-ghost use Rattle.hound_reader.specs.Sources.{unread};
 ghost use Rattle.hound_spec.specs.declared.error.Error.{Error};
 
 use hound_medium::Source;
 use hound_sample::Sample;
 use std::io;
-
-/// Bytes have a head or a cause why they have none, and never two of these; and so they can be
-/// read as a file, or can't for a cause.
-pub fn one_answer()
-    ensures head { (bytes : List ℕ) → HasOneAnswer bytes }
-    ensures file { (bytes : List ℕ) → HasOneFileAnswer bytes }
-{}
-
-/// The header of a writable spec is a head with that spec and that length, whatever its RIFF size
-/// is and whatever follows.
-pub fn written_is_head()
-    ensures { (s : WavSpecEx) (size len : ℕ) (rest : List ℕ) → IsWritable s → len ≤ greatest_u32 →
-        Head (header s size len ++ rest) s len (data_start s) }
-{}
 
 /// The containers of a canonical file are read back, with its spec.
 pub fn written_is_read()

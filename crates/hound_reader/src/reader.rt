@@ -1,69 +1,23 @@
-// Readers of files.
-ghost use Rattle.std.specs.Prelude.{◌≡◌, ℕ, ◌+◌, ◌*◌, ◌/◌, ◌%◌, ◌++◌, ⊤, List, length, drop, Some, IsTrue, IfOk, IfErr, IfSome, MatchResult};
-ghost use Rattle.hound_number.specs.{WhereKnown, number};
-ghost use Rattle.hound_spec.specs.{riff_tag, wave_tag};
+// The reader of a file's samples.
+ghost use Rattle.std.specs.Prelude.{◌≡◌, ℕ, ◌*◌, ◌/◌, ⊤, drop, IsTrue, IfOk, IfErr, IfSome, MatchResult};
+ghost use Rattle.hound_number.specs.{WhereKnown};
 ghost use Rattle.hound_spec.specs.declared.spec.WavSpecEx.{WavSpecEx};
-ghost use Rattle.hound_reader.specs.Walking.{CountsFailed, Refuses, ReportsFront, TakesAll, UnreadableAfter};
-ghost use Rattle.hound_reader.specs.Fmt.{IsSoundSpec};
-ghost use Rattle.hound_reader.specs.Grammar.{IsDataPlace, Readable, Unreadable};
-ghost use Rattle.hound_reader.specs.declared.cause.Cause.{Cause};
-ghost use Rattle.hound_reader.specs.Refusals.{IsRefusal, OpensAs, FailsAs};
+ghost use Rattle.hound_walk.specs.{Readable, Unreadable, IsRefusal, OpensAs, FailsAs};
+ghost use Rattle.hound_walk.specs.declared.cause.Cause.{Cause};
 ghost use Rattle.hound_medium.specs.{Shifts, WhereTells};
 ghost use Rattle.hound_reader.specs.Reader.{AnswersNext, HasWholeFrames, samples_left, ReadsBlock};
 ghost use Rattle.hound_reader.specs.Seeking.{Recounts, way_to};
 ghost use Rattle.hound_reader.specs.Samples.{lent_reader, lender, taken_reader};
 
-use crate::cause::{Cause, HeadError, error_of};
-use crate::chunks::{FileHead, read_riff_header, read_until_data};
 use crate::item::{SavingReader, error_of_item, read_item_since, read_many_since, taken_without};
-use crate::parts::count_samples;
 use crate::samples::{WavIntoSamples, WavSamples};
 use hound_medium::{Placed, Source};
-use hound_number::Input;
 use hound_sample::{ItemError, Sample};
 use hound_spec::{Error, Result, WavSpec, WavSpecEx};
+use hound_walk::{error_of, read_until_samples};
 use std::io::ErrorKind;
 use std::marker::{Brand, Model, PhantomData};
 use std::{io, result};
-
-/// Takes exactly what is before the data, which must be whole frames, and returns the head and how
-/// many samples follow. `hound_c` reads by it too.
-pub fn read_until_samples<R: Input>(reader: &mut R) -> result::Result<(FileHead, u32), HeadError>
-    ensures sound { IfOk result (λ r. IsSoundSpec r.0.spec_ex) }
-    ensures start { IfOk result (λ r. IsDataPlace r.0.data_start) }
-    ensures failures { CountsFailed (R.account reader.old) (R.account reader.new) result }
-    ensures found { IfOk result (λ r. WhereKnown (R.left reader.old) (R.left reader.new) (λ xs ys.
-        Readable xs r.0.spec_ex r.1 r.0.data_start × (ys ≡ drop r.0.data_start xs))) }
-    ensures refused { IfErr result (λ e. Refuses e
-        (λ c. WhereKnown (R.left reader.old) (R.left reader.new) (λ xs ys. Unreadable xs c))) }
-    ensures taken { IfErr result (TakesAll UnreadableAfter (R.left reader.old) (R.left reader.new)) }
-    ensures frames { IfOk result (λ r. r.1 % r.0.spec_ex.spec.channels ≡ 0) }
-{
-    let head = read_until_data(reader)?;
-    let num_samples = count_samples(head)?;
-    Ok((head, num_samples))
-}
-
-/// Takes the first twelve bytes of a file, and returns the size of the whole file in bytes by
-/// them: the RIFF size, which doesn't count itself and the tag before it, and eight bytes more
-/// (RIFF, "RIFF Forms"), at most 4294967303. So a caller learns whether this can be a WAVE file.
-///
-/// The size isn't checked. The errors, in the order of the bytes: `FormatError`, for a wrong RIFF
-/// tag and then for a wrong WAVE tag, after which no byte is taken; `IoError`, if a read fails or
-/// the input ends, which has the kind `Other`.
-pub fn read_wave_header<R: io::Read>(reader: &mut R) -> Result<u64>
-    ensures found { IfOk result (λ n. WhereKnown (R.remaining reader.old) (R.remaining reader.new)
-        (λ xs ys.
-        (size : List ℕ) × (length size ≡ 4) × (xs ≡ riff_tag ++ (size ++ (wave_tag ++ ys)))
-        × (n ≡ number size + 8))) }
-    ensures refused { IfErr result (λ e.
-        WhereKnown (R.remaining reader.old) (R.remaining reader.new) (ReportsFront e)) }
-{
-    match read_riff_header(reader) {
-        Ok(size) => Ok(size as u64 + 8),
-        Err(e) => Err(error_of(e)),
-    }
-}
 
 /// A reader of a file's samples.
 ///

@@ -6,8 +6,8 @@ use Rattle.std.proofs.lemmas.Nat.{div-add-mod'}
 use Rattle.hound_spec.specs.declared.spec.WavSpecEx.{WavSpecEx}
 use Rattle.hound_spec.specs.{riff_size}
 use Rattle.hound_medium.specs.{MediumState}
-use Rattle.hound_reader.specs.{Head}
-use Rattle.hound_reader.proofs.Unique.{heads_agree}
+use Rattle.hound_walk.specs.{Head}
+use Rattle.hound_walk.proofs.Unique.{heads_agree}
 use Rattle.hound_writer.proofs.Heads.{head_behind, head_field, head_inside}
 use Rattle.hound_writer.specs.{field}
 use Rattle.hound_repair.specs.Held.{is_followed, are_right, data_held, ends_with_pad, frame_length, frames_held, held, mended, missing_pad}

@@ -8,9 +8,9 @@ use Rattle.std.proofs.Math.Nat.{div-mul-le_self, mul_assoc}
 use Rattle.hound_spec.specs.declared.spec.WavSpecEx.{WavSpecEx}
 use Rattle.hound_medium.specs.{MediumState, one_more}
 use Rattle.hound_sample.specs.{containers}
-use Rattle.hound_reader.specs.{Head, IsSoundSpec}
-use Rattle.hound_reader.proofs.Unique.{head_no_fault, heads_agree}
-use Rattle.hound_reader.proofs.WrittenLemmas.{length-concat, containers-concat}
+use Rattle.hound_walk.specs.{Head, IsSoundSpec}
+use Rattle.hound_walk.proofs.Unique.{head_no_fault, heads_agree}
+use Rattle.hound_sample.proofs.Joined.{length-concat, containers-concat}
 use Rattle.hound_sample.proofs.Containers.{containers_front}
 use Rattle.hound_writer.proofs.Heads.{head_behind, head_inside}
 use Rattle.hound_writer.specs.{IsStored, IsIoError, AppendFault, NamesFault, PutsNothing}

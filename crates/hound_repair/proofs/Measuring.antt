@@ -9,12 +9,12 @@ use Rattle.hound_spec.specs.declared.error.Error.TheVariants as errors
 use Rattle.hound_spec.specs.declared.spec.WavSpecEx.{WavSpecEx}
 use Rattle.hound_spec.specs.{greatest_u32, riff_size, is_pair}
 use Rattle.hound_medium.specs.{MediumState}
-use Rattle.hound_reader.specs.declared.cause.HeadError.{HeadError}
-use Rattle.hound_reader.specs.declared.cause.Cause.TheVariants.{Unsupported}
-use Rattle.hound_reader.specs.{IsSoundSpec, ReportsError, FindsData}
+use Rattle.hound_walk.specs.declared.cause.HeadError.{HeadError}
+use Rattle.hound_walk.specs.declared.cause.Cause.TheVariants.{Unsupported}
+use Rattle.hound_walk.specs.{IsSoundSpec, ReportsError, FindsData}
 use Rattle.hound_writer.specs.{AppendFault, by_bytes, FailsCheck, NamesFault}
 use Rattle.hound_writer.proofs.Appending.{no_head, walk_puts_nothing}
-use Rattle.hound_reader.specs.declared.chunks.FileHead.{FileHead}
+use Rattle.hound_walk.specs.declared.chunks.FileHead.{FileHead}
 use Rattle.hound_repair.specs.Damages.{IsNotMeasured}
 use Rattle.hound_repair.specs.Held.{data_held, ends_with_pad, right_length}
 use Rattle.hound_repair.specs.Repairing.{IsNotFound, IsRepairFault, repair_fault, size_fault}

@@ -6,7 +6,7 @@ use Rattle.std.specs.declared.io.Error.{Error as IoFault}
 use Rattle.hound_spec.specs.{riff_size}
 use Rattle.hound_medium.specs.{MediumState}
 use Rattle.hound_medium.proofs.Overlays.{overlay_at_end}
-use Rattle.hound_reader.specs.{IsSoundSpec}
+use Rattle.hound_walk.specs.{IsSoundSpec}
 use Rattle.hound_writer.specs.{PutsNothing, IsPatched, Patches, with_sizes}
 use Rattle.hound_repair.specs.Damages.{FindsDamage, IsSoundDamage, PutsPad, PutsSizes, repair_of}
 use Rattle.hound_repair.specs.Held.{held, mended, missing_pad}

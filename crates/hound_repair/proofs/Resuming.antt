@@ -9,8 +9,8 @@ use Rattle.hound_spec.proofs.FmtLemmas.{number-bytes_of}
 use Rattle.hound_spec.specs.declared.spec.WavSpecEx.{WavSpecEx}
 use Rattle.hound_spec.specs.{greatest_u32, riff_size}
 use Rattle.hound_medium.specs.{MediumState}
-use Rattle.hound_reader.specs.{Head}
-use Rattle.hound_reader.proofs.Unique.{heads_agree}
+use Rattle.hound_walk.specs.{Head}
+use Rattle.hound_walk.proofs.Unique.{heads_agree}
 use Rattle.hound_writer.proofs.Heads.{head_behind, head_field, head_inside, head_with}
 use Rattle.hound_writer.specs.{field}
 use Rattle.hound_repair.specs.Held.{data_held, ends_with_pad, frame_length, frames_held, held, missing_pad}

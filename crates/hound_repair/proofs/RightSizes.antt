@@ -7,7 +7,7 @@ use Rattle.hound_number.specs.{bytes_of, number}
 use Rattle.hound_spec.specs.declared.spec.WavSpecEx.{WavSpecEx}
 use Rattle.hound_spec.specs.{greatest_u32, riff_size}
 use Rattle.hound_medium.specs.{placed, overlay}
-use Rattle.hound_reader.specs.{Head, Readable, data_fault, IsSoundSpec}
+use Rattle.hound_walk.specs.{Head, Readable, data_fault, IsSoundSpec}
 use Rattle.hound_writer.specs.{SameButSizes, field, with_sizes}
 use Rattle.hound_writer.proofs.Heads.{head_behind, head_field, head_inside, head_with}
 use Rattle.hound_writer.proofs.Patching.{data_length_of_sizes, riff_size_of_sizes, sizes_put}

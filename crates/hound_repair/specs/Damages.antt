@@ -3,8 +3,8 @@ use Rattle.std.specs.Prelude.{◌≡◌, ℕ, ◌≤◌, ◌^◌, ◌⊎◌, Boo
 use Rattle.hound_spec.specs.declared.error.Error.{Error}
 use Rattle.hound_spec.specs.{riff_size}
 use Rattle.hound_medium.specs.{placed, overlay, MediumState, faults_after, one_more, unknown}
-use Rattle.hound_reader.specs.declared.chunks.FileHead.{FileHead}
-use Rattle.hound_reader.specs.{IsDataPlace, IsSoundSpec}
+use Rattle.hound_walk.specs.declared.chunks.FileHead.{FileHead}
+use Rattle.hound_walk.specs.{IsDataPlace, IsSoundSpec}
 use Rattle.hound_writer.specs.{IsIoError, AppendFault, NamesFault, PutsNothing, by_bytes, too_long}
 use Rattle.hound_repair.specs.Held.{frames_held, held, mended, right_length, torn_bytes, missing_pad}
 use Rattle.hound_repair.specs.Repairing.{HalfMended, IsFoundAt, frames_found, repair_fault, torn_found, Repairs, found_length}
@@ -13,7 +13,7 @@ use Rattle.hound_repair.specs.declared.look.Rest.{Rest}
 use Rattle.hound_repair.specs.declared.look.Rest.TheVariants.{MayBeChunks, IsSamples}
 use Rattle.hound_repair.specs.declared.sizes.Repair.{Repair}
 use Rattle.hound_repair.specs.declared.sizes.Sizes.{Sizes}
-use Rattle.hound_reader.specs.declared.cause.Cause.TheVariants.{Unsupported}
+use Rattle.hound_walk.specs.declared.cause.Cause.TheVariants.{Unsupported}
 use Rattle.hound_repair.specs.declared.bytes.Unrepaired.{Unrepaired}
 use Rattle.hound_repair.specs.declared.bytes.Unrepaired.TheVariants.{NoRoom, TooLong, Unsupported as UnsupportedSamples}
 use Rattle.hound_repair.specs.declared.sizes.RepairState.TheVariants.{CutOff}

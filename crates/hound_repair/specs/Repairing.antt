@@ -5,9 +5,9 @@ use Rattle.hound_spec.specs.declared.spec.WavSpecEx.{WavSpecEx}
 use Rattle.hound_spec.specs.{greatest_u32, riff_size, is_pair}
 use Rattle.hound_medium.specs.{moment, MediumState, faults_after, one_more}
 use Rattle.hound_sample.specs.{containers}
-use Rattle.hound_reader.specs.declared.cause.Cause.{Cause}
-use Rattle.hound_reader.specs.declared.cause.Cause.TheVariants.{Unsupported}
-use Rattle.hound_reader.specs.{Head, Readable, Refused}
+use Rattle.hound_walk.specs.declared.cause.Cause.{Cause}
+use Rattle.hound_walk.specs.declared.cause.Cause.TheVariants.{Unsupported}
+use Rattle.hound_walk.specs.{Head, Readable, Refused}
 use Rattle.hound_writer.specs.{IsIoError, AppendFault, by_bytes, too_long, NamesFault, PutsNothing, IsPatched, field}
 use Rattle.hound_repair.specs.Held.{is_followed, are_right, frame_length, frames_held, held, mended, right_length, torn_bytes}
 use Rattle.hound_repair.specs.declared.sizes.Repair.{Repair}

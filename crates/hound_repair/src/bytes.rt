@@ -1,6 +1,6 @@
 // Files in memory, repaired where they are.
 ghost use Rattle.std.specs.Prelude.{◌≡◌, ℕ, ◌+◌, ◌≤◌, IfOk, IfErr, length, take, true};
-ghost use Rattle.hound_reader.specs.{Head, IsDataPlace, IsSoundSpec};
+ghost use Rattle.hound_walk.specs.{Head, IsDataPlace, IsSoundSpec};
 ghost use Rattle.hound_writer.specs.{with_sizes};
 ghost use Rattle.hound_repair.specs.Damages.{FindsDamage, IsSoundDamage, IsUnmeasured, IsUnrepaired, RepairsBytes, as_medium, may_be_chunks};
 ghost use Rattle.hound_repair.specs.Repairing.{IsFoundAt};
@@ -9,8 +9,8 @@ use crate::look::{Damage, Rest, measure};
 use crate::read_at::Window;
 use crate::sizes::{Repair, RepairState};
 use hound_number::le_u32;
-use hound_reader::FileHead;
 use hound_spec::Error;
+use hound_walk::FileHead;
 use std::result;
 
 /// Why a file in memory isn't repaired.

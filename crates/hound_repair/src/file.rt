@@ -2,7 +2,7 @@
 ghost use Rattle.std.specs.Prelude.{◌≡◌, ◌⊎◌, false, IfOk};
 ghost use Rattle.std.proofs.lemmas.Bool.{false≢true};
 ghost use Rattle.hound_medium.specs.{unknown};
-ghost use Rattle.hound_reader.specs.{IsSoundSpec};
+ghost use Rattle.hound_walk.specs.{IsSoundSpec};
 
 use crate::look::find_damage;
 use crate::mend::{repair, repair_to_end};

@@ -2,7 +2,7 @@
 ghost use Rattle.std.specs.Prelude.{◌≡◌, ◌≤◌, ℕ, Bool, IsTrue, List, None, length};
 ghost use Rattle.std.specs.List.{concat, AllByRecursion};
 ghost use Rattle.hound_medium.specs.{MediumState};
-ghost use Rattle.hound_reader.specs.{Head, IsSoundSpec};
+ghost use Rattle.hound_walk.specs.{Head, IsSoundSpec};
 ghost use Rattle.hound_spec.specs.declared.error.Error.{Error};
 ghost use Rattle.hound_spec.specs.declared.spec.WavSpecEx.{WavSpecEx};
 ghost use Rattle.hound_writer.specs.{IsIoError, IsStored};

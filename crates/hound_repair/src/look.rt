@@ -3,7 +3,7 @@ ghost use Rattle.std.specs.Prelude.{◌≡◌, ◌+◌, ◌<◌, ◌≤◌, ◌^
 ghost use Rattle.hound_number.specs.{number};
 ghost use Rattle.hound_spec.specs.{padded, is_pair};
 ghost use Rattle.hound_medium.specs.{WhereTells};
-ghost use Rattle.hound_reader.specs.{Head, IsDataPlace, IsSoundSpec};
+ghost use Rattle.hound_walk.specs.{Head, IsDataPlace, IsSoundSpec};
 ghost use Rattle.hound_writer.specs.{field};
 ghost use Rattle.hound_repair.specs.Damages.{may_be_chunks, FindsDamage, IsNotMeasured, IsSoundDamage, repair_of};
 ghost use Rattle.hound_repair.specs.Held.{are_chunks, begins_chunk, chunk_content, ends_with_id3, has_known_tag, has_tag, is_followed, is_printable, said_length, are_right, held, missing_pad};
@@ -13,8 +13,8 @@ use crate::read_at::ReadAt;
 use crate::sizes::{Repair, RepairState, Sizes, right_sizes};
 use hound_medium::Source;
 use hound_number::u32_at;
-use hound_reader::{FileHead, error_of, find_data};
 use hound_spec::{Error, Result, WavSpecEx, is_pair};
+use hound_walk::{FileHead, error_of, find_data};
 use std::{io, result};
 
 // The tags that show that a chunk begins, whatever follows them: those of RIFF and of its update,

@@ -1,6 +1,6 @@
 // The right sizes, put into a file.
 ghost use Rattle.std.specs.Prelude.{◌≡◌, ◌+◌, ◌≤◌, true, false, IfOk, length};
-ghost use Rattle.hound_reader.specs.{IsSoundSpec};
+ghost use Rattle.hound_walk.specs.{IsSoundSpec};
 ghost use Rattle.hound_medium.specs.{WhereKeeps, WhereTells};
 ghost use Rattle.hound_repair.specs.Damages.{may_be_chunks, IsSoundDamage, PutsPad, PutsSizes};
 ghost use Rattle.hound_repair.specs.Repairing.{FlushesBeforePad, HalfMendedAtEach, MendsMedium, RepairsMedium};

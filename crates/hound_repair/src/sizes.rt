@@ -1,13 +1,13 @@
 // The sizes that a file should have, by what it holds.
 ghost use Rattle.std.specs.Prelude.{◌≡◌, ◌+◌, ◌*◌, ◌/◌, ◌%◌, ◌<◌, ◌≤◌, ◌^◌, IfOk};
-ghost use Rattle.hound_reader.specs.{IsDataPlace, IsSoundSpec};
+ghost use Rattle.hound_walk.specs.{IsDataPlace, IsSoundSpec};
 ghost use Rattle.hound_writer.specs.{FailsCheck};
 ghost use Rattle.hound_repair.specs.Held.{data_held};
 ghost use Rattle.hound_repair.specs.Damages.{AreRightSizes};
 ghost use Rattle.hound_repair.specs.Repairing.{size_fault};
 
-use hound_reader::FileHead;
 use hound_spec::{Error, Result, WavSpecEx, riff_size};
+use hound_walk::FileHead;
 use std::fmt;
 
 /// What a file was found as.

@@ -3,7 +3,7 @@ use Rattle.std.proofs.Common.{◌≡◌, ℕ, zero, suc, ◌+◌, ◌*◌, ◌<�
 use Rattle.std.proofs.lemmas.List.{drop_at, take_at, length-take-le, take-append-drop}
 use Rattle.std.proofs.lemmas.Grind.{flat_map-append, common_steps}
 use Rattle.std.proofs.Math.Bool.{and_assoc}
-use Rattle.std.specs.List.{concat}
+use Rattle.std.specs.List.{concat, AllByRecursion}
 use Rattle.hound_spec.specs.declared.error.Error.{Error}
 use Rattle.hound_sample.specs.Container.{Refusal, containers, IsEncoded, error_of, all_containers, and_more, bytes_in, first_error, joined_containers}
 
@@ -203,6 +203,25 @@ module _ {V : Type 0} (container : V → Result (List ℕ) Refusal) where
         ∙ ap (drop (width * i))
         (flat_map-append (λ v. bytes_in (container v)) (take i values) (drop i values))
         ∙ drop_at front (joined_containers container (drop i values)) (width * i) size
+
+-- containers of one width, joined
+pub length-concat : (w : ℕ) (list : List (List ℕ)) → AllByRecursion (λ c. length c ≡ w) list
+    → length (concat list) ≡ length list * w
+length-concat w [] each = omega arith
+length-concat w (c ∷ list) (one, each) = let more = length-concat w list each in
+    omega (arith, one, more, length-append c (concat list))
+
+-- are these containers
+pub containers-concat : (w : ℕ) (list : List (List ℕ)) (rest : List ℕ)
+    → AllByRecursion (λ c. length c ≡ w) list
+    → containers w (length list) (concat list ++ rest) ≡ list
+containers-concat w [] rest each = refl
+containers-concat w (c ∷ list) rest (one, each) =
+    let bytes = concat list ++ rest in
+    ap (containers w (suc (length list))) (append_assoc c (concat list) rest)
+    ∙ ap (λ t. t ∷ containers w (length list) (drop w (c ++ bytes))) (take_at c bytes w one)
+    ∙ ap (λ t. c ∷ containers w (length list) t) (drop_at c bytes w one)
+    ∙ ap (λ t. c ∷ t) (containers-concat w list rest each)
 
 -- `encode` makes a container of each value that has one
 pub encoded_ok : (asked : Result (List ℕ) Refusal) (answer : Result (List ℕ) Error)

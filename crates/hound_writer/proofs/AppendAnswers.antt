@@ -2,7 +2,7 @@
 use Rattle.std.proofs.Common.{◌≡◌, ℕ, ◌/◌, ◌%◌, ◌≤◌, not, eqb, le-ltb, List, Option, Some, None, inl, inr, refl, sym, ◌∙◌, ap}
 use Rattle.hound_spec.specs.declared.spec.WavSpecEx.{WavSpecEx}
 use Rattle.hound_spec.specs.{greatest_u32, riff_size, IsWritable}
-use Rattle.hound_reader.specs.{Answer, readable, unreadable, Answers, HasOneAnswer, Head, data_fault}
+use Rattle.hound_walk.specs.{Answer, readable, unreadable, Answers, HasOneAnswer, Head, data_fault}
 use Rattle.std.proofs.lemmas.Bool.{not-false}
 use Rattle.hound_writer.proofs.Appending.{none_behind}
 use Rattle.hound_writer.specs.Appending.{AppendFault, by_bytes, head_fault, AppendAnswer, appendable, faulty, AnswersAppend, HasOneAppendAnswer}

@@ -4,11 +4,11 @@ use Rattle.std.proofs.Common.{◌≡◌, ℕ, ◌+◌, ◌-◌, ◌≤◌, Bool,
 use Rattle.hound_spec.specs.declared.error.Error.{Error}
 use Rattle.hound_spec.specs.declared.spec.WavSpecEx.{WavSpecEx}
 use Rattle.hound_medium.specs.{MediumState, Goes, WhereTells, one_more}
-use Rattle.hound_reader.specs.declared.chunks.FileHead.{FileHead}
-use Rattle.hound_reader.specs.declared.cause.Cause.{Cause}
-use Rattle.hound_reader.specs.declared.cause.HeadError.{HeadError}
-use Rattle.hound_reader.specs.declared.cause.HeadError.TheVariants.{Failed, Refused}
-use Rattle.hound_reader.specs.{IsSoundSpec as IsSoundHead, Head, Refused as RefusedFor, ReportsError, FindsData}
+use Rattle.hound_walk.specs.declared.chunks.FileHead.{FileHead}
+use Rattle.hound_walk.specs.declared.cause.Cause.{Cause}
+use Rattle.hound_walk.specs.declared.cause.HeadError.{HeadError}
+use Rattle.hound_walk.specs.declared.cause.HeadError.TheVariants.{Failed, Refused}
+use Rattle.hound_walk.specs.{IsSoundSpec as IsSoundHead, Head, Refused as RefusedFor, ReportsError, FindsData}
 use Rattle.std.specs.declared.io.Error.{Error as IoFault}
 use Rattle.hound_writer.specs.Accepting.{IsIoError}
 use Rattle.hound_writer.specs.Parts.{of_fields, CountsAtMost}

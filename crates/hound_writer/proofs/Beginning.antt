@@ -8,7 +8,7 @@ use Rattle.hound_medium.proofs.Overlays.{overlay_is}
 use Rattle.hound_spec.specs.declared.spec.WavSpecEx.{WavSpecEx}
 use Rattle.hound_spec.specs.{riff_tag, data_start, header, IsWritable}
 use Rattle.hound_spec.proofs.HeaderLemmas.{described, header-parts, length-header, length-described, data_start_least}
-use Rattle.hound_reader.proofs.WrittenLemmas.{header_head}
+use Rattle.hound_walk.proofs.WrittenLemmas.{header_head}
 use Rattle.std.specs.declared.io.Error.{Error as IoFault}
 use Rattle.hound_writer.specs.Beginning.{PutsHeader}
 use Rattle.hound_writer.specs.Parts.{of_fields, CountsAtMost}

@@ -6,8 +6,8 @@ use Rattle.std.proofs.Math.Nat.{div-mul-le_self}
 use Rattle.std.specs.List.{concat}
 use Rattle.hound_spec.specs.declared.spec.WavSpecEx.{WavSpecEx}
 use Rattle.hound_sample.specs.{containers}
-use Rattle.hound_reader.specs.declared.cause.Cause.{Cause}
-use Rattle.hound_reader.specs.{Head, data_fault}
+use Rattle.hound_walk.specs.declared.cause.Cause.{Cause}
+use Rattle.hound_walk.specs.{Head, data_fault}
 use Rattle.hound_writer.specs.Writer.{field, Counts, ReadsFirst}
 use Rattle.hound_sample.proofs.Containers.{length-containers}
 use Rattle.hound_writer.proofs.Containers.{concat-containers, count_bytes, containers_first}

@@ -13,7 +13,7 @@ use Rattle.hound_spec.specs.declared.error.Error.TheVariants.{IoError, Unfinishe
 use Rattle.hound_spec.specs.declared.spec.WavSpecEx.{WavSpecEx}
 use Rattle.hound_durable.specs.{Ascends}
 use Rattle.hound_medium.specs.{MediumState}
-use Rattle.hound_reader.specs.{Head, Readable}
+use Rattle.hound_walk.specs.{Head, Readable}
 use Rattle.hound_writer.specs.Accepting.{mark_of, whole_containers}
 use Rattle.hound_writer.specs.Appending.{head_fault}
 use Rattle.hound_writer.specs.Beginning.{Begins}

@@ -6,7 +6,7 @@ use Rattle.std.proofs.lemmas.Slice.{between_is}
 use Rattle.hound_number.specs.{number}
 use Rattle.hound_spec.specs.declared.spec.WavSpecEx.{WavSpecEx}
 use Rattle.hound_spec.specs.{riff_tag, wave_tag, data_tag}
-use Rattle.hound_reader.specs.{Head, joined}
+use Rattle.hound_walk.specs.{Head, joined}
 use Rattle.hound_writer.specs.Writer.{field}
 use Rattle.hound_writer.proofs.Sizes.{take_front}
 

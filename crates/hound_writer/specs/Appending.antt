@@ -5,10 +5,10 @@ use Rattle.hound_spec.specs.declared.error.Error.TheVariants.{TooLong}
 use Rattle.hound_spec.specs.declared.spec.WavSpecEx.{WavSpecEx}
 use Rattle.hound_spec.specs.{greatest_u32, riff_size, is_pair}
 use Rattle.hound_medium.specs.{MediumState, Stays, WhereTells, one_more}
-use Rattle.hound_reader.specs.declared.cause.Cause.{Cause}
-use Rattle.hound_reader.specs.declared.cause.Cause.TheVariants.{Format, Unsupported}
-use Rattle.hound_reader.specs.declared.cause.Reason.TheVariants.{DataLength, FrameLength}
-use Rattle.hound_reader.specs.{Head, IsSoundSpec, Refused, Names}
+use Rattle.hound_walk.specs.declared.cause.Cause.{Cause}
+use Rattle.hound_walk.specs.declared.cause.Cause.TheVariants.{Format, Unsupported}
+use Rattle.hound_walk.specs.declared.cause.Reason.TheVariants.{DataLength, FrameLength}
+use Rattle.hound_walk.specs.{Head, IsSoundSpec, Refused, Names}
 use Rattle.hound_writer.specs.Accepting.{IsIoError}
 use Rattle.hound_writer.specs.Writer.{WriterState, IsSound, IsWhole, IsCounted, data_length, data_end}
 

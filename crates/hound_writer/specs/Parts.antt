@@ -7,7 +7,7 @@ use Rattle.hound_spec.specs.declared.error.Error.{Error}
 use Rattle.hound_spec.specs.declared.error.Error.TheVariants.{IoError, UnfinishedSample, TooLong, TooWide, Unsupported}
 use Rattle.hound_spec.specs.declared.spec.WavSpecEx.{WavSpecEx}
 use Rattle.hound_medium.specs.{placed, overlay, MediumState, faults_after, Span, WhereTells, WhereKeeps}
-use Rattle.hound_reader.specs.{Head}
+use Rattle.hound_walk.specs.{Head}
 use Rattle.hound_writer.specs.Publishing.{PutsLast, PutsFrom}
 use Rattle.hound_writer.specs.Writer.{SameButSizes, block_length, field, with_sizes, WriterState, IsSound, IsWhole, IsCounted, accepted_samples, data_length}
 use Rattle.hound_spec.specs.{riff_size, greatest_u32}

@@ -9,7 +9,7 @@ use Rattle.hound_spec.specs.{canonical, riff_size}
 use Rattle.hound_sample.specs.{containers}
 use Rattle.hound_medium.specs.{moment, MediumState, WhereTells, WhereKeeps, Span}
 use Rattle.hound_durable.specs.{place_of}
-use Rattle.hound_reader.specs.{Readable}
+use Rattle.hound_walk.specs.{Readable}
 use Rattle.hound_writer.specs.Accepting.{IsPublishing, OnPublished, faults_told, StaysStored}
 use Rattle.hound_writer.specs.Writer.{Counts, ChangesSizesOnly, field, WriterState, HasSameSamples, IsWhole, IsBegun, IsPadded, HasHeader, accepted_samples, data_end, data_length, padded_end}
 

@@ -6,7 +6,7 @@ use Rattle.hound_medium.specs.{Goes, MediumState, PutsAll}
 use Rattle.hound_sample.specs.{containers}
 use Rattle.hound_spec.specs.declared.spec.WavSpecEx.{WavSpecEx}
 use Rattle.hound_spec.specs.{header}
-use Rattle.hound_reader.specs.{IsSoundSpec, Readable}
+use Rattle.hound_walk.specs.{IsSoundSpec, Readable}
 use Rattle.hound_writer.specs.Accepting.{whole_containers}
 use Rattle.hound_writer.specs.Calls.{Begun, Known, Recorded, appended, handed_in, marked, write}
 use Rattle.hound_writer.specs.Effects.{Log, Performed, log_state}

@@ -4,8 +4,8 @@ use Rattle.hound_number.specs.{bytes_of, number}
 use Rattle.std.specs.List.{concat}
 use Rattle.hound_spec.specs.declared.spec.WavSpecEx.{WavSpecEx}
 use Rattle.hound_sample.specs.{containers}
-use Rattle.hound_reader.specs.declared.cause.Cause.{Cause}
-use Rattle.hound_reader.specs.{Readable, Unreadable, data_fault}
+use Rattle.hound_walk.specs.declared.cause.Cause.{Cause}
+use Rattle.hound_walk.specs.{Readable, Unreadable, data_fault}
 use Rattle.std.specs.Io.{StartsWith}
 use Rattle.hound_spec.specs.{header, data_start, riff_size, padded, padding, IsPair, greatest_u32}
 use Rattle.hound_medium.specs.{MediumState, WhereTells}

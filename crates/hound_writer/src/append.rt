@@ -1,14 +1,14 @@
 // Appending to existing files.
 ghost use Rattle.std.specs.Prelude.{◌≡◌, [], ⊤, MatchResult};
 ghost use Rattle.hound_medium.specs.{WhereTells};
-ghost use Rattle.hound_reader.specs.{IsSoundSpec, Head, IsDataPlace};
+ghost use Rattle.hound_walk.specs.{IsSoundSpec, Head, IsDataPlace};
 ghost use Rattle.hound_writer.specs.{Recorded, appended, IsWhole, accepted_samples, Appends, IsNotAppended, FailsCheck, head_fault};
 
 use crate::WavWriter;
 use crate::output::Output;
 use hound_medium::{Medium, Source};
-use hound_reader::{Cause, FileHead, HeadError, Reason, error_of, find_data};
 use hound_spec::{Error, Result, is_pair, riff_size};
+use hound_walk::{Cause, FileHead, HeadError, Reason, error_of, find_data};
 use std::result;
 
 // Checks whether a file with this head can be appended to.

@@ -2,7 +2,7 @@
 ghost use Rattle.std.specs.Prelude.{◌≡◌, ◌⊎◌, IfOk, IfErr};
 ghost use Rattle.hound_spec.specs.declared.error.Error.TheVariants.{OutOfMemory};
 ghost use Rattle.hound_spec.specs.{with_default_width};
-ghost use Rattle.hound_reader.specs.{IsDataPlace, IsSoundSpec};
+ghost use Rattle.hound_walk.specs.{IsDataPlace, IsSoundSpec};
 ghost use Rattle.hound_writer.specs.Accepting.{IsIoError};
 ghost use Rattle.hound_writer.specs.Beginning.{BeginsFile};
 ghost use Rattle.hound_writer.specs.Writer.{IsSound};
@@ -10,8 +10,8 @@ ghost use Rattle.hound_writer.specs.Writer.{IsSound};
 use crate::WavWriter;
 use crate::append::append_at;
 use hound_durable::{Durable, SyncedFile};
-use hound_reader::{FileHead, error_of, read_until_data};
 use hound_spec::{Error, Result, WavSpec, WavSpecEx};
+use hound_walk::{FileHead, error_of, read_until_data};
 use std::alloc::Global;
 use std::io::Seek;
 use std::path::Path;

@@ -16,8 +16,8 @@ ghost use Rattle.hound_writer.specs.declared.recorder.Recorder.{Recorder};
 ghost use Rattle.hound_writer.specs.declared.recorder.RecorderError.{RecorderError};
 
 use hound_medium::Medium;
-use hound_reader::one_answer;
 use hound_sample::Sample;
+use hound_walk::one_answer;
 
 /// Bytes can be appended to with one head, or have one fault for which they can't, and never two of
 /// these: so what the calls that append return is decided by the bytes, unless the medium failed.

@@ -1,6 +1,6 @@
 use Rattle.std.proofs.Common.{ℕ, [], ◌∷◌, List, inr, refl, arith}
 use Rattle.hound_spec.specs.{fmt_tag}
-use Rattle.hound_reader.specs.{Chunk, spec_after, chunk_fault, content_fault, fmt_said, wave_format, by_tag, wave_format_pcm, wave_format_extensible}
+use Rattle.hound_walk.specs.{Chunk, spec_after, chunk_fault, content_fault, fmt_said, wave_format, by_tag, wave_format_pcm, wave_format_extensible}
 use Rattle.hound_layer_tests.specs.Rows.{mono_fmt, float_fmt, fact_tag, junk_tag}
 use Rattle.hound_layer_tests.proofs.definitions.definitions_at_files.Goals as goal
 

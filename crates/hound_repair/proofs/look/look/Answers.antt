@@ -1,5 +1,5 @@
 use Rattle.std.proofs.Common.{subst}
-use Rattle.hound_reader.specs.{FindsData}
+use Rattle.hound_walk.specs.{FindsData}
 use Rattle.hound_repair.proofs.Measuring.{walk_fails}
 use Rattle.hound_repair.proofs.look.look.Goals as goal
 

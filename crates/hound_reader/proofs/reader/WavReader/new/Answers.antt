@@ -1,7 +1,7 @@
 use Rattle.std.proofs.lemmas.Grind.{common_steps}
 use Rattle.std.proofs.Common.{arith}
 use Rattle.hound_number.proofs.KnownSteps.{known_weaker}
-use Rattle.hound_reader.specs.Grammar.{Unreadable}
+use Rattle.hound_walk.specs.{Unreadable}
 use Rattle.hound_reader.proofs.ReaderLemmas.{opens_ok, refusal_told, opens_told, no_fault_ok, fails_told, is_told}
 use Rattle.hound_reader.proofs.reader.WavReader.new.Goals as goal
 

@@ -1,9 +1,0 @@
-use Rattle.hound_reader.proofs.Exists.{one_answer}
-use Rattle.hound_reader.proofs.ReaderLemmas.{one_file_answer}
-use Rattle.hound_reader.proofs.laws.one_answer.Goals as goal
-
-pub returns-clause-head : goal.returns-clause-head
-returns-clause-head c = one_answer
-
-pub returns-clause-file : goal.returns-clause-file
-returns-clause-file c = one_file_answer

@@ -1,0 +1,10 @@
+pub mod Exists
+pub mod FileLemmas
+pub mod FmtLemmas
+pub mod FrontLemmas
+pub mod Gives
+pub mod TakenLemmas
+pub mod Unique
+pub mod WalkLemmas
+pub mod PartLemmas
+pub mod WrittenLemmas

@@ -1,0 +1,224 @@
+// The walk over chunks to the data.
+ghost use Rattle.hound_medium.specs.{WhereTells};
+ghost use Rattle.std.specs.Prelude.{◌≡◌, ℕ, ◌+◌, ◌++◌, ◌<◌, ◌≤◌, List, [], length, take, drop, Ok, Some, IsTrue, OnOk, IfOk, IfErr};
+ghost use Rattle.std.specs.Io.KnownBytes.{Consumes};
+ghost use Rattle.hound_number.specs.{WhereKnown, number};
+ghost use Rattle.hound_spec.specs.{fmt_fields, greatest_u32, padded, riff_tag, wave_tag};
+ghost use Rattle.hound_walk.specs.Walking.{CountsFailed, Refuses, Walks, TakesFront, RefusedAfter, TakesAll, chunk_taken, content_takes, ReadsChunk, ReadsContent, SaysContent, IsSoundOption, IsSoundChunk};
+ghost use Rattle.hound_walk.specs.Fmt.{IsSoundSpec};
+ghost use Rattle.hound_walk.specs.Grammar.{Head, IsDataPlace, Refused, front_fault, content_fault, chunk_fault};
+ghost use Rattle.hound_walk.specs.Sources.{FindsData, unread};
+
+use crate::cause::{Cause, HeadError, Reason};
+use crate::fmt::read_fmt_chunk;
+use crate::input::{Counted, fill};
+use hound_medium::Source;
+use hound_number::{Input, u32_at};
+use hound_spec::{WAVEFORMATEXTENSIBLE_LENGTH, WavSpecEx};
+
+/// What one chunk was (RIFF, "Chunks").
+#[derive(Drop)]
+pub enum ChunkRead {
+    /// The tag and length of the data chunk: the spec that came before it, and its length.
+    Data(WavSpecEx, u32),
+    /// A whole chunk before it: the spec so far, and the bytes taken since the WAVE tag.
+    Other(Option<WavSpecEx>, u32),
+}
+
+/// What is before the data.
+#[derive(Clone, Copy)]
+pub struct FileHead {
+    /// The spec of the last fmt chunk.
+    pub spec_ex: WavSpecEx,
+
+    /// The length of the data in bytes, as in their chunk.
+    pub data_length: u32,
+
+    /// How many bytes are before the data.
+    pub data_start: u64,
+}
+
+// Takes bytes and drops them.
+#[inline(never)]
+fn skip_bytes<R: Input>(reader: &mut R, count: u32) -> Result<(), HeadError>
+    ensures failures { CountsFailed (R.account reader.old) (R.account reader.new) result }
+    ensures ok { OnOk result ((bytes : List ℕ)
+        × Consumes (R.left reader.old) (R.left reader.new) bytes × (length bytes ≡ count)) }
+    ensures err { IfErr result (λ e. Refuses e (λ c. (c ≡ Cause.Ended)
+        × WhereKnown (R.left reader.old) (R.left reader.new)
+        (λ xs ys. (length xs < count) × (ys ≡ [])))) }
+{
+    let mut left = count;
+    while left > 0 {
+        let mut buf = [0; 512];
+        let now = left.min(512);
+        fill(reader, &mut buf[..now as usize])?;
+        left -= now;
+    }
+    Ok(())
+}
+
+/// Takes RIFF, a size and WAVE, and returns the size, which isn't checked.
+#[tactic(auto, unfolding(crate::specs::Grammar::front_fault))]
+pub(crate) fn read_riff_header<R: Input>(reader: &mut R) -> Result<u32, HeadError>
+    ensures failures { CountsFailed (R.account reader.old) (R.account reader.new) result }
+    ensures ok { IfOk result (λ n. WhereKnown (R.left reader.old) (R.left reader.new) (λ xs ys.
+        (size : List ℕ) × (length size ≡ 4) × (xs ≡ riff_tag ++ (size ++ (wave_tag ++ ys))) × (n ≡ number size))) }
+    ensures err { IfErr result (λ e. Refuses e (λ c.
+        WhereKnown (R.left reader.old) (R.left reader.new) (λ xs ys. front_fault xs ≡ Some c))) }
+    ensures taken { IfErr result (λ e.
+        WhereKnown (R.left reader.old) (R.left reader.new) (TakesFront e)) }
+{
+    let mut tag = [0; 4];
+    fill(reader, &mut tag)?;
+    if tag.as_slice() != b"RIFF".as_slice() {
+        return Err(HeadError::Refused(Cause::Format(Reason::NoRiffTag)));
+    }
+    let mut rest = [0; 8];
+    fill(reader, &mut rest)?;
+    if &rest[4..8] != b"WAVE".as_slice() {
+        return Err(HeadError::Refused(Cause::Format(Reason::NoWaveTag)));
+    }
+    Ok(u32_at(&rest, 0))
+}
+
+/// What a chunk's header says of its content.
+#[derive(Clone, Copy)]
+pub(crate) enum Content {
+    /// The data, of this spec.
+    Data(WavSpecEx),
+    /// A fmt chunk.
+    Fmt,
+    /// Another chunk.
+    Other,
+}
+
+// What a chunk's header says, before its content is read.
+#[tactic(auto, unfolding(crate::specs::Grammar::content_fault))]
+#[inline(always)]
+pub(crate) fn content_of(
+    tag: &[u8],
+    chunk_len: u32,
+    found: Option<WavSpecEx>,
+    taken: u32,
+) -> Result<Content, Cause>
+    ensures says { SaysContent taken found tag.now chunk_len result }
+{
+    if tag == b"data".as_slice() {
+        return match found {
+            None => Err(Cause::Format(Reason::NoFmtChunk)),
+            Some(spec_ex) => Ok(Content::Data(spec_ex)),
+        };
+    }
+    // With the pad byte after an odd length.
+    let content = chunk_len as u64 + chunk_len as u64 % 2;
+    if taken as u64 + 8 + content > u32::MAX as u64 {
+        return Err(Cause::Format(Reason::NoDataChunk));
+    }
+    if tag == b"fmt ".as_slice() {
+        return Ok(Content::Fmt);
+    }
+    Ok(Content::Other)
+}
+
+// Takes the content of a chunk, after the eight bytes of its header.
+#[tactic(auto, unfolding(crate::specs::Grammar::content_fault))]
+fn read_content<R: Input>(
+    reader: &mut R,
+    tag: &[u8],
+    chunk_len: u32,
+    found: Option<WavSpecEx>,
+    taken: u32,
+) -> Result<ChunkRead, HeadError>
+    requires taken { taken + 8 ≤ greatest_u32 }
+    requires sound { IsSoundOption found }
+    ensures { Walks R.account R.left (IsSoundChunk taken)
+        (ReadsContent taken found tag.now chunk_len) (content_fault taken found tag.now chunk_len)
+        (content_takes chunk_len) reader.old reader.new result }
+{
+    match content_of(tag, chunk_len, found, taken)? {
+        Content::Data(spec_ex) => Ok(ChunkRead::Data(spec_ex, chunk_len)),
+        Content::Fmt => {
+            let content = chunk_len + chunk_len % 2;
+            let spec_ex = read_fmt_chunk(reader, chunk_len)?;
+            let rest = content - chunk_len.min(WAVEFORMATEXTENSIBLE_LENGTH);
+            skip_bytes(reader, rest)?;
+            Ok(ChunkRead::Other(Some(spec_ex), taken + 8 + content))
+        }
+        Content::Other => {
+            let content = chunk_len + chunk_len % 2;
+            skip_bytes(reader, content)?;
+            Ok(ChunkRead::Other(found, taken + 8 + content))
+        }
+    }
+}
+
+// Takes one chunk, or the tag and length of the data chunk.
+#[tactic(auto, unfolding(crate::specs::Grammar::chunk_fault))]
+fn read_next_chunk<R: Input>(
+    reader: &mut R,
+    found: Option<WavSpecEx>,
+    taken: u32,
+) -> Result<ChunkRead, HeadError>
+    requires { IsSoundOption found }
+    ensures { Walks R.account R.left (IsSoundChunk taken) (ReadsChunk taken found)
+        (chunk_fault taken found) (chunk_taken taken) reader.old reader.new result }
+{
+    if taken > u32::MAX - 8 {
+        return Err(HeadError::Refused(Cause::Format(Reason::NoDataChunk)));
+    }
+    let mut head = [0; 8];
+    fill(reader, &mut head)?;
+    let chunk_len = u32_at(&head, 4);
+    read_content(reader, &head[..4], chunk_len, found, taken)
+}
+
+/// Takes exactly what is before the data, however the reads are cut: the walk that reading and
+/// appending share.
+///
+/// The length of the data isn't checked. An error that the bytes don't decide is that of a read,
+/// and the only one that counts as failed.
+pub fn read_until_data<R: Input>(reader: &mut R) -> Result<FileHead, HeadError>
+    ensures sound { IfOk result (λ r. IsSoundSpec r.spec_ex) }
+    ensures start { IfOk result (λ r. IsDataPlace r.data_start) }
+    ensures failures { CountsFailed (R.account reader.old) (R.account reader.new) result }
+    ensures found { IfOk result (λ r. WhereKnown (R.left reader.old) (R.left reader.new) (λ xs ys.
+        Head xs r.spec_ex r.data_length r.data_start × (ys ≡ drop r.data_start xs))) }
+    ensures refused { IfErr result (λ e. Refuses e (λ c.
+        WhereKnown (R.left reader.old) (R.left reader.new) (λ xs ys. Refused xs c))) }
+    ensures taken { IfErr result (TakesAll RefusedAfter (R.left reader.old) (R.left reader.new)) }
+{
+    let _size = read_riff_header(reader)?;
+    let mut found = None;
+    let mut taken = 0;
+    'chunks: loop {
+        match read_next_chunk(reader, found, taken)? {
+            ChunkRead::Data(spec_ex, data_length) => {
+                return Ok(FileHead {
+                    spec_ex,
+                    data_length,
+                    data_start: 12 + taken as u64 + 8,
+                });
+            }
+            ChunkRead::Other(next, now) => {
+                found = next;
+                taken = now;
+            }
+        }
+    }
+}
+
+/// The same over a source, which is returned, so that its failed reads are counted.
+///
+/// Only its place and its count of faults change.
+pub fn find_data<S: Source>(source: S) -> (S, Result<FileHead, HeadError>)
+    ensures sound { IfOk result.1 (λ r. IsSoundSpec r.spec_ex) }
+    ensures start { IfOk result.1 (λ r. IsDataPlace r.data_start) }
+    ensures finds { WhereTells S.tells (FindsData result.1 (S.state source) (S.state result.0)) }
+    ensures taken { WhereTells S.tells (IfErr result.1 (TakesAll RefusedAfter
+        (Some (unread (S.state source))) (Some (unread (S.state result.0))))) }
+{
+    let mut input = Counted { source };
+    let answer = read_until_data(&mut input);
+    (input.source, answer)
+}

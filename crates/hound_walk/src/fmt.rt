@@ -1,0 +1,230 @@
+// The content of a fmt chunk.
+ghost use Rattle.std.specs.Prelude.{◌≡◌, ℕ, ◌+◌, ◌-◌, ◌≤◌, length, take, IfOk, IfErr};
+ghost use Rattle.hound_spec.specs.{fmt_fields, extension, pcm, ieee_float, extensible};
+ghost use Rattle.hound_walk.specs.Walking.{Gives, CountsFailed, ReadsFormat, TakesFor, content_takes};
+ghost use Rattle.hound_walk.specs.Fmt.{wave_format, wave_format_pcm, wave_format_ieee_float, wave_format_extensible, by_subformat, by_tag, fmt_len, fmt_of, IsSoundSpec};
+
+use crate::cause::{Cause, HeadError, Reason};
+use crate::input::fill;
+use hound_number::{Input, u16_at, u32_at};
+use hound_spec::{
+    EXTENSION_LENGTH, KSDATAFORMAT_SUBTYPE_IEEE_FLOAT, KSDATAFORMAT_SUBTYPE_PCM,
+    PCMWAVEFORMAT_LENGTH, SampleFormat, WAVE_FORMAT_EXTENSIBLE, WAVE_FORMAT_IEEE_FLOAT,
+    WAVE_FORMAT_PCM, WAVEFORMATEX_LENGTH, WAVEFORMATEXTENSIBLE_LENGTH, WavSpec, WavSpecEx,
+};
+
+// The fields of the first sixteen bytes, and the checks of every format tag, in order.
+#[tactic(auto, unfolding(crate::specs::Fmt::wave_format))]
+fn check_wave_format(head: &[u8]) -> Result<WavSpecEx, Cause>
+    requires { length head.now ≡ 16 }
+    ensures fields { result ≡ wave_format (fmt_fields head.now) }
+    ensures sound { IfOk result IsSoundSpec }
+{
+    let channels = u16_at(head, 2);
+    let sample_rate = u32_at(head, 4);
+    let bytes_per_second = u32_at(head, 8);
+    let block_align = u16_at(head, 12);
+    let bits_per_sample = u16_at(head, 14);
+    // The block align is divided by the channels, and a frame needs one at least.
+    if channels == 0 {
+        return Err(Cause::Format(Reason::ZeroChannels));
+    }
+    let bytes_per_sample = block_align / channels;
+    let width_in_bits = 8 * bytes_per_sample as u32;
+    // Fewer bits than the container are fine, as 24 in four bytes; more have no place in it.
+    if bits_per_sample as u32 > width_in_bits || width_in_bits > 65535 {
+        return Err(Cause::Format(Reason::BitsExceedWidth));
+    }
+    let product = block_align as u64 * sample_rate as u64;
+    // The field says nothing new, so one that contradicts the others shows a damaged header early.
+    if bytes_per_second as u64 != product || product > 4_294_967_295 {
+        return Err(Cause::Format(Reason::Inconsistent));
+    }
+    // In a WAVEFORMAT the bits are those that store a sample: whole bytes.
+    if bits_per_sample % 8 != 0 {
+        return Err(Cause::Format(Reason::BitsNotWholeBytes));
+    }
+    // Without bits a sample would take no byte, and data would have no end of them.
+    if bits_per_sample == 0 {
+        return Err(Cause::Format(Reason::ZeroBits));
+    }
+    let spec = WavSpec {
+        channels,
+        sample_rate,
+        bits_per_sample,
+        sample_format: SampleFormat::Int,
+    };
+    Ok(WavSpecEx {
+        spec,
+        bytes_per_sample,
+    })
+}
+
+// After the first sixteen bytes of integers: nothing, or bytes that are ignored.
+#[tactic(auto, unfolding(crate::specs::Fmt::wave_format_pcm))]
+fn read_wave_format_pcm<R: Input>(
+    reader: &mut R,
+    chunk_len: u32,
+    found: WavSpecEx,
+) -> Result<WavSpecEx, HeadError>
+    requires chunk_len { 16 ≤ chunk_len }
+    requires sound { IsSoundSpec found }
+    ensures { ReadsFormat R.account R.left pcm chunk_len (wave_format_pcm chunk_len found)
+        reader.old reader.new result }
+{
+    if chunk_len == PCMWAVEFORMAT_LENGTH {
+        return Ok(found);
+    }
+    // Some programs write integers into a chunk of forty bytes, without the tag for it.
+    if chunk_len != WAVEFORMATEX_LENGTH && chunk_len != WAVEFORMATEXTENSIBLE_LENGTH {
+        return Err(HeadError::Refused(Cause::Format(Reason::UnexpectedFmtSize)));
+    }
+    // The size of more means nothing for integers, and some files have one.
+    fill(reader, &mut [0; 2])?;
+    let bits = found.spec.bits_per_sample;
+    // A WAVEFORMATEX of integers may have 8 or 16 bits; files with 24 are there all the same.
+    if bits != 8 && bits != 16 && bits != 24 {
+        return Err(HeadError::Refused(Cause::Format(Reason::BitsNot8Or16)));
+    }
+    if chunk_len == WAVEFORMATEXTENSIBLE_LENGTH {
+        fill(reader, &mut [0; EXTENSION_LENGTH as usize])?;
+    }
+    Ok(found)
+}
+
+// After the first sixteen bytes of floats: nothing, or a size of 0.
+#[tactic(auto, unfolding(crate::specs::Fmt::wave_format_ieee_float))]
+fn read_wave_format_ieee_float<R: Input>(
+    reader: &mut R,
+    chunk_len: u32,
+    found: WavSpecEx,
+) -> Result<WavSpecEx, HeadError>
+    requires chunk_len { 16 ≤ chunk_len }
+    requires sound { IsSoundSpec found }
+    ensures { ReadsFormat R.account R.left ieee_float chunk_len
+        (wave_format_ieee_float chunk_len found) reader.old reader.new result }
+{
+    // A float has no extension that could follow here.
+    if chunk_len != PCMWAVEFORMAT_LENGTH && chunk_len != WAVEFORMATEX_LENGTH {
+        return Err(HeadError::Refused(Cause::Format(Reason::UnexpectedFmtSize)));
+    }
+    if chunk_len == WAVEFORMATEX_LENGTH {
+        let mut size = [0; 2];
+        fill(reader, &mut size)?;
+        // The chunk ends here, so no more can follow.
+        if u16_at(&size, 0) != 0 {
+            return Err(HeadError::Refused(Cause::Format(Reason::ExSize)));
+        }
+    }
+    // The tag is for floats of 32 bits; those of 64 that some programs write aren't read.
+    if found.spec.bits_per_sample != 32 {
+        return Err(HeadError::Refused(Cause::Format(Reason::BitsNot32)));
+    }
+    let spec = WavSpec {
+        sample_format: SampleFormat::Float,
+        ..found.spec
+    };
+    Ok(WavSpecEx { spec, ..found })
+}
+
+// The valid bits, the mask of speakers, which is ignored here, and the subformat.
+fn choose_subformat(found: WavSpecEx, rest: &[u8]) -> Result<WavSpecEx, Cause>
+    requires rest { length rest.now ≡ 22 }
+    requires sound { IsSoundSpec found }
+    ensures subformat { result ≡ by_subformat found (extension rest.now) }
+    ensures sound { IfOk result IsSoundSpec }
+{
+    let valid_bits_per_sample = u16_at(rest, 0);
+    // Of the GUIDs only those of the samples that are read here.
+    let subformat = &rest[6..22];
+    let sample_format = if subformat == KSDATAFORMAT_SUBTYPE_PCM.as_slice() {
+        SampleFormat::Int
+    } else if subformat == KSDATAFORMAT_SUBTYPE_IEEE_FLOAT.as_slice() {
+        SampleFormat::Float
+    } else {
+        return Err(Cause::Unsupported);
+    };
+    // Headers without valid bits occur; then the bits of the container are meant.
+    let bits_per_sample = if valid_bits_per_sample == 0 {
+        found.spec.bits_per_sample
+    } else {
+        valid_bits_per_sample
+    };
+    let spec = WavSpec {
+        bits_per_sample,
+        sample_format,
+        ..found.spec
+    };
+    Ok(WavSpecEx { spec, ..found })
+}
+
+// After the first sixteen bytes of an extensible chunk: its size, and 22 bytes.
+#[tactic(auto, unfolding(crate::specs::Fmt::wave_format_extensible))]
+fn read_wave_format_extensible<R: Input>(
+    reader: &mut R,
+    chunk_len: u32,
+    found: WavSpecEx,
+) -> Result<WavSpecEx, HeadError>
+    requires chunk_len { 16 ≤ chunk_len }
+    requires sound { IsSoundSpec found }
+    ensures { ReadsFormat R.account R.left extensible chunk_len
+        (wave_format_extensible chunk_len found) reader.old reader.new result }
+{
+    // Its size and the extension follow the first sixteen bytes.
+    if chunk_len < WAVEFORMATEXTENSIBLE_LENGTH {
+        return Err(HeadError::Refused(Cause::Format(Reason::UnexpectedFmtSize)));
+    }
+    let mut size = [0; 2];
+    fill(reader, &mut size)?;
+    // A larger extension would have fields that nothing here knows.
+    if u16_at(&size, 0) != EXTENSION_LENGTH {
+        return Err(HeadError::Refused(Cause::Format(Reason::ExtensibleSize)));
+    }
+    let mut rest = [0; EXTENSION_LENGTH as usize];
+    fill(reader, &mut rest)?;
+    Ok(choose_subformat(found, &rest)?)
+}
+
+#[tactic(auto, unfolding(crate::specs::Fmt::by_tag))]
+fn read_by_tag<R: Input>(
+    reader: &mut R,
+    tag: u16,
+    chunk_len: u32,
+    found: WavSpecEx,
+) -> Result<WavSpecEx, HeadError>
+    requires chunk_len { 16 ≤ chunk_len }
+    requires sound { IsSoundSpec found }
+    ensures { ReadsFormat R.account R.left tag chunk_len (by_tag tag chunk_len found)
+        reader.old reader.new result }
+{
+    match tag {
+        WAVE_FORMAT_PCM => read_wave_format_pcm(reader, chunk_len, found),
+        WAVE_FORMAT_IEEE_FLOAT => read_wave_format_ieee_float(reader, chunk_len, found),
+        WAVE_FORMAT_EXTENSIBLE => read_wave_format_extensible(reader, chunk_len, found),
+        _ => Err(HeadError::Refused(Cause::Unsupported)),
+    }
+}
+
+/// Reads the used part of the content of a fmt chunk of this length: of a longer one than forty
+/// bytes the first forty.
+#[tactic(auto, unfolding(crate::specs::Fmt::fmt_said))]
+pub(crate) fn read_fmt_chunk<R: Input>(
+    reader: &mut R,
+    chunk_len: u32,
+) -> Result<WavSpecEx, HeadError>
+    ensures sound { IfOk result IsSoundSpec }
+    ensures failures { CountsFailed (R.account reader.old) (R.account reader.new) result }
+    ensures gives { Gives (R.left reader.old) (R.left reader.new)
+        (fmt_len chunk_len) result (fmt_of chunk_len) }
+    ensures taken { IfErr result (TakesFor (R.left reader.old) (R.left reader.new)
+        (content_takes chunk_len)) }
+{
+    // Fourteen bytes would say all but the bits; no program is known to write so short a chunk.
+    if chunk_len < PCMWAVEFORMAT_LENGTH {
+        return Err(HeadError::Refused(Cause::Format(Reason::FmtSize)));
+    }
+    let mut head = [0; 16];
+    fill(reader, &mut head)?;
+    let found = check_wave_format(&head)?;
+    read_by_tag(reader, u16_at(&head, 0), chunk_len, found)
+}

@@ -1,0 +1,21 @@
+//! The walk over what is before the data of a WAV file.
+//!
+//! A file is RIFF, a size, WAVE and chunks. The walk takes chunk after chunk up to the header of the
+//! data ([`read_until_data`], [`find_data`]), or asks its caller for the bytes ([`take_part`]).
+//! Readers, writers that append and repairs begin with it.
+#![tactic(auto)]
+
+mod cause;
+mod chunks;
+mod fmt;
+mod head;
+mod input;
+mod laws;
+mod parts;
+
+pub use cause::{Cause, HeadError, Reason, error_of};
+pub use chunks::{ChunkRead, FileHead, find_data, read_until_data};
+pub use head::{read_until_samples, read_wave_header};
+pub use input::Counted;
+pub use laws::{one_answer, written_is_head};
+pub use parts::{HeadWalk, Part, Step, count_samples, find_by_parts, take_part};
