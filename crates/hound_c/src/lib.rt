@@ -1,20 +1,10 @@
 //! WAV files in a C caller's memory: read, written and appended to, with no state, no allocation
 //! and no call back.
 //!
-//! `hound.h` declares what is exported, and says what a caller must keep.
+//! `hound.h` declares what is exported, and says what a caller must keep. What the calls do is in
+//! `hound_slices`, since each build of a static library proves all of it anew, and takes libraries as
+//! they were proved.
 #![tactic(auto)]
-
-mod appending;
-mod fault;
-mod head;
-mod reading;
-mod recording;
-mod repairing;
-mod scaling;
-mod spec;
-mod value;
-mod walking;
-mod writing;
 
 ghost use Rattle.std.specs.Prelude.{◌≡◌, ◌*◌, ℕ, ℤ, List, None, false, length, not, pos, take, true};
 ghost use Rattle.std.specs.Option.{option_len, option_map_or};
@@ -26,33 +16,22 @@ ghost use Rattle.hound_sample.specs.{int_container, pattern_container, float_ref
 ghost use Rattle.hound_spec.specs.declared.spec.SampleFormat.TheVariants.{Float, Int};
 ghost use Rattle.hound_walk.specs.declared.cause.Cause.{Cause};
 ghost use Rattle.hound_writer.specs.Recorder.{AppendsRecorder, BeginsRecorder, NextEffect, Places, Reports};
-ghost use Rattle.hound_c.specs.Codes.{Records, Returns, fault_code};
-ghost use Rattle.hound_c.specs.Reading.{Decodes, ReadsInto};
-ghost use Rattle.hound_c.specs.Recording.{effect_of};
-ghost use Rattle.hound_c.specs.Repairing.{FindsInFile, IsDamageFault, RepairsFile};
-ghost use Rattle.hound_c.specs.Scaling.{ScalesToFloats, ScalesToIntegers};
-ghost use Rattle.hound_c.specs.Walks.{AreAsked, AsksOn, FindsHead, Steps, walk_of};
-ghost use Rattle.hound_c.specs.Writing.{AppendsInPlace, Encodes, GivesHeader, GivesSizes, IsExplicit, Sizes, WritesFile, spec_from_c};
-ghost use Rattle.hound_c.specs.declared.fault.Fault.{Fault as AnyFault};
-ghost use Rattle.hound_c.specs.declared.fault.Fault.TheVariants.{Head};
+ghost use Rattle.hound_slices.specs.{AppendsInPlace, AreAsked, AsksOn, Decodes, Encodes, FindsHead, FindsInFile, GivesHeader, GivesSizes, IsDamageFault, IsExplicit, ReadsInto, Records, RepairsFile, Returns, ScalesToFloats, ScalesToIntegers, Sizes, Steps, WritesFile, effect_of, fault_code, spec_from_c, walk_of};
+ghost use Rattle.hound_slices.specs.declared.fault.Fault.{Fault as AnyFault};
+ghost use Rattle.hound_slices.specs.declared.fault.Fault.TheVariants.{Head};
 
-use appending::append_block;
-use fault::{Fault, code_of, code_of_fault};
-use head::find_samples;
 use hound_repair::Rest;
 use hound_sample::FloatBits;
+use hound_slices::{
+    Fault, HoundEffect, HoundInfo, HoundRepair, HoundSpec, HoundWalk, append_block, code_of,
+    code_of_fault, decode_block, effect_for_c, encode_block, file_size, find_file_damage,
+    find_samples, info_for_c, part_of, read_block, repair_file, repair_for_c, scale_to_floats,
+    scale_to_integers, spec_from_c, value_of_8, value_of_16, value_of_24, value_of_32, walk_for_c,
+    walk_of, write_file, write_header, write_sizes,
+};
 use hound_spec::SampleFormat;
 use hound_walk::{Step, count_samples, take_part};
 use hound_writer::Recorder;
-use reading::{decode_block, read_block};
-use recording::effect_for_c;
-use repairing::{find_file_damage, repair_file, repair_for_c};
-use scaling::{scale_to_floats, scale_to_integers};
-pub use spec::{HoundEffect, HoundInfo, HoundRepair, HoundSpec, HoundWalk};
-use spec::{info_for_c, spec_from_c};
-use value::{value_of_8, value_of_16, value_of_24, value_of_32};
-use walking::{part_of, walk_for_c, walk_of};
-use writing::{encode_block, file_size, write_file, write_header, write_sizes};
 
 /// What is before the data: 0, or why it can't be read.
 #[unsafe(no_mangle)]

@@ -1,0 +1,64 @@
+-- The numbers that C gets.
+use Rattle.std.specs.Prelude.{◌≡◌, ℕ, ℤ, pos, negsuc, Result, Ok, Err, MatchResult}
+use Rattle.hound_walk.specs.declared.cause.Cause.{Cause}
+use Rattle.hound_walk.specs.declared.cause.Cause.TheVariants.{Ended, Format, Unsupported}
+use Rattle.hound_walk.specs.declared.cause.Reason.{Reason}
+use Rattle.hound_walk.specs.declared.cause.Reason.TheVariants.{NoRiffTag, NoWaveTag, NoDataChunk, NoFmtChunk, FmtSize, UnexpectedFmtSize, ZeroChannels, BitsExceedWidth, Inconsistent, BitsNotWholeBytes, ZeroBits, BitsNot8Or16, ExSize, BitsNot32, ExtensibleSize, DataLength, FrameLength}
+use Rattle.hound_writer.specs.declared.recorder.RecorderError.{RecorderError}
+use Rattle.hound_writer.specs.declared.recorder.RecorderError.TheVariants.{NotWritable, TooLong as TooLongToRecord, UnfinishedFrame as HalfFrame, NeedsCheckpoint, SyncFailed}
+use Rattle.hound_slices.specs.declared.fault.Fault.{Fault}
+use Rattle.hound_slices.specs.declared.fault.Fault.TheVariants.{Head, OtherFormat, TooWide, NotWritable, Truncated, TooLong, UnfinishedFrame, NoRoom, Recorder}
+
+abbrev pub reason_code : Reason → ℤ
+reason_code NoRiffTag = negsuc 9
+reason_code NoWaveTag = negsuc 10
+reason_code NoDataChunk = negsuc 11
+reason_code NoFmtChunk = negsuc 12
+reason_code FmtSize = negsuc 13
+reason_code UnexpectedFmtSize = negsuc 14
+reason_code ZeroChannels = negsuc 15
+reason_code BitsExceedWidth = negsuc 16
+reason_code Inconsistent = negsuc 17
+reason_code BitsNotWholeBytes = negsuc 18
+reason_code ZeroBits = negsuc 19
+reason_code BitsNot8Or16 = negsuc 20
+reason_code ExSize = negsuc 21
+reason_code BitsNot32 = negsuc 22
+reason_code ExtensibleSize = negsuc 23
+reason_code DataLength = negsuc 24
+reason_code FrameLength = negsuc 25
+
+abbrev pub fault_code : Fault → ℤ
+fault_code (Head Ended) = negsuc 0
+fault_code (Head Unsupported) = negsuc 1
+fault_code (Head (Format reason)) = reason_code reason
+fault_code OtherFormat = negsuc 2
+fault_code TooWide = negsuc 3
+fault_code NotWritable = negsuc 4
+fault_code Truncated = negsuc 5
+fault_code TooLong = negsuc 6
+fault_code UnfinishedFrame = negsuc 7
+fault_code NoRoom = negsuc 8
+fault_code (Recorder NotWritable) = negsuc 4
+fault_code (Recorder TooLongToRecord) = negsuc 6
+fault_code (Recorder HalfFrame) = negsuc 7
+fault_code (Recorder NeedsCheckpoint) = negsuc 26
+fault_code (Recorder SyncFailed) = negsuc 27
+
+-- the bytes have no data to be read, for a cause that P holds for
+abbrev pub IsHeadFault : (Cause → Type 0) → Fault → Type 0
+IsHeadFault P fault = (cause : Cause) × (fault ≡ Head cause) × P cause
+
+-- the count, or the number of the fault
+abbrev pub code_for : Result ℕ Fault → ℤ
+code_for (Ok n) = pos n
+code_for (Err fault) = fault_code fault
+
+-- what C gets is the number of an outcome that P holds for
+abbrev pub Returns : ℤ → (Result ℕ Fault → Type 0) → Type 0
+Returns number P = (outcome : Result ℕ Fault) × (number ≡ code_for outcome) × P outcome
+
+-- what C gets of a recorder's call is a number of its result, or that of its error
+abbrev pub Records : {T : Type 0} → ℤ → (T → ℕ) → (Result T RecorderError → Type 0) → Type 0
+Records {T} number value P = (result : Result T RecorderError) × P result
+    × MatchResult result (λ x. number ≡ pos (value x)) (λ error. number ≡ fault_code (Recorder error))

@@ -1,0 +1,52 @@
+-- What repairing does.
+use Rattle.std.specs.Prelude.{◌≡◌, ◌⊎◌, ℕ, Bool, ◌<◌, ◌≤◌, List, length, take, true, Result, Ok, Err}
+use Rattle.hound_walk.specs.declared.cause.Cause.TheVariants.{Unsupported}
+use Rattle.hound_writer.specs.{by_bytes, too_long}
+use Rattle.hound_repair.specs.{IsFoundAt, IsRepairFault, LacksRoom, RepairsBytes}
+use Rattle.hound_repair.specs.declared.sizes.Repair.{Repair}
+use Rattle.hound_repair.specs.declared.sizes.RepairState.{RepairState}
+use Rattle.hound_repair.specs.declared.sizes.RepairState.TheVariants.{Whole, CutOff, HasChunksAfterData}
+use Rattle.hound_slices.specs.Writing.{IsExplicit, spec_from_c}
+use Rattle.hound_slices.specs.declared.fault.Fault.{Fault}
+use Rattle.hound_slices.specs.declared.fault.Fault.TheVariants.{Head, NotWritable, TooLong, NoRoom}
+use Rattle.hound_slices.specs.declared.spec.HoundRepair.{HoundRepair}
+
+-- the number of how a file was found
+abbrev pub state_code : RepairState → ℕ
+state_code Whole = 0
+state_code CutOff = 1
+state_code HasChunksAfterData = 2
+
+-- what was found, as C has it
+pub record IsReported (found : Repair) (c : HoundRepair) : Type 0 where
+  pub spec : spec_from_c c.spec ≡ found.spec_ex
+  pub explicit : IsExplicit c.spec
+  pub frames : c.frames ≡ found.frames
+  pub left_over : c.left_over ≡ found.left_over
+  pub state : c.state ≡ state_code found.was
+
+-- what was found in a file, looked at as a whole, as C has it
+abbrev pub FindsInFile : List ℕ → HoundRepair → Type 0
+FindsInFile bytes c = (found : Repair) × IsReported found c
+    × ((len : ℕ) × (start : ℕ) × IsFoundAt true bytes found len start)
+
+-- why a file isn't looked at
+abbrev pub IsDamageFault : List ℕ → Fault → Type 0
+IsDamageFault bytes (Head cause) = IsRepairFault bytes (by_bytes cause)
+IsDamageFault bytes NotWritable = IsRepairFault bytes (by_bytes Unsupported)
+IsDamageFault bytes TooLong = IsRepairFault bytes too_long
+IsDamageFault bytes _ = ⊥
+
+-- why a file isn't repaired
+abbrev pub IsFileFault : Bool → ℕ → List ℕ → Fault → Type 0
+IsFileFault looks used old NoRoom = (length old < used) ⊎ LacksRoom looks used old
+IsFileFault looks used old fault = IsDamageFault (take used old) fault
+
+-- what repairing does, by its outcome: the first n bytes are what `repair` leaves of the file, or
+-- `repair_to_end` where no chunks are looked for, all of them in the caller's memory, and what it
+-- found is reported; or all stays
+abbrev pub RepairsFile : Bool → ℕ → List ℕ → List ℕ → HoundRepair → HoundRepair → Result ℕ Fault → Type 0
+RepairsFile looks used old new was now (Ok n) = (used ≤ length old) × (n ≤ length new)
+    × (found : Repair) × RepairsBytes looks used n found old new × IsReported found now
+RepairsFile looks used old new was now (Err fault) = (new ≡ old) × (now ≡ was)
+    × IsFileFault looks used old fault

@@ -1,0 +1,65 @@
+-- The walk of a caller who hands in the bytes before the data.
+use Rattle.std.specs.Prelude.{◌≡◌, ℕ, ◌+◌, ◌*◌, ◌≤◌, ◌<◌, ℤ, pos, List, take, Option, Some, None, ◌==◌, nat_lt, if◌then◌else◌}
+use Rattle.hound_spec.specs.{greatest_u16}
+use Rattle.hound_spec.specs.declared.spec.WavSpecEx.{WavSpecEx}
+use Rattle.hound_walk.specs.{IsAt, Readable, Unreadable, part_bytes, part_length, part_start, parts_left}
+use Rattle.hound_walk.specs.declared.cause.Cause.{Cause}
+use Rattle.hound_walk.specs.declared.parts.HeadWalk.{HeadWalk}
+use Rattle.hound_walk.specs.declared.parts.Part.{Part}
+use Rattle.hound_walk.specs.declared.parts.Part.TheVariants.{Front, Header, Last, Fmt}
+use Rattle.hound_slices.specs.Codes.{fault_code}
+use Rattle.hound_slices.specs.Writing.{IsExplicit, spec_from_c}
+use Rattle.hound_slices.specs.declared.fault.Fault.TheVariants.{Head}
+use Rattle.hound_slices.specs.declared.spec.HoundSpec.{HoundSpec}
+use Rattle.hound_slices.specs.declared.spec.HoundInfo.{HoundInfo}
+use Rattle.hound_slices.specs.declared.spec.HoundWalk.{HoundWalk}
+
+-- the spec that was found so far, if C's is one of a file: of channels and bytes that make a frame
+abbrev pub found_of : HoundSpec → Option WavSpecEx
+found_of c =
+    let s = spec_from_c c in
+    if s.spec.channels == 0 then None
+    else if s.bytes_per_sample == 0 then None
+    else if nat_lt greatest_u16 (s.spec.channels * s.bytes_per_sample) then None
+    else Some s
+
+-- the part that C's walk asks for, by its number
+abbrev pub part_of : ℕ → ℕ → Part
+part_of part length =
+    if part == 0 then Front else if part == 1 then Header else if part == 2 then Last else Fmt length
+
+-- the walk that C's is
+abbrev pub walk_of : HoundWalk → HeadWalk
+walk_of c = record { found = found_of c.spec; taken = c.taken; part = part_of c.part c.fmt_length }
+
+-- where the part ends that a walk asks for
+abbrev pub part_end : HeadWalk → ℕ
+part_end walk = part_start walk.part walk.taken + part_length walk.part
+
+-- the place and the length that C gets are those of the part that its walk needs
+abbrev pub Asks : HoundWalk → Type 0
+Asks c = (c.place ≡ part_start (walk_of c).part c.taken) × (c.length ≡ part_length (walk_of c).part)
+
+-- A walk asks on: for a later part, and there are fewer to come.
+pub record AsksOn (old new : HoundWalk) : Type 0 where
+  pub asks : Asks new
+  pub ahead : part_end (walk_of old) ≤ new.place
+  pub nearer : parts_left (walk_of new).part new.taken < parts_left (walk_of old).part old.taken
+
+-- The data begin where the last part ended.
+pub record FindsHead (old : HoundWalk) (info : HoundInfo) : Type 0 where
+  pub explicit : IsExplicit info.spec
+  pub start : info.data_start ≡ part_end (walk_of old)
+
+-- A step of a walk over a file, of which its part was handed in, leads on, to the data, or to the
+-- cause why there are none.
+pub record Steps (file : List ℕ) (number : ℤ) (new : HoundWalk) (info : HoundInfo) : Type 0 where
+  pub on : number ≡ pos 1 → IsAt file (walk_of new)
+  pub found : number ≡ pos 0 → Readable file (spec_from_c info.spec) info.samples info.data_start
+  pub refused : (number ≡ pos 1 → ⊥) → (number ≡ pos 0 → ⊥)
+      → (cause : Cause) × (number ≡ fault_code (Head cause)) × Unreadable file cause
+
+-- the bytes are the part of the file that a walk asks for, or begin with it
+abbrev pub AreAsked : List ℕ → HoundWalk → List ℕ → Type 0
+AreAsked bytes walk file =
+    take (part_length (walk_of walk).part) bytes ≡ part_bytes (walk_of walk) file

@@ -1,0 +1,181 @@
+-- What writing and appending do.
+use Rattle.std.specs.Prelude.{◌≡◌, ◌⊎◌, ℕ, ◌+◌, ◌-◌, ◌*◌, ◌/◌, ◌%◌, ◌<◌, ◌≤◌, List, length, take, drop, ◌++◌, Result, Ok, Err, ◌==◌, if◌then◌else◌}
+use Rattle.std.specs.List.{concat}
+use Rattle.hound_number.specs.{bytes_of}
+use Rattle.hound_spec.specs.{greatest_u32, canonical, data_start, header, padded, padding, riff_size, IsPair, IsWritable}
+use Rattle.hound_spec.specs.declared.spec.SampleFormat.{SampleFormat}
+use Rattle.hound_spec.specs.declared.spec.SampleFormat.TheVariants.{Int, Float}
+use Rattle.hound_spec.specs.declared.spec.WavSpecEx.{WavSpecEx}
+use Rattle.hound_sample.specs.{Refusal, too_wide, unsupported, containers}
+use Rattle.hound_walk.specs.{Readable, Unreadable}
+use Rattle.hound_writer.specs.{containers_in, ReadsAs, with_sizes}
+use Rattle.hound_slices.specs.declared.fault.Fault.{Fault}
+use Rattle.hound_slices.specs.declared.fault.Fault.TheVariants.{Head, OtherFormat, TooWide, NotWritable, Truncated, TooLong, UnfinishedFrame, NoRoom}
+use Rattle.hound_slices.specs.declared.spec.HoundSpec.{HoundSpec}
+
+-- the spec that C's stands for
+abbrev pub spec_from_c : HoundSpec → WavSpecEx
+spec_from_c c = record {
+  spec = record {
+    channels = c.channels;
+    sample_rate = c.sample_rate;
+    bits_per_sample = c.bits_per_sample;
+    sample_format = if c.sample_format == 0 then Int else Float;
+  };
+  bytes_per_sample = if c.bytes_per_sample == 0 then (c.bits_per_sample + 7) / 8 else c.bytes_per_sample;
+}
+
+-- a spec as C gets one: the width is not left out, and the format is 0 or 1
+abbrev pub IsExplicit : HoundSpec → Type 0
+IsExplicit c = (0 < c.bytes_per_sample) × (c.sample_format ≤ 1)
+
+-- whether values have containers
+abbrev pub check_of : {T : Type 0} → Result T Refusal → Result (Unit {0}) Fault
+check_of (Ok list) = Ok tt
+check_of (Err too_wide) = Err TooWide
+check_of (Err unsupported) = Err NotWritable
+
+-- how many bytes the file of so many samples has
+abbrev pub file_size : WavSpecEx → ℕ → ℕ
+file_size s count = data_start s + padded (count * s.bytes_per_sample)
+
+-- why so many samples after a header of this length are no file
+abbrev pub IsSizeFault : WavSpecEx → ℕ → ℕ → Fault → Type 0
+IsSizeFault s start count UnfinishedFrame = count % s.spec.channels ≡ 0 → ⊥
+IsSizeFault s start count TooLong = greatest_u32 < riff_size start (count * s.bytes_per_sample)
+IsSizeFault s start count _ = ⊥
+
+-- so many samples after a header of this length are a file: whole frames, and sizes of 32 bits
+abbrev pub IsFile : WavSpecEx → ℕ → ℕ → Type 0
+IsFile s start count = (count % s.spec.channels ≡ 0)
+    × (riff_size start (count * s.bytes_per_sample) ≤ greatest_u32)
+
+-- why a file isn't written
+abbrev pub IsWriteFault : {V : Type 0} → SampleFormat → (V → ℕ → ℕ → Result (List ℕ) Refusal)
+    → WavSpecEx → List V → ℕ → Fault → Type 0
+IsWriteFault format container s values room OtherFormat = s.spec.sample_format ≡ format → ⊥
+IsWriteFault format container s values room NotWritable = (IsWritable s → ⊥)
+    ⊎ (containers_in container s values ≡ Err unsupported)
+IsWriteFault format container s values room TooWide = containers_in container s values ≡ Err too_wide
+IsWriteFault format container s values room NoRoom = room < file_size s (length values)
+IsWriteFault format container s values room fault = IsSizeFault s (data_start s) (length values) fault
+
+-- what writing does, by its outcome: the canonical file of the values is the front of the caller's
+-- memory, and the rest stays; or all stays
+abbrev pub WritesFile : {V : Type 0} → SampleFormat → (V → ℕ → ℕ → Result (List ℕ) Refusal) → WavSpecEx
+    → List V → List ℕ → List ℕ → Result ℕ Fault → Type 0
+WritesFile format container s values old new (Ok n) = IsWritable s × (s.spec.sample_format ≡ format)
+    × (list : List (List ℕ)) × (containers_in container s values ≡ Ok list)
+    × (take n new ≡ canonical s list) × (drop n new ≡ drop n old)
+    × (n ≡ file_size s (length values)) × IsFile s (data_start s) (length values)
+WritesFile format container s values old new (Err fault) = (new ≡ old)
+    × IsWriteFault format container s values (length old) fault
+
+-- what the call that asks for a size does
+abbrev pub Sizes : WavSpecEx → ℕ → Result ℕ Fault → Type 0
+Sizes s count (Ok n) = IsWritable s × (n ≡ file_size s count) × IsFile s (data_start s) count
+Sizes s count (Err NotWritable) = IsWritable s → ⊥
+Sizes s count (Err fault) = IsSizeFault s (data_start s) count fault
+
+-- what the call for a header does: it is that of the canonical file of so many samples
+abbrev pub GivesHeader : WavSpecEx → ℕ → List ℕ → List ℕ → Result ℕ Fault → Type 0
+GivesHeader s count old new (Ok n) = IsWritable s × (n ≡ data_start s) × IsFile s (data_start s) count
+    × (take n new ≡ header s (riff_size (data_start s) (count * s.bytes_per_sample)) (count * s.bytes_per_sample))
+    × (drop n new ≡ drop n old)
+GivesHeader s count old new (Err NotWritable) = (new ≡ old) × (IsWritable s → ⊥)
+GivesHeader s count old new (Err NoRoom) = (new ≡ old) × (length old < data_start s)
+GivesHeader s count old new (Err fault) = (new ≡ old) × IsSizeFault s (data_start s) count fault
+
+-- samples of a spec whose data begin at a place can be those of a file: its first chunk needs 20 bytes
+abbrev pub HasPlace : WavSpecEx → ℕ → Type 0
+HasPlace s start = IsPair s.spec.sample_format s.spec.bits_per_sample s.bytes_per_sample
+    × (1 ≤ s.spec.channels) × (20 ≤ start)
+
+-- what the call for the two sizes does: they are the RIFF size and the data length of the file of so
+-- many samples whose data begin at a place, and n is how many bytes that file has
+abbrev pub GivesSizes : WavSpecEx → ℕ → ℕ → List ℕ → List ℕ → Result ℕ Fault → Type 0
+GivesSizes s start count old new (Ok n) = HasPlace s start × IsFile s start count
+    × (n ≡ start + padded (count * s.bytes_per_sample))
+    × (take 8 new ≡ bytes_of 4 (riff_size start (count * s.bytes_per_sample))
+    ++ bytes_of 4 (count * s.bytes_per_sample)) × (drop 8 new ≡ drop 8 old)
+GivesSizes s start count old new (Err NotWritable) = (new ≡ old) × (HasPlace s start → ⊥)
+GivesSizes s start count old new (Err NoRoom) = (new ≡ old) × (length old < 8)
+GivesSizes s start count old new (Err fault) = (new ≡ old) × IsSizeFault s start count fault
+
+-- What appending does. The header counts samples that are all among the first bytes; the new
+-- containers follow them, then their pad byte, and the two sizes are those of all. So the first n
+-- bytes are read as the samples of before and then the new ones, and no other byte changes.
+pub record AppendsSamples {V : Type 0} (format : SampleFormat)
+    (container : V → ℕ → ℕ → Result (List ℕ) Refusal)
+    (values : List V) (used n : ℕ) (old new : List ℕ) : Type 0 where
+  pub spec_ex : WavSpecEx
+  pub samples : ℕ
+  pub start : ℕ
+  pub list : List (List ℕ)
+  pub within : used ≤ length old
+  pub readable : Readable (take used old) spec_ex samples start
+  pub held : start + samples * spec_ex.bytes_per_sample ≤ used
+  pub format_is : spec_ex.spec.sample_format ≡ format
+  pub pair : IsPair spec_ex.spec.sample_format spec_ex.spec.bits_per_sample spec_ex.bytes_per_sample
+  pub is : containers_in container spec_ex values ≡ Ok list
+  pub file : IsFile spec_ex start (length values + samples)
+  pub size : n ≡ start + padded ((length values + samples) * spec_ex.bytes_per_sample)
+  pub room : n ≤ length old
+  pub bytes : new ≡ with_sizes (start - 4) (n - 8) ((length values + samples) * spec_ex.bytes_per_sample)
+      (take (start + samples * spec_ex.bytes_per_sample) old ++ ((concat list
+      ++ padding ((length values + samples) * spec_ex.bytes_per_sample)) ++ drop n old))
+  pub reads : ReadsAs spec_ex start
+      (containers spec_ex.bytes_per_sample samples (drop start (take used old)) ++ list) (take n new)
+
+-- why values aren't appended to a file of so many samples
+abbrev pub IsRefusedBy : {V : Type 0} → SampleFormat → (V → ℕ → ℕ → Result (List ℕ) Refusal)
+    → WavSpecEx → ℕ → ℕ → List V → ℕ → ℕ → Fault → Type 0
+IsRefusedBy format container s samples start values used room OtherFormat =
+    s.spec.sample_format ≡ format → ⊥
+IsRefusedBy format container s samples start values used room NotWritable =
+    (IsPair s.spec.sample_format s.spec.bits_per_sample s.bytes_per_sample → ⊥)
+    ⊎ (containers_in container s values ≡ Err unsupported)
+IsRefusedBy format container s samples start values used room TooWide =
+    containers_in container s values ≡ Err too_wide
+IsRefusedBy format container s samples start values used room Truncated =
+    used < start + samples * s.bytes_per_sample
+IsRefusedBy format container s samples start values used room NoRoom =
+    room < start + padded ((length values + samples) * s.bytes_per_sample)
+IsRefusedBy format container s samples start values used room fault =
+    IsSizeFault s start (length values + samples) fault
+
+abbrev pub IsAppendingFault : {V : Type 0} → SampleFormat → (V → ℕ → ℕ → Result (List ℕ) Refusal)
+    → List V → ℕ → List ℕ → Fault → Type 0
+IsAppendingFault format container values used old (Head cause) = Unreadable (take used old) cause
+IsAppendingFault format container values used old fault = ((fault ≡ NoRoom) × (length old < used))
+    ⊎ ((s : WavSpecEx) × (samples : ℕ) × (start : ℕ) × Readable (take used old) s samples start
+    × IsRefusedBy format container s samples start values used (length old) fault)
+
+abbrev pub AppendsInPlace : {V : Type 0} → SampleFormat → (V → ℕ → ℕ → Result (List ℕ) Refusal) → List V
+    → ℕ → List ℕ → List ℕ → Result ℕ Fault → Type 0
+AppendsInPlace format container values used old new (Ok n) =
+    AppendsSamples format container values used n old new
+AppendsInPlace format container values used old new (Err fault) = (new ≡ old)
+    × IsAppendingFault format container values used old fault
+
+-- why values aren't encoded
+abbrev pub IsEncodeFault : {V : Type 0} → SampleFormat → (V → ℕ → ℕ → Result (List ℕ) Refusal)
+    → WavSpecEx → List V → ℕ → Fault → Type 0
+IsEncodeFault format container s values room OtherFormat = s.spec.sample_format ≡ format → ⊥
+IsEncodeFault format container s values room NotWritable =
+    (IsPair s.spec.sample_format s.spec.bits_per_sample s.bytes_per_sample → ⊥)
+    ⊎ (containers_in container s values ≡ Err unsupported)
+IsEncodeFault format container s values room TooWide = containers_in container s values ≡ Err too_wide
+IsEncodeFault format container s values room NoRoom = room / s.bytes_per_sample < length values
+IsEncodeFault format container s values room _ = ⊥
+
+-- what encoding does, by its outcome: the containers of the values are the front of the caller's
+-- memory
+abbrev pub Encodes : {V : Type 0} → SampleFormat → (V → ℕ → ℕ → Result (List ℕ) Refusal) → WavSpecEx
+    → List V → List ℕ → List ℕ → Result ℕ Fault → Type 0
+Encodes format container s values old new (Ok n) = (s.spec.sample_format ≡ format)
+    × IsPair s.spec.sample_format s.spec.bits_per_sample s.bytes_per_sample
+    × (list : List (List ℕ)) × (containers_in container s values ≡ Ok list)
+    × (take n new ≡ concat list) × (drop n new ≡ drop n old) × (n ≡ length values * s.bytes_per_sample)
+Encodes format container s values old new (Err fault) = (new ≡ old)
+    × IsEncodeFault format container s values (length old) fault

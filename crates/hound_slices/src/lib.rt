@@ -1,0 +1,31 @@
+//! WAV files in slices of memory, as the calls for C need them: what each call does to the caller's
+//! slices, the structs that C has, and the numbers that it gets.
+//!
+//! There is no state, no allocation and no call back. `hound_c` exports these calls to C.
+#![tactic(auto)]
+
+mod appending;
+mod fault;
+mod head;
+mod reading;
+mod recording;
+mod repairing;
+mod scaling;
+mod spec;
+mod value;
+mod walking;
+mod writing;
+
+pub use appending::append_block;
+pub use fault::{Fault, code_of, code_of_fault};
+pub use head::find_samples;
+pub use reading::{decode_block, read_block};
+pub use recording::effect_for_c;
+pub use repairing::{find_file_damage, repair_file, repair_for_c};
+pub use scaling::{scale_to_floats, scale_to_integers};
+pub use spec::{
+    HoundEffect, HoundInfo, HoundRepair, HoundSpec, HoundWalk, info_for_c, spec_from_c,
+};
+pub use value::{value_of_8, value_of_16, value_of_24, value_of_32};
+pub use walking::{part_of, walk_for_c, walk_of};
+pub use writing::{encode_block, file_size, write_file, write_header, write_sizes};

@@ -1,0 +1,89 @@
+// The walk of a caller who hands in the bytes before the data.
+ghost use Rattle.std.specs.Prelude.{◌≡◌, take};
+ghost use Rattle.hound_walk.specs.{IsSoundOption, part_length};
+ghost use Rattle.hound_slices.specs.Walks.{Asks, found_of, walk_of};
+
+use crate::spec::{HoundSpec, HoundWalk, spec_for_c, spec_from_c};
+use hound_spec::WavSpecEx;
+use hound_walk::{HeadWalk, Part};
+
+// The spec that was found so far, if C's is one of a file.
+fn found_of(spec: HoundSpec) -> Option<WavSpecEx>
+    ensures is { result ≡ found_of spec }
+    ensures sound { IsSoundOption result }
+{
+    let spec_ex = spec_from_c(spec);
+    if spec_ex.spec.channels == 0 {
+        return None;
+    }
+    if spec_ex.bytes_per_sample == 0 {
+        return None;
+    }
+    if spec_ex.spec.channels as u32 * spec_ex.bytes_per_sample as u32 > u16::MAX as u32 {
+        return None;
+    }
+    Some(spec_ex)
+}
+
+/// The walk that C's is.
+pub fn walk_of(walk: HoundWalk) -> HeadWalk
+    ensures is { result ≡ walk_of walk }
+    ensures sound { IsSoundOption result.found }
+{
+    HeadWalk {
+        found: found_of(walk.spec),
+        taken: walk.taken,
+        part: match walk.part {
+            0 => Part::Front,
+            1 => Part::Header,
+            2 => Part::Last,
+            _ => Part::Fmt(walk.fmt_length),
+        },
+    }
+}
+
+/// The part that a walk asks for, of bytes that begin with it.
+pub fn part_of(walk: HeadWalk, bytes: &[u8]) -> &[u8]
+    ensures { result.now ≡ take (part_length walk.part) bytes.now }
+{
+    &bytes[..bytes.len().min(walk.length())]
+}
+
+// C's form of a spec that was found, or of none.
+fn found_for_c(found: Option<WavSpecEx>) -> HoundSpec
+    requires sound { IsSoundOption found }
+    ensures is { found_of result ≡ found }
+{
+    match found {
+        None => HoundSpec {
+            sample_rate: 0,
+            channels: 0,
+            bits_per_sample: 0,
+            bytes_per_sample: 0,
+            sample_format: 0,
+        },
+        Some(spec_ex) => spec_for_c(spec_ex),
+    }
+}
+
+/// C's form of a walk.
+pub fn walk_for_c(walk: HeadWalk) -> HoundWalk
+    requires sound { IsSoundOption walk.found }
+    ensures is { walk_of result ≡ walk }
+    ensures asks { Asks result }
+{
+    let (part, fmt_length) = match walk.part {
+        Part::Front => (0, 0),
+        Part::Header => (1, 0),
+        Part::Last => (2, 0),
+        Part::Fmt(length) => (3, length),
+    };
+    HoundWalk {
+        place: walk.start(),
+        spec: found_for_c(walk.found),
+        length: walk.length() as u32,
+        taken: walk.taken,
+        part,
+        fmt_length,
+    }
+}

@@ -1,0 +1,217 @@
+// Whole files that are written.
+ghost use Rattle.std.specs.Prelude.{◌≡◌, ◌+◌, ◌*◌, ◌%◌, ◌^◌, ◌≤◌, ◌++◌, IsOk, IfOk, IfErr, length, take, drop};
+ghost use Rattle.hound_spec.specs.{IsWritable, greatest_u32, data_start, header, padded, padding, riff_size};
+ghost use Rattle.hound_sample.specs.{all_containers, joined_containers};
+ghost use Rattle.hound_slices.specs.Writing.{Encodes, GivesHeader, GivesSizes, IsSizeFault, Sizes, WritesFile, check_of, spec_from_c};
+
+use crate::fault::Fault;
+use crate::spec::{HoundSpec, spec_from_c};
+use hound_number::le_u32;
+use hound_sample::{Sample, check_containers, have_containers, store_containers};
+use hound_spec::{Error, SampleFormat, WavSpecEx, header_length, header_of, is_pair};
+
+/// Checks that all samples have containers.
+pub(crate) fn check_samples<S: Sample + Copy>(
+    samples: &[S],
+    bits: u16,
+    width: u16,
+) -> Result<(), Fault>
+    ensures { result ≡ check_of (all_containers (λ s. S.container s bits width) samples.now) }
+{
+    if have_containers(samples, bits, width) {
+        return Ok(());
+    }
+    match check_containers(samples, bits, width) {
+        Ok(()) => Ok(()),
+        Err(Error::TooWide) => Err(Fault::TooWide),
+        Err(_) => Err(Fault::NotWritable),
+    }
+}
+
+/// Stores the containers of samples at a place, and after data of an odd length the pad byte.
+pub(crate) fn write_data_at<S: Sample + Copy>(
+    out: &mut [u8],
+    at: usize,
+    samples: &[S],
+    bits: u16,
+    width: u16,
+    data_length: u32,
+)
+    requires have { IsOk (all_containers (λ s. S.container s bits width) samples.now) }
+    requires width { width ≤ 4 }
+    requires room { at + width * length samples.now + data_length % 2 ≤ length out.old }
+    ensures { let body = joined_containers (λ s. S.container s bits width) samples.now in
+        out.new ≡ take at out.old ++ ((body ++ padding data_length)
+        ++ drop (at + (width * length samples.now + data_length % 2)) out.old) }
+{
+    let end = at + width as usize * samples.len();
+    store_containers(&mut out[at..end], samples, bits, width);
+    if data_length % 2 == 1 {
+        out[end] = 0;
+    }
+}
+
+// Writes the header to the front of `out`.
+fn put_header(spec_ex: WavSpecEx, riff_size: u32, data_length: u32, out: &mut [u8])
+    requires writable { IsWritable spec_ex }
+    requires room { data_start spec_ex ≤ length out.old }
+    ensures { out.new ≡ header spec_ex riff_size data_length ++ drop (data_start spec_ex) out.old }
+{
+    let header = header_of(spec_ex, riff_size, data_length);
+    out[..header_length(spec_ex)].copy_from_slice(header.as_slice());
+}
+
+/// How many bytes so many samples take, and how many the file that has them after a header of
+/// this many.
+pub(crate) fn sizes_of(
+    spec_ex: WavSpecEx,
+    data_start: usize,
+    samples: u64,
+) -> Result<(u32, usize), Fault>
+    requires channels { 1 ≤ spec_ex.spec.channels }
+    requires width { 1 ≤ spec_ex.bytes_per_sample }
+    requires some { 8 ≤ data_start }
+    requires few { data_start ≤ 2 ^ 33 }
+    ensures data { IfOk result (λ r. r.0 ≡ samples * spec_ex.bytes_per_sample) }
+    ensures end { IfOk result (λ r. r.1 ≡ data_start + padded (samples * spec_ex.bytes_per_sample)) }
+    ensures fits { IfOk result (λ r. riff_size data_start (samples * spec_ex.bytes_per_sample) ≤ greatest_u32) }
+    ensures frames { IfOk result (λ r. samples % spec_ex.spec.channels ≡ 0) }
+    ensures refused { IfErr result (IsSizeFault spec_ex data_start samples) }
+{
+    if samples > u32::MAX as u64 {
+        return Err(Fault::TooLong);
+    }
+    let count = samples as u32;
+    if count % spec_ex.spec.channels as u32 != 0 {
+        return Err(Fault::UnfinishedFrame);
+    }
+    let data_length = count as u64 * spec_ex.bytes_per_sample as u64;
+    let end = data_start as u64 + data_length + data_length % 2;
+    if end - 8 > u32::MAX as u64 {
+        return Err(Fault::TooLong);
+    }
+    Ok((data_length as u32, end as usize))
+}
+
+/// How many bytes the file of so many samples has.
+pub fn file_size(spec: HoundSpec, samples: u64) -> Result<usize, Fault>
+    ensures sizes { Sizes (spec_from_c spec) samples result }
+    ensures small { IfOk result (λ n. n ≤ 2 ^ 33) }
+{
+    let spec_ex = spec_from_c(spec);
+    if !spec_ex.is_writable() {
+        return Err(Fault::NotWritable);
+    }
+    Ok(sizes_of(spec_ex, header_length(spec_ex), samples)?.1)
+}
+
+/// Writes the header of a file of so many samples to the front of `out`, and returns its length.
+pub fn write_header(spec: HoundSpec, samples: u64, out: &mut [u8]) -> Result<usize, Fault>
+    ensures gives { GivesHeader (spec_from_c spec) samples out.old out.new result }
+    ensures small { IfOk result (λ n. n ≤ 68) }
+{
+    let spec_ex = spec_from_c(spec);
+    if !spec_ex.is_writable() {
+        return Err(Fault::NotWritable);
+    }
+    let data_start = header_length(spec_ex);
+    let (data_length, size) = sizes_of(spec_ex, data_start, samples)?;
+    if data_start > out.len() {
+        return Err(Fault::NoRoom);
+    }
+    put_header(spec_ex, (size - 8) as u32, data_length, out);
+    Ok(data_start)
+}
+
+/// Writes the two sizes of a file of so many samples, whose data begin at a place, to the first eight
+/// bytes of `out`, and returns how many bytes that file has.
+pub fn write_sizes(
+    spec: HoundSpec,
+    data_start: u64,
+    samples: u64,
+    out: &mut [u8],
+) -> Result<usize, Fault>
+    ensures gives { GivesSizes (spec_from_c spec) data_start samples out.old out.new result }
+    ensures small { IfOk result (λ n. n ≤ 2 ^ 33) }
+{
+    let spec_ex = spec_from_c(spec);
+    let spec = spec_ex.spec;
+    if !is_pair(
+        spec.sample_format,
+        spec.bits_per_sample,
+        spec_ex.bytes_per_sample,
+    ) {
+        return Err(Fault::NotWritable);
+    }
+    if spec.channels == 0 || data_start < 20 {
+        return Err(Fault::NotWritable);
+    }
+    if data_start > u32::MAX as u64 + 8 {
+        return Err(Fault::TooLong);
+    }
+    if out.len() < 8 {
+        return Err(Fault::NoRoom);
+    }
+    let (data_length, size) = sizes_of(spec_ex, data_start as usize, samples)?;
+    out[..4].copy_from_slice(&le_u32((size - 8) as u32));
+    out[4..8].copy_from_slice(&le_u32(data_length));
+    Ok(size)
+}
+
+/// Writes the file of these samples to the front of `out`, and returns its length.
+pub fn write_file<S: Sample + Copy>(
+    spec: HoundSpec,
+    format: SampleFormat,
+    samples: &[S],
+    out: &mut [u8],
+) -> Result<usize, Fault>
+    ensures writes { WritesFile format S.container (spec_from_c spec) samples.now out.old out.new result }
+    ensures within { IfOk result (λ n. n ≤ length out.old) }
+{
+    let spec_ex = spec_from_c(spec);
+    if !spec_ex.is_writable() {
+        return Err(Fault::NotWritable);
+    }
+    if spec_ex.spec.sample_format != format {
+        return Err(Fault::OtherFormat);
+    }
+    let bits = spec_ex.spec.bits_per_sample;
+    let width = spec_ex.bytes_per_sample;
+    check_samples(samples, bits, width)?;
+    let data_start = header_length(spec_ex);
+    let (data_length, size) = sizes_of(spec_ex, data_start, samples.len() as u64)?;
+    if size > out.len() {
+        return Err(Fault::NoRoom);
+    }
+    put_header(spec_ex, (size - 8) as u32, data_length, out);
+    write_data_at(out, data_start, samples, bits, width, data_length);
+    Ok(size)
+}
+
+/// Encodes samples as containers of a spec, one after the other, and returns how many bytes.
+pub fn encode_block<S: Sample + Copy>(
+    spec: HoundSpec,
+    format: SampleFormat,
+    samples: &[S],
+    out: &mut [u8],
+) -> Result<usize, Fault>
+    ensures encodes { Encodes format S.container (spec_from_c spec) samples.now out.old out.new result }
+    ensures within { IfOk result (λ n. n ≤ length out.old) }
+{
+    let spec_ex = spec_from_c(spec);
+    if spec_ex.spec.sample_format != format {
+        return Err(Fault::OtherFormat);
+    }
+    let bits = spec_ex.spec.bits_per_sample;
+    let width = spec_ex.bytes_per_sample;
+    if !is_pair(spec_ex.spec.sample_format, bits, width) {
+        return Err(Fault::NotWritable);
+    }
+    check_samples(samples, bits, width)?;
+    if samples.len() > out.len() / width as usize {
+        return Err(Fault::NoRoom);
+    }
+    let end = samples.len() * width as usize;
+    store_containers(&mut out[..end], samples, bits, width);
+    Ok(end)
+}
