@@ -89,7 +89,7 @@ pub enum Case {
 
 impl Case {
     /// The case of this name: `open_mem`, or what is done, what the samples are, and where the file is, as
-    /// in `write_i16_stereo_file`.
+    /// in `write_i16_stereo_file` and `flush_i16_durable`.
     pub fn named(name: &str) -> Option<Case> {
         if name == "open_mem" {
             return Some(Case::Open);

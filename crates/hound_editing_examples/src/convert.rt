@@ -6,11 +6,13 @@
 ghost use Rattle.std.specs.Prelude.{◌<◌, ◌≤◌};
 
 use hound::{
-    FloatBits, SampleFormat, WavReader, WavSpec, WavSpecEx, WavWriter, change_bits, float_to_int,
+    FloatBits, Medium, SampleFormat, WavReader, WavSpec, WavSpecEx, WavWriter, change_bits,
+    float_to_int,
 };
-use std::env;
+use std::alloc::Global;
 use std::path::Path;
 use std::process::ExitCode;
+use std::{env, io};
 
 pub fn main(rt: HostRuntime) -> hound::Result<ExitCode> {
     let words: Vec<String> = env::args(&rt)?.collect(rt.alloc())?;
@@ -46,20 +48,26 @@ fn convert(
     from: Path<'_>,
     to: Path<'_>,
     bits: u16,
-) -> hound::Result<(u32, hound::Result<()>)>
-    requires some { 0 < bits }
-    requires most { bits ≤ 32 }
-{
+) -> hound::Result<(u32, hound::Result<()>)> {
     let mut reader = WavReader::open(rt, rt.alloc(), from)?;
-    let old = reader.spec();
     let new = converted(reader.spec_ex(), bits);
     let mut writer = WavWriter::create_with_spec_ex(rt, rt.alloc(), to, new)?;
+    let answer = copy(rt.alloc(), &mut reader, &mut writer)?;
+    writer.finalize()?;
+    Ok(answer)
+}
+
+fn copy<R: io::Read + Drop, W: Medium>(
+    alloc: Global,
+    reader: &mut WavReader<R>,
+    writer: &mut WavWriter<W>,
+) -> hound::Result<(u32, hound::Result<()>)> {
+    let (old, bits) = (reader.spec(), writer.spec().bits_per_sample.clamp(1, 32));
     let channels = usize::from(old.channels.max(1));
     let length = channels * (4096 / channels).max(1);
-    let mut block = vec![in rt.alloc(); 0i32; length]?;
-    let mut floats = vec![in rt.alloc(); FloatBits(0); length]?;
+    let mut block = vec![in alloc; 0i32; length]?;
+    let mut floats = vec![in alloc; FloatBits(0); length]?;
     let mut clipped = 0u32;
-    let mut end = Ok(());
     // Up to a block that isn't full, the last one. A `for` is known to end; a `loop` needs a proof.
     for _ in 0..u64::MAX {
         let (count, result) = match old.sample_format {
@@ -71,12 +79,10 @@ fn convert(
         clipped = clipped.saturating_add(convert_block(frames, &floats, old, bits));
         writer.write_samples(frames)?;
         if count < block.len() {
-            end = result;
-            break;
+            return Ok((clipped, result));
         }
     }
-    writer.finalize()?;
-    Ok((clipped, end))
+    Ok((clipped, Ok(())))
 }
 
 // The spec of the new file. The width of the containers stays where the bits do.

@@ -4,10 +4,11 @@
 // added to it: the sum of two random numbers, each as likely anywhere in one step of 16 bits (TPDF).
 // The error of rounding is then noise that doesn't depend on the music. The random numbers are those of
 // a linear congruential generator, the same at each run.
-use hound::{Error, SampleFormat, WavReader, WavSpec, WavWriter, change_bits};
-use std::env;
+use hound::{Error, Medium, SampleFormat, WavReader, WavSpec, WavWriter, change_bits};
+use std::alloc::Global;
 use std::path::Path;
 use std::process::ExitCode;
+use std::{env, io};
 
 pub fn main(rt: HostRuntime) -> hound::Result<ExitCode> {
     let words: Vec<String> = env::args(&rt)?.collect(rt.alloc())?;
@@ -45,7 +46,17 @@ fn dither(rt: &HostRuntime, from: Path<'_>, to: Path<'_>) -> hound::Result<u32> 
         ..old
     };
     let mut writer = WavWriter::create(rt, rt.alloc(), to, new)?;
-    let mut block = vec![in rt.alloc(); 0i32; 4096]?;
+    let clipped = copy(rt.alloc(), &mut reader, &mut writer)?;
+    writer.finalize()?;
+    Ok(clipped)
+}
+
+fn copy<R: io::Read + Drop, W: Medium>(
+    alloc: Global,
+    reader: &mut WavReader<R>,
+    writer: &mut WavWriter<W>,
+) -> hound::Result<u32> {
+    let mut block = vec![in alloc; 0i32; 4096]?;
     let mut random = Random { state: 1 };
     let mut clipped = 0u32;
     // Up to a block that isn't full, the last one. A `for` is known to end; a `loop` needs a proof.
@@ -58,7 +69,6 @@ fn dither(rt: &HostRuntime, from: Path<'_>, to: Path<'_>) -> hound::Result<u32> 
             break;
         }
     }
-    writer.finalize()?;
     Ok(clipped)
 }
 

@@ -2,7 +2,7 @@
 //
 // It prints how many samples were clipped: `1 samples clipped`. Where one file is shorter, silence follows
 // it.
-use hound::{Error, Medium, WavReader, WavWriter};
+use hound::{Error, Medium, WavIntoSamples, WavReader, WavWriter};
 use std::path::Path;
 use std::process::ExitCode;
 use std::{env, io};
@@ -44,6 +44,14 @@ fn mix(rt: &HostRuntime, one: Path<'_>, other: Path<'_>, to: Path<'_>) -> hound:
     Ok(clipped)
 }
 
+// The next sample, or silence after the last one.
+fn next<R: io::Read + Drop>(samples: &mut WavIntoSamples<R, i32>) -> hound::Result<i32> {
+    match samples.next() {
+        Some(sample) => sample,
+        None => Ok(0),
+    }
+}
+
 fn add<R: io::Read + Drop, W: Medium>(
     one: WavReader<R>,
     other: WavReader<R>,
@@ -54,7 +62,7 @@ fn add<R: io::Read + Drop, W: Medium>(
     let (mut one, mut other) = (one.into_samples::<i32>(), other.into_samples::<i32>());
     let mut clipped = 0u32;
     for _ in 0..length {
-        let (a, b) = (one.next().unwrap_or(Ok(0))?, other.next().unwrap_or(Ok(0))?);
+        let (a, b) = (next(&mut one)?, next(&mut other)?);
         let sample = a.saturating_add(b).min(largest).max(!largest);
         clipped = clipped.saturating_add(u32::from(sample != a.wrapping_add(b)));
         writer.write_sample(sample)?;

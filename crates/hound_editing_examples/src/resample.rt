@@ -30,17 +30,13 @@ fn usage(rt: &HostRuntime) -> hound::Result<ExitCode> {
 }
 
 fn resample(rt: &HostRuntime, from: Path<'_>, to: Path<'_>, rate: u32) -> hound::Result<()> {
-    let mut reader = WavReader::open(rt, rt.alloc(), from)?;
-    let old = reader.spec();
-    let mut samples = vec![in rt.alloc(); 0i32; reader.len() as usize]?;
-    let (_, result) = reader.read_samples(&mut samples);
-    result?;
+    let (old, duration, samples) = load(rt, from)?;
     let new = WavSpec {
         sample_rate: rate,
         ..old
     };
     let mut writer = WavWriter::create(rt, rt.alloc(), to, new)?;
-    let frames = u64::from(reader.duration()) * u64::from(rate);
+    let frames = u64::from(duration) * u64::from(rate);
     for time in 0..frames / u64::from(old.sample_rate.max(1)) {
         let at = time.wrapping_mul(u64::from(old.sample_rate));
         let part = nearest_u64_to_f64(at % u64::from(rate.max(1))) / f64::from(rate);
@@ -48,6 +44,15 @@ fn resample(rt: &HostRuntime, from: Path<'_>, to: Path<'_>, rate: u32) -> hound:
         write_frame(&mut writer, &samples, frame, part)?;
     }
     writer.finalize()
+}
+
+// The spec of a file, how many frames it has, and its samples.
+fn load(rt: &HostRuntime, path: Path<'_>) -> hound::Result<(WavSpec, u32, Vec<i32>)> {
+    let mut reader = WavReader::open(rt, rt.alloc(), path)?;
+    let mut samples = vec![in rt.alloc(); 0i32; reader.len() as usize]?;
+    let (_, result) = reader.read_samples(&mut samples);
+    result?;
+    Ok((reader.spec(), reader.duration(), samples))
 }
 
 // Writes the frame that is so far from one frame to the next; after the last one comes silence.

@@ -13,7 +13,14 @@ pub fn main(rt: HostRuntime) -> hound::Result<ExitCode> {
         eprintln!(rt; "usage: mulaw FILE")?;
         return Ok(ExitCode::from(2));
     };
-    let mut reader = WavReader::open(&rt, rt.alloc(), Path::new(file.as_str()))?;
+    let (largest, mean) = measure(&rt, Path::new(file.as_str()))?;
+    println!(rt; "largest error {largest}, mean error {mean:.3}")?;
+    Ok(ExitCode::SUCCESS)
+}
+
+// The largest error, and the mean.
+fn measure(rt: &HostRuntime, path: Path<'_>) -> hound::Result<(u16, f64)> {
+    let mut reader = WavReader::open(rt, rt.alloc(), path)?;
     let mut largest = 0u16;
     let mut sum = 0f64;
     for sample in reader.samples::<i16>() {
@@ -22,9 +29,7 @@ pub fn main(rt: HostRuntime) -> hound::Result<ExitCode> {
         largest = largest.max(error);
         sum += f64::from(error);
     }
-    let mean = sum / f64::from(reader.len().max(1));
-    println!(rt; "largest error {largest}, mean error {mean:.3}")?;
-    Ok(ExitCode::SUCCESS)
+    Ok((largest, sum / f64::from(reader.len().max(1))))
 }
 
 // What is added to a magnitude of thirteen bits, and the largest sum.

@@ -100,23 +100,46 @@ fn record<W: Medium>(
     // Up to a block that isn't full, the last one. A `for` is known to end; a `loop` needs a proof.
     for _ in 0..u64::MAX {
         let count = read(&mut input, spec.spec.bits_per_sample, &mut block)?;
-        let frames = &block[..count - count % channels];
-        if writer.write_samples(frames).is_err() {
-            println!(rt; "lost {} samples after {}", frames.len(), writer.len())?;
-            is_whole = false;
-        }
+        is_whole &= write(rt, &mut writer, &block[..count - count % channels])?;
         if count < block.len() {
             break;
         }
-        match writer.flush() {
-            Ok(()) => println!(rt; "{}", writer.len())?,
-            Err(_) => is_whole = false,
-        }
+        is_whole &= checkpoint(rt, &mut writer)?;
     }
+    finish(rt, writer, is_whole)
+}
+
+// Writes frames, or prints that they are lost.
+fn write<W: Medium>(
+    rt: &HostRuntime,
+    writer: &mut WavWriter<W>,
+    frames: &[i32],
+) -> hound::Result<bool> {
+    if writer.write_samples(frames).is_ok() {
+        return Ok(true);
+    }
+    println!(rt; "lost {} samples after {}", frames.len(), writer.len())?;
+    Ok(false)
+}
+
+// Makes a checkpoint, and prints how many samples the file then has.
+fn checkpoint<W: Medium>(rt: &HostRuntime, writer: &mut WavWriter<W>) -> hound::Result<bool> {
+    if writer.flush().is_err() {
+        return Ok(false);
+    }
+    println!(rt; "{}", writer.len())?;
+    Ok(true)
+}
+
+fn finish<W: Medium>(
+    rt: &HostRuntime,
+    writer: WavWriter<W>,
+    is_whole: bool,
+) -> hound::Result<bool> {
     let count = writer.len();
-    is_whole = writer.finalize().is_ok() && is_whole;
+    let is_finalized = writer.finalize().is_ok();
     println!(rt; "recorded {count} samples")?;
-    Ok(is_whole)
+    Ok(is_whole && is_finalized)
 }
 
 // Fills a block with samples of so many bits, up to the end of the input: how many there were.

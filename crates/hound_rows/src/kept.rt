@@ -4,8 +4,8 @@ ghost use Rattle.std.specs.Prelude.{◌≡◌, ◌≤◌};
 use crate::media::{set_faults, show_contents, show_counts};
 use crate::moments::show_moments;
 use hound::{Medium, Placed, Source, Tape};
-use hound_row::recorded::{Call, Recorded};
-use hound_row::row::Row;
+use hound_row_helpers::recorded::{Call, Recorded};
+use hound_row_helpers::row::Row;
 
 // For more calls only the number is shown.
 const MOST_CALLS: usize = 40;

@@ -17,7 +17,7 @@ mod tool;
 mod values;
 mod writers;
 
-use hound_row::row::Row;
+use hound_row_helpers::row::Row;
 use std::io;
 use std::io::{BufWriter, ErrorKind, Write};
 use std::process::ExitCode;

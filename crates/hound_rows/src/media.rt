@@ -2,7 +2,7 @@
 ghost use Rattle.std.specs.Prelude.{◌≡◌, ◌≤◌};
 
 use hound::{Error, Journal, Medium, Source, Tape};
-use hound_row::row::{Row, find, name_and_value};
+use hound_row_helpers::row::{Row, find, name_and_value};
 use std::io;
 
 // The most bytes that a row reads at once.

@@ -3,8 +3,8 @@ use crate::media::bytes_after;
 use crate::readers::{Sum, left};
 use crate::repairs::repaired;
 use hound::{Error, FloatBits, Journal, SampleFormat, Tape, WavReader};
-use hound_row::line::Line;
-use hound_row::row::Row;
+use hound_row_helpers::line::Line;
+use hound_row_helpers::row::Row;
 
 /// Shows what the file is after each byte from this one on, as it is or once it is repaired, if
 /// that differs from what it was before.

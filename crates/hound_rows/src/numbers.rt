@@ -5,9 +5,9 @@ use hound_number::{
     ReadError, i16_from_le, i24_from_le, i32_from_le, le_i16, le_i32, le_u16, le_u32, read_into,
     signed_from_u8, u8_from_signed, u16_at, u32_at, write_bytes,
 };
-use hound_row::feed::Feed;
-use hound_row::row::Row;
-use hound_row::sink::Sink;
+use hound_row_helpers::feed::Feed;
+use hound_row_helpers::row::Row;
+use hound_row_helpers::sink::Sink;
 
 /// `le TYPE VALUE`
 pub fn le(row: &mut Row, words: &[&str]) {

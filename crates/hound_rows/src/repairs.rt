@@ -1,7 +1,7 @@
 // Rows of repairs.
 use hound::{Repair, RepairState, Tape, find_damage, repair, repair_to_end};
-use hound_row::row::{Row, find};
-use hound_row::sweep::Sweep;
+use hound_row_helpers::row::{Row, find};
+use hound_row_helpers::sweep::Sweep;
 
 /// `repair HOW BYTES`, or with the option `cuts` a sweep of such rows, a row for each beginning of
 /// the bytes.

@@ -3,7 +3,7 @@ ghost use Rattle.std.specs.Prelude.{◌<◌, ◌≤◌};
 
 use crate::values::Value;
 use hound::{FloatBits, change_bits, float_to_int, int_to_float};
-use hound_row::row::Row;
+use hound_row_helpers::row::Row;
 
 /// `to_float VALUE BITS`, `to_int PATTERN BITS` and `change VALUE OLD_BITS NEW_BITS`
 pub fn answer(row: &mut Row, name: &str, words: &[&str]) {

@@ -6,9 +6,9 @@ use crate::kept::{Kept, recorded_of, tape_of};
 use crate::values::Value;
 use crate::writers::is_finalized;
 use hound::{Begin, End, FloatBits, Result, Step, WavSpecEx, run_session, run_sessions};
-use hound_row::counting::Counted;
-use hound_row::row::{Row, find, name_and_value, parts};
-use hound_row::sweep::Sweep;
+use hound_row_helpers::counting::Counted;
+use hound_row_helpers::row::{Row, find, name_and_value, parts};
+use hound_row_helpers::sweep::Sweep;
 use hound_spec::header_of;
 
 // How many of the steps that aren't marked are listed.

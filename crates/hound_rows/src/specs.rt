@@ -2,7 +2,7 @@
 ghost use Rattle.std.specs.Prelude.{◌≡◌};
 
 use hound::{Error, SampleFormat, WavSpec, WavSpecEx};
-use hound_row::row::Row;
+use hound_row_helpers::row::Row;
 use hound_spec::header_of;
 
 /// `writable SPEC`

@@ -1,7 +1,7 @@
 // Rows of the program.
 use hound_commands::run;
-use hound_row::feed::Feed;
-use hound_row::row::{Row, parts};
+use hound_row_helpers::feed::Feed;
+use hound_row_helpers::row::{Row, parts};
 use std::io;
 use std::io::ErrorKind;
 

@@ -1,7 +1,7 @@
 // The types of samples in rows.
 use hound::{FloatBits, Sample};
-use hound_row::line::Line;
-use hound_row::row::Row;
+use hound_row_helpers::line::Line;
+use hound_row_helpers::row::Row;
 use hound_types::Twelve;
 
 /// A type of samples.

@@ -9,9 +9,9 @@ use crate::values::{Kind, Value, at_type};
 use hound::{
     Begin, Error, FloatBits, Medium, Result, SampleFormat, SampleWriter16, Source, WavWriter,
 };
-use hound_row::counting::Counted;
-use hound_row::row::{Row, find, name_and_value, parts};
-use hound_row::sweep::Sweep;
+use hound_row_helpers::counting::Counted;
+use hound_row_helpers::row::{Row, find, name_and_value, parts};
+use hound_row_helpers::sweep::Sweep;
 use hound_types::Twelve;
 use std::result;
 

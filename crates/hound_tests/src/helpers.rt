@@ -107,8 +107,7 @@ pub fn read_all<S: Sample, R: io::Read + Drop>(
 ) -> hound::Result<Vec<S>> {
     let mut samples = Vec::new(alloc);
     for sample in reader.into_samples::<S>() {
-        let sample = sample?;
-        samples.push(sample).map_err(|_| Error::OutOfMemory)?;
+        samples.push(sample?)?;
     }
     Ok(samples)
 }
