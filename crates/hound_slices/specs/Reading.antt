@@ -2,7 +2,7 @@
 use Rattle.std.specs.Prelude.{◌≡◌, ℕ, ◌+◌, ◌-◌, ◌*◌, ◌/◌, ◌<◌, ◌≤◌, min, List, length, take, drop, map, Option, None, Some, Result, Ok, Err}
 use Rattle.hound_spec.specs.declared.spec.SampleFormat.{SampleFormat}
 use Rattle.hound_spec.specs.declared.spec.WavSpecEx.{WavSpecEx}
-use Rattle.hound_sample.specs.{containers, ReadRefusal, Refusal, other_format, misfit, too_wide, unsupported}
+use Rattle.hound_sample.specs.{containers, ReadRefusal, other_format, misfit, too_wide, unsupported}
 use Rattle.hound_reader.specs.{refusal_at, meaning_at}
 use Rattle.hound_walk.specs.{Readable, Unreadable}
 use Rattle.hound_slices.specs.declared.fault.Fault.{Fault}
