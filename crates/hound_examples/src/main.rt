@@ -1,22 +1,13 @@
-//! Examples of what the library is used for, a page each, to be copied into `src/main.rt` of a crate
-//! of one's own (whose first line is `#![tactic(auto)]`). This program has all of them: the name that
-//! it is called by, as `sine` by a link, says which runs.
+//! The examples of `hound_file_examples` and `hound_editing_examples`, as one program: the name that it
+//! is called by, as `sine` by a link, says which runs.
 #![tactic(auto)]
 
-mod append;
-mod faulty;
-mod floats;
-mod info;
-mod levels;
-mod memory;
-mod mend;
-mod mulaw;
-mod pipe;
-mod record;
-mod sine;
-mod stream;
-mod tone;
-
+use hound_editing_examples::{
+    convert, dither, join, merge, mix, normalize, resample, reverse, silences, split,
+};
+use hound_file_examples::{
+    append, faulty, floats, info, levels, memory, mend, mulaw, pipe, record, sine, stream, tone,
+};
 use std::env;
 use std::process::ExitCode;
 
@@ -26,21 +17,32 @@ fn main(rt: HostRuntime) -> hound::Result<ExitCode> {
     };
     match file_name(program.as_str()) {
         "append" => append::main(rt),
+        "convert" => convert::main(rt),
+        "dither" => dither::main(rt),
         "faulty" => faulty::main(rt),
         "floats" => floats::main(rt),
         "info" => info::main(rt),
+        "join" => join::main(rt),
         "levels" => levels::main(rt),
         "memory" => memory::main(rt),
         "mend" => mend::main(rt),
+        "merge" => merge::main(rt),
+        "mix" => mix::main(rt),
         "mulaw" => mulaw::main(rt),
+        "normalize" => normalize::main(rt),
         "pipe" => pipe::main(rt),
         "record" => record::main(rt),
+        "resample" => resample::main(rt),
+        "reverse" => reverse::main(rt),
+        "silences" => silences::main(rt),
         "sine" => sine::main(rt),
+        "split" => split::main(rt),
         "stream" => stream::main(rt),
         "tone" => tone::main(rt),
         _ => {
             println!(rt;
-                "append faulty floats info levels memory mend mulaw pipe record sine stream tone"
+                "append convert dither faulty floats info join levels memory mend merge mix mulaw \
+                 normalize pipe record resample reverse silences sine split stream tone"
             )?;
             Ok(ExitCode::SUCCESS)
         }
