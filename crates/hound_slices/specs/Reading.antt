@@ -2,7 +2,7 @@
 use Rattle.std.specs.Prelude.{◌≡◌, ℕ, ◌+◌, ◌-◌, ◌*◌, ◌/◌, ◌<◌, ◌≤◌, min, List, length, take, drop, map, Option, None, Some, Result, Ok, Err}
 use Rattle.hound_spec.specs.declared.spec.SampleFormat.{SampleFormat}
 use Rattle.hound_spec.specs.declared.spec.WavSpecEx.{WavSpecEx}
-use Rattle.hound_sample.specs.{containers, ReadRefusal, Refusal, other_format, misfit, too_wide, unsupported}
+use Rattle.hound_sample.specs.{containers, ReadRefusal, other_format, misfit, too_wide, unsupported}
 use Rattle.hound_reader.specs.{Readable, Unreadable, refusal_at, meaning_at}
 use Rattle.hound_slices.specs.declared.fault.Fault.{Fault}
 use Rattle.hound_slices.specs.declared.fault.Fault.TheVariants.{Head, OtherFormat, TooWide, NotWritable, Truncated}
