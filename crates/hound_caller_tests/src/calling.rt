@@ -4,7 +4,7 @@ use hound_callers::{
     open_written, publish, read_block, read_from, record_at_once, record_checkpoint, reopen,
     sample_at, samples_of,
 };
-use hound_tests::helpers::{FOUR_SAMPLES, NO_SAMPLES, empty_tape, sixteen, tape_of};
+use hound_test_helpers::{FOUR_SAMPLES, NO_SAMPLES, empty_tape, sixteen, tape_of};
 use std::test::Fail;
 
 // Stereo, 44100 Hz, 16 bits: 2, -3, 5, -7.

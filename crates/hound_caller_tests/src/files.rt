@@ -5,7 +5,7 @@ use hound::{
 };
 use hound_callers::record_and_read;
 use hound_commands::run_append;
-use hound_tests::helpers::{
+use hound_test_helpers::{
     FOUR_SAMPLES, NO_SAMPLES, answer_of, integers, read_all, seeks_everywhere, sixteen, write_all,
 };
 use std::io::ErrorKind;

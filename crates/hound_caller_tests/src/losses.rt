@@ -2,7 +2,7 @@
 // fail from then on; of what was written since the last flush any sector may be saved or lost.
 use hound::{Begin, Durable, End, Journal, Medium, Step, Tape, WavReader, run_durable_session};
 use hound_callers::repair_recording;
-use hound_tests::helpers::integers;
+use hound_test_helpers::integers;
 use std::alloc::Global;
 use std::test::Fail;
 

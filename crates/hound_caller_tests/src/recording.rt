@@ -6,7 +6,7 @@ use hound_callers::{
     record_safely, record_steps, record_twelve, record_twelve_and_repair,
     record_twelve_through_a_loss, write_if_short,
 };
-use hound_tests::helpers::{FOUR_SAMPLES, empty_tape, integers, read_all, sixteen, tape_of};
+use hound_test_helpers::{FOUR_SAMPLES, empty_tape, integers, read_all, sixteen, tape_of};
 use hound_types::Twelve;
 use std::alloc::Global;
 use std::test::Fail;

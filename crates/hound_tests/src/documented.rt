@@ -1,11 +1,11 @@
 // The examples of the public items' documentation, each run: scripts/check_docs looks that each of
 // them is here.
-use crate::helpers::{FOUR_SAMPLES, sixteen, tape_of};
 use hound::{
     Begin, End, FloatBits, Journal, RepairState, SampleFormat, Step, Tape, WavReader, WavSpec,
     WavSpecEx, WavWriter, change_bits, float_to_int, int_to_float, repair, run_session,
     run_sessions,
 };
+use hound_test_helpers::{FOUR_SAMPLES, sixteen, tape_of};
 use std::alloc::Global;
 use std::io::Cursor;
 use std::test::Fail;

@@ -1,6 +1,6 @@
 // A whole run over a medium that is flushed before each step back.
-use crate::helpers::{FOUR_SAMPLES, integers};
 use hound::{Begin, End, Journal, Step, run_durable_session};
+use hound_test_helpers::{FOUR_SAMPLES, integers};
 use std::test::Fail;
 
 #[test]

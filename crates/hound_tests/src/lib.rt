@@ -1,6 +1,5 @@
 //! Tests over the public items of `hound`, for what its rows (`hound_rows`) can't do: allocations that
-//! fail, the words that clauses import, and the examples of the documentation. `helpers` serves
-//! `hound_caller_tests` too.
+//! fail, the words that clauses import, and the examples of the documentation.
 #![tactic(auto)]
 
 #[cfg(test)]
@@ -9,7 +8,6 @@ mod answers;
 mod documented;
 #[cfg(test)]
 mod durable;
-pub mod helpers;
 #[cfg(test)]
 mod memory;
 #[cfg(test)]

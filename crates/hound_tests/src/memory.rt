@@ -1,10 +1,10 @@
 // Calls whose allocations fail, each in turn: all memory is taken by blocks that stay untouched,
 // except for one block, and freed before anything is compared.
-use crate::helpers::{FOUR_SAMPLES, empty_tape, integers, sixteen, tape_of, write_up};
 use hound::{
     Begin, End, Error, Journal, Medium, Placed, SampleFormat, Step, Tape, WavReader, WavWriter,
     run_session,
 };
+use hound_test_helpers::{FOUR_SAMPLES, empty_tape, integers, sixteen, tape_of, write_up};
 use std::alloc::Global;
 use std::io::ErrorKind;
 use std::path::{Path, PathBuf};

@@ -1,6 +1,6 @@
 use Rattle.std.proofs.Common.{◌≡◌}
 use Rattle.hound.specs.{batch_writer, batch_lender}
-use Rattle.hound_tests.proofs.helpers.write_up.Given as goal
+use Rattle.hound_test_helpers.proofs.write_up.Given as goal
 
 abbrev pub invariant-loop : goal.invariant-loop
 invariant-loop g l =

@@ -1,4 +1,6 @@
-// What the modules of tests share: specs, files in memory, and the names of results.
+//! What tests share: specs, files in memory, and the names of results.
+#![tactic(auto)]
+
 ghost use Rattle.std.specs.Prelude.{◌≡◌, IfOk};
 ghost use Rattle.hound.specs.{IsSixteen, MediumState};
 ghost use Rattle.hound.specs.declared.SampleFormat.TheVariants.{Int};
