@@ -51,12 +51,14 @@
 //! Writing:
 //!
 //! - A pad byte, which the RIFF size counts, follows odd data.
-//! - Up to 4096 samples are buffered. A fault is reported by the call that meets it; the samples that were
-//!   accepted stay in the buffer, and the next call writes them at their place. So there is no call for each
-//!   sample, and `flush` or `finalize` is needed before the writer is looked at.
+//! - Up to 4096 samples are buffered, and 64 KiB more by [`WavWriter::create`], `append` and `create_durable`: a
+//!   program that is killed loses what came after its last `flush`, as far as it was there. A fault is reported
+//!   by the call that meets it; the samples that were accepted stay in the buffer, and the next call writes
+//!   them at their place. Where a disk is full, repeat `flush` once there is room, before `finalize`.
 //! - After a write that failed, a part of the samples that were rejected with it may stay after the data. Readers
 //!   don't count them, as with hound, but [`repair_file`] takes them for samples.
-//! - `flush` in an unfinished frame stores all samples, then it returns `UnfinishedSample`.
+//! - `flush` in an unfinished frame stores all samples, then it returns `UnfinishedSample`. Readers reject the
+//!   file until the frame is finished and flushed, or [`repair_file`] ran, also after a writer is dropped there.
 //! - A file that its sizes can't count, which hound makes with wrong sizes, is an `IoError`.
 //! - A spec that can't be written is `Unsupported`, and nothing is written: hound panics, or writes wrong
 //!   headers.

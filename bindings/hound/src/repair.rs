@@ -5,7 +5,7 @@ use std::io::{Seek, SeekFrom, Write};
 use std::{fs, path};
 
 /// What a file holds (own).
-#[derive(Clone, Copy)]
+#[derive(Clone, Copy, Debug, PartialEq, Eq)]
 pub struct Repair {
     /// The spec, and the width of the containers.
     pub spec_ex: WavSpecEx,

@@ -15,7 +15,7 @@ pub struct WavSpec {
 }
 
 /// The same with the width of containers.
-#[derive(Clone, Copy)]
+#[derive(Clone, Copy, Debug, PartialEq, Eq)]
 pub struct WavSpecEx {
     /// The spec.
     pub spec: WavSpec,

@@ -264,6 +264,9 @@ impl<W: Write + Seek> Drop for WavWriter<W> {
 impl<W: Read + Write + Seek> WavWriter<W> {
     /// Appends to a file, of which the writer has to be at the beginning: the next sample follows those
     /// that its header counts. A fact chunk stays as it is.
+    ///
+    /// Of a recording that was cut off, the samples that the header doesn't count are overwritten, without an
+    /// error: call [`repair_file`](crate::repair_file) first.
     pub fn new_append(mut writer: W) -> Result<WavWriter<W>> {
         let info = Walk::over(&mut writer)??;
         let recorder = Recorder::append(&info)?;
@@ -279,7 +282,8 @@ impl WavWriter<io::BufWriter<fs::File>> {
         WavWriter::new(io::BufWriter::with_capacity(16 * BLOCK, fs::File::create(filename)?), spec)
     }
 
-    /// Appends to a file as `new_append` does.
+    /// Appends to a file as `new_append` does: call [`repair_file`](crate::repair_file) first if its recording
+    /// was cut off.
     pub fn append<P: AsRef<path::Path>>(filename: P) -> Result<WavWriter<io::BufWriter<fs::File>>> {
         let mut reader = io::BufReader::new(fs::OpenOptions::new().read(true).write(true).open(filename)?);
         let info = Walk::over(&mut reader)??;

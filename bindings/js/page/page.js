@@ -7,13 +7,22 @@ const [drop, said, busy, stop, result, save, choice, end, wave, place, axis, zoo
 const [input, audio, canvas, progress] = ["input", "audio", "canvas", "progress"].map((name) => document.querySelector(name));
 
 // What is said of a file that can't be read, where hound.h's sentence is too short for somebody who knows no format.
+const RAW = "an audio editor can import it as raw data, if you know its rate, channels and bits";
+const LOST = `Where its sound begins wasn't found, but sound may be in it. Keep the file: ${RAW}.`;
+const READS = "This page reads integers of 8, 16, 24 and 32 bits, and floats of 32 bits.";
 const HINTS = {
-  ENDED: "It is too short: even its header isn't whole, so no recording is in it.",
-  NO_RIFF_TAG: "It is no WAV file, or its beginning was overwritten.",
+  ENDED: LOST,
+  NO_DATA_CHUNK: LOST,
+  NO_FMT_CHUNK: LOST,
+  NO_RIFF_TAG: `It is no WAV file, or its beginning was lost: then ${RAW}.`,
   NO_WAVE_TAG: "It is a RIFF file, but no WAV file.",
   UNSUPPORTED: "Its sound is compressed; this page reads plain samples only.",
-  NOT_WRITABLE: "This page reads integers of 8, 16, 24 and 32 bits, and floats of 32 bits.",
+  NOT_WRITABLE: READS,
+  BITS_NOT_32: READS,
 };
+// The same by the first four bytes of a file without a RIFF tag.
+const LARGE = "It is a WAV file for more than 4 GiB, which this page doesn't read.";
+const TAGS = { RF64: LARGE, BW64: LARGE, RIFX: "It is a WAV file with its bytes in the other order, which this page doesn't read." };
 // How many samples are read at once to be drawn, how many channels are drawn at most, how many frames are shown at least,
 // and how many samples a copy has at most.
 const AT_ONCE = 1 << 20, LANES = 32, LEAST = 64, COPIED = 1 << 28;
@@ -32,22 +41,31 @@ function say(text, kind = "") {
   said.className = kind;
 }
 
-function failure(file, error) {
-  if (error instanceof HoundError) return `${file.name} can't be read: ${error.message}.\n${HINTS[error.code] ?? ""}`;
+/** Why a file can't be read; `tag` is its first four bytes, if they are known. */
+function failure(file, error, tag = "") {
+  const hint = error.code === "ENDED" && file.size < 64 ? "It ends before any sound." : TAGS[tag] ?? HINTS[error.code] ?? "";
+  if (error instanceof HoundError) return `${file.name} can't be read: ${error.message}.\n${hint}`;
   if (error instanceof RangeError) return `${file.name} is too large for this browser: it has ${number(file.size)} bytes.`;
   return `${file.name} could not be read: ${error.message}`;
 }
 
 const lengthOfTime = ({ frames, sampleRate }) => sampleRate ? frames / sampleRate : 0;
 
-/** What is said of a file that was looked at, and repaired to its end if that was asked for. */
-function verdict(found, toEnd) {
+/** What is said of a file that was looked at, and repaired to its end if that was asked for; `riff` is its length as it
+    says it at byte 4. */
+function verdict(found, toEnd, riff) {
   const { state, frames, leftOver } = found;
   if (state === "whole") return ["The file is whole: both of its sizes are right. There is nothing to repair.", "good"];
-  if (state === "hasChunksAfterData") return ["Chunks or a tag follow the sound, as programs write them. There is nothing to repair.", "good"];
-  const left = leftOver ? ` ${counted(leftOver, "byte")} of a torn frame ${leftOver === 1 ? "is" : "are"} left over.` : "";
+  if (state === "hasChunksAfterData") {
+    const follow = "Other data follow the sound, as a title or markers (chunks or a tag).";
+    if (riff === 0 || riff === 0xffffffff) return [`${follow} The sound is whole, but the length at byte 4 is wrong: programs that reject the file for it need it exported anew.`, "cut"];
+    return [`${follow} There is nothing to repair.`, "good"];
+  }
+  if (frames === 0) return ["The file has a header and no sound: nothing can be brought back from it.", "bad"];
+  const left = leftOver ? ` Of one more frame only ${counted(leftOver, "byte")} ${leftOver === 1 ? "is" : "are"} there.` : "";
   const cause = toEnd ? "All bytes up to the end are taken for sound." : "The recording was cut off.";
-  return [`${cause} ${counted(frames, "frame")} (${time(lengthOfTime(found))}) come${frames === 1 ? "s" : ""} back.${left}`, "cut"];
+  const back = `${counted(frames, "frame")} (${time(lengthOfTime(found))}) come${frames === 1 ? "s" : ""} back.${left}`;
+  return [`${cause} ${back}\nListen to its end: some recorders leave silence or older sound there.`, "cut"];
 }
 
 /** The second choice where chunks or a tag follow the sound: what it is, and its button. */
@@ -254,7 +272,7 @@ async function open(file, toEnd = false) {
     showRows(rows(file, head, found));
     result.hidden = false;
     play(found, isCurrent);
-    if (found.state === "cutOff") {
+    if (found.state === "cutOff" && found.frames) {
       const name = file.name.replace(/(\.wave?)?$/i, " repaired.wav");
       Object.assign(save, { href: urls[0], hidden: false, download: name, textContent: `Save the repaired file as ${name}` });
     }
@@ -263,14 +281,15 @@ async function open(file, toEnd = false) {
       end.onclick = () => open(file, !toEnd);
       choice.hidden = false;
     }
-    say(...verdict(found, toEnd));
+    say(...verdict(found, toEnd, new DataView(await file.slice(4, 8).arrayBuffer()).getUint32(0, true)));
     zoom.hidden = found.frames <= LEAST;
     shown = { file, found };
     await look(0, found.frames);
     if (isCurrent()) said.dataset.done = mine;
   } catch (error) {
+    const tag = await file.slice(0, 4).text().catch(() => "");
     if (!isCurrent()) return;
-    say(failure(file, error), "bad");
+    say(failure(file, error, tag), "bad");
     said.dataset.done = mine;
   }
 }
