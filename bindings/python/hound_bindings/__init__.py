@@ -1,6 +1,6 @@
 """WAV files, read, written, appended to and repaired by proved code.
 
-A file is a path or its bytes. Samples are interleaved: `array.array`s, or anything with a buffer, such
+A file is a path; `info`, `read` and `read_into` take its bytes, too. Samples are interleaved: `array.array`s, or anything with a buffer, such
 as a numpy array; two dimensions are frames by channels. No other process may change a file during a
 call.
 """
@@ -17,7 +17,7 @@ import shutil
 import sys
 from typing import Any, BinaryIO, Iterator, List, NamedTuple, Optional, Tuple, Union
 
-__all__ = ["Cause", "HoundError", "Info", "Reader", "Repair", "State", "Writer", "append", "append_to", "create", "info", "open", "read", "read_into", "repair", "to_bytes", "write"]
+__all__ = ["Cause", "HoundError", "Info", "Reader", "Repair", "State", "Writer", "append", "append_to", "create", "find_damage", "info", "open", "read", "read_into", "repair", "to_bytes", "write"]
 
 Path = Union[str, "os.PathLike[str]"]
 File = Union[Path, bytes, bytearray, memoryview, mmap.mmap]
@@ -135,6 +135,7 @@ def _function(name: str, *arguments: Any, result: Any = _I64) -> Any:
 
 
 _info = _function("info", _POINTER, _SIZE, _POINTER, result=ctypes.c_int32)
+_find_damage = _function("find_damage", _POINTER, _SIZE, _POINTER, result=ctypes.c_int32)
 _size = _function("size", _POINTER, _U64)
 _repair, _repair_to_end = (_function(name, _POINTER, _SIZE, _SIZE, _POINTER) for name in ("repair", "repair_to_end"))
 _read = {t: _function("read_" + t, _POINTER, _SIZE, _U64, _POINTER, _SIZE) for t in ("i16", "i32", "f32")}
@@ -561,8 +562,17 @@ def _repaired(call: Any, start: Any, used: int, room: int) -> Tuple[Repair, int,
     return report, size, _copy(start, _info_of(start, size).data_start) if changed else b""
 
 
+def find_damage(path: Path) -> Repair:
+    """Returns what `repair` would, and writes nothing."""
+    found = _Repair()
+    with io.open(path, "rb") as file, _mapped(file.fileno()) as (start, used):
+        _checked(_find_damage(start, used, ctypes.byref(found)))
+    return Repair(State(found.state), found.frames, found.left_over)
+
+
 def repair(path: Path, durable: bool = False, to_end: bool = False) -> Repair:
-    """Repairs a file whose recording was cut off, and says how it was found.
+    """Repairs a file whose recording was cut off, in place, and says how it was found. Copy it first if it
+    is the only one: some recorders leave older sound at the end, which then counts.
 
     It writes the two sizes, and then a missing pad byte; with `durable` it syncs before and after the
     sizes. A file that is whole, or that chunks follow, is only read; with `to_end` all that follows the

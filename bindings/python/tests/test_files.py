@@ -108,6 +108,8 @@ class Files(unittest.TestCase):
         with open(self.path, "wb") as disk:
             disk.write(file[:101])
         self.fails(Cause.TRUNCATED, lambda: hound.read_into(self.path, array.array("h", [0, 0]), 40))
+        self.assertEqual(hound.find_damage(self.path), (State.CUT_OFF, 14, 1))
+        self.assert_file(file[:101])
         self.assertEqual(hound.repair(self.path), (State.CUT_OFF, 14, 1))
         self.assertEqual(list(hound.read(self.path)), list(range(28)))
         self.assertEqual(hound.repair(self.path)[:2], (State.WHOLE, 14))
