@@ -178,8 +178,9 @@ int64_t hound_append_i32(uint8_t *file, size_t capacity, size_t used, const int3
 int64_t hound_append_f32(uint8_t *file, size_t capacity, size_t used, const float *samples, size_t count) HOUND_NONNULL;
 
 /* Repairs the file in the first `used` bytes, and returns its length: where its recording was cut off,
-   both sizes become those of the whole frames that it holds. The length is one more where a pad byte
-   was missing. Where chunks follow the data, or both sizes are right, nothing is written. */
+   both sizes become those of the whole frames that it holds. Where a pad byte is missing, which needs a
+   capacity of one byte more, the length is one more. Where chunks follow data of the right length, or both
+   sizes are right, nothing is written. */
 int64_t hound_repair(uint8_t *file, size_t capacity, size_t used, hound_repair_t *found) HOUND_NONNULL;
 
 /* The same where all that follows the header of the data is samples, also what looks like chunks or a tag: for a

@@ -72,7 +72,7 @@ function verdict(found, toEnd, riff) {
 function otherChoice(file, { frames, channels, bytesPerSample, dataStart }, toEnd) {
   if (toEnd) return ["If it ends in noise now, chunks or a tag were there, and the file needs no repair.", "Back to the file as it was"];
   const rest = file.size - dataStart - frames * channels * bytesPerSample;
-  return [`Is the end of the recording missing here? Then it was cut off, and its last ${number(rest)} bytes only look like chunks or a tag.`, "Repair to the end"];
+  return [`Only if you hear that its end is missing: then it was cut off, and its last ${number(rest)} bytes only look like chunks or a tag.`, "Repair to the end"];
 }
 
 /** The header's fields, with a hint for each that needs one. */
