@@ -4,7 +4,8 @@
 //! hound, and no proof.
 //!
 //! A program that depends on hound needs these lines in its `Cargo.toml`, with the URL of this repository,
-//! and no other change. Where there is a `Cargo.lock` with hound in it, `cargo update -p hound` is needed once.
+//! and no other change. Where there is a `Cargo.lock` with hound in it, `cargo update -p hound` is needed once;
+//! `cargo tree -i hound` then names version 3.5.1+rattle.0.1.0.
 //!
 //! ```toml
 //! [patch.crates-io]
@@ -34,7 +35,8 @@
 //! ```
 //!
 //! What hound doesn't have is marked "own": [`WavReader::read_samples`], [`WavWriter::write_samples`],
-//! [`WavWriter::create_durable`], [`repair_file`].
+//! [`WavWriter::create_durable`], [`repair_file`]. The crate `hound_bindings`, which can be used beside it, looks
+//! for damage and writes nothing (`find_damage`), and scales integers to floats and back (`to_f32`, `from_f32`).
 //!
 //! # Differences from hound 3.5.1
 //!
