@@ -40,7 +40,6 @@ impl Place {
     fn named(name: &str) -> Option<Place> {
         match name {
             "mem" => Some(Place::Memory),
-            "grow" => Some(Place::Growing),
             "file" => Some(Place::Disk),
             "durable" => Some(Place::Durable),
             _ => None,
@@ -91,15 +90,20 @@ impl Case {
     /// The case of this name: `open_mem`, or what is done, what the samples are, and where the file is, as
     /// in `write_i16_stereo_file` and `flush_i16_durable`.
     pub fn named(name: &str) -> Option<Case> {
-        if name == "open_mem" {
-            return Some(Case::Open);
+        match name {
+            "open_mem" => return Some(Case::Open),
+            "session_i16_mem" => return Some(Case::Session),
+            "write_i16_mem_grow" => {
+                let samples = samples_of(Call::Sample, "i16", Place::Growing)?;
+                return Some(Case::Write(samples));
+            }
+            _ => {}
         }
         let (call, others) = name.split_once("_")?;
         let (others, place) = others.rsplit_once("_")?;
         let place = Place::named(place)?;
         match (call, others) {
             ("seek", "f32") => Some(Case::Seek(place)),
-            ("session", "i16") => Some(Case::Session),
             ("read", others) => Some(Case::Read(samples_of(Call::Sample, others, place)?)),
             ("write", others) => Some(Case::Write(samples_of(Call::Sample, others, place)?)),
             ("flush", others) => Some(Case::Write(samples_of(Call::Flush, others, place)?)),
