@@ -135,7 +135,7 @@ data_fault spec len =
     then Some (Format FrameLength)
     else None
 
--- A head with whole frames: this many samples follow it.
+-- A head with whole frames: it counts this many samples, whether or not they follow.
 pub record Readable (bytes : List ℕ) (spec : WavSpecEx) (samples data_start : ℕ) : Type 0 where
   pub len : ℕ
   pub head : Head bytes spec len data_start

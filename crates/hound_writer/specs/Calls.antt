@@ -120,7 +120,8 @@ pub record RecordedBy {W : Type 0} (tells keeps : Bool) (state : W → MediumSta
   pub lead : Lead tells keeps state calls first last
   pub are_known : AreKnown known calls
 
--- the same as a word, which a caller's proof doesn't open
+-- calls of which these are known were made with the writer of such a file, and led to this one:
+-- `RecordedBy` as a word that a caller's proof doesn't open
 unfoldable pub Recorded : {W : Type 0} → Bool → Bool → (W → MediumState) → WavSpecEx → Begun →
     List Known → WriterState W → Type 0
 Recorded tells keeps state s file known last = RecordedBy tells keeps state s file known last
@@ -146,7 +147,7 @@ pub record LeftBy {W : Type 0} (tells keeps : Bool) (state : W → MediumState) 
   pub recorded : RecordedBy tells keeps state s file known last
   pub is : medium ≡ last.medium
 
--- the same as a word
+-- calls of which these are known led to a writer that left this medium: `LeftBy` as such a word
 unfoldable pub Left : {W : Type 0} → Bool → Bool → (W → MediumState) → WavSpecEx → Begun →
     List Known → W → Type 0
 Left tells keeps state s file known medium = LeftBy tells keeps state s file known medium
