@@ -45,6 +45,7 @@ FILE_SYSTEMS = {
     "vfat": VFAT._replace(is_early=False),
     "vfat-early": VFAT,
     "xfs": FileSystem("xfs", 320, "mkfs.xfs -q -K", ["xfs"]),
+    "btrfs": FileSystem("btrfs", 128, "mkfs.btrfs -q -f -K", ["crc32c_generic", "btrfs"]),
 }
 USUAL = ["ext4", "vfat", "xfs"]
 
