@@ -10,7 +10,7 @@ use Rattle.hound_sample.proofs.Joined.{containers-concat, length-concat}
 use Rattle.hound_number.specs.{signed_bytes_of}
 use Rattle.hound_sample.specs.{Refusal, containers, int_bytes, int_container, contained}
 use Rattle.hound_medium.specs.{MediumState}
-use Rattle.hound_writer.specs.{Accepts, AcceptAnswer, if_marked, one, AcceptsEach, i16_bytes, IsSameFile, write, WriterState, IsWhole, data_length, accepted_samples}
+use Rattle.hound_writer.specs.{Ghosts, Accepts, AcceptAnswer, if_marked, one, AcceptsEach, i16_bytes, IsSameFile, write, WriterState, IsWhole, data_length, accepted_samples}
 use Rattle.hound_writer.proofs.Recording.{same_but_memory}
 use Rattle.hound.proofs.Calling.{Went, call_went, went_still, went_then}
 
@@ -40,36 +40,36 @@ one_taken : {M : Type 0} (w : WriterState M) (container : Result (List ℕ) Refu
 one_taken w (Ok c) bytes same answers = ap (λ (x : List ℕ). x ∷ []) (same c refl)
 one_taken w (Err refusal) bytes same answers = cc
 
-module _ {M : Type 0} (tells keeps : Bool) (state : M → MediumState) (told : IsTrue tells) where
+module _ {M : Type 0} (kind : Ghosts M) (told : IsTrue kind.tells) where
   -- values that were all Ok one by one
   each_went : (values : List ℤ) (old new : WriterState M) → old.spec_ex.spec.bits_per_sample ≡ 16
-      → AcceptsEach tells keeps state int_container values old new
-      → Went tells keeps state told (map (signed_bytes_of 2) values) old new
+      → AcceptsEach kind int_container values old new
+      → Went kind told (map (signed_bytes_of 2) values) old new
   each_went [] old new sixteen same =
-      subst (Went tells keeps state told [] old) (sym same)
-      (went_still tells keeps state told old old.batch_memory)
+      subst (Went kind told [] old) (sym same)
+      (went_still kind told old old.batch_memory)
   each_went (v ∷ values) old new sixteen (mid, accepts, each) =
       let s = old.spec_ex in
       let container = int_container v s.spec.bits_per_sample s.bytes_per_sample in
-      let first = call_went tells keeps state told (Ok tt) old.batch_memory old mid (write (one container))
+      let first = call_went kind told (Ok tt) old.batch_memory old mid (write (one container))
       accepts in
       let bytes = signed_bytes_of 2 v in
-      went_then tells keeps state told (bytes ∷ []) (map (signed_bytes_of 2) values) old mid new
-      (subst (λ l. Went tells keeps state told l old mid)
+      went_then kind told (bytes ∷ []) (map (signed_bytes_of 2) values) old mid new
+      (subst (λ l. Went kind told l old mid)
       (one_taken old container bytes
       (λ c. i16_container v s.spec.bits_per_sample s.bytes_per_sample c sixteen)
       accepts.adds.answers) first)
       (each_went values mid new (ap (λ x. x.spec.bits_per_sample) first.spec_ex ∙ sixteen) each)
 
   -- a batch, and its values one by one, from writers of one file
-  pub same_samples : (values : List ℤ) (first a b c : WriterState M) → IsWhole state first
+  pub same_samples : (values : List ℤ) (first a b c : WriterState M) → IsWhole kind.state first
       → first.spec_ex.spec.bits_per_sample ≡ 16 → first.spec_ex.bytes_per_sample ≡ 2
       → IsSameFile first a
-      → Accepts tells keeps state
+      → Accepts kind
       (Ok (containers a.spec_ex.bytes_per_sample
       (length (i16_bytes values) / a.spec_ex.bytes_per_sample) (i16_bytes values))) (Ok tt) a b
-      → AcceptsEach tells keeps state int_container values first c
-      → (accepted_samples state b ≡ accepted_samples state c) × (data_length b ≡ data_length c)
+      → AcceptsEach kind int_container values first c
+      → (accepted_samples kind.state b ≡ accepted_samples kind.state c) × (data_length b ≡ data_length c)
   same_samples values first a b c whole sixteen two stays batch each =
       let bytes = i16_bytes values in
       let each_two = map (signed_bytes_of 2) values in
@@ -83,13 +83,13 @@ module _ {M : Type 0} (tells keeps : Bool) (state : M → MediumState) (told : I
       (λ i. containers (width i) (length bytes / width i) bytes)
       ∙ (λ i. containers 2 (count i) ((joined values ∙ sym (append-nil (concat each_two))) i))
       ∙ containers-concat 2 each_two [] (wide values) in
-      let t = went_then tells keeps state told [] list first a b
-      (subst (Went tells keeps state told [] first) (same_but_memory first a stays)
-      (went_still tells keeps state told first a.batch_memory))
-      (call_went tells keeps state told (Ok tt) a.batch_memory a b (write (Ok list))
+      let t = went_then kind told [] list first a b
+      (subst (Went kind told [] first) (same_but_memory first a stays)
+      (went_still kind told first a.batch_memory))
+      (call_went kind told (Ok tt) a.batch_memory a b (write (Ok list))
       batch) in
       let l = each_went values first c sixteen each in (
-        t.accepted whole ∙ ap (λ x. accepted_samples state first ++ x) same
+        t.accepted whole ∙ ap (λ x. accepted_samples kind.state first ++ x) same
             ∙ sym (l.accepted whole),
         omega (arith, t.size, l.size, ap (λ x. length (concat x)) same),
       )

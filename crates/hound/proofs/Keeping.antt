@@ -15,7 +15,7 @@ use Rattle.hound_medium.proofs.Overlays.{front_part}
 use Rattle.hound_medium.proofs.Spans.{moment_last}
 use Rattle.hound_durable.specs.{Ascends, SurvivesLoss}
 use Rattle.hound_walk.specs.{Head, IsSoundSpec}
-use Rattle.hound_writer.specs.{Begun, Call, Does, Known, Lead, Left, Opens, appended, found_in, handed_in, new_file, publish, start_of, with_memory, Counts, ChangesSizesOnly, field, WriterState, HasHeader, IsBegun, IsCounted, IsSound, IsWhole, accepted_bytes, accepted_samples, data_length}
+use Rattle.hound_writer.specs.{Ghosts, Begun, Call, Does, Known, Lead, Left, Opens, appended, found_in, handed_in, new_file, publish, start_of, with_memory, Counts, ChangesSizesOnly, field, WriterState, HasHeader, IsBegun, IsCounted, IsSound, IsWhole, accepted_bytes, accepted_samples, data_length}
 use Rattle.hound_writer.proofs.Containers.{none_whole, zero_div}
 use Rattle.hound_writer.proofs.Fresh.{none_accepted}
 use Rattle.hound_writer.proofs.Publishing.{reads_all}
@@ -40,29 +40,29 @@ if_begun_then s (new_file old) here on = on here
 if_begun_then s (appended old start found) here on = λ at header. on (here at header)
 
 -- What the first writer of a file has, as its constructor returned it.
-pub record First {W : Type 0} (tells : Bool) (state : W → MediumState) (s : WavSpecEx)
+pub record First {W : Type 0} (kind : Ghosts W) (s : WavSpecEx)
     (file : Begun) (first : WriterState W) : Type 0 where
   pub sound : IsSound first
   pub none_buffered : first.buffered ≡ []
   pub sound_spec : IsSoundSpec s
   pub spec : first.spec_ex ≡ s
   pub start : first.data_start ≡ start_of s file
-  pub whole : IsTrue tells → IsWhole state first
-  pub found : IsTrue tells → accepted_samples state first ≡ found_in file
-  pub counts : IsTrue tells → IsCounted state first
-  pub head : IsTrue tells
-      → (len : ℕ) × Head (state first.medium).contents first.spec_ex len first.data_start
-  pub begun : IsTrue tells → IfBegun s file (IsBegun state first)
-  pub faults : IsTrue tells → (state first.medium).faults ≡ (handed_in file).faults
-  pub reach : IsTrue tells → length (state first.medium).contents
+  pub whole : IsTrue kind.tells → IsWhole kind.state first
+  pub found : IsTrue kind.tells → accepted_samples kind.state first ≡ found_in file
+  pub counts : IsTrue kind.tells → IsCounted kind.state first
+  pub head : IsTrue kind.tells
+      → (len : ℕ) × Head (kind.state first.medium).contents first.spec_ex len first.data_start
+  pub begun : IsTrue kind.tells → IfBegun s file (IsBegun kind.state first)
+  pub faults : IsTrue kind.tells → (kind.state first.medium).faults ≡ (handed_in file).faults
+  pub reach : IsTrue kind.tells → length (kind.state first.medium).contents
       ≤ max (length (handed_in file).contents) first.data_start
 
-module _ {W : Type 0} (tells keeps : Bool) (state : W → MediumState) where
+module _ {W : Type 0} (kind : Ghosts W) where
   pub first_of : (s : WavSpecEx) (file : Begun) (first : WriterState W)
-      → Opens tells keeps state s file first → First tells state s file first
+      → Opens kind s file first → First kind s file first
   first_of s (new_file old) first begins =
       let b = begins.begun in
-      let none = none_accepted state first b.sound b.none_buffered b.none_out in
+      let none = none_accepted kind.state first b.sound b.none_buffered b.none_out in
       record {
         sound = b.sound;
         none_buffered = b.none_buffered;
@@ -80,15 +80,15 @@ module _ {W : Type 0} (tells keeps : Bool) (state : W → MediumState) where
             let c = (begins.file told).counts in
             let w = first.spec_ex.bytes_per_sample in
             let n = first.spec_ex.spec.channels in
-            let says : field (first.data_start - 4) (state first.medium).contents ≡ 0 =
+            let says : field (first.data_start - 4) (kind.state first.medium).contents ≡ 0 =
             omega (
               arith,
               c.covers,
               mul-le c.samples w 0 w (omega (arith, c.among, ap length none)) (omega arith),
             ) in
             let read =
-            (reads_all first.spec_ex first.data_start 0 (accepted_samples state first)
-            (state first.medium).contents (none_whole w)
+            (reads_all first.spec_ex first.data_start 0 (accepted_samples kind.state first)
+            (kind.state first.medium).contents (none_whole w)
             (ap (λ m. m % n) (zero_div w) ∙ none_whole n) (ap length none ∙ sym (zero_div w)) says
             c).readable in
             (read.len, read.head);
@@ -123,93 +123,93 @@ module _ {W : Type 0} (tells keeps : Bool) (state : W → MediumState) where
 
   -- what calls leave that were made from a first writer on
   module _ (s : WavSpecEx) (file : Begun) (calls : List Call) (first last : WriterState W)
-      (is_first : First tells state s file first)
-      (lead : Lead tells keeps state calls first last) (told : IsTrue tells) where
-    abbrev whole : IsWhole state first
+      (is_first : First kind s file first)
+      (lead : Lead kind calls first last) (told : IsTrue kind.tells) where
+    abbrev whole : IsWhole kind.state first
     whole = is_first.whole told
 
     behind : 4 ≤ first.data_start
     behind = omega (arith, is_first.sound.after_head)
 
-    abbrev l : Went tells keeps state told (accepted_by_all calls) first last
-    l = went tells keeps state told calls first last lead
+    abbrev l : Went kind told (accepted_by_all calls) first last
+    l = went kind told calls first last lead
 
     -- the accepted samples all have the width of the spec
     pub all_wide : AllByRecursion (λ c. length c ≡ first.spec_ex.bytes_per_sample)
-        (accepted_samples state first ++ accepted_by_all calls)
+        (accepted_samples kind.state first ++ accepted_by_all calls)
     all_wide =
         let w = last.spec_ex.bytes_per_sample in
-        let bytes = accepted_bytes state last in
-        let held = take last.bytes_written (drop last.data_start (state last.medium).contents) in
+        let bytes = accepted_bytes kind.state last in
+        let held = take last.bytes_written (drop last.data_start (kind.state last.medium).contents) in
         let size : length bytes ≡ data_length last =
         length-append held last.buffered
-        ∙ ap (λ n. n + length last.buffered) (length-written state last (l.whole whole)) in
+        ∙ ap (λ n. n + length last.buffered) (length-written kind.state last (l.whole whole)) in
         subst (λ (x : ℕ × List (List ℕ)). AllByRecursion (λ c. length c ≡ x.0) x.1)
         (λ i. ((l.spec_ex i).bytes_per_sample, l.accepted whole i))
         (wide_containers w (data_length last / w) bytes
         (omega (arith, size, div-mul-le_self (data_length last) w)))
 
     -- an end that published leaves the canonical file
-    pub canonical_at_end : IsBegun state first
-        → CanonicalAtEnd first.spec_ex first.data_start (accepted_samples state first) calls
-        (state last.medium)
+    pub canonical_at_end : IsBegun kind.state first
+        → CanonicalAtEnd first.spec_ex first.data_start (accepted_samples kind.state first) calls
+        (kind.state last.medium)
     canonical_at_end begun before end same has_all =
-        let m = made tells keeps state told calls before [] end first last same lead in
+        let m = made kind told calls before [] end first last same lead in
         let w = m.earlier in
-        let does : Does tells keeps state publish end.answer (with_memory m.mid m.memory) m.next =
-        subst (λ a. Does tells keeps state a end.answer (with_memory m.mid m.memory) m.next)
+        let does : Does kind publish end.answer (with_memory m.mid m.memory) m.next =
+        subst (λ a. Does kind a end.answer (with_memory m.mid m.memory) m.next)
         has_all.0 m.does in
-        let file : StartsWith (state m.next.medium).contents
-        (canonical m.mid.spec_ex (accepted_samples state m.mid)) =
+        let file : StartsWith (kind.state m.next.medium).contents
+        (canonical m.mid.spec_ex (accepted_samples kind.state m.mid)) =
         where_marked end.answer has_all.1 ((does.publishes told).canonical (w.whole whole) (w.begun begun)) in
         subst (λ (x : List ℕ × (WavSpecEx × List (List ℕ))). StartsWith x.0 (canonical x.1.0 x.1.1))
         (λ i. (
-          ap (λ (l : WriterState W). (state l.medium).contents) (sym m.rest.1) i,
+          ap (λ (l : WriterState W). (kind.state l.medium).contents) (sym m.rest.1) i,
           (w.spec_ex i, w.accepted whole i),
         )) file
 
     -- what a flush has published stays counted while samples are written
-    lasts_to_end : LastsToEnd first.spec_ex first.data_start (accepted_samples state first) calls
-        (state last.medium)
+    lasts_to_end : LastsToEnd first.spec_ex first.data_start (accepted_samples kind.state first) calls
+        (kind.state last.medium)
     lasts_to_end before later flush same has_all only =
-        let m = made tells keeps state told calls before later flush first last same lead in
-        let does = subst (λ a. Does tells keeps state a flush.answer (with_memory m.mid m.memory)
+        let m = made kind told calls before later flush first last same lead in
+        let does = subst (λ a. Does kind a flush.answer (with_memory m.mid m.memory)
         m.next) has_all.0 m.does in
         let n = m.next.data_start in
         let start : n ≡ first.data_start = m.here.data_start ∙ m.earlier.data_start in
-        ap (λ k. field (k - 4) (state last.medium).contents) (sym start)
-        ∙ ap number (front_part n (n - 4) 4 (state last.medium).contents (state m.next.medium).contents
+        ap (λ k. field (k - 4) (kind.state last.medium).contents) (sym start)
+        ∙ ap number (front_part n (n - 4) 4 (kind.state last.medium).contents (kind.state m.next.medium).contents
         (omega (arith, start, behind))
-        (front_stays tells keeps state told later m.next last m.rest only))
-        ∙ ap (λ k. field (k - 4) (state m.next.medium).contents) m.here.data_start
+        (front_stays kind told later m.next last m.rest only))
+        ∙ ap (λ k. field (k - 4) (kind.state m.next.medium).contents) m.here.data_start
         ∙ where_marked flush.answer has_all.1 (does.publishes told).length_says
         ∙ omega (
           arith,
           m.earlier.size,
-          sized state first is_first.sound is_first.none_buffered whole,
-          length-concat-append (accepted_samples state first) (accepted_by_all before),
+          sized kind.state first is_first.sound is_first.none_buffered whole,
+          length-concat-append (accepted_samples kind.state first) (accepted_by_all before),
         )
 
     -- and if no call of the medium failed, an end leaves exactly that
-    exact_at_end : IsBegun state first → NoFault (state first.medium) (state last.medium)
+    exact_at_end : IsBegun kind.state first → NoFault (kind.state first.medium) (kind.state last.medium)
         → (before : List Call) (end : Call) → calls ≡ before ++ (end ∷ []) → end.asked ≡ publish
         → let list = canonical first.spec_ex
-        (accepted_samples state first ++ accepted_by_all before) in
-        StartsWith (state last.medium).contents list
-        × (length (state last.medium).contents
+        (accepted_samples kind.state first ++ accepted_by_all before) in
+        StartsWith (kind.state last.medium).contents list
+        × (length (kind.state last.medium).contents
         ≤ max (length (handed_in file).contents) (length list))
     exact_at_end begun none before end same asked =
-        let m = made tells keeps state told calls before [] end first last same lead in
+        let m = made kind told calls before [] end first last same lead in
         let w = m.earlier in
-        let does : Does tells keeps state publish end.answer (with_memory m.mid m.memory) m.next =
-        subst (λ a. Does tells keeps state a end.answer (with_memory m.mid m.memory) m.next) asked
+        let does : Does kind publish end.answer (with_memory m.mid m.memory) m.next =
+        subst (λ a. Does kind a end.answer (with_memory m.mid m.memory) m.next) asked
         m.does in
-        let parts = no_fault_parts (state first.medium) (state m.mid.medium) (state m.next.medium)
+        let parts = no_fault_parts (kind.state first.medium) (kind.state m.mid.medium) (kind.state m.next.medium)
         w.faults m.here.faults
-        (subst (λ (x : WriterState W). NoFault (state first.medium) (state x.medium)) m.rest.1 none) in
-        let marked = all_marked end.answer (with_memory m.mid m.memory) (state m.mid.medium).faults parts.1.1
+        (subst (λ (x : WriterState W). NoFault (kind.state first.medium) (kind.state x.medium)) m.rest.1 none) in
+        let marked = all_marked end.answer (with_memory m.mid m.memory) (kind.state m.mid.medium).faults parts.1.1
         (sym (does.publishes told).faults ∙ parts.1.0) does.answers in
-        let found = accepted_samples state first in (
+        let found = accepted_samples kind.state first in (
           canonical_at_end begun before end same (asked, marked),
           omega (
             arith,
@@ -220,7 +220,7 @@ module _ {W : Type 0} (tells keeps : Bool) (state : W → MediumState) where
             ap data_length m.rest.1,
             does.samples.data_length,
             w.size,
-            sized state first is_first.sound is_first.none_buffered whole,
+            sized kind.state first is_first.sound is_first.none_buffered whole,
             length-canonical first.spec_ex (found ++ accepted_by_all before),
             length-concat-append found (accepted_by_all before),
           ),
@@ -228,26 +228,26 @@ module _ {W : Type 0} (tells keeps : Bool) (state : W → MediumState) where
 
     -- what it counts at the end
     pub counts_at_end : Counts first.spec_ex first.data_start
-        (accepted_samples state first ++ accepted_by_all calls) (state last.medium).contents
+        (accepted_samples kind.state first ++ accepted_by_all calls) (kind.state last.medium).contents
     counts_at_end =
         subst (λ (x : WavSpecEx × (ℕ × List (List ℕ))).
-        Counts x.0 x.1.0 x.1.1 (state last.medium).contents)
+        Counts x.0 x.1.0 x.1.1 (kind.state last.medium).contents)
         (λ i. (l.spec_ex i, (l.data_start i, l.accepted whole i)))
         (l.counts whole (is_first.counts told))
 
-    module _ (kept : IsTrue keeps)
-        (replays : (m : W) → (state m).contents ≡ overlay (state m).start (state m).past) where
+    module _ (kept : IsTrue kind.keeps)
+        (replays : (m : W) → (kind.state m).contents ≡ overlay (kind.state m).start (kind.state m).past) where
       abbrev end : MediumState
-      end = state last.medium
+      end = kind.state last.medium
 
       -- in each state only the two sizes of the header have changed, and it is all there
       fronts : (k : ℕ) → begins_at calls end.past ≤ k → k ≤ length end.past
-          → ChangesSizesOnly first.data_start (state first.medium).contents
+          → ChangesSizesOnly first.data_start (kind.state first.medium).contents
           (moment end.start end.past k)
           × (first.data_start ≤ length (moment end.start end.past k))
       fronts k from to =
-          let base = state first.medium in
-          let begins = begin tells keeps state told calls first last lead in
+          let base = kind.state first.medium in
+          let begins = begin kind told calls first last lead in
           let since : length base.past ≤ k = omega (arith, from, begins) in
           let same : moment end.start end.past (length base.past) ≡ base.contents =
           sym (same_moment base end (length base.past) (l.later kept whole) (omega arith))
@@ -263,31 +263,31 @@ module _ {W : Type 0} (tells keeps : Bool) (state : W → MediumState) where
           )
 
       -- so it has the head of its spec
-      head_at_each : HeadAtEach first.spec_ex first.data_start (accepted_samples state first) calls
+      head_at_each : HeadAtEach first.spec_ex first.data_start (accepted_samples kind.state first) calls
           end
       head_at_each k from to =
           let f = fronts k from to in
           let head = is_first.head told in
-          head_with (state first.medium).contents first.spec_ex head.0 first.data_start head.1
+          head_with (kind.state first.medium).contents first.spec_ex head.0 first.data_start head.1
           (moment end.start end.past k) f.1 f.0.front f.0.middle
 
-      pub promised : Promises first.spec_ex first.data_start (accepted_samples state first) calls end
+      pub promised : Promises first.spec_ex first.data_start (accepted_samples kind.state first) calls end
       promised =
           let h = first.data_start in
-          let list = accepted_samples state first in
+          let list = accepted_samples kind.state first in
           let size : length (concat list) ≡ data_length first =
-          sized state first is_first.sound is_first.none_buffered whole in
+          sized kind.state first is_first.sound is_first.none_buffered whole in
           let head = is_first.head told in
-          let tall = head_inside (state first.medium).contents first.spec_ex head.0 h head.1 in
-          let counts = counted tells keeps state told kept calls first last lead whole in
-          let at_most = stored tells keeps state told kept calls first last lead whole in
-          let order = in_order tells keeps state told kept calls first last lead whole in
-          let never = never_less tells keeps state told kept replays calls first last lead behind
+          let tall = head_inside (kind.state first.medium).contents first.spec_ex head.0 h head.1 in
+          let counts = counted kind told kept calls first last lead whole in
+          let at_most = stored kind told kept calls first last lead whole in
+          let order = in_order kind told kept calls first last lead whole in
+          let never = never_less kind told kept replays calls first last lead behind
           whole size in
-          let flushes = stays_flushed tells keeps state told kept calls first last lead
+          let flushes = stays_flushed kind told kept calls first last lead
           whole in
           let losses = after_losses first.spec_ex h head.0 list calls end
-          (state first.medium).contents is_first.sound.width counts at_most order
+          (kind.state first.medium).contents is_first.sound.width counts at_most order
           (λ k from to. (fronts k from to).0) (λ k from to. (fronts k from to).1) head.1 tall all_wide
           never flushes in
           record {
@@ -297,14 +297,11 @@ module _ {W : Type 0} (tells keeps : Bool) (state : W → MediumState) where
                 let a = (fronts k from (omega (arith, along, to))).0 in
                 let b = (fronts m (omega (arith, from, along)) to).0 in
                 record { front = b.front ∙ sym a.front; middle = b.middle ∙ sym a.middle };
-            front_in_writes = front_in_writes tells keeps state told kept replays calls first last
+            front_in_writes = front_in_writes kind told kept replays calls first last
                 lead behind whole size;
-            mixed = mixed tells keeps state told kept replays calls first last lead behind whole
-                size;
-            old_or_new = old_or_new tells keeps state told kept replays calls first last lead behind
-                whole size;
-            published = published tells keeps state told kept replays calls first last lead behind
-                whole size;
+            mixed = mixed kind told kept replays calls first last lead behind whole size;
+            old_or_new = old_or_new kind told kept replays calls first last lead behind whole size;
+            published = published kind told kept replays calls first last lead behind whole size;
             never_less = never;
             flushed = flushes;
             stored = at_most;
@@ -316,13 +313,13 @@ module _ {W : Type 0} (tells keeps : Bool) (state : W → MediumState) where
 
     -- what holds of the writer's values holds of the file's
     of_file : (P : WavSpecEx → ℕ → List (List ℕ) → Type 0)
-        → P first.spec_ex first.data_start (accepted_samples state first)
+        → P first.spec_ex first.data_start (accepted_samples kind.state first)
         → P s (start_of s file) (found_in file)
     of_file P here = grind (arith, common_steps)
 
-    pub holds_at_end : HoldsAtEnd s file calls (state last.medium)
+    pub holds_at_end : HoldsAtEnd s file calls (kind.state last.medium)
     holds_at_end =
-        let m = state last.medium in record {
+        let m = kind.state last.medium in record {
           sound = is_first.sound_spec;
           wide = of_file (λ s start found. AllByRecursion (λ c. length c ≡ s.bytes_per_sample)
               (found ++ accepted_by_all calls)) all_wide;
@@ -343,36 +340,36 @@ module _ {W : Type 0} (tells keeps : Bool) (state : W → MediumState) where
               (canonical_at_end begun));
         }
 
-    pub keeps_promises : IsTrue keeps
-        → ((m : W) → (state m).contents ≡ overlay (state m).start (state m).past)
-        → Promises s (start_of s file) (found_in file) calls (state last.medium)
+    pub keeps_promises : IsTrue kind.keeps
+        → ((m : W) → (kind.state m).contents ≡ overlay (kind.state m).start (kind.state m).past)
+        → Promises s (start_of s file) (found_in file) calls (kind.state last.medium)
     keeps_promises kept replays = grind (arith, common_steps, of_file, promised)
 
   -- what a writer left holds what its calls promise
   pub left_holds : (s : WavSpecEx) (file : Begun) (known : List Known) (medium : W)
-      → Left tells keeps state s file known medium
-      → WhereTells tells (Holds tells keeps state s file known medium)
+      → Left kind s file known medium
+      → WhereTells kind.tells (Holds kind s file known medium)
   unfolding Left
   left_holds s file known medium left told =
       let r = left.recorded in
       record {
         left = left;
-        at_end = subst (λ m. HoldsAtEnd s file r.calls (state m))
+        at_end = subst (λ m. HoldsAtEnd s file r.calls (kind.state m))
             (sym left.is) (holds_at_end s file r.calls r.first left.last (first_of s file r.first r.opens) r.lead told);
       }
 
   pub left_kept : ((m : W)
-      → WhereKeeps tells keeps ((state m).contents ≡ overlay (state m).start (state m).past))
+      → WhereKeeps kind.tells kind.keeps ((kind.state m).contents ≡ overlay (kind.state m).start (kind.state m).past))
       → (s : WavSpecEx) (file : Begun) (known : List Known) (medium : W)
-      → Left tells keeps state s file known medium
-      → WhereKeeps tells keeps (Kept tells keeps state s file known medium)
+      → Left kind s file known medium
+      → WhereKeeps kind.tells kind.keeps (Kept kind s file known medium)
   unfolding Left
   left_kept replays s file known medium left told kept =
       let r = left.recorded in
       let first = first_of s file r.first r.opens in
       record {
         left = left;
-        promised = subst (λ m. Keeps s file r.calls (state m)) (sym left.is)
+        promised = subst (λ m. Keeps s file r.calls (kind.state m)) (sym left.is)
             (record {
               at_end = holds_at_end s file r.calls r.first left.last first r.lead told;
               promises = keeps_promises s file r.calls r.first left.last first r.lead told kept
@@ -381,10 +378,10 @@ module _ {W : Type 0} (tells keeps : Bool) (state : W → MediumState) where
       }
 
   -- an append leaves what is before its data
-  pub front_left : IsTrue tells → (s : WavSpecEx) (old : MediumState) (start : ℕ)
+  pub front_left : IsTrue kind.tells → (s : WavSpecEx) (old : MediumState) (start : ℕ)
       (found : List (List ℕ)) (known : List Known) (medium : W)
-      → Left tells keeps state s (appended old start found) known medium
-      → ChangesSizesOnly start old.contents (state medium).contents
+      → Left kind s (appended old start found) known medium
+      → ChangesSizesOnly start old.contents (kind.state medium).contents
   unfolding Left
   front_left told s old start found known medium left =
       let r = left.recorded in
@@ -392,9 +389,9 @@ module _ {W : Type 0} (tells keeps : Bool) (state : W → MediumState) where
       subst (λ (x : ℕ × (List ℕ × List ℕ)). ChangesSizesOnly x.0 x.1.0 x.1.1)
       (λ i. (
         r.opens.start_is i,
-        ((a.file told).puts.stays.contents i, ap (λ m. (state m).contents) (sym left.is) i),
+        ((a.file told).puts.stays.contents i, ap (λ m. (kind.state m).contents) (sym left.is) i),
       ))
-      ((went tells keeps state told r.calls r.first left.last r.lead).front
+      ((went kind told r.calls r.first left.last r.lead).front
       (omega (arith, a.sound.after_head)))
 
 -- an end accepts nothing

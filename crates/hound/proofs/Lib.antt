@@ -1,5 +1,6 @@
 pub mod Later
 pub mod Calling
+pub mod Checkpoints
 pub mod Lengths
 pub mod Losing
 pub mod PowerLoss

@@ -9,7 +9,7 @@ use Rattle.hound_medium.specs.{placed, MediumState}
 use Rattle.hound_durable.specs.{Ascends, place_of}
 use Rattle.hound_durable.proofs.Ascending.{length_put, place_after, place_before}
 use Rattle.hound_sample.specs.{too_wide}
-use Rattle.hound_writer.specs.{Begun, Call, Directed, IsOrdered, IsSound, CountsAtMost, IsSynced, Known, LeavesWriter, Left, Log, Performed, PutsAt, Recorded, WriterState, field, found_in, handed_in, log_state, start_of, write}
+use Rattle.hound_writer.specs.{Begun, Call, Directed, IsOrdered, IsSound, CountsAtMost, IsSynced, Known, LeavesWriter, Left, Log, Performed, PutsAt, Recorded, WriterState, field, found_in, handed_in, log_kind, start_of, write}
 use Rattle.hound_writer.specs.declared.recorder.Recorder.{Recorder}
 use Rattle.hound_writer.specs.declared.effects.Effect.TheVariants.{Size, Sync}
 use Rattle.hound_writer.proofs.Accepting.{type_refuses}
@@ -24,13 +24,13 @@ use Rattle.hound.proofs.Keeping.{first_of, keeps_promises, left_kept, survives_c
 
 -- what calls left that a recorder directed
 module _ (s : WavSpecEx) (file : Begun) (known : List Known) (w : WriterState Log)
-    (recorded : Recorded true true log_state s file known w) where
-  left : Left true true log_state s file known w.medium
+    (recorded : Recorded log_kind s file known w) where
+  left : Left log_kind s file known w.medium
   unfolding Left Recorded
   left = record { last = w; recorded = recorded; is = refl }
 
-  kept : Kept true true log_state s file known w.medium
-  kept = left_kept true true log_state (λ m _ _. m.replays) s file known w.medium left refl refl
+  kept : Kept log_kind s file known w.medium
+  kept = left_kept log_kind (λ m _ _. m.replays) s file known w.medium left refl refl
 
   abbrev m : MediumState
   m = w.medium.state
@@ -40,21 +40,21 @@ module _ (s : WavSpecEx) (file : Begun) (known : List Known) (w : WriterState Lo
 
   -- one call more, which is rejected and so leaves all as it is, began at the end
   abbrev refused : Call
-  refused = call_at true true log_state (write (Err too_wide)) (Err TooWide) kept.left.last
+  refused = call_at log_kind (write (Err too_wide)) (Err TooWide) kept.left.last
 
   still_promised : Promises s (start_of s file) (found_in file) (calls ++ refused ∷ []) m
   still_promised =
       let left = kept.left in
       let r = left.recorded in
-      let is_first = first_of true true log_state s file r.first r.opens in
-      let counts = (went true true log_state refl calls r.first left.last r.lead).counts
+      let is_first = first_of log_kind s file r.first r.opens in
+      let counts = (went log_kind refl calls r.first left.last r.lead).counts
       (is_first.whole refl) (is_first.counts refl) in
       subst (λ (log : Log). Promises s (start_of s file) (found_in file) (calls ++ refused ∷ []) log.state)
       (sym left.is)
-      (keeps_promises true true log_state s file (calls ++ refused ∷ []) r.first left.last is_first
-      (lead_more true true log_state calls (write (Err too_wide)) (Err TooWide) r.first left.last
+      (keeps_promises log_kind s file (calls ++ refused ∷ []) r.first left.last is_first
+      (lead_more log_kind calls (write (Err too_wide)) (Err TooWide) r.first left.last
       left.last r.lead
-      (type_refuses true true log_state left.last too_wide (λ _ _. counts)
+      (type_refuses log_kind left.last too_wide (λ _ _. counts)
       (λ _ _. left.last.medium.replays))) refl refl (λ m. m.replays))
 
   begins_same : (list : List Call) → begins_at (list ++ refused ∷ []) m.past ≡ begins_at list m.past
@@ -62,7 +62,7 @@ module _ (s : WavSpecEx) (file : Begun) (known : List Known) (w : WriterState Lo
   begins_same (call ∷ list) = refl
 
   kept_within : (high : ℕ) → IsOrdered high m
-      → KeptWithin true true log_state s file known w.medium m
+      → KeptWithin log_kind s file known w.medium m
   kept_within high order =
       let p = kept.promised.promises in
       record {
@@ -91,21 +91,21 @@ module _ (s : WavSpecEx) (file : Begun) (known : List Known) (w : WriterState Lo
 
 module _ (s : WavSpecEx) (file : Begun) (known : List Known) (r : Recorder) where
   pub directed_kept : (m : MediumState) → Directed s file known r true m → r.number ≡ 0
-      → (log : Log) × (log.state ≡ m) × Kept true true log_state s file known log
+      → (log : Log) × (log.state ≡ m) × Kept log_kind s file known log
   directed_kept m d none =
       let (done, same) = at_none r d.result d.writer.medium d.log none d.performed in
-      (d.writer.medium, ap log_state (sym same) ∙ d.state, kept s file known d.writer d.recorded)
+      (d.writer.medium, ap log_kind.state (sym same) ∙ d.state, kept s file known d.writer d.recorded)
 
   pub directed_survives : (m : MediumState) → Directed s file known r true m → r.number ≡ 0
       → IsSynced (handed_in file)
-      → (log : Log) × (log.state ≡ m) × KeptWithin true true log_state s file known log m
+      → (log : Log) × (log.state ≡ m) × KeptWithin log_kind s file known log m
   directed_survives m d none synced =
       let (done, same) = at_none r d.result d.writer.medium d.log none d.performed in
-      let here : d.writer.medium.state ≡ m = ap log_state (sym same) ∙ d.state in
+      let here : d.writer.medium.state ≡ m = ap log_kind.state (sym same) ∙ d.state in
       let (high, order, low) = d.order synced in (
         d.writer.medium,
         here,
-        subst (KeptWithin true true log_state s file known d.writer.medium) here
+        subst (KeptWithin log_kind s file known d.writer.medium) here
             (kept_within s file known d.writer d.recorded high order),
       )
 
@@ -114,7 +114,7 @@ pub riff_left_out : (w : WriterState Log) (end : Log) → w.buffered ≡ [] → 
     → CountsAtMost w.spec_ex w.data_start w.bytes_written w.medium.state.contents
     → (field 4 w.medium.state.contents ≡ riff_size w.data_start w.bytes_written → ⊥)
     → Performed (Sync ∷ Size (w.data_start - 4) w.bytes_written ∷ Sync ∷ []) (Ok tt) w.medium end
-    → LeavesWriter true true log_state (Ok tt) w (record w { medium = end }) → ⊥
+    → LeavesWriter log_kind (Ok tt) w (record w { medium = end }) → ⊥
 riff_left_out w end none sound at_most other (m, Ok x, first, (n, Ok y, second, (o, Ok z, third, (is, last)))) leaves =
     let a = w.medium.state.contents in
     let there = inside w.spec_ex w.data_start w.bytes_written a a at_most in
@@ -123,7 +123,7 @@ riff_left_out w end none sound at_most other (m, Ok x, first, (n, Ok y, second, 
     (omega (arith, there, sound.after_head, ap length first.stays.contents))
     (take second.count (bytes_of 4 w.bytes_written)) (omega (arith, few)) in
     let says = (leaves.publishes refl).riff_says in
-    let size = length_written log_state w none in
+    let size = length_written log_kind.state w none in
     grind (arith, common_steps)
 riff_left_out w end none sound at_most other (m, Ok x, first, (n, Ok y, second, (o, Err e, third, (is, last)))) leaves = cc
 riff_left_out w end none sound at_most other (m, Ok x, first, (n, Err e, second, (is, last))) leaves = cc

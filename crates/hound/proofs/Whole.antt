@@ -8,7 +8,7 @@ use Rattle.hound_spec.specs.{header, data_start, canonical}
 use Rattle.hound_spec.proofs.HeaderLemmas.{data_start_least, length-header}
 use Rattle.hound_medium.specs.{MediumState, WhereKeeps, placed, overlay}
 use Rattle.hound_medium.proofs.Overlays.{length-placed}
-use Rattle.hound_writer.specs.{mark_of, Call, Lead, Left, Opens, Recorded, asked_by_all, made, new_file, publish, Finishes, WriterState, IsWhole}
+use Rattle.hound_writer.specs.{Ghosts, mark_of, Call, Lead, Left, Opens, Recorded, asked_by_all, made, new_file, publish, Finishes, WriterState, IsWhole}
 use Rattle.hound_writer.proofs.Accepting.{length_overlay_max}
 use Rattle.hound_writer.proofs.Recording.{ended, lead_more, leaves, left_by}
 use Rattle.hound.specs.declared.session.Step.{Step}
@@ -23,21 +23,21 @@ use Rattle.hound.proofs.Knowing.{known_steps}
 use Rattle.hound.proofs.Keeping.{first_of, holds_at_end, keeps_promises}
 
 -- a constructor that failed wrote less than the header
-pub part_of_header : {M : Type 0} (tells keeps : Bool) (state : M → MediumState) (s : WavSpecEx)
-    (old back : M) (e : Error) → IsTrue tells → IsNotBegunAs tells keeps state (New s) old back e
+pub part_of_header : {M : Type 0} (kind : Ghosts M) (s : WavSpecEx)
+    (old back : M) (e : Error) → IsTrue kind.tells → IsNotBegunAs kind (New s) old back e
     → (count : ℕ) × (count < data_start s)
-    × (length (state back).contents
-    ≤ max (length (state old).contents) ((state old).place + count))
-    × (IsTrue keeps → length (state back).past ≡ length (state old).past + count)
-part_of_header tells keeps state s old back e told (inl (not, is, same)) = (
+    × (length (kind.state back).contents
+    ≤ max (length (kind.state old).contents) ((kind.state old).place + count))
+    × (IsTrue kind.keeps → length (kind.state back).past ≡ length (kind.state old).past + count)
+part_of_header kind s old back e told (inl (not, is, same)) = (
   0,
   omega (arith, data_start_least s),
-  omega (arith, ap (λ m. length (state m).contents) same),
-  λ kept. omega (arith, ap (λ m. length (state m).past) same),
+  omega (arith, ap (λ m. length (kind.state m).contents) same),
+  λ kept. omega (arith, ap (λ m. length (kind.state m).past) same),
 )
-part_of_header tells keeps state s old back e told (inr (writable, io, failed)) =
+part_of_header kind s old back e told (inr (writable, io, failed)) =
     let p = failed told in
-    let place = (state old).place in
+    let place = (kind.state old).place in
     let h = take p.count (header s 0 0) in
     let size = length-take-le p.count (header s 0 0) p.within in (
       p.count,
@@ -45,13 +45,13 @@ part_of_header tells keeps state s old back e told (inr (writable, io, failed)) 
       omega (
         arith,
         ap length p.takes.contents,
-        length_overlay_max h place (state old).contents,
+        length_overlay_max h place (kind.state old).contents,
         size,
       ),
       λ kept. omega (
         arith,
         ap length (p.takes.past kept),
-        length-append (state old).past (placed place h),
+        length-append (kind.state old).past (placed place h),
         length-placed place h,
         size,
       ),
@@ -69,20 +69,20 @@ calls_accept s (step ∷ steps) (call ∷ calls) asked =
     λ i. accepted_of (one i) (mark_of call.answer) ++ calls_accept s steps calls rest i
 calls_accept s _ _ asked = cc
 
-module _ {M : Type 0} (tells keeps : Bool) (state : M → MediumState) where
-  run_spec : (begin : Begin) (old : M) (w : WriterState M) → BeginsAs tells keeps state begin old w
+module _ {M : Type 0} (kind : Ghosts M) where
+  run_spec : (begin : Begin) (old : M) (w : WriterState M) → BeginsAs kind begin old w
       → w.spec_ex ≡ begun_spec begin w
   run_spec (New s) old w begins = begins.begun.spec
   run_spec Append old w begins = refl
 
-  run_behind : (begin : Begin) (old : M) (w : WriterState M) → BeginsAs tells keeps state begin old w
+  run_behind : (begin : Begin) (old : M) (w : WriterState M) → BeginsAs kind begin old w
       → 4 ≤ w.data_start
   run_behind (New s) old w begins = omega (arith, begins.begun.sound.after_head)
   run_behind Append old w begins = omega (arith, begins.sound.after_head)
 
-  run_opens : (begin : Begin) (old : M) (w : WriterState M) → BeginsAs tells keeps state begin old w
-      → IsWhole state w
-      → Opens tells keeps state (begun_spec begin w) (file_of state begin old w) w
+  run_opens : (begin : Begin) (old : M) (w : WriterState M) → BeginsAs kind begin old w
+      → IsWhole kind.state w
+      → Opens kind (begun_spec begin w) (file_of kind.state begin old w) w
   run_opens (New s) old w begins whole = begins
   run_opens Append old w begins whole = record {
     appends = begins;
@@ -94,32 +94,32 @@ module _ {M : Type 0} (tells keeps : Bool) (state : M → MediumState) where
 
   -- the calls with that of the end
   pub all_lead : (calls : List Call) (first last : WriterState M)
-      (finished : Result (Unit {0}) Error) (medium : M) → Lead tells keeps state calls first last
-      → Finishes tells keeps state last finished medium
-      → Lead tells keeps state (calls ++ (end_call state last finished ∷ [])) first
-      (ended tells keeps state last medium)
+      (finished : Result (Unit {0}) Error) (medium : M) → Lead kind calls first last
+      → Finishes kind last finished medium
+      → Lead kind (calls ++ (end_call kind.state last finished ∷ [])) first
+      (ended kind last medium)
   all_lead calls first last finished medium lead ends =
-      lead_more tells keeps state calls publish finished first last
-      (ended tells keeps state last medium) lead
-      (leaves tells keeps state finished last (ended tells keeps state last medium) ends)
+      lead_more kind calls publish finished first last
+      (ended kind last medium) lead
+      (leaves kind finished last (ended kind last medium) ends)
 
   pub ran : (begin : Begin) (steps : List Step) (marks : List Bool) (end : End) (old : M)
       (answer finished : Result (Unit {0}) Error) (medium : M) (first last : WriterState M)
-      (calls : List Call) → BeginsAs tells keeps state begin old first
-      → Lead tells keeps state calls first last
+      (calls : List Call) → BeginsAs kind begin old first
+      → Lead kind calls first last
       → asked_by_all calls ≡ map (asked_by first.spec_ex) steps
       → marks ≡ map (λ (call : Call). mark_of call.answer) calls
-      → Finishes tells keeps state last finished medium → EndsAs end answer finished
+      → Finishes kind last finished medium → EndsAs end answer finished
       → ((m : M)
-      → WhereKeeps tells keeps ((state m).contents ≡ overlay (state m).start (state m).past))
-      → Ran tells keeps state begin steps marks end old answer medium
+      → WhereKeeps kind.tells kind.keeps ((kind.state m).contents ≡ overlay (kind.state m).start (kind.state m).past))
+      → Ran kind begin steps marks end old answer medium
   ran begin steps marks end old answer finished medium first last calls begins lead asked marked ends
       told replays =
-      let all = calls ++ (end_call state last finished ∷ []) in
-      let w = ended tells keeps state last medium in
+      let all = calls ++ (end_call kind.state last finished ∷ []) in
+      let w = ended kind last medium in
       let leads = all_lead calls first last finished medium lead ends in
       let s = begun_spec begin first in
-      let file = file_of state begin old first in
+      let file = file_of kind.state begin old first in
       record {
         first = first;
         last = last;
@@ -131,34 +131,34 @@ module _ {M : Type 0} (tells keeps : Bool) (state : M → MediumState) where
         marked = marked;
         ends = ends;
         told = told;
-        front = λ told. (went tells keeps state told all first w leads).front
+        front = λ told. (went kind told all first w leads).front
             (run_behind begin old first begins);
-        holds = λ told whole. holds_at_end tells keeps state s file all first w
-            (first_of tells keeps state s file first (run_opens begin old first begins whole)) leads
+        holds = λ told whole. holds_at_end kind s file all first w
+            (first_of kind s file first (run_opens begin old first begins whole)) leads
             told;
-        promises = λ told kept whole. keeps_promises tells keeps state s file all first w
-            (first_of tells keeps state s file first (run_opens begin old first begins whole)) leads
+        promises = λ told kept whole. keeps_promises kind s file all first w
+            (first_of kind s file first (run_opens begin old first begins whole)) leads
             told kept (λ m. replays m told kept);
       }
 
 -- a run over a new file
-module _ {M : Type 0} {tells keeps : Bool} {state : M → MediumState} {s : WavSpecEx}
+module _ {M : Type 0} {kind : Ghosts M} {s : WavSpecEx}
     {steps : List Step} {marks : List Bool} {end : End} {old medium : M}
     {answer : Result (Unit {0}) Error}
-    (r : Ran tells keeps state (New s) steps marks end old answer medium) where
+    (r : Ran kind (New s) steps marks end old answer medium) where
   pub steps_accepted : accepted_by_all r.calls ≡ accepted_by_steps s steps marks
   steps_accepted =
       calls_accept s steps r.calls r.asked ∙ ap (accepted_by_steps s steps) (sym r.marked)
 
-  pub new_exact : IsTrue tells → (state old).contents ≡ [] → NoFault (state old) (state medium)
-      → (state medium).contents ≡ canonical s (accepted_by_steps s steps marks)
+  pub new_exact : IsTrue kind.tells → (kind.state old).contents ≡ [] → NoFault (kind.state old) (kind.state medium)
+      → (kind.state medium).contents ≡ canonical s (accepted_by_steps s steps marks)
   new_exact told empty none =
       let exact = (r.holds told (r.begins.file told).whole).exact none r.calls
-      (end_call state r.last r.finished) refl refl in
+      (end_call kind.state r.last r.finished) refl refl in
       let c = canonical s (accepted_by_steps s steps marks) in
-      let starts : take (length c) (state medium).contents ≡ c =
-      subst (λ l. StartsWith (state medium).contents (canonical s l)) steps_accepted exact.0 in
-      sym (take_all (length c) (state medium).contents
+      let starts : take (length c) (kind.state medium).contents ≡ c =
+      subst (λ l. StartsWith (kind.state medium).contents (canonical s l)) steps_accepted exact.0 in
+      sym (take_all (length c) (kind.state medium).contents
       (omega (
         arith,
         exact.1,
@@ -166,27 +166,27 @@ module _ {M : Type 0} {tells keeps : Bool} {state : M → MediumState} {s : WavS
         ap length empty,
       ))) ∙ starts
 
-  pub new_canonical : IsTrue tells → end ≡ Finalize
+  pub new_canonical : IsTrue kind.tells → end ≡ Finalize
       → OnOk answer
-      (StartsWith (state medium).contents (canonical s (accepted_by_steps s steps marks)))
+      (StartsWith (kind.state medium).contents (canonical s (accepted_by_steps s steps marks)))
   new_canonical told is_finalize =
       go answer (subst (λ e. EndsAs e answer r.finished) is_finalize r.told)
     where
       go : (answer : Result (Unit {0}) Error) → answer ≡ r.finished
           → OnOk answer
-          (StartsWith (state medium).contents (canonical s (accepted_by_steps s steps marks)))
+          (StartsWith (kind.state medium).contents (canonical s (accepted_by_steps s steps marks)))
       go (Ok x) is =
-          subst (λ l. StartsWith (state medium).contents (canonical s l)) steps_accepted
+          subst (λ l. StartsWith (kind.state medium).contents (canonical s l)) steps_accepted
           ((r.holds told (r.begins.file told).whole).canonical r.calls
-          (end_call state r.last r.finished) refl (refl, ap mark_of (sym is)))
+          (end_call kind.state r.last r.finished) refl (refl, ap mark_of (sym is)))
       go (Err e) is = tt
 
   -- it leaves what its calls leave
-  pub run_left : Left tells keeps state s (new_file (state old))
+  pub run_left : Left kind s (new_file (kind.state old))
       (map (λ step. made (asked_by s step)) steps ++ made publish ∷ []) medium
   unfolding Recorded
   run_left =
-      left_by tells keeps state (made publish) r.finished s (new_file (state old))
+      left_by kind (made publish) r.finished s (new_file (kind.state old))
       (map (λ step. made (asked_by s step)) steps) r.last medium (refl, tt) r.ends
       (record {
         first = r.first;

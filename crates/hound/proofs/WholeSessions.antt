@@ -15,7 +15,7 @@ use Rattle.hound_medium.specs.{MediumState, one_more}
 use Rattle.hound_medium.proofs.Torn.{number_at_small}
 use Rattle.hound_walk.proofs.Exists.{one_answer}
 use Rattle.hound_walk.proofs.Unique.{heads_agree}
-use Rattle.hound_writer.specs.{IsPublishing, IsIoError, mark_of, Does, Asked, publish, write, WriterState, data_length, HasHeader, IsWhole, IsBegun, accepted_samples, padded_end, field, Appends, IsAppendFault, AppendFault, appendable, faulty, Begins, Finishes, ReadsAs}
+use Rattle.hound_writer.specs.{Ghosts, IsPublishing, IsIoError, mark_of, Does, Asked, publish, write, WriterState, data_length, HasHeader, IsWhole, IsBegun, accepted_samples, padded_end, field, Appends, IsAppendFault, AppendFault, appendable, faulty, Begins, Finishes, ReadsAs}
 use Rattle.hound_writer.proofs.Answers.{all_marked, where_marked, no_io, publishing_as, refused_of}
 use Rattle.hound_writer.proofs.Accepting.{length_overlay_max}
 use Rattle.hound_writer.proofs.AppendAnswers.{no_head_fault, one_append_answer}
@@ -45,15 +45,15 @@ publishing_after s list w answer after is =
     publishing_as answer w (writer_after s list) after.spec (omega (arith, after.size)) is
 
 -- a step's result is that of a writer of the same samples
-pub step_answers : {M : Type 0} (tells keeps : Bool) (state : M → MediumState) (s : WavSpecEx)
+pub step_answers : {M : Type 0} (kind : Ghosts M) (s : WavSpecEx)
     (old new : WriterState M) (list : List (List ℕ)) (step : Step) (answer : Result (Unit {0}) Error)
-    → IsAfter s list old → Takes tells keeps state step answer old new
+    → IsAfter s list old → Takes kind step answer old new
     → AnswersStep s list step answer
-step_answers tells keeps state s old new list step answer after takes = grind (arith, common_steps)
+step_answers kind s old new list step answer after takes = grind (arith, common_steps)
 
 -- sessions of a file of this spec, over a medium that began as `start`
-module _ {M : Type 0} (tells keeps : Bool) (state : M → MediumState) (told : IsTrue tells)
-    (small : (m : M) → AreBytes (state m).contents) (s : WavSpecEx) (writable : IsWritable s)
+module _ {M : Type 0} (kind : Ghosts M) (told : IsTrue kind.tells)
+    (small : (m : M) → AreBytes (kind.state m).contents) (s : WavSpecEx) (writable : IsWritable s)
     (start : MediumState) where
   abbrev Answer : Type 0
   Answer = Result (Unit {0}) Error
@@ -72,25 +72,25 @@ module _ {M : Type 0} (tells keeps : Bool) (state : M → MediumState) (told : I
   -- a writer of such a file
   record OnFile (list : List (List ℕ)) (w : WriterState M) : Type 0 where
     after : IsAfter s list w
-    whole : IsWhole state w
-    begun : IsBegun state w
-    holds : accepted_samples state w ≡ list
-    none : (state w.medium).faults ≡ start.faults
-    reach : length (state w.medium).contents
+    whole : IsWhole kind.state w
+    begun : IsBegun kind.state w
+    holds : accepted_samples kind.state w ≡ list
+    none : (kind.state w.medium).faults ≡ start.faults
+    reach : length (kind.state w.medium).contents
         ≤ max (length start.contents) (length (canonical s list))
 
   -- the writer of a new file
-  on_new : (old : M) (w : WriterState M) → state old ≡ start → (state old).place ≡ 0
-      → Begins tells keeps state s (state old) w → OnFile [] w
+  on_new : (old : M) (w : WriterState M) → kind.state old ≡ start → (kind.state old).place ≡ 0
+      → Begins kind s (kind.state old) w → OnFile [] w
   on_new old w same place b = grind (arith, common_steps, none_accepted, length_overlay_max, length-take-le, length-header, length-canonical)
 
   -- the writer that appends to a file
   on_append : (list : List (List ℕ)) (old : M) (w : WriterState M)
-      → HoldsFile list (state old).contents (state old).faults → Appends tells state (state old) w
+      → HoldsFile list (kind.state old).contents (kind.state old).faults → Appends kind (kind.state old) w
       → OnFile list w
   on_append list old w file appends =
       let follows = appends.file told in
-      let c = (state old).contents in
+      let c = (kind.state old).contents in
       let h = data_start s in
       let read = file.reads in
       let agree =
@@ -115,9 +115,9 @@ module _ {M : Type 0} (tells keeps : Bool) (state : M → MediumState) (told : I
               (λ i. (agree.0 i, sym same i)) file.header,
           at ∙ ap data_start agree.0,
         );
-        holds = samples_out state w appends.none_buffered appends.sound
+        holds = samples_out kind.state w appends.none_buffered appends.sound
             ∙ (λ i. containers (sym agree.0 i).bytes_per_sample
-            ((sym (length_written state w appends.none_buffered) ∙ sym agree.1) i /
+            ((sym (length_written kind.state w appends.none_buffered) ∙ sym agree.1) i /
             (sym agree.0 i).bytes_per_sample) (drop (at i) (same i)))
             ∙ ap (λ k. containers s.bytes_per_sample k (drop h c)) (sym read.readable.count)
             ∙ read.containers;
@@ -127,13 +127,13 @@ module _ {M : Type 0} (tells keeps : Bool) (state : M → MediumState) (told : I
 
   -- after a call that met no fault
   on_call : (list : List (List ℕ)) (asked : Asked) (answer : Answer) (old new : WriterState M)
-      → OnFile list old → Does tells keeps state asked answer old new
-      → (state new.medium).faults ≡ (state old.medium).faults
-      → length (state new.medium).contents
-      ≤ max (length (state old.medium).contents) (padded_end new)
+      → OnFile list old → Does kind asked answer old new
+      → (kind.state new.medium).faults ≡ (kind.state old.medium).faults
+      → length (kind.state new.medium).contents
+      ≤ max (length (kind.state old.medium).contents) (padded_end new)
       → OnFile (list ++ accepted_of asked (mark_of answer)) new
   on_call list asked answer old new on does same reach =
-      let t = call_went tells keeps state told answer old.batch_memory old new asked does in
+      let t = call_went kind told answer old.batch_memory old new asked does in
       let more = accepted_of asked (mark_of answer) in
       let at : new.data_start ≡ data_start s = t.data_start ∙ on.after.start in
       let size : data_length new ≡ length (concat (list ++ more)) =
@@ -158,22 +158,22 @@ module _ {M : Type 0} (tells keeps : Bool) (state : M → MediumState) (told : I
 
   -- a call that is another error changes nothing
   on_refused : (list : List (List ℕ)) (asked : Asked) (e : Error) (old new : WriterState M)
-      → (IsIoError e → ⊥) → OnFile list old → Does tells keeps state asked (Err e) old new
-      → NoFault (state old.medium) (state new.medium) → OnFile list new
+      → (IsIoError e → ⊥) → OnFile list old → Does kind asked (Err e) old new
+      → NoFault (kind.state old.medium) (kind.state new.medium) → OnFile list new
   on_refused list (write asked) e old new no_io on does none =
       subst (OnFile list) (sym (refused_of e no_io does.adds.refused)) on
   on_refused list publish e old new no_io on does none =
       subst (λ l. OnFile l new) (append-nil list)
       (on_call list publish (Err e) old new on does none.0
-      ((call_went tells keeps state told (Err e) old.batch_memory old new publish does).reach none))
+      ((call_went kind told (Err e) old.batch_memory old new publish does).reach none))
 
   -- an Ok end leaves a file that can be appended to
   holds_file : (list : List (List ℕ)) (w : WriterState M) (medium : M) → OnFile list w
-      → Finishes tells keeps state w (Ok tt) medium
-      → HoldsFile list (state medium).contents (state medium).faults
+      → Finishes kind w (Ok tt) medium
+      → HoldsFile list (kind.state medium).contents (kind.state medium).faults
   holds_file list w medium on ends =
       let p = ends.publishes told in
-      let c = (state medium).contents in
+      let c = (kind.state medium).contents in
       let h = data_start s in
       let spec = on.after.spec in
       let at = on.after.start in
@@ -203,12 +203,12 @@ module _ {M : Type 0} (tells keeps : Bool) (state : M → MediumState) (told : I
 
   -- an end that met no fault after an error leaves the file of all before
   stop_early : (list : List (List ℕ)) (after : List Step) (e : Error) (w : WriterState M)
-      (answer : Answer) (medium : M) → OnFile list w → NoFault (state w.medium) (state medium)
-      → Finishes tells keeps state w answer medium → (IsIoError e → ⊥) → StopsAt s list after e
-      → StopsEarly s list after e (state medium).contents
+      (answer : Answer) (medium : M) → OnFile list w → NoFault (kind.state w.medium) (kind.state medium)
+      → Finishes kind w answer medium → (IsIoError e → ⊥) → StopsAt s list after e
+      → StopsEarly s list after e (kind.state medium).contents
   stop_early list after e w answer medium on (same, few) ends no_fault why =
       let p = ends.publishes told in
-      let c = (state medium).contents in
+      let c = (kind.state medium).contents in
       let all = sym (append-nil list) in
       record {
         no_fault = no_fault;
@@ -218,7 +218,7 @@ module _ {M : Type 0} (tells keeps : Bool) (state : M → MediumState) (told : I
         file = subst (λ (x : WavSpecEx × List (List ℕ)). StartsWith c (canonical x.0 x.1))
             (λ i. (on.after.spec i, (on.holds ∙ all) i))
             (where_marked answer
-            (all_marked answer w (state w.medium).faults few (sym p.faults ∙ same) ends.answers)
+            (all_marked answer w (kind.state w.medium).faults few (sym p.faults ∙ same) ends.answers)
             (p.canonical on.whole on.begun));
         why = subst (λ l. StopsAt s l after e) all why;
       }
@@ -258,23 +258,23 @@ module _ {M : Type 0} (tells keeps : Bool) (state : M → MediumState) (told : I
 
   -- an end
   finish : (list : List (List ℕ)) (rest : List Step) (w : WriterState M) (answer : Answer)
-      (medium : M) → OnFile list w → Finishes tells keeps state w answer medium
-      → Leads list [] rest (state medium) answer
+      (medium : M) → OnFile list w → Finishes kind w answer medium
+      → Leads list [] rest (kind.state medium) answer
   finish list rest w (Ok x) medium on ends =
-      subst (λ l. HoldsFile l (state medium).contents (state medium).faults) (sym (append-nil list))
+      subst (λ l. HoldsFile l (kind.state medium).contents (kind.state medium).faults) (sym (append-nil list))
       (holds_file list w medium on ends)
   finish list rest w (Err e) medium on ends = λ (clean, few).
-      let same : NoFault (state w.medium) (state medium) =
+      let same : NoFault (kind.state w.medium) (kind.state medium) =
       (clean ∙ sym on.none, omega (arith, on.none, few)) in
       stop_early list rest e w (Err e) medium on same ends
-      (no_io e (state w.medium).faults same.1 (sym (ends.publishes told).faults ∙ same.0))
+      (no_io e (kind.state w.medium).faults same.1 (sym (ends.publishes told).faults ∙ same.0))
       (inl (publishing_after s list w (Err e) on.after ends.answers))
 
   -- steps up to the first error
   until : (list : List (List ℕ)) (steps rest : List Step) (w : WriterState M)
       (answer : Answer) (medium : M) → OnFile list w
-      → RunsUntil tells keeps state steps w answer medium
-      → Leads list steps (steps ++ rest) (state medium) answer
+      → RunsUntil kind steps w answer medium
+      → Leads list steps (steps ++ rest) (kind.state medium) answer
       × AnswersSession s list steps answer
   until list [] rest w answer medium on ends = (
     finish list rest w answer medium on ends,
@@ -282,18 +282,18 @@ module _ {M : Type 0} (tells keeps : Bool) (state : M → MediumState) (told : I
   )
   until list (step ∷ steps) rest w answer medium on
       (inl (e, new, dropped, is, takes, ends)) =
-      let does = subst (λ x. Does tells keeps state (asked_by x step) (Err e) w new) on.after.spec
+      let does = subst (λ x. Does kind (asked_by x step) (Err e) w new) on.after.spec
       takes in
-      let t = call_went tells keeps state told (Err e) w.batch_memory w new (asked_by s step) does in
-      let answers = step_answers tells keeps state s w new list step (Err e) on.after takes in
-      subst (λ r. Leads list (step ∷ steps) (step ∷ (steps ++ rest)) (state medium) r
+      let t = call_went kind told (Err e) w.batch_memory w new (asked_by s step) does in
+      let answers = step_answers kind s w new list step (Err e) on.after takes in
+      subst (λ r. Leads list (step ∷ steps) (step ∷ (steps ++ rest)) (kind.state medium) r
       × AnswersSession s list (step ∷ steps) r) (sym is) (
         λ (clean, few).
-            let parts = no_fault_parts (state w.medium) (state new.medium) (state medium) t.faults
-            (grows_told dropped (state new.medium) (state medium) (ends.publishes told).faults)
+            let parts = no_fault_parts (kind.state w.medium) (kind.state new.medium) (kind.state medium) t.faults
+            (grows_told dropped (kind.state new.medium) (kind.state medium) (ends.publishes told).faults)
             (clean ∙ sym on.none, omega (arith, on.none, few)) in
-            let no_fault = no_io e (state w.medium).faults parts.0.1
-            (sym (call_faults tells keeps state told (Err e) w.batch_memory w new (asked_by s step) does)
+            let no_fault = no_io e (kind.state w.medium).faults parts.0.1
+            (sym (call_faults kind told (Err e) w.batch_memory w new (asked_by s step) does)
             ∙ parts.0.0) in
             stop_early list (step ∷ (steps ++ rest)) e new dropped medium
             (on_refused list (asked_by s step) e w new no_fault on does parts.0) parts.1 ends no_fault
@@ -301,28 +301,28 @@ module _ {M : Type 0} (tells keeps : Bool) (state : M → MediumState) (told : I
         inl (e, refl, answers),
       )
   until list (step ∷ steps) rest w answer medium on (inr (new, takes, runs)) =
-      let does = subst (λ x. Does tells keeps state (asked_by x step) (Ok tt) w new) on.after.spec
+      let does = subst (λ x. Does kind (asked_by x step) (Ok tt) w new) on.after.spec
       takes in
       let more = accepted_by s step true in
       let (led, answers) = until (list ++ more) steps rest new answer medium
       (on_call list (asked_by s step) (Ok tt) w new on does
-      (call_faults tells keeps state told (Ok tt) w.batch_memory w new (asked_by s step) does)
-      (call_reach tells keeps state told (Ok tt) w.batch_memory w new (asked_by s step) does)) runs in (
-        leads_later list more (step ∷ []) steps (steps ++ rest) (state medium) answer
+      (call_faults kind told (Ok tt) w.batch_memory w new (asked_by s step) does)
+      (call_reach kind told (Ok tt) w.batch_memory w new (asked_by s step) does)) runs in (
+        leads_later list more (step ∷ []) steps (steps ++ rest) (kind.state medium) answer
             (append-nil more) led,
-        inr (step_answers tells keeps state s w new list step (Ok tt) on.after takes, answers),
+        inr (step_answers kind s w new list step (Ok tt) on.after takes, answers),
       )
 
   -- a session that begins with a writer of this file, or ends with a fault before that
   abbrev Starts : List (List ℕ) → List Step → Answer → M → Type 0
   Starts list steps answer medium =
       ((e : Error) × (answer ≡ Err e) × IsIoError e
-      × ((state medium).faults ≡ one_more start.faults))
-      ⊎ ((w : WriterState M) × OnFile list w × RunsUntil tells keeps state steps w answer medium)
+      × ((kind.state medium).faults ≡ one_more start.faults))
+      ⊎ ((w : WriterState M) × OnFile list w × RunsUntil kind steps w answer medium)
 
   -- the first session
-  first : (steps : List Step) (old : M) (answer : Answer) (medium : M) → state old ≡ start
-      → (state old).place ≡ 0 → RunsOnce tells keeps state (New s) steps old answer medium
+  first : (steps : List Step) (old : M) (answer : Answer) (medium : M) → kind.state old ≡ start
+      → (kind.state old).place ≡ 0 → RunsOnce kind (New s) steps old answer medium
       → Starts [] steps answer medium
   first steps old answer medium same place (inl (e, is, inl (unwritable, named, still))) =
       absurd (unwritable writable)
@@ -333,20 +333,20 @@ module _ {M : Type 0} (tells keeps : Bool) (state : M → MediumState) (told : I
 
   -- one more
   again : (list : List (List ℕ)) (steps : List Step) (old : M) (answer : Answer) (medium : M)
-      → HoldsFile list (state old).contents (state old).faults
-      → RunsOnce tells keeps state Append steps old answer medium → Starts list steps answer medium
+      → HoldsFile list (kind.state old).contents (kind.state old).faults
+      → RunsOnce kind Append steps old answer medium → Starts list steps answer medium
   again list steps old answer medium file (inl (e, is, goes)) =
       inl (IoError e, is, tt, (goes told).faults ∙ ap one_more file.none)
   again list steps old answer medium before (inr (mid, goes, runs)) = go runs
     where
-      file : HoldsFile list (state mid).contents (state mid).faults
+      file : HoldsFile list (kind.state mid).contents (kind.state mid).faults
       file = subst (λ (x : List ℕ × ℕ). HoldsFile list x.0 x.1)
           (λ i. (sym (goes told).stays.contents i, sym (goes told).faults i)) before
 
-      never : (fault : AppendFault) → IsAppendFault (state mid).contents fault → ⊥
+      never : (fault : AppendFault) → IsAppendFault (kind.state mid).contents fault → ⊥
       never fault is =
-          let (answer, here, one) = one_append_answer (state mid).contents
-          (one_answer (state mid).contents) in
+          let (answer, here, one) = one_append_answer (kind.state mid).contents
+          (one_answer (kind.state mid).contents) in
           let a = one (faulty fault) is in
           let read = file.reads.readable in
           let b = one (appendable s read.len (data_start s)) (
@@ -356,7 +356,7 @@ module _ {M : Type 0} (tells keeps : Bool) (state : M → MediumState) (told : I
           ) in
           cc
 
-      go : RunsFrom tells keeps state Append steps mid answer medium
+      go : RunsFrom kind Append steps mid answer medium
           → Starts list steps answer medium
       go (inl (e, is, refused)) = elim (refused told).why [
         | inl (fault, here, names, same) ↦ absurd (never fault here)
@@ -367,10 +367,10 @@ module _ {M : Type 0} (tells keeps : Bool) (state : M → MediumState) (told : I
   -- what it comes to
   comes : (list : List (List ℕ)) (steps rest : List Step) (answer : Answer) (medium : M)
       → Starts list steps answer medium
-      → Leads list steps (steps ++ rest) (state medium) answer
+      → Leads list steps (steps ++ rest) (kind.state medium) answer
       × (IsErrAnd answer IsIoError ⊎ AnswersSession s list steps answer)
   comes list steps rest answer medium (inl (e, is, io, faults)) =
-      subst (λ r. Leads list steps (steps ++ rest) (state medium) r
+      subst (λ r. Leads list steps (steps ++ rest) (kind.state medium) r
       × (IsErrAnd r IsIoError ⊎ AnswersSession s list steps r)) (sym is)
       (λ (same, few). absurd (omega (arith, faults, same, few)), inl io)
   comes list steps rest answer medium (inr (w, file, runs)) =
@@ -381,15 +381,15 @@ module _ {M : Type 0} (tells keeps : Bool) (state : M → MediumState) (told : I
   on : (begin : Begin) (list : List (List ℕ)) (sessions : List (Bor (List Step))) (old : M)
       (answer : Answer) (medium : M)
       → ((steps : List Step) (answer : Answer) (medium : M)
-      → RunsOnce tells keeps state begin steps old answer medium → Starts list steps answer medium)
-      → (length sessions ≡ 0 → HoldsFile list (state old).contents (state old).faults)
-      → RunsOn tells keeps state begin sessions old answer medium
-      → Leads list (all_steps sessions) (all_steps sessions) (state medium) answer
+      → RunsOnce kind begin steps old answer medium → Starts list steps answer medium)
+      → (length sessions ≡ 0 → HoldsFile list (kind.state old).contents (kind.state old).faults)
+      → RunsOn kind begin sessions old answer medium
+      → Leads list (all_steps sessions) (all_steps sessions) (kind.state medium) answer
       × AnswersAll s list sessions answer
   on begin list [] old answer medium once none (is, same) = (
-    subst (λ (x : List (List ℕ) × (M × Answer)). Leads list [] [] (state x.1.0) x.1.1)
+    subst (λ (x : List (List ℕ) × (M × Answer)). Leads list [] [] (kind.state x.1.0) x.1.1)
         (λ i. (list, (sym same i, sym is i)))
-        (subst (λ l. HoldsFile l (state old).contents (state old).faults) (sym (append-nil list))
+        (subst (λ l. HoldsFile l (kind.state old).contents (kind.state old).faults) (sym (append-nil list))
         (none refl)),
     is,
   )
@@ -397,7 +397,7 @@ module _ {M : Type 0} (tells keeps : Bool) (state : M → MediumState) (told : I
       let all = all_steps (session ∷ sessions) in
       let (led, answers) = comes list session.now (all_steps sessions) (Err e) medium
       (once session.now (Err e) medium runs) in
-      subst (λ r. Leads list all all (state medium) r × AnswersAll s list (session ∷ sessions) r)
+      subst (λ r. Leads list all all (kind.state medium) r × AnswersAll s list (session ∷ sessions) r)
       (sym is) (led, inl (e, refl, answers))
   on begin list (session ∷ sessions) old answer medium once none (inr (mid, runs, rest)) =
       let (file, answers) = comes list session.now (all_steps sessions) (Ok tt) mid
@@ -406,7 +406,7 @@ module _ {M : Type 0} (tells keeps : Bool) (state : M → MediumState) (told : I
       let (led, others) = on Append (list ++ more) sessions mid answer medium
       (λ steps answer medium runs. again (list ++ more) steps mid answer medium file runs)
       (λ _. file) rest in (
-        leads_later list more session.now (all_steps sessions) (all_steps sessions) (state medium)
+        leads_later list more session.now (all_steps sessions) (all_steps sessions) (kind.state medium)
             answer refl led,
         elim answers [
           | inl fault ↦ absurd fault
@@ -415,20 +415,19 @@ module _ {M : Type 0} (tells keeps : Bool) (state : M → MediumState) (told : I
       )
 
   all : (sessions : List (Bor (List Step))) (old : M) (answer : Answer) (medium : M)
-      → state old ≡ start → (state old).place ≡ 0 → 0 < length sessions
-      → RunsOn tells keeps state (New s) sessions old answer medium
-      → Leads [] (all_steps sessions) (all_steps sessions) (state medium) answer
+      → kind.state old ≡ start → (kind.state old).place ≡ 0 → 0 < length sessions
+      → RunsOn kind (New s) sessions old answer medium
+      → Leads [] (all_steps sessions) (all_steps sessions) (kind.state medium) answer
       × AnswersAll s [] sessions answer
   all sessions old answer medium same place some are =
       on (New s) [] sessions old answer medium
       (λ steps answer medium runs. first steps old answer medium same place runs)
       (λ none. absurd (omega (arith, some, none))) are
 
-module _ {M : Type 0} (tells keeps : Bool) (state : M → MediumState) (s : WavSpecEx)
-    (old medium : M) where
+module _ {M : Type 0} (kind : Ghosts M) (s : WavSpecEx) (old medium : M) where
   -- over every medium, the error for a spec that can't be written is returned, and nothing is done
   writable_or : (sessions : List (Bor (List Step))) (answer : Result (Unit {0}) Error)
-      → 0 < length sessions → RunsOn tells keeps state (New s) sessions old answer medium
+      → 0 < length sessions → RunsOn kind (New s) sessions old answer medium
       → IsWritable s ⊎ ((answer ≡ Err Unsupported) × (medium ≡ old))
   writable_or [] answer some are = absurd (omega (arith, some))
   writable_or (session ∷ sessions) answer some (inl (e, is, inl (f, told, inl (why, name, same)))) =
@@ -447,29 +446,29 @@ module _ {M : Type 0} (tells keeps : Bool) (state : M → MediumState) (s : WavS
     where
       pub file : 0 < length sessions →
           let file = canonical s (containers_of s (all_steps sessions)) in
-          OnOk answer (StartsWith (state medium).contents file
-          × ((state old).contents ≡ [] → (state medium).contents ≡ file))
-      pub faults : OnOk answer ((state medium).faults ≡ (state old).faults)
-      pub stops : IsWritable s → NoFault (state old) (state medium) →
-          IfErr answer (λ e. StopsEarly s [] (all_steps sessions) e (state medium).contents)
+          OnOk answer (StartsWith (kind.state medium).contents file
+          × ((kind.state old).contents ≡ [] → (kind.state medium).contents ≡ file))
+      pub faults : OnOk answer ((kind.state medium).faults ≡ (kind.state old).faults)
+      pub stops : IsWritable s → NoFault (kind.state old) (kind.state medium) →
+          IfErr answer (λ e. StopsEarly s [] (all_steps sessions) e (kind.state medium).contents)
       pub first_error : IsWritable s → AnswersAll s [] sessions answer
 
-  module _ (told : IsTrue tells) (small : (m : M) → AreBytes (state m).contents)
-      (place : (state old).place ≡ 0) where
+  module _ (told : IsTrue kind.tells) (small : (m : M) → AreBytes (kind.state m).contents)
+      (place : (kind.state old).place ≡ 0) where
     pub leave : (sessions : List (Bor (List Step))) (answer : Result (Unit {0}) Error)
-        → RunsOn tells keeps state (New s) sessions old answer medium → Leave sessions answer
+        → RunsOn kind (New s) sessions old answer medium → Leave sessions answer
     leave [] answer (is, same) = subst (Leave []) (sym is) (record {
       file = λ some. absurd (omega (arith, some));
-      faults = ap (λ m. (state m).faults) same;
+      faults = ap (λ m. (kind.state m).faults) same;
       stops = λ writable clean. tt;
       first_error = λ writable. refl;
     })
     leave (session ∷ sessions) (Err e) are = record {
       file = λ some. tt;
       faults = tt;
-      stops = λ writable. (all tells keeps state told small s writable (state old) (session ∷ sessions) old
+      stops = λ writable. (all kind told small s writable (kind.state old) (session ∷ sessions) old
           (Err e) medium refl place (omega arith) are).0;
-      first_error = λ writable. (all tells keeps state told small s writable (state old)
+      first_error = λ writable. (all kind told small s writable (kind.state old)
           (session ∷ sessions) old (Err e) medium refl place (omega arith) are).1;
     }
     leave (session ∷ sessions) (Ok x) are =
@@ -477,13 +476,13 @@ module _ {M : Type 0} (tells keeps : Bool) (state : M → MediumState) (s : WavS
           | inl can ↦ can
           | inr (is, same) ↦ cc
         ] in
-        let (holds, answers) = all tells keeps state told small s writable (state old) (session ∷ sessions)
+        let (holds, answers) = all kind told small s writable (kind.state old) (session ∷ sessions)
         old (Ok tt) medium refl place (omega arith) are in
         let file = canonical s (containers_of s (all_steps (session ∷ sessions))) in
         record {
           file = λ some. (
             holds.file,
-            λ empty. sym (take_all (length file) (state medium).contents
+            λ empty. sym (take_all (length file) (kind.state medium).contents
                 (omega (arith, holds.reach, ap length empty))) ∙ holds.file,
           );
           faults = holds.none;
@@ -492,9 +491,9 @@ module _ {M : Type 0} (tells keeps : Bool) (state : M → MediumState) (s : WavS
         }
 
   -- what the result of sessions shows
-  pub sessions_answered : (IsTrue tells → (m : M) → AreBytes (state m).contents)
-      → (IsTrue tells → (state old).place ≡ 0) → (sessions : List (Bor (List Step)))
+  pub sessions_answered : (IsTrue kind.tells → (m : M) → AreBytes (kind.state m).contents)
+      → (IsTrue kind.tells → (kind.state old).place ≡ 0) → (sessions : List (Bor (List Step)))
       (answer : Result (Unit {0}) Error)
-      → RunsOn tells keeps state (New s) sessions old answer medium
-      → IsAnswered tells state s sessions old answer medium
+      → RunsOn kind (New s) sessions old answer medium
+      → IsAnswered kind s sessions old answer medium
   sessions_answered small place sessions answer are = grind (arith, common_steps, writable_or, leave)

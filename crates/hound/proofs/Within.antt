@@ -9,11 +9,10 @@ use Rattle.hound_spec.specs.{header, data_start}
 use Rattle.hound_spec.proofs.HeaderLemmas.{length-header}
 use Rattle.hound_sample.specs.{containers}
 use Rattle.hound_medium.specs.{overlay, placed, MediumState, WhereKeeps}
-use Rattle.hound_medium.specs.declared.medium.Placed.{Ghosts}
 use Rattle.hound_medium.proofs.Overlays.{length-placed}
 use Rattle.hound_durable.specs.{within, Ascends, SurvivesLoss, own, replays_own}
 use Rattle.hound_durable.specs.declared.durable.Durable.{Durable}
-use Rattle.hound_writer.specs.{mark_of, Begun, Call, Known, Left, asked_by_all, found_in, publish, start_of, Counts, accepted_samples, data_length}
+use Rattle.hound_writer.specs.{Ghosts, mark_of, Begun, Call, Known, Left, asked_by_all, found_in, publish, start_of, Counts, accepted_samples, data_length}
 use Rattle.hound_writer.proofs.Samples.{length_written, samples_out}
 use Rattle.hound.specs.declared.session.Step.{Step}
 use Rattle.hound.specs.declared.session.Step.TheVariants.{Flush}
@@ -30,6 +29,10 @@ use Rattle.hound.proofs.Whole.{all_lead, part_of_header, steps_accepted}
 -- the state that a durable medium shows
 abbrev pub shown : {M : Type 0} {g : Ghosts M} → Durable M g → MediumState
 shown {M} {g} d = own g.keeps (g.state d.inner) d.faults d.flushed
+
+-- what is known of a durable medium, by what is known of the one within
+abbrev pub durable_kind : {M : Type 0} → (g : Ghosts M) → Ghosts (Durable M g)
+durable_kind g = record { tells = g.tells; keeps = g.keeps; state = λ d. shown d }
 
 module _ {M : Type 0} {g : Ghosts M} (d : Durable M g) (told : IsTrue g.tells)
     (kept : IsTrue g.keeps) where
@@ -65,13 +68,11 @@ pub left_within : {M : Type 0} {g : Ghosts M}
     ((g.state m).contents ≡ overlay (g.state m).start (g.state m).past))
     → IsTrue g.tells → IsTrue g.keeps → (s : WavSpecEx) (file : Begun) (known : List Known)
     (one : Known) (d : Durable M g) → one.asked ≡ publish
-    → Left g.tells g.keeps (λ (d : Durable M g). shown d) s file (known ++ one ∷ []) d
-    → KeptWithin g.tells g.keeps (λ (d : Durable M g). shown d) s file (known ++ one ∷ []) d
-    (within d)
+    → Left (durable_kind g) s file (known ++ one ∷ []) d
+    → KeptWithin (durable_kind g) s file (known ++ one ∷ []) d (within d)
 left_within {M} {g} replays told kept s file known one d publishes left =
     let k =
-    left_kept g.tells g.keeps (λ (d : Durable M g). shown d)
-    (λ m told kept. replays_own g.keeps (g.state m.inner) m.faults m.flushed kept
+    left_kept (durable_kind g) (λ m told kept. replays_own g.keeps (g.state m.inner) m.faults m.flushed kept
     (replays m.inner told kept)) s file (known ++ one ∷ []) d left told kept in
     let r = k.left.recorded in
     let (before, end, parts, is) = last_known known one r.calls r.are_known in
@@ -132,19 +133,18 @@ module _ {M : Type 0} {g : Ghosts M} (told : IsTrue g.tells) (kept : IsTrue g.ke
     (steps : List Step) (marks : List Bool) (end : End) (old d : Durable M g)
     (answer : Result (Unit {0}) Error) (unused : (shown old).past ≡ []) (m : MediumState)
     (is : m ≡ within d) where
-  abbrev of_durable : Durable M g → MediumState
-  of_durable d = shown d
+  abbrev durable : Ghosts (Durable M g)
+  durable = durable_kind g
 
   abbrev Run : Begin → Type 0
-  Run begin =
-      Ran g.tells g.keeps of_durable begin steps marks end old answer d
+  Run begin = Ran durable begin steps marks end old answer d
 
   begins_first : (begin : Begin) (r : Run begin)
       → begins_at (all_calls r) (within d).past ≡ length (shown r.first.medium).past
   begins_first begin r =
       ap (begins_at (all_calls r)) (sym (same_past d told kept))
-      ∙ where_begun g.tells g.keeps of_durable told (all_calls r) r.first _
-      (all_lead g.tells g.keeps of_durable r.calls r.first r.last r.finished d
+      ∙ where_begun durable told (all_calls r) r.first _
+      (all_lead durable r.calls r.first r.last r.finished d
       r.lead r.ends)
 
   -- over a new file, whose header was written first
@@ -155,7 +155,7 @@ module _ {M : Type 0} {g : Ghosts M} (told : IsTrue g.tells) (kept : IsTrue g.ke
       let file = r.begins.file told in
       let h = header r.first.spec_ex 0 0 in (
         survives_within d told kept m is s (data_start s) [] r.calls
-            (end_call of_durable r.last r.finished) refl
+            (end_call durable.state r.last r.finished) refl
             (r.promises told kept file.whole),
         ap (λ (m : MediumState). begins_at (all_calls r) m.past) is ∙ begins_first (New s) r
             ∙ omega (
@@ -175,15 +175,15 @@ module _ {M : Type 0} {g : Ghosts M} (told : IsTrue g.tells) (kept : IsTrue g.ke
 
   -- if its header was flushed, it was begun, and what a loss of power leaves counts
   pub survived : (begin : Begin) (s : WavSpecEx) → begin ≡ New s → data_start s ≤ m.flushed
-      → IsSession g.tells g.keeps of_durable begin steps marks end old answer d
+      → IsSession durable begin steps marks end old answer d
       → (r : Run (New s)) × ((sector : ℕ) (contents : List ℕ) → 1 ≤ sector
       → (data_start s - 4) / sector ≡ (data_start s - 1) / sector
       → SurvivesLoss sector m.start m.past m.flushed (length m.past) contents
       → Counts s (data_start s) (accepted_by_steps s steps marks) contents
       × LosesNothing s (data_start s) [] (all_calls r) m contents)
   survived begin s is_new long (inl (e, is_error, why, unmarked)) =
-      let part = part_of_header g.tells g.keeps of_durable s old d e told
-      (subst (λ b. IsNotBegunAs g.tells g.keeps of_durable b old d e) is_new why) in
+      let part = part_of_header durable s old d e told
+      (subst (λ b. IsNotBegunAs durable b old d e) is_new why) in
       absurd (omega (
         arith,
         long,
@@ -200,7 +200,7 @@ module _ {M : Type 0} {g : Ghosts M} (told : IsTrue g.tells) (kept : IsTrue g.ke
         λ sector contents some one lost.
             let left = here.after_loss (omega (arith, long, at)) sector contents some one lost in (
               subst (λ l. Counts s (data_start s) l contents)
-                  (all_accepted r.calls (end_call of_durable r.last r.finished) refl
+                  (all_accepted r.calls (end_call durable.state r.last r.finished) refl
                   ∙ steps_accepted r) left.0,
               left.1,
             ),
@@ -208,7 +208,7 @@ module _ {M : Type 0} {g : Ghosts M} (told : IsTrue g.tells) (kept : IsTrue g.ke
 
   -- a flush with a mark has flushed the header
   pub header_flushed : (begin : Begin) (s : WavSpecEx) → begin ≡ New s
-      → IsSession g.tells g.keeps of_durable begin steps marks end old answer d
+      → IsSession durable begin steps marks end old answer d
       → (i : ℕ) → i < length steps → slice_index_or steps i Flush ≡ Flush
       → slice_index_or marks i false ≡ true → data_start s ≤ m.flushed
   header_flushed begin s is_new (inl (e, is_error, why, unmarked)) i inside flush marked =
@@ -219,7 +219,7 @@ module _ {M : Type 0} {g : Ghosts M} (told : IsTrue g.tells) (kept : IsTrue g.ke
       let (here, at) = new_run s r in
       let (before, after, call, parts, published) = flush_of_step s steps r.calls r.asked i inside
       flush (ap (λ l. slice_index_or l i false) (sym r.marked) ∙ marked) in
-      let finish = end_call of_durable r.last r.finished in
+      let finish = end_call durable.state r.last r.finished in
       omega (
         arith,
         at,
@@ -230,10 +230,10 @@ module _ {M : Type 0} {g : Ghosts M} (told : IsTrue g.tells) (kept : IsTrue g.ke
 
   -- over a file that was appended to, if a byte was written at all
   pub appended_survives : (begin : Begin) → begin ≡ Append
-      → IsSession g.tells g.keeps of_durable begin steps marks end old answer d
+      → IsSession durable begin steps marks end old answer d
       → (m.past ≡ []) ⊎ ((r : Run Append) × AppendedSurvives (shown old).contents (all_calls r) m)
   appended_survives begin is_append (inl (e, is_error, not, unmarked)) =
-      let why = subst (λ b. IsNotBegunAs g.tells g.keeps of_durable b old d e) is_append not in
+      let why = subst (λ b. IsNotBegunAs durable b old d e) is_append not in
       inl (ap (λ (m : MediumState). m.past) is ∙ sym (same_past d told kept)
       ∙ (why told).puts.stays.past ∙ unused)
   appended_survives begin is_append (inr ran) =
@@ -243,11 +243,11 @@ module _ {M : Type 0} {g : Ghosts M} (told : IsTrue g.tells) (kept : IsTrue g.ke
       let before = (shown old).contents in
       let width = w.spec_ex.bytes_per_sample in
       let out : w.bytes_written ≡ data_length w =
-      sym (length_written of_durable w r.begins.none_buffered) in
+      sym (length_written durable.state w r.begins.none_buffered) in
       let stays : (shown w.medium).contents ≡ before = file.puts.stays.contents in
-      let found_is : accepted_samples of_durable w
+      let found_is : accepted_samples durable.state w
       ≡ containers width (data_length w / width) (drop w.data_start before) =
-      samples_out of_durable w r.begins.none_buffered r.begins.sound
+      samples_out durable.state w r.begins.none_buffered r.begins.sound
       ∙ (λ i. containers width (out i / width) (drop w.data_start (stays i))) in
       inr (
         r,
@@ -259,8 +259,8 @@ module _ {M : Type 0} {g : Ghosts M} (told : IsTrue g.tells) (kept : IsTrue g.ke
           survives = λ there.
               subst (λ l. SurvivesAtEnd w.spec_ex w.data_start l (all_calls r) m) found_is
               (survives_within d told kept m is w.spec_ex w.data_start
-              (accepted_samples of_durable w) r.calls
-              (end_call of_durable r.last r.finished) refl
+              (accepted_samples durable.state w) r.calls
+              (end_call durable.state r.last r.finished) refl
               (r.promises told kept (omega (arith, there, out, ap length stays))));
         },
       )

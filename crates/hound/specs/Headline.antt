@@ -9,7 +9,7 @@ use Rattle.hound_number.specs.{mix}
 use Rattle.hound_medium.specs.{moment, MediumState}
 use Rattle.hound_durable.specs.{Ascends, SurvivesLoss, place_of}
 use Rattle.hound_walk.specs.{Head, IsSoundSpec}
-use Rattle.hound_writer.specs.{if_marked, mark_of, IsStored, Asked, Begun, Call, Known, LeftBy, appended, found_in, handed_in, marked, new_file, publish, write, start_of, ChangesSizesOnly, Counts, field, HasHeader}
+use Rattle.hound_writer.specs.{Ghosts, if_marked, mark_of, IsStored, Asked, Begun, Call, Known, LeftBy, appended, found_in, handed_in, marked, new_file, publish, write, start_of, ChangesSizesOnly, Counts, field, HasHeader}
 
 -- what a call accepted, by what it asked and its mark
 abbrev pub accepted_of : Asked → Bool → List (List ℕ)
@@ -257,16 +257,16 @@ pub record Keeps (s : WavSpecEx) (file : Begun) (calls : List Call) (medium : Me
 
 -- What a writer has left in a medium whose bytes are known: calls of which these are known, each by
 -- its contract, led to this medium; and what they leave there.
-pub record Holds {W : Type 0} (tells keeps : Bool) (state : W → MediumState) (s : WavSpecEx)
+pub record Holds {W : Type 0} (kind : Ghosts W) (s : WavSpecEx)
     (file : Begun) (known : List Known) (medium : W) : Type 0 where
-  pub left : LeftBy tells keeps state s file known medium
-  pub at_end : HoldsAtEnd s file left.recorded.calls (state medium)
+  pub left : LeftBy kind s file known medium
+  pub at_end : HoldsAtEnd s file left.recorded.calls (kind.state medium)
 
 -- The same over a medium that records every byte written: and all that these calls promise.
-pub record Kept {W : Type 0} (tells keeps : Bool) (state : W → MediumState) (s : WavSpecEx)
+pub record Kept {W : Type 0} (kind : Ghosts W) (s : WavSpecEx)
     (file : Begun) (known : List Known) (medium : W) : Type 0 where
-  pub left : LeftBy tells keeps state s file known medium
-  pub promised : Keeps s file left.recorded.calls (state medium)
+  pub left : LeftBy kind s file known medium
+  pub promised : Keeps s file left.recorded.calls (kind.state medium)
 
 -- What a loss of power at the end leaves of a medium that wrote bytes at ascending places only since
 -- it was flushed, the header before that, as the medium within a `Durable` does: it counts, and has
@@ -295,14 +295,14 @@ IsLeftAfter start from medium contents =
 
 -- What a writer over a `Durable` has left: calls of which these are known led to it, each by its
 -- contract; all that they promise; and what a loss of power leaves within it, after each flush.
-pub record KeptWithin {W : Type 0} (tells keeps : Bool) (state : W → MediumState) (s : WavSpecEx)
+pub record KeptWithin {W : Type 0} (kind : Ghosts W) (s : WavSpecEx)
     (file : Begun) (known : List Known) (durable : W) (medium : MediumState) : Type 0 where
-  pub left : LeftBy tells keeps state s file known durable
-  pub promised : Keeps s file left.recorded.calls (state durable)
+  pub left : LeftBy kind s file known durable
+  pub promised : Keeps s file left.recorded.calls (kind.state durable)
   pub survives : SurvivesAtEnd s (start_of s file) (found_in file) left.recorded.calls medium
   pub left_after : (before after : List Call) (flush : Call) →
       left.recorded.calls ≡ before ++ (flush ∷ after) → HasPublished flush →
       (sector : ℕ) (contents : List ℕ) → 1 ≤ sector →
       (start_of s file - 4) / sector ≡ (start_of s file - 1) / sector →
       SurvivesLoss sector medium.start medium.past medium.flushed (length medium.past) contents →
-      IsLeftAfter (start_of s file) (begins_at after (state durable).past) (state durable) contents
+      IsLeftAfter (start_of s file) (begins_at after (kind.state durable).past) (kind.state durable) contents

@@ -8,7 +8,7 @@ use Rattle.hound_spec.specs.declared.spec.WavSpec.{WavSpec}
 use Rattle.hound_spec.specs.declared.spec.WavSpecEx.{WavSpecEx}
 use Rattle.hound_sample.specs.{Refusal, unsupported, int_container, pattern_container, containers}
 use Rattle.hound_medium.specs.{MediumState, WhereTells, WhereKeeps}
-use Rattle.hound_writer.specs.{container_in, containers_in, mark_of, Asked, Does, publish, write, Begun, Call, Lead, appended, asked_by_all, found_in, new_file, start_of, WriterState, ChangesSizesOnly, IsWhole, accepted_samples, Appends, IsNotAppended, Begins, IsNotBegun, Finishes}
+use Rattle.hound_writer.specs.{Ghosts, container_in, containers_in, mark_of, Asked, Does, publish, write, Begun, Call, Lead, appended, asked_by_all, found_in, new_file, start_of, WriterState, ChangesSizesOnly, IsWhole, accepted_samples, Appends, IsNotAppended, Begins, IsNotBegun, Finishes}
 use Rattle.hound.specs.Headline.{accepted_of, HoldsAtEnd, Promises, SurvivesAtEnd}
 use Rattle.hound.specs.declared.session.Step.{Step}
 use Rattle.hound.specs.declared.session.Step.TheVariants.{Whole, Bits, Batch, Flush}
@@ -40,10 +40,9 @@ asked_by s (Batch values) = write (batch_containers s values.now)
 asked_by s Flush = publish
 
 -- what a step does to its writer, by its result: what its call does
-abbrev pub Takes : {M : Type 0} → Bool → Bool → (M → MediumState) → Step →
+abbrev pub Takes : {M : Type 0} → Ghosts M → Step →
     Result (Unit {0}) Error → WriterState M → WriterState M → Type 0
-Takes tells keeps state step answer old new =
-    Does tells keeps state (asked_by old.spec_ex step) answer old new
+Takes kind step answer old new = Does kind (asked_by old.spec_ex step) answer old new
 
 -- what a step accepted, by its mark
 abbrev pub accepted_by : WavSpecEx → Step → Bool → List (List ℕ)
@@ -61,19 +60,15 @@ abbrev pub containers_of : WavSpecEx → List Step → List (List ℕ)
 containers_of s steps = flat_map (λ step. accepted_by s step true) steps
 
 -- how a run begins: with a new file, or after the data of the existing one
-abbrev pub BeginsAs : {M : Type 0} → Bool → Bool → (M → MediumState) → Begin → M → WriterState M →
-    Type 0
-BeginsAs tells keeps state (New spec_ex) medium w =
-    Begins tells keeps state spec_ex (state medium) w
-BeginsAs tells keeps state Append medium w = Appends tells state (state medium) w
+abbrev pub BeginsAs : {M : Type 0} → Ghosts M → Begin → M → WriterState M → Type 0
+BeginsAs kind (New spec_ex) medium w = Begins kind spec_ex (kind.state medium) w
+BeginsAs kind Append medium w = Appends kind (kind.state medium) w
 
 -- why it doesn't begin, with the medium as it is then
-abbrev pub IsNotBegunAs : {M : Type 0} → Bool → Bool → (M → MediumState) → Begin → M → M → Error →
-    Type 0
-IsNotBegunAs tells keeps state (New spec_ex) medium back e =
-    IsNotBegun tells keeps state spec_ex medium back e
-IsNotBegunAs tells keeps state Append medium back e =
-    WhereTells tells (IsNotAppended (state medium) (state back) e)
+abbrev pub IsNotBegunAs : {M : Type 0} → Ghosts M → Begin → M → M → Error → Type 0
+IsNotBegunAs kind (New spec_ex) medium back e = IsNotBegun kind spec_ex medium back e
+IsNotBegunAs kind Append medium back e =
+    WhereTells kind.tells (IsNotAppended (kind.state medium) (kind.state back) e)
 
 -- the result of a run by that of its end: Ok at a drop, which publishes too
 abbrev pub EndsAs : End → Result (Unit {0}) Error → Result (Unit {0}) Error → Type 0
@@ -99,43 +94,43 @@ end_call state last finished =
 -- A run that began, made the call of every step, and then that of its end: before the data only the
 -- two sizes changed, and if all the data were there the medium has what any list of these calls
 -- promises.
-pub record Ran {M : Type 0} (tells keeps : Bool) (state : M → MediumState) (begin : Begin)
+pub record Ran {M : Type 0} (kind : Ghosts M) (begin : Begin)
     (steps : List Step) (marks : List Bool) (end : End) (old : M) (answer : Result (Unit {0}) Error)
     (medium : M) : Type 0 where
   pub first : WriterState M
   pub last : WriterState M
   pub calls : List Call
   pub finished : Result (Unit {0}) Error
-  pub begins : BeginsAs tells keeps state begin old first
-  pub lead : Lead tells keeps state calls first last
+  pub begins : BeginsAs kind begin old first
+  pub lead : Lead kind calls first last
   pub asked : asked_by_all calls ≡ map (asked_by (begun_spec begin first)) steps
   pub marked : marks ≡ map (λ (call : Call). mark_of call.answer) calls
-  pub ends : Finishes tells keeps state last finished medium
+  pub ends : Finishes kind last finished medium
   pub told : EndsAs end answer finished
-  pub front : WhereTells tells (ChangesSizesOnly first.data_start (state first.medium).contents
-      (state medium).contents)
-  pub holds : WhereTells tells (IsWhole state first →
-      HoldsAtEnd (begun_spec begin first) (file_of state begin old first)
-      (calls ++ (end_call state last finished ∷ [])) (state medium))
-  pub promises : WhereKeeps tells keeps (IsWhole state first →
-      let s = begun_spec begin first in let file = file_of state begin old first in
+  pub front : WhereTells kind.tells (ChangesSizesOnly first.data_start (kind.state first.medium).contents
+      (kind.state medium).contents)
+  pub holds : WhereTells kind.tells (IsWhole kind.state first →
+      HoldsAtEnd (begun_spec begin first) (file_of kind.state begin old first)
+      (calls ++ (end_call kind.state last finished ∷ [])) (kind.state medium))
+  pub promises : WhereKeeps kind.tells kind.keeps (IsWhole kind.state first →
+      let s = begun_spec begin first in let file = file_of kind.state begin old first in
       Promises s (start_of s file) (found_in file)
-      (calls ++ (end_call state last finished ∷ [])) (state medium))
+      (calls ++ (end_call kind.state last finished ∷ [])) (kind.state medium))
 
 -- all calls of a run, the end among them
-abbrev pub all_calls : {M : Type 0} {tells keeps : Bool} {state : M → MediumState} {begin : Begin}
+abbrev pub all_calls : {M : Type 0} {kind : Ghosts M} {begin : Begin}
     {steps : List Step} {marks : List Bool} {end : End} {old : M}
     {answer : Result (Unit {0}) Error} {medium : M} →
-    Ran tells keeps state begin steps marks end old answer medium → List Call
-all_calls {state = state} run = run.calls ++ (end_call state run.last run.finished ∷ [])
+    Ran kind begin steps marks end old answer medium → List Call
+all_calls {kind = kind} run = run.calls ++ (end_call kind.state run.last run.finished ∷ [])
 
 -- what `run_session` does; where the run doesn't begin no step is taken
-abbrev pub IsSession : {M : Type 0} → Bool → Bool → (M → MediumState) → Begin → List Step →
+abbrev pub IsSession : {M : Type 0} → Ghosts M → Begin → List Step →
     List Bool → End → M → Result (Unit {0}) Error → M → Type 0
-IsSession tells keeps state begin steps marks end old answer medium =
-    ((e : Error) × (answer ≡ Err e) × IsNotBegunAs tells keeps state begin old medium e
+IsSession kind begin steps marks end old answer medium =
+    ((e : Error) × (answer ≡ Err e) × IsNotBegunAs kind begin old medium e
     × (marks ≡ replicate (length steps) false))
-    ⊎ Ran tells keeps state begin steps marks end old answer medium
+    ⊎ Ran kind begin steps marks end old answer medium
 
 -- What a loss of power leaves of a run that appended to a file, whose data were complete.
 pub record AppendedSurvives (before : List ℕ) (calls : List Call) (medium : MediumState) : Type 0

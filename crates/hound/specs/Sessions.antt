@@ -1,13 +1,13 @@
 -- Sessions one after the other over one medium, up to the first error, and what they return.
-use Rattle.std.specs.Prelude.{◌≡◌, ℕ, ◌<◌, ◌⊎◌, OnOk, Bool, true, List, [], ◌∷◌, ◌++◌, length, Result, Ok, Err}
+use Rattle.std.specs.Prelude.{◌≡◌, ℕ, ◌<◌, ◌⊎◌, OnOk, true, List, [], ◌∷◌, ◌++◌, length, Result, Ok, Err}
 use Rattle.std.specs.Borrow.{Bor}
 use Rattle.std.specs.List.{concat, flat_map}
 use Rattle.hound_spec.specs.declared.error.Error.{Error}
 use Rattle.hound_spec.specs.declared.error.Error.TheVariants.{Unsupported, IoError}
 use Rattle.hound_spec.specs.declared.spec.WavSpecEx.{WavSpecEx}
 use Rattle.hound_spec.specs.{data_start, IsWritable, canonical}
-use Rattle.hound_medium.specs.{MediumState, WhereTells, Goes}
-use Rattle.hound_writer.specs.{AcceptAnswer, IsIoError, IsPublishing, Asked, publish, write, WriterState, Finishes}
+use Rattle.hound_medium.specs.{WhereTells, Goes}
+use Rattle.hound_writer.specs.{Ghosts, AcceptAnswer, IsIoError, IsPublishing, Asked, publish, write, WriterState, Finishes}
 use Rattle.hound.specs.declared.session.Step.{Step}
 use Rattle.hound.specs.Run.{accepted_by, asked_by, containers_of, BeginsAs, IsNotBegunAs, Takes}
 use Rattle.std.specs.Io.{StartsWith}
@@ -56,55 +56,54 @@ AnswersAll s list (session ∷ sessions) answer =
 
 -- What the result of sessions shows: over every medium, that the spec can't be written; else the
 -- first error; and at an Ok, that no call of the medium failed.
-pub record IsAnswered {M : Type 0} (tells : Bool) (state : M → MediumState) (s : WavSpecEx)
+pub record IsAnswered {M : Type 0} (kind : Ghosts M) (s : WavSpecEx)
     (sessions : List (Bor (List Step))) (old : M) (answer : Result (Unit {0}) Error)
     (medium : M) : Type 0 where
   pub unwritable : 0 < length sessions → (IsWritable s → ⊥) →
       (answer ≡ Err Unsupported) × (medium ≡ old)
-  pub first_error : WhereTells tells (IsWritable s → AnswersAll s [] sessions answer)
-  pub no_fault : WhereTells tells (OnOk answer ((state medium).faults ≡ (state old).faults))
+  pub first_error : WhereTells kind.tells (IsWritable s → AnswersAll s [] sessions answer)
+  pub no_fault : WhereTells kind.tells (OnOk answer ((kind.state medium).faults ≡ (kind.state old).faults))
 
 -- Steps up to the first error, which is then the result, whatever the end of the writer, a drop, came
 -- to; without an error the result is that of `finalize_into`.
-abbrev pub RunsUntil : {M : Type 0} → Bool → Bool → (M → MediumState) → List Step → WriterState M →
+abbrev pub RunsUntil : {M : Type 0} → Ghosts M → List Step → WriterState M →
     Result (Unit {0}) Error → M → Type 0
-RunsUntil tells keeps state [] w answer medium = Finishes tells keeps state w answer medium
-RunsUntil {M} tells keeps state (step ∷ steps) w answer medium =
+RunsUntil kind [] w answer medium = Finishes kind w answer medium
+RunsUntil {M} kind (step ∷ steps) w answer medium =
     ((e : Error) × (new : WriterState M) × (dropped : Result (Unit {0}) Error) × (answer ≡ Err e)
-    × Takes tells keeps state step (Err e) w new × Finishes tells keeps state new dropped medium)
-    ⊎ ((new : WriterState M) × Takes tells keeps state step (Ok tt) w new
-    × RunsUntil tells keeps state steps new answer medium)
+    × Takes kind step (Err e) w new × Finishes kind new dropped medium)
+    ⊎ ((new : WriterState M) × Takes kind step (Ok tt) w new
+    × RunsUntil kind steps new answer medium)
 
 -- one session, up to its first error: it isn't begun, or its steps are taken
-abbrev pub RunsFrom : {M : Type 0} → Bool → Bool → (M → MediumState) → Begin → List Step → M →
+abbrev pub RunsFrom : {M : Type 0} → Ghosts M → Begin → List Step → M →
     Result (Unit {0}) Error → M → Type 0
-RunsFrom {M} tells keeps state begin steps old answer medium =
-    ((e : Error) × (answer ≡ Err e) × IsNotBegunAs tells keeps state begin old medium e)
-    ⊎ ((w : WriterState M) × BeginsAs tells keeps state begin old w
-    × RunsUntil tells keeps state steps w answer medium)
+RunsFrom {M} kind begin steps old answer medium =
+    ((e : Error) × (answer ≡ Err e) × IsNotBegunAs kind begin old medium e)
+    ⊎ ((w : WriterState M) × BeginsAs kind begin old w
+    × RunsUntil kind steps w answer medium)
 
 -- the same after the medium went to its beginning, if the session appends to the file
-abbrev pub RunsOnce : {M : Type 0} → Bool → Bool → (M → MediumState) → Begin → List Step → M →
+abbrev pub RunsOnce : {M : Type 0} → Ghosts M → Begin → List Step → M →
     Result (Unit {0}) Error → M → Type 0
-RunsOnce tells keeps state (New s) steps old answer medium =
-    RunsFrom tells keeps state (New s) steps old answer medium
-RunsOnce {M} tells keeps state Append steps old answer medium =
+RunsOnce kind (New s) steps old answer medium = RunsFrom kind (New s) steps old answer medium
+RunsOnce {M} kind Append steps old answer medium =
     ((e : IoFault) × (answer ≡ Err (IoError e))
-    × WhereTells tells (Goes {T = Unit {0}} 0 (Err e) (state old) (state medium)))
+    × WhereTells kind.tells (Goes {T = Unit {0}} 0 (Err e) (kind.state old) (kind.state medium)))
     ⊎ ((mid : M)
-    × WhereTells tells (Goes {T = Unit {0}} {E = IoFault} 0 (Ok tt) (state old) (state mid))
-    × RunsFrom tells keeps state Append steps mid answer medium)
+    × WhereTells kind.tells (Goes {T = Unit {0}} {E = IoFault} 0 (Ok tt) (kind.state old) (kind.state mid))
+    × RunsFrom kind Append steps mid answer medium)
 
 -- what `run_sessions` does: sessions, the first of which begins so and the others append, each of them
 -- Ok except perhaps the last one that was run, whose result is returned
-abbrev pub RunsOn : {M : Type 0} → Bool → Bool → (M → MediumState) → Begin →
+abbrev pub RunsOn : {M : Type 0} → Ghosts M → Begin →
     List (Bor (List Step)) → M → Result (Unit {0}) Error → M → Type 0
-RunsOn tells keeps state begin [] old answer medium = (answer ≡ Ok tt) × (medium ≡ old)
-RunsOn {M} tells keeps state begin (session ∷ sessions) old answer medium =
+RunsOn kind begin [] old answer medium = (answer ≡ Ok tt) × (medium ≡ old)
+RunsOn {M} kind begin (session ∷ sessions) old answer medium =
     ((e : Error) × (answer ≡ Err e)
-    × RunsOnce tells keeps state begin session.now old (Err e) medium)
-    ⊎ ((mid : M) × RunsOnce tells keeps state begin session.now old (Ok tt) mid
-    × RunsOn tells keeps state Append sessions mid answer medium)
+    × RunsOnce kind begin session.now old (Err e) medium)
+    ⊎ ((mid : M) × RunsOnce kind begin session.now old (Ok tt) mid
+    × RunsOn kind Append sessions mid answer medium)
 
 -- all steps of sessions, in order
 abbrev pub all_steps : List (Bor (List Step)) → List Step

@@ -47,9 +47,9 @@ pub fn run_durable_session<M: Source + Medium>(
     ensures size { length marks.new ≡ length marks.old }
 
     // It is a session as that of `run_session`, over a durable medium around this one.
-    ensures session { let state = ⟦<Durable<M> as Placed>⟧.state in
-        Around (M.state medium) (M.state result.0) (λ old new. ((state old).faults ≡ 0)
-        × IsSession M.tells M.keeps state begin steps.now marks.new end old result.1 new) }
+    ensures session { let durable = ⟦<Durable<M> as Placed>⟧ in
+        Around (M.state medium) (M.state result.0) (λ old new. ((durable.state old).faults ≡ 0)
+        × IsSession durable begin steps.now marks.new end old result.1 new) }
 
     // A new file that was finalized is the canonical one of what was accepted.
     ensures canonical { WhereTells M.tells ((spec_ex : WavSpecEx) → begin ≡ New spec_ex
@@ -76,9 +76,9 @@ pub fn run_durable_session<M: Source + Medium>(
     ensures kept_after_loss { WhereKeeps M.tells M.keeps ((spec_ex : WavSpecEx) → begin ≡ New spec_ex
         → (M.state medium).contents ≡ []
         → data_start spec_ex ≤ (M.state result.0).flushed
-        → let state = ⟦<Durable<M> as Placed>⟧.state in
+        → let durable = ⟦<Durable<M> as Placed>⟧ in
         Around (M.state medium) (M.state result.0) (λ old new.
-        (run : Ran M.tells M.keeps state (New spec_ex) steps.now marks.new end old result.1 new)
+        (run : Ran durable (New spec_ex) steps.now marks.new end old result.1 new)
         × ((sector : ℕ) (contents : List ℕ) → 1 ≤ sector
         → (data_start spec_ex - 4) / sector ≡ (data_start spec_ex - 1) / sector
         → (let s = M.state result.0 in
@@ -88,9 +88,9 @@ pub fn run_durable_session<M: Source + Medium>(
     // The same for a file that was appended to, if a byte was written at all.
     ensures appended { WhereKeeps M.tells M.keeps (begin ≡ Append
         → ((M.state result.0).past ≡ [])
-        ⊎ (let state = ⟦<Durable<M> as Placed>⟧.state in
+        ⊎ (let durable = ⟦<Durable<M> as Placed>⟧ in
         Around (M.state medium) (M.state result.0) (λ old new.
-        (run : Ran M.tells M.keeps state Append steps.now marks.new end old result.1 new)
+        (run : Ran durable Append steps.now marks.new end old result.1 new)
         × AppendedSurvives (M.state medium).contents (all_calls run) (M.state result.0)))) }
 {
     let (durable, answer) = run_session(alloc, Durable::new(medium), begin, steps, marks, end);

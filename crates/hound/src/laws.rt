@@ -1,14 +1,14 @@
 // What holds for every run.
-ghost use Rattle.std.specs.Prelude.{◌≡◌, ◌<◌, ◌≤◌, ◌-◌, ◌*◌, ◌/◌, ℕ, Bool, true, IsTrue, List, [], ◌∷◌, ◌++◌, Ok, Result, is_ok, length, map};
+ghost use Rattle.std.specs.Prelude.{◌≡◌, ◌<◌, ◌≤◌, ◌-◌, ◌*◌, ◌/◌, ◌%◌, ℕ, Bool, true, IsTrue, List, [], ◌∷◌, ◌++◌, Ok, Result, is_ok, length, map};
 ghost use Rattle.std.specs.List.{AllByRecursion, concat};
 ghost use Rattle.std.specs.declared.io.Error.{Error as IoFault};
 ghost use Rattle.hound_spec.specs.declared.error.Error.{Error};
 ghost use Rattle.hound_spec.specs.declared.spec.WavSpecEx.{WavSpecEx};
 ghost use Rattle.hound_spec.specs.{canonical, data_start, riff_size};
-ghost use Rattle.hound_medium.specs.{MediumState, WhereKeeps, WhereTells};
+ghost use Rattle.hound_medium.specs.{MediumState, WhereKeeps, WhereTells, moment};
 ghost use Rattle.hound_durable.specs.{Ascends, place_of, within};
 ghost use Rattle.hound_sample.specs.{Refusal, containers, int_container};
-ghost use Rattle.hound_writer.specs.{mark_of, AcceptAnswer, Accepts, ChangesSizesOnly, appended, AcceptsEach, i16_bytes, AreKnown, Asked, Begun, Call, IsKnown, Known, Lead, Left, asked_by_all, found_in, made, marked, new_file, publish, start_of, IsSameFile, Finishes, WriterState, IsWhole, accepted_samples, data_length, AreFrames, IsPublishResult, IsSound, CountsAtMost, LeavesWriter, PutsAt, field, Log, Performed, checkpoint, handed_in, log_state, Directed, IsSynced};
+ghost use Rattle.hound_writer.specs.{mark_of, AcceptAnswer, Accepts, ChangesSizesOnly, appended, AcceptsEach, i16_bytes, AreKnown, Asked, Begun, Call, IsKnown, Known, Lead, Left, asked_by_all, found_in, made, marked, new_file, publish, start_of, IsSameFile, Finishes, WriterState, IsWhole, accepted_samples, data_length, AreFrames, IsPublishResult, IsSound, CountsAtMost, LeavesWriter, PutsAt, ReadsAs, field, Log, Performed, checkpoint, handed_in, log_kind, Directed, IsSynced};
 ghost use Rattle.hound_writer.specs.declared.recorder.Recorder.{Recorder};
 ghost use Rattle.hound_writer.specs.declared.effects.Effect.TheVariants.{Size, Sync};
 ghost use Rattle.hound_repair.specs.{ReadsFrames, Repairs};
@@ -35,9 +35,9 @@ pub fn a_batch_is_its_values<M: Medium>(values: &[i16])
     ensures { WhereTells M.tells ((first a b c : WriterState M) → IsWhole M.state first →
         first.spec_ex.spec.bits_per_sample ≡ 16 → first.spec_ex.bytes_per_sample ≡ 2 →
         IsSameFile first a →
-        Accepts M.tells M.keeps M.state (Ok (containers a.spec_ex.bytes_per_sample
+        Accepts M.Placed (Ok (containers a.spec_ex.bytes_per_sample
         (length (i16_bytes values.now) / a.spec_ex.bytes_per_sample) (i16_bytes values.now))) (Ok tt) a b
-        → AcceptsEach M.tells M.keeps M.state int_container values.now first c →
+        → AcceptsEach M.Placed int_container values.now first c →
         (accepted_samples M.state b ≡ accepted_samples M.state c) × (data_length b ≡ data_length c)) }
 {}
 
@@ -49,11 +49,11 @@ pub fn a_batch_is_its_values<M: Medium>(values: &[i16])
 pub fn calls_are_a_run<M: Medium>(steps: &[Step])
     ensures { (begin : Begin) (end : End) (old medium : M) (first last : WriterState M)
         (calls : List Call) (answer finished : Result Unit Error)
-        → BeginsAs M.tells M.keeps M.state begin old first
-        → Lead M.tells M.keeps M.state calls first last
+        → BeginsAs M.Placed begin old first
+        → Lead M.Placed calls first last
         → asked_by_all calls ≡ map (asked_by first.spec_ex) steps.now
-        → Finishes M.tells M.keeps M.state last finished medium → EndsAs end answer finished →
-        Ran M.tells M.keeps M.state begin steps.now
+        → Finishes M.Placed last finished medium → EndsAs end answer finished →
+        Ran M.Placed begin steps.now
         (map (λ (call : Call). mark_of call.answer) calls) end old answer medium }
 {}
 
@@ -62,8 +62,8 @@ pub fn calls_are_a_run<M: Medium>(steps: &[Step])
 pub fn a_run_leaves_its_calls<M: Medium>(steps: &[Step])
     ensures { (spec_ex : WavSpecEx) (marks : List Bool) (end : End) (old medium : M)
         (answer : Result Unit Error)
-        → Ran M.tells M.keeps M.state (New spec_ex) steps.now marks end old answer medium →
-        Left M.tells M.keeps M.state spec_ex (new_file (M.state old))
+        → Ran M.Placed (New spec_ex) steps.now marks end old answer medium →
+        Left M.Placed spec_ex (new_file (M.state old))
         (map (λ step. made (asked_by spec_ex step)) steps.now ++ made publish ∷ []) medium }
 {}
 
@@ -74,7 +74,7 @@ pub fn a_run_leaves_its_calls<M: Medium>(steps: &[Step])
 pub fn sessions_leave_one_file<'a, M: Medium>(spec_ex: WavSpecEx, sessions: &'a [&'a [Step<'a>]])
     ensures { WhereTells M.tells ((old new : M) → (M.state old).place ≡ 0
         → (M.state old).contents ≡ [] → 0 < length sessions.now
-        → RunsOn M.tells M.keeps M.state (New spec_ex) sessions.now old (Ok tt) new →
+        → RunsOn M.Placed (New spec_ex) sessions.now old (Ok tt) new →
         (M.state new).contents ≡ canonical spec_ex (containers_of spec_ex (all_steps sessions.now))) }
 {}
 
@@ -102,11 +102,11 @@ pub fn a_repair_loses_no_published_sample()
 /// whatever results.
 pub fn what_is_kept<M: Medium>()
     ensures at_end { WhereTells M.tells ((s : WavSpecEx) (file : Begun) (known : List Known)
-        (medium : M) → Left M.tells M.keeps M.state s file known medium
-        → Holds M.tells M.keeps M.state s file known medium) }
+        (medium : M) → Left M.Placed s file known medium
+        → Holds M.Placed s file known medium) }
     ensures kept { WhereKeeps M.tells M.keeps ((s : WavSpecEx) (file : Begun) (known : List Known)
-        (medium : M) → Left M.tells M.keeps M.state s file known medium
-        → Kept M.tells M.keeps M.state s file known medium) }
+        (medium : M) → Left M.Placed s file known medium
+        → Kept M.Placed s file known medium) }
 {}
 
 /// What a caller knows of calls holds of them, one by one (`among`). Calls whose marks are all known
@@ -132,6 +132,25 @@ pub fn what_is_known()
         ≡ length (concat (found_in file ++ accepted_as_seen before)) }
 {}
 
+/// A checkpoint holds: until the next call that publishes, whoever reads the file finds exactly the
+/// samples accepted before the `flush`, if they are whole frames; at the end, and in each intermediate
+/// state of a medium that records every byte written.
+pub fn a_checkpoint_holds()
+    ensures at_end { (s : WavSpecEx) (file : Begun) (calls : List Call) (m : MediumState)
+        → HoldsAtEnd s file calls m → (before later : List Call) (flush : Call)
+        → calls ≡ before ++ (flush ∷ later) → HasPublished flush
+        → AllByRecursion (λ (call : Call). call.asked ≡ publish → ⊥) later
+        → length (found_in file ++ accepted_by_all before) % s.spec.channels ≡ 0
+        → ReadsAs s (start_of s file) (found_in file ++ accepted_by_all before) m.contents }
+    ensures at_each { (s : WavSpecEx) (file : Begun) (calls : List Call) (m : MediumState)
+        → Keeps s file calls m → (before later after : List Call) (flush : Call) (k : ℕ)
+        → calls ≡ before ++ (flush ∷ (later ++ after)) → HasPublished flush
+        → AllByRecursion (λ (call : Call). call.asked ≡ publish → ⊥) later
+        → begins_at (later ++ after) m.past ≤ k → k ≤ begins_at after m.past
+        → length (found_in file ++ accepted_by_all before) % s.spec.channels ≡ 0
+        → ReadsAs s (start_of s file) (found_in file ++ accepted_by_all before) (moment m.start m.past k) }
+{}
+
 /// The mark of a call for samples is its being Ok: by its answer it is never `UnfinishedSample`, whose
 /// mark at a `flush` is that of an Ok.
 pub fn a_write_is_marked_by_its_ok<M: Medium>()
@@ -143,7 +162,7 @@ pub fn a_write_is_marked_by_its_ok<M: Medium>()
 pub fn an_append_keeps_the_front<M: Medium>()
     ensures { WhereTells M.tells ((s : WavSpecEx) (old : MediumState) (start : ℕ)
         (found : List (List ℕ)) (known : List Known) (medium : M)
-        → Left M.tells M.keeps M.state s (appended old start found) known medium
+        → Left M.Placed s (appended old start found) known medium
         → ChangesSizesOnly start old.contents (M.state medium).contents) }
 {}
 
@@ -152,8 +171,8 @@ pub fn an_append_keeps_the_front<M: Medium>()
 pub fn what_a_loss_leaves<M: Medium>(durable: &Durable<M>)
     ensures { WhereKeeps M.tells M.keeps ((s : WavSpecEx) (file : Begun) (known : List Known)
         (end : Known) → end.asked ≡ publish
-        → Left M.tells M.keeps (⟦<Durable<M> as Placed>⟧.state) s file (known ++ end ∷ []) durable.now
-        → KeptWithin M.tells M.keeps (⟦<Durable<M> as Placed>⟧.state) s file (known ++ end ∷ []) durable.now
+        → Left (⟦<Durable<M> as Placed>⟧) s file (known ++ end ∷ []) durable.now
+        → KeptWithin (⟦<Durable<M> as Placed>⟧) s file (known ++ end ∷ []) durable.now
         (within durable.now)) }
 {}
 
@@ -166,7 +185,7 @@ pub fn a_checkpoint_publishes()
         → Performed (checkpoint w.data_start w.bytes_written) performed w.medium end
         → IsPublishResult performed are_frames answer
         → (IsTrue are_frames → AreFrames w) × (AreFrames w → IsTrue are_frames)
-        → LeavesWriter true true log_state answer w (record w { medium = end }) }
+        → LeavesWriter log_kind answer w (record w { medium = end }) }
 {}
 
 /// A recording that a recorder directed ([`a_recorder_directs`](crate::a_recorder_directs)) keeps all
@@ -176,10 +195,10 @@ pub fn a_checkpoint_publishes()
 pub fn a_recording_is_kept()
     ensures kept { (s : WavSpecEx) (file : Begun) (known : List Known) (r : Recorder) (m : MediumState)
         → Directed s file known r true m → r.number ≡ 0
-        → (log : Log) × (log.state ≡ m) × Kept true true log_state s file known log }
+        → (log : Log) × (log.state ≡ m) × Kept log_kind s file known log }
     ensures survives { (s : WavSpecEx) (file : Begun) (known : List Known) (r : Recorder) (m : MediumState)
         → Directed s file known r true m → r.number ≡ 0 → IsSynced (handed_in file)
-        → (log : Log) × (log.state ≡ m) × KeptWithin true true log_state s file known log m }
+        → (log : Log) × (log.state ≡ m) × KeptWithin log_kind s file known log m }
     ensures ascends { (s : WavSpecEx) (file : Begun) (known : List Known) (r : Recorder) (ok : Bool)
         (m : MediumState) → Directed s file known r ok m → IsSynced (handed_in file)
         → Ascends m.past m.flushed (length m.past) }
@@ -193,7 +212,7 @@ pub fn other_orders_lose()
         → CountsAtMost w.spec_ex w.data_start w.bytes_written w.medium.state.contents
         → (field 4 w.medium.state.contents ≡ riff_size w.data_start w.bytes_written → ⊥)
         → Performed (Sync ∷ Size (w.data_start - 4) w.bytes_written ∷ Sync ∷ []) (Ok tt) w.medium end
-        → LeavesWriter true true log_state (Ok tt) w (record w { medium = end }) → ⊥ }
+        → LeavesWriter log_kind (Ok tt) w (record w { medium = end }) → ⊥ }
     ensures synced { (at i : ℕ) (bytes : List ℕ) (old new : MediumState) (result : Result Unit IoFault)
         → old.flushed ≤ i → i < length old.past → at ≤ place_of old.past i
         → PutsAt true at bytes result old new → length old.past < length new.past

@@ -104,7 +104,7 @@ pub use hound_writer::{
     a_recorder_directs, one_append_answer,
 };
 pub use laws::{
-    a_batch_is_its_values, a_checkpoint_publishes, a_recording_is_kept,
+    a_batch_is_its_values, a_checkpoint_holds, a_checkpoint_publishes, a_recording_is_kept,
     a_repair_loses_no_published_sample, a_run_leaves_its_calls, a_write_is_marked_by_its_ok,
     an_append_keeps_the_front, calls_are_a_run, other_orders_lose, sessions_leave_one_file,
     what_a_loss_leaves, what_is_kept, what_is_known,

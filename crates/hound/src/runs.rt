@@ -36,8 +36,8 @@ pub(crate) fn begin_writer<M: Source + Medium>(
     begin: Begin,
 ) -> result::Result<WavWriter<M>, (M, Error)>
     requires { WhereTells M.tells ((M.state medium).place ≡ 0) }
-    ensures { MatchResult result (BeginsAs M.tells M.keeps M.state begin medium)
-        (λ refused. IsNotBegunAs M.tells M.keeps M.state begin medium refused.0 refused.1) }
+    ensures { MatchResult result (BeginsAs M.Placed begin medium)
+        (λ refused. IsNotBegunAs M.Placed begin medium refused.0 refused.1) }
 {
     match begin {
         Begin::New(spec_ex) => WavWriter::try_new(medium, spec_ex),
@@ -52,7 +52,7 @@ fn take_steps<M: Medium>(writer: &mut WavWriter<M>, steps: &[Step], marks: &mut 
     ensures runs { (calls : List Call)
         × (asked_by_all calls ≡ map (asked_by writer.old.spec_ex) steps.now)
         × (marks.new ≡ map (λ (call : Call). mark_of call.answer) calls)
-        × Lead M.tells M.keeps M.state calls writer.old writer.new }
+        × Lead M.Placed calls writer.old writer.new }
 {
     for i in 0..steps.len() {
         let answer = take_step(writer, steps[i]);
@@ -63,7 +63,7 @@ fn take_steps<M: Medium>(writer: &mut WavWriter<M>, steps: &[Step], marks: &mut 
 // Ends a run, and returns the medium.
 fn end_writer<M: Medium>(writer: WavWriter<M>, end: End) -> (M, Result<()>)
     ensures { (finished : Result Unit Error)
-        × Finishes M.tells M.keeps M.state writer finished result.0 × EndsAs end result.1 finished }
+        × Finishes M.Placed writer finished result.0 × EndsAs end result.1 finished }
 {
     match end {
         End::Finalize => writer.finalize_into(),
@@ -92,13 +92,12 @@ pub fn run_session<M: Source + Medium>(
     requires place { WhereTells M.tells ((M.state medium).place ≡ 0) }
     requires size { length steps.now ≡ length marks.old }
     ensures size { length marks.new ≡ length marks.old }
-    ensures session { IsSession M.tells M.keeps M.state begin steps.now marks.new end medium
-        result.1 result.0 }
+    ensures session { IsSession M.Placed begin steps.now marks.new end medium result.1 result.0 }
 
     // An empty medium that has a whole header then is a file that was begun.
     ensures begun { WhereTells M.tells ((spec_ex : WavSpecEx) → begin ≡ New spec_ex
         → (M.state medium).contents ≡ [] → data_start spec_ex ≤ length (M.state result.0).contents →
-        Ran M.tells M.keeps M.state begin steps.now marks.new end medium result.1 result.0) }
+        Ran M.Placed begin steps.now marks.new end medium result.1 result.0) }
 
     // A new file that was finalized is the canonical one of what was accepted.
     ensures canonical { WhereTells M.tells ((spec_ex : WavSpecEx) → begin ≡ New spec_ex

@@ -22,11 +22,11 @@ use std::alloc::Global;
 fn take_until_error<M: Medium>(writer: &mut WavWriter<M>, steps: &[Step]) -> Result<()>
     ensures { MatchResult result
         (λ _. (answer : Result Unit Error) (medium : M)
-        → Finishes M.tells M.keeps M.state writer.new answer medium
-        → RunsUntil M.tells M.keeps M.state steps.now writer.old answer medium)
+        → Finishes M.Placed writer.new answer medium
+        → RunsUntil M.Placed steps.now writer.old answer medium)
         (λ e. (dropped : Result Unit Error) (medium : M)
-        → Finishes M.tells M.keeps M.state writer.new dropped medium
-        → RunsUntil M.tells M.keeps M.state steps.now writer.old (Err e) medium) }
+        → Finishes M.Placed writer.new dropped medium
+        → RunsUntil M.Placed steps.now writer.old (Err e) medium) }
 {
     for i in 0..steps.len() {
         match take_step(writer, steps[i]) {
@@ -40,7 +40,7 @@ fn take_until_error<M: Medium>(writer: &mut WavWriter<M>, steps: &[Step]) -> Res
 // Runs a session up to the first error, and returns the medium.
 fn run_until_error<M: Source + Medium>(medium: M, begin: Begin, steps: &[Step]) -> (M, Result<()>)
     requires { WhereTells M.tells ((M.state medium).place ≡ 0) }
-    ensures { RunsFrom M.tells M.keeps M.state begin steps.now medium result.1 result.0 }
+    ensures { RunsFrom M.Placed begin steps.now medium result.1 result.0 }
 {
     let mut writer = match begin_writer(medium, begin) {
         Ok(writer) => writer,
@@ -54,7 +54,7 @@ fn run_until_error<M: Source + Medium>(medium: M, begin: Begin, steps: &[Step]) 
 
 // Appends to the file in a medium by one more session.
 fn append_session<M: Source + Medium>(medium: M, steps: &[Step]) -> (M, Result<()>)
-    ensures { RunsOnce M.tells M.keeps M.state Append steps.now medium result.1 result.0 }
+    ensures { RunsOnce M.Placed Append steps.now medium result.1 result.0 }
 {
     let mut medium = medium;
     if let Err(error) = medium.go(0) {
@@ -65,7 +65,7 @@ fn append_session<M: Source + Medium>(medium: M, steps: &[Step]) -> (M, Result<(
 
 // Appends to the file in a medium by further sessions, up to the first error.
 fn append_sessions<M: Source + Medium>(medium: M, sessions: &[&[Step<'_>]]) -> (M, Result<()>)
-    ensures { RunsOn M.tells M.keeps M.state Append sessions.now medium result.1 result.0 }
+    ensures { RunsOn M.Placed Append sessions.now medium result.1 result.0 }
 {
     let mut medium = medium;
     for i in 0..sessions.len() {
@@ -97,11 +97,10 @@ pub fn run_sessions<'a, M: Source + Medium>(
     sessions: &'a [&'a [Step<'a>]],
 ) -> (M, Result<()>)
     requires { WhereTells M.tells ((M.state medium).place ≡ 0) }
-    ensures sessions { RunsOn M.tells M.keeps M.state (New spec_ex) sessions.now medium result.1
-        result.0 }
+    ensures sessions { RunsOn M.Placed (New spec_ex) sessions.now medium result.1 result.0 }
 
     // An error is that of the first step or end that isn't Ok, by the spec and the steps.
-    ensures answered { IsAnswered M.tells M.state spec_ex sessions.now medium result.1 result.0 }
+    ensures answered { IsAnswered M.Placed spec_ex sessions.now medium result.1 result.0 }
 
     // The bytes of one session over all containers.
     ensures canonical { WhereTells M.tells (0 < length sessions.now →

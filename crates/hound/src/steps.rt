@@ -17,7 +17,7 @@ fn is_sixteen(spec: WavSpec) -> bool
 
 // Writes a batch, of samples of sixteen bits only.
 fn write_batch<M: Medium>(writer: &mut WavWriter<M>, values: &[i16]) -> Result<()>
-    ensures { Accepts M.tells M.keeps M.state (batch_containers writer.old.spec_ex values.now)
+    ensures { Accepts M.Placed (batch_containers writer.old.spec_ex values.now)
         result writer.old writer.new }
 {
     if !is_sixteen(writer.spec()) {
@@ -29,7 +29,7 @@ fn write_batch<M: Medium>(writer: &mut WavWriter<M>, values: &[i16]) -> Result<(
 /// Takes a step.
 #[inline(always)]
 pub(crate) fn take_step<M: Medium>(writer: &mut WavWriter<M>, step: Step<'_>) -> Result<()>
-    ensures { Takes M.tells M.keeps M.state step.entry result writer.old writer.new }
+    ensures { Takes M.Placed step.entry result writer.old writer.new }
 {
     match step {
         Step::Whole(value) => writer.write_sample(value),

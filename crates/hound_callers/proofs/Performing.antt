@@ -7,7 +7,7 @@ use Rattle.std.proofs.Math.Nat.{div-add-mod', mul-div_cancel, mul-mod_left}
 use Rattle.std.specs.Borrow.{Bor}
 use Rattle.std.specs.List.{AllByRecursion, flat_map}
 use Rattle.hound.proofs.Knowing.{accepted as accepted_of_known, lasts, length-concat, reads_all}
-use Rattle.hound.specs.{AreBytes, Asked, Begun, Directed, Effect, KeptWithin, Known, Log, MediumState, Places, Recorder, RecorderError, WavSpecEx, accepted_as_seen, accepted_by_all, advanced, effects_of, field, found_in, if_marked, length_with, log_state, marked, nth, overlay, publish, seen, start_of}
+use Rattle.hound.specs.{AreBytes, Asked, Begun, Directed, Effect, KeptWithin, Known, Log, MediumState, Places, Recorder, RecorderError, WavSpecEx, accepted_as_seen, accepted_by_all, advanced, effects_of, field, found_in, if_marked, length_with, log_kind, marked, nth, overlay, publish, seen, start_of}
 use Rattle.hound.specs.declared.RecorderError.TheVariants.{NotWritable, UnfinishedFrame, TooLong, NeedsCheckpoint, SyncFailed}
 use Rattle.hound_callers.specs.Recorder.{IsReady, IsRefused, ReadsBlocks, Saves, Stops, StopsAt, StopsIn, samples_of}
 use Rattle.hound_callers.specs.Recording.{published_calls}
@@ -86,7 +86,7 @@ stopped_none s r (block ∷ blocks) more (inr (inr is)) none = absurd ((rw is at
 -- the last checkpoint has published the blocks, and the calls after it changed nothing
 reads_saved : (s : WavSpecEx) (file : Begun) (blocks : List (Bor (List ℕ))) (r : Recorder)
     (left : List (Bor (List ℕ))) (more : List (Asked × Bool)) (log : Log) (m : MediumState)
-    → KeptWithin true true log_state s file (seen (published_calls (samples_of s) blocks ++ more)) log m
+    → KeptWithin log_kind s file (seen (published_calls (samples_of s) blocks ++ more)) log m
     → log.state ≡ m → StopsAt s r left more
     → AllByRecursion (λ (one : Known). one.asked ≡ publish → ⊥) (seen more) → 0 < length blocks
     → ReadsBlocks s file blocks m.contents
@@ -118,7 +118,7 @@ reads_saved s file blocks r left more log m kept here stops none some frames =
 pub saves : (s : WavSpecEx) (file : Begun) (blocks : List (Bor (List ℕ))) (n : ℕ) (r : Recorder) (m : MediumState)
     → n ≤ length blocks
     → ((known : List Known) (r : Recorder) (m : MediumState) → Directed s file known r true m → r.number ≡ 0
-    → (log : Log) × (log.state ≡ m) × KeptWithin true true log_state s file known log m)
+    → (log : Log) × (log.state ≡ m) × KeptWithin log_kind s file known log m)
     → (more : List (Asked × Bool)) × StopsAt s r (drop n blocks) more × (r.number ≡ 0)
     × Directed s file (seen (published_calls (samples_of s) (take n blocks) ++ more)) r true m
     → Saves s file blocks n m

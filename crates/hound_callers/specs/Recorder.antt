@@ -2,7 +2,7 @@
 use Rattle.std.specs.Prelude.{◌≡◌, ◌⊎◌, ℕ, ◌+◌, ◌%◌, ◌<◌, ◌≤◌, Bool, true, false, List, [], ◌∷◌, ◌++◌, length, take, drop, Result}
 use Rattle.std.specs.Borrow.{Bor}
 use Rattle.std.specs.List.{AllByRecursion, flat_map}
-use Rattle.hound.specs.{Asked, Begun, Directed, KeptWithin, Known, Log, MediumState, ReadsAs, Recorder, Refusal, WavSpecEx, found_in, greatest_u32, if_marked, log_state, publish, riff_size, seen, start_of, whole_containers, write}
+use Rattle.hound.specs.{Asked, Begun, Directed, KeptWithin, Known, Log, MediumState, ReadsAs, Recorder, Refusal, WavSpecEx, found_in, greatest_u32, if_marked, log_kind, publish, riff_size, seen, start_of, whole_containers, write}
 use Rattle.hound_callers.specs.Recording.{published_calls}
 
 -- a recorder of which nothing failed, with no checkpoint under way
@@ -51,6 +51,6 @@ abbrev pub Saves : WavSpecEx → Begun → List (Bor (List ℕ)) → ℕ → Med
 Saves s file blocks n m = (more : List (Asked × Bool)) × (r : Recorder) × (log : Log) × (log.state ≡ m)
     × StopsAt s r (drop n blocks) more
     × Directed s file (seen (published_calls (samples_of s) (take n blocks) ++ more)) r true m
-    × KeptWithin true true log_state s file (seen (published_calls (samples_of s) (take n blocks) ++ more)) log m
+    × KeptWithin log_kind s file (seen (published_calls (samples_of s) (take n blocks) ++ more)) log m
     × (AllByRecursion (λ (one : Known). one.asked ≡ publish → ⊥) (seen more) → 0 < n →
     ReadsBlocks s file (take n blocks) m.contents)

@@ -2,7 +2,7 @@
 use Rattle.std.specs.Prelude.{◌≡◌, ◌⊎◌, ℕ, suc, ◌*◌, ◌%◌, ◌==◌, Bool, true, false, List, [], ◌∷◌, ◌++◌, Result, Ok, Err, IsOk, ◌<◌, length}
 use Rattle.std.specs.Borrow.{Bor}
 use Rattle.std.specs.List.{All, flat_map}
-use Rattle.hound.specs.{Accepts, Asked, Checkpoints, Error, HasRoom, IsWhole, Known, MediumState, ReadsAs, Refusal, WavSpecEx, WriterState, accepted_samples, containers_in, if_marked, made, marked, publish, write}
+use Rattle.hound.specs.{Ghosts, Accepts, Asked, Checkpoints, Error, HasRoom, IsWhole, Known, MediumState, ReadsAs, Refusal, WavSpecEx, WriterState, accepted_samples, containers_in, if_marked, made, marked, publish, write}
 use Rattle.hound.specs.declared.Error.TheVariants.{OutOfMemory, TooLong}
 
 -- a block is written, and if it is to be published a flush follows
@@ -54,12 +54,12 @@ HaveContainers containers blocks list =
     × (list ≡ flat_map (λ block. if_marked true (containers block)) blocks)
 
 -- a call for samples that failed, or one that was Ok and a flush with this result
-abbrev pub WritesAndFlushes : {M : Type 0} → Bool → Bool → (M → MediumState) →
+abbrev pub WritesAndFlushes : {M : Type 0} → Ghosts M →
     Result (List (List ℕ)) Refusal → Result (Unit {0}) Error → WriterState M → WriterState M → Type 0
-WritesAndFlushes {M} tells keeps state asked answer old new =
-    ((e : Error) × (answer ≡ Err e) × Accepts tells keeps state asked (Err e) old new)
-    ⊎ ((mid : WriterState M) × Accepts tells keeps state asked (Ok tt) old mid
-    × Checkpoints tells keeps state answer mid new)
+WritesAndFlushes {M} kind asked answer old new =
+    ((e : Error) × (answer ≡ Err e) × Accepts kind asked (Err e) old new)
+    ⊎ ((mid : WriterState M) × Accepts kind asked (Ok tt) old mid
+    × Checkpoints kind answer mid new)
 
 -- why a batch of so many samples isn't made: it has no room in the file, or needs more memory than
 -- the writer has

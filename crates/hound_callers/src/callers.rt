@@ -16,8 +16,8 @@ use std::{io, result};
 /// flush.
 pub fn publish<M: Medium>(writer: &mut WavWriter<M>) -> hound::Result<u32>
     ensures { MatchResult result (λ count. (count ≡ sample_count writer.old)
-        × Checkpoints M.tells M.keeps M.state (Ok tt) writer.old writer.new)
-        (λ e. Checkpoints M.tells M.keeps M.state (Err e) writer.old writer.new) }
+        × Checkpoints M.Placed (Ok tt) writer.old writer.new)
+        (λ e. Checkpoints M.Placed (Err e) writer.old writer.new) }
 {
     writer.flush()?;
     Ok(writer.len())
@@ -32,8 +32,7 @@ pub fn record_checkpoint<S: Sample, M: Medium>(
     ensures published { WhereTells M.tells (IsWhole M.state writer.old → OnOk result (IsPublished M.state
         (container_in S.container writer.old.spec_ex sample)
         writer.old writer.new)) }
-    ensures calls { WritesAndFlushes M.tells M.keeps M.state
-        (container_in S.container writer.old.spec_ex sample)
+    ensures calls { WritesAndFlushes M.Placed (container_in S.container writer.old.spec_ex sample)
         result writer.old writer.new }
 {
     writer.write_sample(sample)?;

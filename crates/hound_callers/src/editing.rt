@@ -18,10 +18,10 @@ pub fn append_blocks<S: Sample + Copy, M: Source + Medium>(
     blocks: &[&[S]],
 ) -> result::Result<M, (M, Error)>
     requires { WhereTells M.tells ((M.state medium).place ≡ 0) }
-    ensures { MatchResult result (λ left. (w : WriterState M) × Appends M.tells M.state (M.state medium) w
+    ensures { MatchResult result (λ left. (w : WriterState M) × Appends M.Placed (M.state medium) w
         × WhereTells M.tells (IsWhole M.state w →
         ChangesSizesOnly w.data_start (M.state medium).contents (M.state left).contents
-        × Holds M.tells M.keeps M.state w.spec_ex (appended (M.state medium) w.data_start
+        × Holds M.Placed w.spec_ex (appended (M.state medium) w.data_start
         (accepted_samples M.state w)) (all_asked S.container w.spec_ex blocks.now) left))
         (λ refused. WhereTells M.tells (IsNotAppended (M.state medium) (M.state refused.0) refused.1)) }
 {

@@ -1,10 +1,10 @@
 // Reading a block, and opening a file again.
-ghost use Rattle.std.specs.Prelude.{◌≡◌, ◌⊎◌, ℕ, ◌+◌, ◌-◌, ◌*◌, ◌/◌, ◌≤◌, ◌++◌, ◌∷◌, List, None, Some, Ok, IsSome, IfErr, IfOk, MatchResult, drop, length, map, min, take};
-ghost use Rattle.std.specs.List.{concat};
-ghost use Rattle.hound.specs.{Begun, Call, Error, IsUncut, Keeps, accepted_by_all, begins_at, field, found_in, mix, moment, publish, start_of, AreContainers, GivesItems, IsIoError, IsWhole, IsWritable, ReaderState, WavSpecEx, WhereTells, accepted_samples, canonical, containers, data_fault, data_start, greatest_u32, header, one_more, over_bytes, riff_size, samples_before, samples_left};
+ghost use Rattle.std.specs.Prelude.{◌≡◌, ◌⊎◌, ℕ, ◌+◌, ◌-◌, ◌*◌, ◌/◌, ◌%◌, ◌≤◌, ◌++◌, ◌∷◌, List, None, Some, Ok, IsSome, IfErr, IfOk, MatchResult, drop, length, map, min, take};
+ghost use Rattle.std.specs.List.{AllByRecursion, concat};
+ghost use Rattle.hound.specs.{Begun, Call, Error, HasPublished, IsUncut, ReadsAs, Keeps, accepted_by_all, begins_at, field, found_in, mix, moment, publish, start_of, AreContainers, GivesItems, IsIoError, IsWhole, IsWritable, ReaderState, WavSpecEx, WhereTells, accepted_samples, canonical, containers, data_fault, data_start, greatest_u32, header, one_more, over_bytes, riff_size, samples_before, samples_left};
 
 use hound::{
-    Error, Journal, Medium, Placed, Sample, Source, WavReader, WavWriter, a_block_is_its_items,
+    Error, Journal, Medium, Placed, Sample, Source, WavReader, WavWriter, a_block_is_its_items, a_checkpoint_holds,
     a_reader_is_where_it_counts, one_append_answer, written_is_head, written_is_read,
 };
 use std::alloc::Global;
@@ -78,7 +78,8 @@ pub fn reopen<M: Source + Medium>(medium: M) -> result::Result<WavWriter<M>, (M,
 /// What a player finds that opens a recording after its first k bytes were written, by what the calls of
 /// its writer promise. While one writes samples, all before the data is as it was (`front`). While one makes a
 /// checkpoint, the data length has some bytes of the old one and the others of the new one (`mixed`), and is one of
-/// these two unless a write of it is cut (`whole`).
+/// these two unless a write of it is cut (`whole`). From a checkpoint to where the next one begins, he finds exactly the
+/// samples accepted before it (`checkpoint`).
 pub fn opened_meanwhile(alloc: Global, journal: &Journal, k: usize) -> hound::Result<Vec<u8>>
     requires { k ≤ length (⟦<Journal as Placed>⟧.state journal.now).past }
     ensures front { let m = ⟦<Journal as Placed>⟧.state journal.now in IfOk result (λ bytes.
@@ -99,7 +100,15 @@ pub fn opened_meanwhile(alloc: Global, journal: &Journal, k: usize) -> hound::Re
         → k ≤ begins_at after m.past → let at = start_of s file - 4 in IsUncut at (patch ∷ after) m.past k →
         (field at bytes.items ≡ field at (moment m.start m.past patch.began))
         ⊎ (field at bytes.items ≡ length (concat (found_in file ++ accepted_by_all before)))) }
+    ensures checkpoint { let m = ⟦<Journal as Placed>⟧.state journal.now in IfOk result (λ bytes.
+        (s : WavSpecEx) (file : Begun) (calls : List Call) → Keeps s file calls m → (before later after : List Call)
+        (flush : Call) → calls ≡ before ++ (flush ∷ (later ++ after)) → HasPublished flush
+        → AllByRecursion (λ (call : Call). call.asked ≡ publish → ⊥) later
+        → begins_at (later ++ after) m.past ≤ k → k ≤ begins_at after m.past
+        → length (found_in file ++ accepted_by_all before) % s.spec.channels ≡ 0
+        → ReadsAs s (start_of s file) (found_in file ++ accepted_by_all before) bytes.items) }
     ensures err { IfErr result (λ e. e ≡ Error.OutOfMemory) }
 {
+    a_checkpoint_holds();
     journal.bytes_after(alloc, k)
 }

@@ -111,7 +111,7 @@ pub fn record_by_effects<M: Medium>(
 ) -> hound::Result<usize>
     requires place { WhereTells M.tells ((M.state medium.old).place ≡ 0) }
     requires synced { WhereKeeps M.tells M.keeps (IsSynced (M.state medium.old)) }
-    ensures refused { IfErr result (λ e. IsNotBegun M.tells M.keeps M.state spec_ex medium.old medium.new e) }
+    ensures refused { IfErr result (λ e. IsNotBegun M.Placed spec_ex medium.old medium.new e) }
     ensures within { IfOk result (λ n. n ≤ length blocks.now) }
     ensures saved { IfOk result (λ n. WhereKeeps M.tells M.keeps
         (Saves spec_ex (new_file (M.state medium.old)) blocks.now n (M.state medium.new))) }

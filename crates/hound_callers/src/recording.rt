@@ -25,8 +25,8 @@ fn record_block<S: Sample + Copy, M: Medium>(
     publishes: bool,
 )
     ensures { (s : WavSpecEx) (file : Begun) (known : List Known)
-        → Recorded M.tells M.keeps M.state s file known writer.old
-        → Recorded M.tells M.keeps M.state s file
+        → Recorded M.Placed s file known writer.old
+        → Recorded M.Placed s file
         (known ++ block_asks (containers_in S.container s block.now) publishes) writer.new }
 {
     let _ = writer.write_samples(block);
@@ -38,8 +38,8 @@ fn record_block<S: Sample + Copy, M: Medium>(
 // Writes blocks, with a flush after every fourth, whatever the results are.
 pub(crate) fn record_blocks<S: Sample + Copy, M: Medium>(writer: &mut WavWriter<M>, blocks: &[&[S]])
     ensures { (s : WavSpecEx) (file : Begun) (known : List Known)
-        → Recorded M.tells M.keeps M.state s file known writer.old
-        → Recorded M.tells M.keeps M.state s file
+        → Recorded M.Placed s file known writer.old
+        → Recorded M.Placed s file
         (known ++ recorder_asks (containers_by S.container s) 0 blocks.now) writer.new }
 {
     for i in 0..blocks.len() {
@@ -56,9 +56,9 @@ pub fn record<S: Sample + Copy, M: Source + Medium>(
 ) -> result::Result<WavWriter<M>, (M, Error)>
     requires { WhereTells M.tells ((M.state medium).place ≡ 0) }
     ensures { MatchResult result
-        (Recorded M.tells M.keeps M.state spec_ex (new_file (M.state medium))
+        (Recorded M.Placed spec_ex (new_file (M.state medium))
         (recorder_asks (containers_by S.container spec_ex) 0 blocks.now))
-        (λ refused. IsNotBegun M.tells M.keeps M.state spec_ex medium refused.0 refused.1) }
+        (λ refused. IsNotBegun M.Placed spec_ex medium refused.0 refused.1) }
 {
     let mut recorder = WavWriter::try_new(medium, spec_ex)?;
     record_blocks(&mut recorder, blocks);
@@ -74,11 +74,11 @@ pub fn record_twelve<M: Source + Medium>(
     blocks: &[&[Twelve]],
 ) -> result::Result<M, (M, Error)>
     requires { WhereTells M.tells ((M.state medium).place ≡ 0) }
-    ensures left { MatchResult result (λ left. Left M.tells M.keeps M.state spec_ex (new_file (M.state medium))
+    ensures left { MatchResult result (λ left. Left M.Placed spec_ex (new_file (M.state medium))
         (all_asked ⟦<Twelve as Sample>⟧.container spec_ex blocks.now) left)
-        (λ refused. IsNotBegun M.tells M.keeps M.state spec_ex medium refused.0 refused.1) }
+        (λ refused. IsNotBegun M.Placed spec_ex medium refused.0 refused.1) }
     ensures kept { IfOk result (λ left. WhereKeeps M.tells M.keeps
-        (Kept M.tells M.keeps M.state spec_ex (new_file (M.state medium))
+        (Kept M.Placed spec_ex (new_file (M.state medium))
         (all_asked ⟦<Twelve as Sample>⟧.container spec_ex blocks.now) left)) }
 {
     what_is_kept::<M>();
@@ -98,12 +98,12 @@ pub fn record_twelve_through_a_loss<M: Source + Medium>(
     requires place { WhereTells M.tells ((M.state medium).place ≡ 0) }
     requires past { WhereKeeps M.tells M.keeps ((M.state medium).past ≡ []) }
     requires flushed { WhereKeeps M.tells M.keeps ((M.state medium).flushed ≡ 0) }
-    ensures { let state = ⟦<Durable<M> as Placed>⟧.state in
+    ensures { let durable = ⟦<Durable<M> as Placed>⟧ in
         MatchResult result (λ left. WhereKeeps M.tells M.keeps
-        (Around (M.state medium) (M.state left) (λ first last. KeptWithin M.tells M.keeps state spec_ex
-        (new_file (state first)) (all_asked ⟦<Twelve as Sample>⟧.container spec_ex blocks.now) last (within last))))
+        (Around (M.state medium) (M.state left) (λ first last. KeptWithin durable spec_ex
+        (new_file (durable.state first)) (all_asked ⟦<Twelve as Sample>⟧.container spec_ex blocks.now) last (within last))))
         (λ refused. Around (M.state medium) (M.state refused.0) (λ first last.
-        IsNotBegun M.tells M.keeps state spec_ex first last refused.1)) }
+        IsNotBegun durable spec_ex first last refused.1)) }
 {
     let writer = match record(Durable::new(medium), spec_ex, blocks) {
         Ok(writer) => writer,
@@ -122,13 +122,13 @@ fn publish_block<S: Sample + Copy, M: Medium>(
     ensures spec { writer.new.spec_ex ≡ writer.old.spec_ex }
     ensures have { OnOk result (IsOk (containers_in S.container writer.old.spec_ex block.now)) }
     ensures published { OnOk result ((s : WavSpecEx) (file : Begun) (known : List Known)
-        → Recorded M.tells M.keeps M.state s file known writer.old
-        → Recorded M.tells M.keeps M.state s file
+        → Recorded M.Placed s file known writer.old
+        → Recorded M.Placed s file
         (known ++ seen (published_calls (containers_in S.container s) (block.now ∷ []))) writer.new) }
     ensures stopped { OnErr result ((s : WavSpecEx) (file : Begun) (known : List Known)
-        → Recorded M.tells M.keeps M.state s file known writer.old → (more : List Known)
+        → Recorded M.Placed s file known writer.old → (more : List Known)
         × IsStopped (containers_in S.container s block.now) more
-        × Recorded M.tells M.keeps M.state s file (known ++ more) writer.new) }
+        × Recorded M.Placed s file (known ++ more) writer.new) }
 {
     writer.write_samples(block)?;
     writer.flush()
@@ -139,9 +139,9 @@ fn publish_blocks<S: Sample + Copy, M: Medium>(writer: &mut WavWriter<M>, blocks
     ensures within { result ≤ length blocks.now }
     ensures have { All (λ block. IsOk (containers_by S.container writer.old.spec_ex block)) (take result blocks.now) }
     ensures published { (s : WavSpecEx) (file : Begun)
-        → Recorded M.tells M.keeps M.state s file [] writer.old → (more : List Known)
+        → Recorded M.Placed s file [] writer.old → (more : List Known)
         × StopsAt (containers_by S.container s) (drop result blocks.now) more
-        × Recorded M.tells M.keeps M.state s file
+        × Recorded M.Placed s file
         (seen (published_calls (containers_by S.container s) (take result blocks.now)) ++ more) writer.new }
 {
     for i in 0..blocks.len() {
@@ -168,12 +168,12 @@ pub fn record_checkpoints<M: Source + Medium>(
     requires place { WhereTells M.tells ((M.state medium).place ≡ 0) }
     requires past { WhereKeeps M.tells M.keeps ((M.state medium).past ≡ []) }
     requires flushed { WhereKeeps M.tells M.keeps ((M.state medium).flushed ≡ 0) }
-    ensures { let state = ⟦<Durable<M> as Placed>⟧.state in
+    ensures { let durable = ⟦<Durable<M> as Placed>⟧ in
         MatchResult result (λ done. (done.1 ≤ length blocks.now)
         × WhereKeeps M.tells M.keeps (
         Around (M.state medium) (M.state done.0) (λ first last. (more : List Known)
         × StopsAt (containers_by ⟦<Twelve as Sample>⟧.container spec_ex) (drop done.1 blocks.now) more
-        × (kept : KeptWithin M.tells M.keeps state spec_ex (new_file (state first))
+        × (kept : KeptWithin durable spec_ex (new_file (durable.state first))
         ((seen (published_calls (containers_by ⟦<Twelve as Sample>⟧.container spec_ex)
         (take done.1 blocks.now)) ++ more) ++ made publish ∷ []) last (within last))
         × (0 < done.1 → (before after : List Call) × (flush : Call)
@@ -181,7 +181,7 @@ pub fn record_checkpoints<M: Source + Medium>(
         × HaveContainers (containers_by ⟦<Twelve as Sample>⟧.container spec_ex) (take done.1 blocks.now)
         (accepted_by_all before)))))
         (λ refused. Around (M.state medium) (M.state refused.0) (λ first last.
-        IsNotBegun M.tells M.keeps state spec_ex first last refused.1)) }
+        IsNotBegun durable spec_ex first last refused.1)) }
 {
     what_is_known();
     let mut writer = match WavWriter::try_new(Durable::new(medium), spec_ex) {
@@ -215,7 +215,7 @@ pub fn record_safely<M: Source + Medium>(
         → Repairs false cut found mended →
         (found.spec_ex ≡ spec_ex) × ReadsFrames found (data_start spec_ex) list mended.contents)))
         (λ refused. Around (M.state medium) (M.state refused.0) (λ first last.
-        IsNotBegun M.tells M.keeps (⟦<Durable<M> as Placed>⟧.state) spec_ex first last refused.1)) }
+        IsNotBegun (⟦<Durable<M> as Placed>⟧) spec_ex first last refused.1)) }
 {
     a_repair_loses_no_published_sample();
     record_checkpoints(medium, spec_ex, blocks)
@@ -231,15 +231,15 @@ pub fn record_twelve_and_repair<M: Source + Medium>(
 ) -> result::Result<(M, Repair), (M, Error)>
     requires { WhereTells M.tells ((M.state medium).place ≡ 0) }
     ensures none_lost { IfOk result (λ done. WhereKeeps M.tells M.keeps ((left : M)
-        × (kept : Kept M.tells M.keeps M.state spec_ex (new_file (M.state medium))
+        × (kept : Kept M.Placed spec_ex (new_file (M.state medium))
         (all_asked ⟦<Twelve as Sample>⟧.container spec_ex blocks.now) left)
         × ((before after : List Call) (flush : Call) → kept.left.recorded.calls ≡ before ++ (flush ∷ after)
         → HasPublished flush →
         (done.1.spec_ex ≡ spec_ex)
         × ReadsFrames done.1 (data_start spec_ex) (accepted_by_all before) (M.state done.0).contents))) }
     ensures err { IfErr result (λ refused.
-        IsNotBegun M.tells M.keeps M.state spec_ex medium refused.0 refused.1
-        ⊎ ((left cut : M) × Left M.tells M.keeps M.state spec_ex (new_file (M.state medium))
+        IsNotBegun M.Placed spec_ex medium refused.0 refused.1
+        ⊎ ((left cut : M) × Left M.Placed spec_ex (new_file (M.state medium))
         (all_asked ⟦<Twelve as Sample>⟧.container spec_ex blocks.now) left
         × WhereTells M.tells ((IsIoError refused.1 × Stays (M.state left) (M.state refused.0))
         ⊎ (Stays (M.state left) (M.state cut)
@@ -267,11 +267,11 @@ pub fn record_steps<M: Source + Medium>(
     requires place { WhereTells M.tells ((M.state medium).place ≡ 0) }
     requires size { length steps.now ≡ length marks.old }
     ensures run { MatchResult result
-        (Ran M.tells M.keeps M.state (New spec_ex) steps.now marks.new Drop medium (Ok tt))
-        (λ refused. IsNotBegun M.tells M.keeps M.state spec_ex medium refused.0 refused.1
+        (Ran M.Placed (New spec_ex) steps.now marks.new Drop medium (Ok tt))
+        (λ refused. IsNotBegun M.Placed spec_ex medium refused.0 refused.1
         × (marks.new ≡ replicate (length steps.now) false)) }
     ensures kept { IfOk result (λ left. WhereKeeps M.tells M.keeps
-        (Kept M.tells M.keeps M.state spec_ex (new_file (M.state medium))
+        (Kept M.Placed spec_ex (new_file (M.state medium))
         (map (λ step. made (asked_by spec_ex step)) steps.now ++ made publish ∷ []) left)) }
 {
     what_is_kept::<M>();
@@ -292,13 +292,13 @@ pub fn pack_one<M: Source + Medium>(
 ) -> result::Result<M, (M, Error)>
     requires place { WhereTells M.tells ((M.state medium).place ≡ 0) }
     requires empty { (M.state medium).contents ≡ [] }
-    ensures run { IfOk result (Ran M.tells M.keeps M.state (New spec_ex) (Whole value ∷ [])
+    ensures run { IfOk result (Ran M.Placed (New spec_ex) (Whole value ∷ [])
         (true ∷ []) Finalize medium (Ok tt)) }
     ensures exact { IfOk result (λ left. WhereTells M.tells ((M.state left).contents
         ≡ canonical spec_ex (containers_of spec_ex (Whole value ∷ [])))) }
     ensures err { IfErr result (λ refused.
-        IsNotBegun M.tells M.keeps M.state spec_ex medium refused.0 refused.1
-        ⊎ Left M.tells M.keeps M.state spec_ex (new_file (M.state medium))
+        IsNotBegun M.Placed spec_ex medium refused.0 refused.1
+        ⊎ Left M.Placed spec_ex (new_file (M.state medium))
         (made (asked_by spec_ex (Whole value)) ∷ made publish ∷ []) refused.0) }
 {
     let steps = [Step::Whole(value)];
@@ -318,8 +318,8 @@ pub fn pack_one<M: Source + Medium>(
 fn record_singles<S: Sample + Copy, M: Medium>(writer: &mut WavWriter<M>, singles: &[S])
     ensures spec { writer.new.spec_ex ≡ writer.old.spec_ex }
     ensures recorded { (s : WavSpecEx) (file : Begun) (known : List Known)
-        → Recorded M.tells M.keeps M.state s file known writer.old
-        → Recorded M.tells M.keeps M.state s file
+        → Recorded M.Placed s file known writer.old
+        → Recorded M.Placed s file
         (known ++ map (λ v. made (write (container_in S.container s v))) singles.now) writer.new }
 {
     for sample in singles {
@@ -337,14 +337,14 @@ pub fn record_batch<M: Medium>(
 ) -> hound::Result<()>
     requires { IsSixteen writer.old.spec_ex }
     ensures same { WhereTells M.tells (OnOk result (IsWhole M.state writer.old →
-        (each : WriterState M) → AcceptsEach M.tells M.keeps M.state int_container batch.now writer.old each →
+        (each : WriterState M) → AcceptsEach M.Placed int_container batch.now writer.old each →
         (accepted_samples M.state writer.new ≡ accepted_samples M.state each)
         × (data_length writer.new ≡ data_length each))) }
     ensures recorded { (s : WavSpecEx) (file : Begun) (known : List Known)
-        → Recorded M.tells M.keeps M.state s file known writer.old
+        → Recorded M.Placed s file known writer.old
         → (IsErrAnd result (IsNoBatch writer.old (length batch.now))
-        × Recorded M.tells M.keeps M.state s file known writer.new)
-        ⊎ Recorded M.tells M.keeps M.state s file
+        × Recorded M.Placed s file known writer.new)
+        ⊎ Recorded M.Placed s file
         (known ++ marked (write (whole_containers s (i16_bytes batch.now))) (is_ok result) ∷ []) writer.new }
 {
     if batch.len() > u32::MAX as usize {
@@ -376,12 +376,12 @@ pub fn record_mixed<M: Source + Medium>(
         let file = new_file (M.state medium) in
         WhereKeeps M.tells M.keeps (
         ((w : WriterState M) × IsErrAnd done.1 (IsNoBatch w (length batch.now))
-        × Recorded M.tells M.keeps M.state spec_ex file asked w
-        × Kept M.tells M.keeps M.state spec_ex file (asked ++ made publish ∷ []) done.0)
-        ⊎ Kept M.tells M.keeps M.state spec_ex file
+        × Recorded M.Placed spec_ex file asked w
+        × Kept M.Placed spec_ex file (asked ++ made publish ∷ []) done.0)
+        ⊎ Kept M.Placed spec_ex file
         ((asked ++ marked (write (whole_containers spec_ex (i16_bytes batch.now)))
         (is_ok done.1) ∷ []) ++ made publish ∷ []) done.0))
-        (λ refused. IsNotBegun M.tells M.keeps M.state spec_ex medium refused.0 refused.1) }
+        (λ refused. IsNotBegun M.Placed spec_ex medium refused.0 refused.1) }
 {
     what_is_kept::<M>();
     let mut writer = WavWriter::try_new(medium, spec_ex)?;
@@ -401,9 +401,9 @@ pub fn record_at_once<S: Sample + Copy, M: Medium>(
     ensures published { WhereTells M.tells (IsWhole M.state writer.old → OnOk result (IsPublished M.state
         (containers_in S.container writer.old.spec_ex samples.now) writer.old writer.new)) }
     ensures same { WhereTells M.tells (IsWhole M.state writer.old → OnOk result ((each : WriterState M) →
-        AcceptsEach M.tells M.keeps M.state S.container samples.now writer.old each →
+        AcceptsEach M.Placed S.container samples.now writer.old each →
         accepted_samples M.state writer.new ≡ accepted_samples M.state each)) }
-    ensures calls { WritesAndFlushes M.tells M.keeps M.state
+    ensures calls { WritesAndFlushes M.Placed
         (containers_in S.container writer.old.spec_ex samples.now) result writer.old writer.new }
 {
     a_block_is_its_samples::<S, M>();
@@ -419,13 +419,13 @@ pub fn publish_and_continue<S: Sample + Copy, M: Medium>(
     samples: &[S],
 ) -> hound::Result<()>
     ensures lasts { WhereTells M.tells (OnOk result ((s : WavSpecEx) (file : Begun) (before : List (Asked × Bool))
-        → Recorded M.tells M.keeps M.state s file (seen before) writer.old →
+        → Recorded M.Placed s file (seen before) writer.old →
         field (start_of s file - 4) (M.state writer.new.medium).contents
         ≡ length (concat (found_in file ++ accepted_as_seen before)))) }
     ensures calls { MatchResult result (λ _. (mid : WriterState M) × (answer : Result Unit Error)
-        × Checkpoints M.tells M.keeps M.state (Ok tt) writer.old mid
-        × Accepts M.tells M.keeps M.state (containers_in S.container mid.spec_ex samples.now) answer mid writer.new)
-        (λ e. Checkpoints M.tells M.keeps M.state (Err e) writer.old writer.new) }
+        × Checkpoints M.Placed (Ok tt) writer.old mid
+        × Accepts M.Placed (containers_in S.container mid.spec_ex samples.now) answer mid writer.new)
+        (λ e. Checkpoints M.Placed (Err e) writer.old writer.new) }
 {
     what_is_kept::<M>();
     what_is_known();
@@ -455,7 +455,7 @@ pub fn write_if_short<M: Medium>(batch: &mut SampleWriter16<'_, M>, value: i32) 
 /// its last flush went to ascending places.
 pub fn finish_durable<M: Medium>(writer: WavWriter<Durable<M>>) -> (M, hound::Result<()>)
     ensures finishes { Around (within writer.medium) (M.state result.0) (λ _ last.
-        Finishes M.tells M.keeps (⟦<Durable<M> as Placed>⟧.state) writer result.1 last) }
+        Finishes (⟦<Durable<M> as Placed>⟧) writer result.1 last) }
     ensures flushed { WhereKeeps M.tells M.keeps (OnOk result.1 (
         let s = M.state result.0 in s.flushed ≡ length s.past)) }
     ensures ascends { WhereKeeps M.tells M.keeps (

@@ -2,7 +2,7 @@
 use Rattle.std.proofs.Common.{◌≡◌, ℕ, ℤ, ◌+◌, ◌*◌, ◌/◌, ◌%◌, ◌≤◌, Bool, true, false, cond, nat_le, List, [], ◌∷◌, length, Result, Ok, Err, IsTrue, refl, sym, ◌∙◌, ap, subst, leb-true, leb-false, arith}
 use Rattle.std.proofs.Math.Nat.{mul-div_cancel}
 use Rattle.std.specs.List.{AllByRecursion, concat}
-use Rattle.hound_writer.specs.{Accepts, AcceptAnswer, FitAnswer, IsPublishing, Begins, HasBegun, Finishes, WriterState, AreFrames, data_length, sample_count}
+use Rattle.hound_writer.specs.{Ghosts, Accepts, AcceptAnswer, FitAnswer, IsPublishing, Begins, HasBegun, Finishes, WriterState, AreFrames, data_length, sample_count}
 use Rattle.hound_sample.specs.{Refusal, too_wide, unsupported, fits, if_fits, int_bytes, int_container, and_more, int_container-in_width}
 use Rattle.hound_spec.specs.{greatest_u32, data_start, riff_size, IsPair}
 use Rattle.hound_medium.specs.{MediumState}
@@ -151,21 +151,21 @@ module _ {W : Type 0} (s : WavSpecEx) (integers : s.spec.sample_format ≡ Int) 
     end_refused room e answer = absurd answer
 
 -- a constructor and one call for the numbers, both Ok; then an end
-module _ {W : Type 0} {tells keeps : Bool} {state : W → MediumState} (s : WavSpecEx)
+module _ {W : Type 0} {kind : Ghosts W} (s : WavSpecEx)
     (integers : s.spec.sample_format ≡ Int) (ns : List ℤ) (old : MediumState)
-    (first last : WriterState W) (end : W) (begins : Begins tells keeps state s old first)
+    (first last : WriterState W) (end : W) (begins : Begins kind s old first)
     (asked : Result (List (List ℕ)) Refusal) (is : containers_of s ns ≡ asked)
-    (accepts : Accepts tells keeps state asked (Ok tt) first last)
-    (answer : Result (Unit {0}) Error) (finishes : Finishes tells keeps state last answer end) where
+    (accepts : Accepts kind asked (Ok tt) first last)
+    (answer : Result (Unit {0}) Error) (finishes : Finishes kind last answer end) where
   -- an Ok makes the file of the numbers
-  pub file_made : IsTrue tells → old.contents ≡ [] → old.place ≡ 0 → answer ≡ Ok tt
-      → IsPacked s ns (state end).contents
+  pub file_made : IsTrue kind.tells → old.contents ≡ [] → old.place ≡ 0 → answer ≡ Ok tt
+      → IsPacked s ns (kind.state end).contents
   file_made told empty start ok =
       let b = begins.begun in
       let (cs, have, room) = write_accepted s integers ns first b asked is accepts.adds.answers in
       let accepted =
-      subst (λ a. Accepts tells keeps state a (Ok tt) first last) (sym is ∙ have) accepts in
-      let finished = subst (λ a. Finishes tells keeps state last a end) ok finishes in
+      subst (λ a. Accepts kind a (Ok tt) first last) (sym is ∙ have) accepts in
+      let finished = subst (λ a. Finishes kind last a end) ok finishes in
       record {
         writable = b.writable;
         containers = cs;
@@ -173,8 +173,7 @@ module _ {W : Type 0} {tells keeps : Bool} {state : W → MediumState} (s : WavS
         room = room;
         frames = frames_are s integers ns first b last cs have accepted.adds.spec_ex
             accepted.adds.data_length finished.answers;
-        file_is = fresh_file tells keeps state told s old first begins last end cs empty
-            accepted finished;
+        file_is = fresh_file kind told s old first begins last end cs empty accepted finished;
       }
 
   -- an error names its cause
@@ -183,7 +182,7 @@ module _ {W : Type 0} {tells keeps : Bool} {state : W → MediumState} (s : WavS
       let b = begins.begun in
       let (cs, have, room) = write_accepted s integers ns first b asked is accepts.adds.answers in
       let accepted =
-      subst (λ a. Accepts tells keeps state a (Ok tt) first last) (sym is ∙ have) accepts in
+      subst (λ a. Accepts kind a (Ok tt) first last) (sym is ∙ have) accepts in
       end_refused s integers ns first b last cs have accepted.adds.spec_ex
       accepted.adds.data_length room e
       (subst (λ a. IsPublishing a last) failed finishes.answers)

@@ -14,7 +14,7 @@ use Rattle.hound_spec.specs.{riff_size, greatest_u32}
 use Rattle.hound_sample.specs.{Refusal, containers, error_of, too_wide, unsupported}
 use Rattle.hound_writer.specs.Accepting.{AcceptsBytes, Accepts, AddsAtEach, AcceptAnswer, IsIoError, OnRefused, faults_told, if_marked, mark_of}
 use Rattle.hound_writer.specs.Parts.{all_out, GoesAtEach, GoesToFile, PutsAt, CountsAtMost, StaysAround}
-use Rattle.hound_writer.specs.Writer.{Counts, WriterState, HasRoom, IsCounted, IsSound, IsWhole, accepted_samples, data_length}
+use Rattle.hound_writer.specs.Writer.{Ghosts, Counts, WriterState, HasRoom, IsCounted, IsSound, IsWhole, accepted_samples, data_length}
 use Rattle.hound_writer.proofs.Answers.{accept_as, on_refused, refused_then, unless_failed}
 use Rattle.hound_writer.proofs.Containers.{joined_bytes}
 use Rattle.hound_writer.proofs.PutsFrom.{puts_from}
@@ -32,37 +32,37 @@ pub adds_nothing : {W : Type 0} (state : W → MediumState) (w : WriterState W)
 adds_nothing state w counts replays = grind (arith, common_steps, span_still, stored_still)
 
 -- an error before anything changes
-pub accepts_refused : {W : Type 0} (tells keeps : Bool) (state : W → MediumState)
+pub accepts_refused : {W : Type 0} (kind : Ghosts W)
     (w : WriterState W) (asked : Result (List (List ℕ)) Refusal) (e : Error)
-    → WhereTells tells (IsWhole state w → IsCounted state w)
-    → WhereKeeps tells keeps
-    ((state w.medium).contents ≡ overlay (state w.medium).start (state w.medium).past)
+    → WhereTells kind.tells (IsWhole kind.state w → IsCounted kind.state w)
+    → WhereKeeps kind.tells kind.keeps
+    ((kind.state w.medium).contents ≡ overlay (kind.state w.medium).start (kind.state w.medium).past)
     → mark_of {T = Unit {0}} (Err e) ≡ false
     → ((faults : ℕ) → faults ≡ faults_told {T = Unit {0}} (Err e) faults)
     → AcceptAnswer {T = Unit {0}} asked w (Err e)
-    → Accepts tells keeps state asked (Err e) w w
-accepts_refused tells keeps state w asked e counts replays mark faults answers =
-    let old = state w.medium in
+    → Accepts kind asked (Err e) w w
+accepts_refused kind w asked e counts replays mark faults answers =
+    let old = kind.state w.medium in
     let nothing : if_marked (mark_of {T = Unit {0}} (Err e)) asked ≡ [] =
     ap (λ m. if_marked m asked) mark in
     let more = ap (λ l. length (concat l)) nothing in
-    let none = append-nil (accepted_samples state w) in
+    let none = append-nil (accepted_samples kind.state w) in
     record {
       adds = search (rules, on_refused);
       file = λ told. let same = faults old.faults in search (rules, unless_failed);
-      moments = λ told kept. adds_nothing state w (counts told) (replays told kept);
+      moments = λ told kept. adds_nothing kind.state w (counts told) (replays told kept);
     }
 
 -- the type has no container
-pub type_refuses : {W : Type 0} (tells keeps : Bool) (state : W → MediumState) (w : WriterState W)
-    (refusal : Refusal) → WhereTells tells (IsWhole state w → IsCounted state w)
-    → WhereKeeps tells keeps
-    ((state w.medium).contents ≡ overlay (state w.medium).start (state w.medium).past)
-    → Accepts tells keeps state (Err refusal) (Err (error_of refusal)) w w
-type_refuses tells keeps state w too_wide counts replays =
-    accepts_refused tells keeps state w _ _ counts replays refl (λ _. refl) refl
-type_refuses tells keeps state w unsupported counts replays =
-    accepts_refused tells keeps state w _ _ counts replays refl (λ _. refl) refl
+pub type_refuses : {W : Type 0} (kind : Ghosts W) (w : WriterState W)
+    (refusal : Refusal) → WhereTells kind.tells (IsWhole kind.state w → IsCounted kind.state w)
+    → WhereKeeps kind.tells kind.keeps
+    ((kind.state w.medium).contents ≡ overlay (kind.state w.medium).start (kind.state w.medium).past)
+    → Accepts kind (Err refusal) (Err (error_of refusal)) w w
+type_refuses kind w too_wide counts replays =
+    accepts_refused kind w _ _ counts replays refl (λ _. refl) refl
+type_refuses kind w unsupported counts replays =
+    accepts_refused kind w _ _ counts replays refl (λ _. refl) refl
 
 -- whole containers for which there is room fit
 pub room_fits : {W : Type 0} (w : WriterState W) (bytes : List ℕ) → HasRoom w (length bytes)
@@ -75,16 +75,15 @@ pub room_fits : {W : Type 0} (w : WriterState W) (bytes : List ℕ) → HasRoom 
 room_fits w bytes room whole = grind (arith, common_steps, le-leb, joined_bytes)
 
 -- bytes that are written after a writer's data, all or a beginning
-module _ {W : Type 0} (tells keeps : Bool) (state : W → MediumState) (w : WriterState W)
-    (at_most : WhereTells tells
-    (CountsAtMost w.spec_ex w.data_start w.bytes_written (state w.medium).contents)) {T E : Type 0} (m : W)
-    (bytes : List ℕ) (result : Result T E) (told : IsTrue tells)
-    (puts : PutsAt keeps (w.data_start + w.bytes_written) bytes result (state w.medium) (state m)) where
+module _ {W : Type 0} (kind : Ghosts W) (w : WriterState W) (at_most : WhereTells kind.tells
+    (CountsAtMost w.spec_ex w.data_start w.bytes_written (kind.state w.medium).contents)) {T E : Type 0} (m : W)
+    (bytes : List ℕ) (result : Result T E) (told : IsTrue kind.tells)
+    (puts : PutsAt kind.keeps (w.data_start + w.bytes_written) bytes result (kind.state w.medium) (kind.state m)) where
   abbrev was : List ℕ
-  was = (state w.medium).contents
+  was = (kind.state w.medium).contents
 
   abbrev now : List ℕ
-  now = (state m).contents
+  now = (kind.state m).contents
 
   abbrev at : ℕ
   at = w.data_start + w.bytes_written
@@ -102,7 +101,7 @@ module _ {W : Type 0} (tells keeps : Bool) (state : W → MediumState) (w : Writ
   pub front : take w.data_start now ≡ take w.data_start was
   front = front_stays w.data_start (omega arith) there
 
-  pub data_stays : IsWhole state w
+  pub data_stays : IsWhole kind.state w
       → take w.bytes_written (drop w.data_start now) ≡ take w.bytes_written (drop w.data_start was)
   data_stays whole = grind (arith, common_steps, front_part, front_stays)
 
@@ -121,21 +120,21 @@ module _ {W : Type 0} (tells keeps : Bool) (state : W → MediumState) (w : Writ
     length-take puts.count bytes,
   )
 
-  pub goes_at_each : IsTrue keeps → was ≡ overlay (state w.medium).start (state w.medium).past
-      → AddsAtEach state w (state m) → GoesAtEach state w (state m)
+  pub goes_at_each : IsTrue kind.keeps → was ≡ overlay (kind.state w.medium).start (kind.state w.medium).past
+      → AddsAtEach kind.state w (kind.state m) → GoesAtEach kind.state w (kind.state m)
   goes_at_each kept replays adds =
       let bs = take puts.count bytes in
-      let old = state w.medium in
+      let old = kind.state w.medium in
       record {
         adds = adds;
-        front = span_puts (λ _ c. take w.data_start c ≡ take w.data_start was) 0 old (state m) at bs
+        front = span_puts (λ _ c. take w.data_start c ≡ take w.data_start was) 0 old (kind.state m) at bs
             replays puts.start (puts.past kept) (inl puts.flushed)
             (λ k within. take_overlay_before (take k bs) w.data_start at was (omega arith) there);
-        behind = puts_from w.data_start at bs old (state m) (omega arith) (puts.past kept);
+        behind = puts_from w.data_start at bs old (kind.state m) (omega arith) (puts.past kept);
       }
 
   pub around : (far : ℕ) → w.data_start + w.bytes_written + length bytes ≡ far
-      → StaysAround state far w (state m)
+      → StaysAround kind.state far w (kind.state m)
   around far is = grind (arith, common_steps, still, front, front_stays, rest, grows, reach)
 
 -- a medium that changed only around the accepted bytes: all samples stay accepted, and count
@@ -146,12 +145,12 @@ pub goes_beside : {W : Type 0} (state : W → MediumState) (far : ℕ) (all : Bo
 goes_beside state far all w m sound whole_written faults stays = grind (arith, common_steps, front_part, counts_at)
 
 -- a writer with an empty block, and a medium with bytes written after its data
-module _ {W : Type 0} (tells keeps : Bool) (state : W → MediumState) (w : WriterState W)
+module _ {W : Type 0} (kind : Ghosts W) (w : WriterState W)
     (none : w.buffered ≡ []) (sound : IsSound w)
-    (at_most : WhereTells tells
-    (CountsAtMost w.spec_ex w.data_start w.bytes_written (state w.medium).contents)) where
+    (at_most : WhereTells kind.tells
+    (CountsAtMost w.spec_ex w.data_start w.bytes_written (kind.state w.medium).contents)) where
   abbrev old : MediumState
-  old = state w.medium
+  old = kind.state w.medium
 
   abbrev width : ℕ
   width = w.spec_ex.bytes_per_sample
@@ -160,31 +159,31 @@ module _ {W : Type 0} (tells keeps : Bool) (state : W → MediumState) (w : Writ
   end = w.data_start + w.bytes_written
 
   -- nothing up to the end of the data changed: the samples count
-  counts_front : IsTrue tells → IsWhole state w → (c : List ℕ)
-      → take (w.data_start + w.bytes_written) c ≡ take (w.data_start + w.bytes_written) (state w.medium).contents
-      → Counts w.spec_ex w.data_start (accepted_samples state w) c
+  counts_front : IsTrue kind.tells → IsWhole kind.state w → (c : List ℕ)
+      → take (w.data_start + w.bytes_written) c ≡ take (w.data_start + w.bytes_written) (kind.state w.medium).contents
+      → Counts w.spec_ex w.data_start (accepted_samples kind.state w) c
   counts_front told whole c same =
       let first : take w.data_start c ≡ take w.data_start old.contents =
       take_front w.data_start end old.contents c (omega arith) same in
       let long : w.data_start ≤ length c =
       omega (arith, ap length same, length-take end c, length-take-le end old.contents whole) in
-      counts_at state w sound (whole_written state w none sound) c whole
+      counts_at kind.state w sound (whole_written kind.state w none sound) c whole
       (at_most_front w.spec_ex w.data_start w.bytes_written old.contents c (at_most told) first long)
       (front_part end w.data_start w.bytes_written c old.contents (omega arith) same)
 
   -- bytes that are written, all or a beginning
-  module _ {T E : Type 0} (m : W) (bytes : List ℕ) (result : Result T E) (told : IsTrue tells)
-      (puts : PutsAt keeps (w.data_start + w.bytes_written) bytes result (state w.medium) (state m)) where
+  module _ {T E : Type 0} (m : W) (bytes : List ℕ) (result : Result T E) (told : IsTrue kind.tells)
+      (puts : PutsAt kind.keeps (w.data_start + w.bytes_written) bytes result (kind.state w.medium) (kind.state m)) where
     abbrev new : MediumState
-    new = state m
+    new = kind.state m
 
-    pub at_each : IsTrue keeps → old.contents ≡ overlay old.start old.past → AddsAtEach state w new
+    pub at_each : IsTrue kind.keeps → old.contents ≡ overlay old.start old.past → AddsAtEach kind.state w new
     at_each kept replays =
         let bs = take puts.count bytes in
         let same : end ≤ length old.contents → (k : ℕ)
         → take end (overlay old.contents (placed end (take k bs))) ≡ take end old.contents =
         λ whole k. take_overlay_before (take k bs) end end old.contents (omega arith) whole in
-        let fixed : IsWhole state w
+        let fixed : IsWhole kind.state w
         → Span (λ _ c. take end c ≡ take end old.contents) 0 old new =
         λ whole. span_puts
         (λ _ c. take end c ≡ take end old.contents) 0 old new end bs replays puts.start
@@ -193,17 +192,17 @@ module _ {W : Type 0} (tells keeps : Bool) (state : W → MediumState) (w : Writ
           counts =
               λ whole. span_puts
               (λ _. Counts w.spec_ex w.data_start
-              (accepted_samples state w)) 0 old new end bs replays puts.start (puts.past kept)
+              (accepted_samples kind.state w)) 0 old new end bs replays puts.start (puts.past kept)
               (inl puts.flushed)
               (λ k within. counts_front told whole (overlay old.contents (placed end (take k bs)))
               (same whole k));
           front = fixed;
           stored =
               λ whole. stored_same w.data_start w.bytes_written
-              (concat (accepted_samples state w)) old.contents old new
+              (concat (accepted_samples kind.state w)) old.contents old new
               (omega (
                 arith,
-                ap length (concat-samples state w none sound),
+                ap length (concat-samples kind.state w none sound),
                 length-take w.bytes_written (drop w.data_start old.contents),
               ))
               (λ k from to. front_part end w.data_start w.bytes_written (moment new.start new.past k)
@@ -215,15 +214,15 @@ module _ {W : Type 0} (tells keeps : Bool) (state : W → MediumState) (w : Writ
       put : take puts.count bytes ≡ bytes
       put = take_all puts.count bytes (omega (arith, all))
 
-      parts : IsWhole state w
+      parts : IsWhole kind.state w
           → new.contents ≡ take end old.contents ++
           (bytes ++ drop (end + length bytes) old.contents)
       parts whole = grind (arith, common_steps, put, overlay_is)
 
-      bytes_in_place : IsWhole state w → take (length bytes) (drop end new.contents) ≡ bytes
+      bytes_in_place : IsWhole kind.state w → take (length bytes) (drop end new.contents) ≡ bytes
       bytes_in_place whole = grind (arith, common_steps, parts, drop_at, length-take-le, take_at)
 
-      pub bytes_inside : IsWhole state w
+      pub bytes_inside : IsWhole kind.state w
           → w.data_start + (w.bytes_written + length bytes) ≤ length new.contents
       bytes_inside whole = grind (arith, common_steps, parts, length-append, length-take-le)
 
@@ -238,22 +237,22 @@ module _ {W : Type 0} (tells keeps : Bool) (state : W → MediumState) (w : Writ
 
     -- if the medium failed nothing is accepted
     pub accepts_none : (e : IoFault)
-        → WhereTells tells
-        (PutsAt keeps (w.data_start + w.bytes_written) bytes (all_out false) (state w.medium) (state m))
-        → WhereKeeps tells keeps
-        ((state w.medium).contents ≡ overlay (state w.medium).start (state w.medium).past)
-        → AcceptsBytes tells keeps state bytes (Err (IoError e)) w (after_put m w.bytes_written)
+        → WhereTells kind.tells
+        (PutsAt kind.keeps (w.data_start + w.bytes_written) bytes (all_out false) (kind.state w.medium) (kind.state m))
+        → WhereKeeps kind.tells kind.keeps
+        ((kind.state w.medium).contents ≡ overlay (kind.state w.medium).start (kind.state w.medium).past)
+        → AcceptsBytes kind bytes (Err (IoError e)) w (after_put m w.bytes_written)
     accepts_none e puts replays = record {
       adds =
           let fits = room_fits w bytes room whole_bytes in
           search rules;
       file = λ told.
           let p = puts told in
-          let f = goes_beside state (end + length bytes) false w m sound (whole_written state w none sound)
+          let f = goes_beside kind.state (end + length bytes) false w m sound (whole_written kind.state w none sound)
           p.faults
-          (around tells keeps state w at_most m bytes (all_out false) told p (end + length bytes) refl)
+          (around kind w at_most m bytes (all_out false) told p (end + length bytes) refl)
           in
-          let none = append-nil (accepted_samples state w) in
+          let none = append-nil (accepted_samples kind.state w) in
           search rules;
       moments =
           λ told kept. at_each m bytes (all_out false) told (puts told) kept (replays told kept);
@@ -263,11 +262,11 @@ module _ {W : Type 0} (tells keeps : Bool) (state : W → MediumState) (w : Writ
     pub sound_more : IsSound (after_put m (w.bytes_written + length bytes))
     sound_more = grind (arith, common_steps)
 
-    pub accepts_all : WhereTells tells
-        (PutsAt keeps (w.data_start + w.bytes_written) bytes (all_out true) (state w.medium) (state m))
-        → WhereKeeps tells keeps
-        ((state w.medium).contents ≡ overlay (state w.medium).start (state w.medium).past)
-        → AcceptsBytes tells keeps state bytes (Ok tt) w (after_put m (w.bytes_written + length bytes))
+    pub accepts_all : WhereTells kind.tells
+        (PutsAt kind.keeps (w.data_start + w.bytes_written) bytes (all_out true) (kind.state w.medium) (kind.state m))
+        → WhereKeeps kind.tells kind.keeps
+        ((kind.state w.medium).contents ≡ overlay (kind.state w.medium).start (kind.state w.medium).past)
+        → AcceptsBytes kind bytes (Ok tt) w (after_put m (w.bytes_written + length bytes))
     accepts_all puts replays = record {
       adds =
           let fits = room_fits w bytes room whole_bytes in
@@ -276,32 +275,32 @@ module _ {W : Type 0} (tells keeps : Bool) (state : W → MediumState) (w : Writ
       file = λ told.
           let p = puts told in
           let last = after_put m (w.bytes_written + length bytes) in
-          let samples = drop w.data_start (state m).contents in
-          let more : IsWhole state w
-          → accepted_samples state last ≡ accepted_samples state w ++ list =
+          let samples = drop w.data_start (kind.state m).contents in
+          let more : IsWhole kind.state w
+          → accepted_samples kind.state last ≡ accepted_samples kind.state w ++ list =
           λ whole.
-          samples_append state w m (w.bytes_written + length bytes) w.buffered bytes sound whole
+          samples_append kind.state w m (w.bytes_written + length bytes) w.buffered bytes sound whole
           (omega (arith, ap length none))
           (cc (
             take-add w.bytes_written (length bytes) samples,
-            data_stays tells keeps state w at_most m bytes (all_out true) told p whole,
-            drop-drop w.bytes_written w.data_start (state m).contents,
+            data_stays kind w at_most m bytes (all_out true) told p whole,
+            drop-drop w.bytes_written w.data_start (kind.state m).contents,
             bytes_in_place m bytes (all_out true) told p p.whole whole,
             append-nil (take w.bytes_written (drop w.data_start old.contents) ++ bytes),
             append-nil (take w.bytes_written (drop w.data_start old.contents)),
           )) in
           let at_most_now =
-          at_most_more w.spec_ex w.data_start w.bytes_written (w.bytes_written + length bytes) (state m).contents
-          (omega arith) (still tells keeps state w at_most m bytes (all_out true) told p) in
+          at_most_more w.spec_ex w.data_start w.bytes_written (w.bytes_written + length bytes) (kind.state m).contents
+          (omega arith) (still kind w at_most m bytes (all_out true) told p) in
           let inside = bytes_inside m bytes (all_out true) told p p.whole in
-          let counts = counts_at state last sound_more (whole_written state last none sound_more)
-          (state m).contents in
-          let before = front tells keeps state w at_most m bytes (all_out true) told p in
-          let long = reach tells keeps state w at_most m bytes (all_out true) told p in
+          let counts = counts_at kind.state last sound_more (whole_written kind.state last none sound_more)
+          (kind.state m).contents in
+          let before = front kind w at_most m bytes (all_out true) told p in
+          let long = reach kind w at_most m bytes (all_out true) told p in
           let size = ap length none in
           let at : end + length bytes ≡ w.data_start + (w.bytes_written + length bytes + length w.buffered) =
           omega (arith, size) in
-          let behind = rw at at (rest tells keeps state w at_most m bytes (all_out true) told p) in
+          let behind = rw at at (rest kind w at_most m bytes (all_out true) told p) in
           search rules;
       moments =
           λ told kept. at_each m bytes (all_out true) told (puts told) kept (replays told kept);
@@ -314,12 +313,12 @@ not_refused P (Err (IoError e)) failed = tt
 not_refused P (Err e) failed = absurd failed
 
 -- the same for writers that hold other memory, which the call leaves as it is
-pub accepts_beside : {W : Type 0} (tells keeps : Bool) (state : W → MediumState)
+pub accepts_beside : {W : Type 0} (kind : Ghosts W)
     (asked : Result (List (List ℕ)) Refusal) (answer : Result (Unit {0}) Error)
-    (a b : WriterState W) (memory : List ℕ) → Accepts tells keeps state asked answer a b
-    → Accepts tells keeps state asked answer (record a { batch_memory = memory })
+    (a b : WriterState W) (memory : List ℕ) → Accepts kind asked answer a b
+    → Accepts kind asked answer (record a { batch_memory = memory })
     (record b { batch_memory = memory })
-accepts_beside tells keeps state asked answer a b memory accepts =
+accepts_beside kind asked answer a b memory accepts =
     let adds = accepts.adds in
     record {
       adds =

@@ -13,7 +13,7 @@ use Rattle.hound_spec.specs.declared.spec.WavSpecEx.{WavSpecEx}
 use Rattle.hound_spec.specs.{greatest_u32}
 use Rattle.hound_writer.specs.Accepting.{AcceptsBytes, whole_containers, Accepts, containers_in, outcome_of, sample_bytes}
 use Rattle.hound_writer.specs.Parts.{result_of, IsConsistent}
-use Rattle.hound_writer.specs.Writer.{WriterState, HasRoom, IsCounted, IsWhole}
+use Rattle.hound_writer.specs.Writer.{Ghosts, WriterState, HasRoom, IsCounted, IsWhole}
 use Rattle.hound_writer.specs.declared.outcome.Outcome.{Outcome}
 use Rattle.hound_writer.specs.declared.outcome.Outcome.TheVariants.{Accepted}
 use Rattle.hound_writer.proofs.Accepting.{type_refuses}
@@ -41,10 +41,10 @@ module _ {V : Type 0} (container : V → ℕ → ℕ → Result (List ℕ) Refus
   fit w have room = grind (arith, common_steps, size_of, mul-mod_right)
 
   -- a call for their bytes
-  abbrev pub AcceptsAll : {W : Type 0} → Bool → Bool → (W → MediumState) →
+  abbrev pub AcceptsAll : {W : Type 0} → Ghosts W →
       Result (Unit {0}) Error → WriterState W → WriterState W → Type 0
-  AcceptsAll tells keeps state answer w new =
-      AcceptsBytes tells keeps state (sample_bytes container w.spec_ex values) answer w new
+  AcceptsAll kind answer w new =
+      AcceptsBytes kind (sample_bytes container w.spec_ex values) answer w new
 
   -- these containers are those of the samples
   pub asked_is : (s : WavSpecEx) → 1 ≤ s.bytes_per_sample → IsOk (containers_in container s values)
@@ -70,39 +70,39 @@ module _ {V : Type 0} (container : V → ℕ → ℕ → Result (List ℕ) Refus
           ∙ sym is
 
   -- a writer, and what it keeps true
-  module _ {W : Type 0} (tells keeps : Bool) (state : W → MediumState) (moved : Bool) (limit : ℕ)
-      (w : WriterState W) (known : IsConsistent tells state w moved limit) where
+  module _ {W : Type 0} (kind : Ghosts W) (moved : Bool) (limit : ℕ)
+      (w : WriterState W) (known : IsConsistent kind w moved limit) where
     pub many_asked : (answer : Result (Unit {0}) Error) (new : WriterState W)
         → IsOk (containers_in container w.spec_ex values)
-        → AcceptsAll tells keeps state answer w new
-        → Accepts tells keeps state (containers_in container w.spec_ex values) answer w new
+        → AcceptsAll kind answer w new
+        → Accepts kind (containers_in container w.spec_ex values) answer w new
     many_asked answer new have = grind (arith, common_steps, asked_is)
 
     module _
-        (replays : WhereKeeps tells keeps
-        ((state w.medium).contents ≡ overlay (state w.medium).start (state w.medium).past)) where
-      counts : WhereTells tells (IsWhole state w → IsCounted state w)
-      counts = (valid_of tells state moved limit w known).counts
+        (replays : WhereKeeps kind.tells kind.keeps
+        ((kind.state w.medium).contents ≡ overlay (kind.state w.medium).start (kind.state w.medium).past)) where
+      counts : WhereTells kind.tells (IsWhole kind.state w → IsCounted kind.state w)
+      counts = (valid_of kind moved limit w known).counts
 
       -- one of them has no container
       pub many_refused : (outcome : Outcome) (fault : IoFault)
           → outcome ≡ outcome_of (containers_in container w.spec_ex values)
           → (outcome ≡ Accepted → ⊥)
-          → Accepts tells keeps state (containers_in container w.spec_ex values)
+          → Accepts kind (containers_in container w.spec_ex values)
           (result_of outcome fault) w w
       many_refused outcome fault is other = go (containers_in container w.spec_ex values) is
         where
           go : (asked : Result (List (List ℕ)) Refusal) → outcome ≡ outcome_of asked
-              → Accepts tells keeps state asked (result_of outcome fault) w w
+              → Accepts kind asked (result_of outcome fault) w w
           go (Ok list) is = absurd (other is)
-          go (Err too_wide) is = rw is (type_refuses tells keeps state w too_wide counts replays)
+          go (Err too_wide) is = rw is (type_refuses kind w too_wide counts replays)
           go (Err unsupported) is =
-              rw is (type_refuses tells keeps state w unsupported counts replays)
+              rw is (type_refuses kind w unsupported counts replays)
 
       -- the file has no room for all of them
       pub many_too_long : IsOk (containers_in container w.spec_ex values)
           → (HasRoom w (length values * w.spec_ex.bytes_per_sample) → ⊥)
-          → Accepts tells keeps state (containers_in container w.spec_ex values)
+          → Accepts kind (containers_in container w.spec_ex values)
           (Err TooLong) w w
       many_too_long have none =
           let size = size_of w.spec_ex have in
@@ -110,7 +110,7 @@ module _ {V : Type 0} (container : V → ℕ → ℕ → Result (List ℕ) Refus
           ≡ length values * w.spec_ex.bytes_per_sample =
           omega (arith, size) in
           many_asked (Err TooLong) w have
-          (bytes_too_long tells keeps state w (sample_bytes container w.spec_ex values) counts
+          (bytes_too_long kind w (sample_bytes container w.spec_ex values) counts
           replays
           (ap (λ n. n % w.spec_ex.bytes_per_sample) size
           ∙ mul-mod_right w.spec_ex.bytes_per_sample (length values))
@@ -118,7 +118,7 @@ module _ {V : Type 0} (container : V → ℕ → ℕ → Result (List ℕ) Refus
 
       -- a sample takes a byte at least
       pub too_many : IsOk (containers_in container w.spec_ex values) → greatest_u32 < length values
-          → Accepts tells keeps state (containers_in container w.spec_ex values)
+          → Accepts kind (containers_in container w.spec_ex values)
           (Err TooLong) w w
       too_many have many =
           let wide : 1 * length values ≤ w.spec_ex.bytes_per_sample * length values =

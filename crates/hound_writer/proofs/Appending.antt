@@ -12,7 +12,7 @@ use Rattle.hound_walk.specs.{IsSoundSpec as IsSoundHead, Head, Refused as Refuse
 use Rattle.std.specs.declared.io.Error.{Error as IoFault}
 use Rattle.hound_writer.specs.Accepting.{IsIoError}
 use Rattle.hound_writer.specs.Parts.{of_fields, CountsAtMost}
-use Rattle.hound_writer.specs.Writer.{field, WriterState, IsSound, IsWhole}
+use Rattle.hound_writer.specs.Writer.{Ghosts, field, WriterState, IsSound, IsWhole}
 use Rattle.hound_writer.specs.Appending.{AppendFault, Appends, FollowsData, IsAppendFault, NamesFault, by_bytes, head_fault, IsNotAppended, PutsNothing}
 use Rattle.hound_writer.proofs.Heads.{head_field}
 use Rattle.hound_writer.proofs.Samples.{counts_at, whole_written}
@@ -67,10 +67,10 @@ pub puts_nothing_then : (a b c : MediumState) → PutsNothing a b → PutsNothin
 puts_nothing_then a b c first then = search rules
 
 -- a walk to the data that found a head, and then the result of a call that appends there
-appends_after : {W : Type 0} (tells : Bool) (state : W → MediumState) (head : FileHead)
-    (old mid : MediumState) (w : WriterState W) → WhereTells tells (FindsData (Ok head) old mid)
-    → Appends tells state mid w → Appends tells state old w
-appends_after tells state head old mid w finds on = grind (arith, common_steps)
+appends_after : {W : Type 0} (kind : Ghosts W) (head : FileHead)
+    (old mid : MediumState) (w : WriterState W) → WhereTells kind.tells (FindsData (Ok head) old mid)
+    → Appends kind mid w → Appends kind old w
+appends_after kind head old mid w finds on = grind (arith, common_steps)
 
 refused_after : (head : FileHead) (old mid new : MediumState) (e : Error)
     → FindsData (Ok head) old mid → IsNotAppended mid new e → IsNotAppended old new e
@@ -89,17 +89,16 @@ refused_after head old mid new e finds refused = record {
   ];
 }
 
-pub answer_after : {W : Type 0} (tells : Bool) (state : W → MediumState) (head : FileHead)
+pub answer_after : {W : Type 0} (kind : Ghosts W) (head : FileHead)
     (old mid : MediumState) (answer : Result (WriterState W) (W × Error))
-    → WhereTells tells (FindsData (Ok head) old mid)
-    → MatchResult answer (Appends tells state mid)
-    (λ refused. WhereTells tells (IsNotAppended mid (state refused.0) refused.1))
-    → MatchResult answer (Appends tells state old)
-    (λ refused. WhereTells tells (IsNotAppended old (state refused.0) refused.1))
-answer_after tells state head old mid (Ok w) finds on =
-    appends_after tells state head old mid w finds on
-answer_after tells state head old mid (Err refused) finds on =
-    λ told. refused_after head old mid (state refused.0) refused.1 (finds told) (on told)
+    → WhereTells kind.tells (FindsData (Ok head) old mid)
+    → MatchResult answer (Appends kind mid)
+    (λ refused. WhereTells kind.tells (IsNotAppended mid (kind.state refused.0) refused.1))
+    → MatchResult answer (Appends kind old)
+    (λ refused. WhereTells kind.tells (IsNotAppended old (kind.state refused.0) refused.1))
+answer_after kind head old mid (Ok w) finds on = appends_after kind head old mid w finds on
+answer_after kind head old mid (Err refused) finds on =
+    λ told. refused_after head old mid (kind.state refused.0) refused.1 (finds told) (on told)
 
 -- A walk that found no head: a fault of the bytes, as each cause of a walk is one, or of the medium.
 pub no_head : (IsFault : AppendFault → Type 0) (error : HeadError) (e : Error) (old new : MediumState)

@@ -7,7 +7,7 @@ use Rattle.hound_medium.specs.{MediumState}
 use Rattle.hound_sample.specs.{Refusal, int_bytes, int_container, too_wide, all_containers, bytes_in, joined_containers, contained, int_container-in_width}
 use Rattle.hound_writer.specs.Accepting.{AcceptsBytes, Accepts, AreI16, containers_in, sample_bytes, i16_bytes}
 use Rattle.hound_writer.specs.Parts.{memory_bytes}
-use Rattle.hound_writer.specs.Writer.{WriterState}
+use Rattle.hound_writer.specs.Writer.{Ghosts, WriterState}
 use Rattle.hound_writer.proofs.Accepting.{accepts_beside}
 use Rattle.hound_writer.proofs.AcceptingMany.{asked_is}
 use Rattle.hound_sample.proofs.Joined.{head_ok, ok_append, tail_ok}
@@ -52,19 +52,19 @@ joined_i16s (v ∷ values) fits =
     ++ joined_i16s values (tail_ok (container v) (all_containers container values) fits) i
 
 -- a batch whose samples were accepted as those of a slice, beside the writer's memory
-pub batch_accepted : {W : Type 0} (tells keeps : Bool) (state : W → MediumState)
+pub batch_accepted : {W : Type 0} (kind : Ghosts W)
     (answer : Result (Unit {0}) Error) (a b : WriterState W) (values : List ℤ) (memory : List ℕ)
     → AreI16 values → a.spec_ex.spec.bits_per_sample ≡ 16 → a.spec_ex.bytes_per_sample ≡ 2
-    → Accepts tells keeps state (containers_in int_container a.spec_ex values) answer a b
-    → AcceptsBytes tells keeps state (i16_bytes values) answer (record a { batch_memory = memory })
+    → Accepts kind (containers_in int_container a.spec_ex values) answer a b
+    → AcceptsBytes kind (i16_bytes values) answer (record a { batch_memory = memory })
     (record b { batch_memory = memory })
-batch_accepted tells keeps state answer a b values memory fits bits width accepts =
+batch_accepted kind answer a b values memory fits bits width accepts =
     let s = a.spec_ex in
     let have : IsOk (containers_in int_container s values) = rw (bits, width) fits in
     let bytes : sample_bytes int_container s values ≡ i16_bytes values =
     rw (bits, width) (joined_i16s values fits) in
     let some : 1 ≤ s.bytes_per_sample = omega (arith, width) in
-    accepts_beside tells keeps state _ answer a b memory
+    accepts_beside kind _ answer a b memory
     (rw (← bytes, asked_is int_container int_container-in_width values s some have) accepts)
 
 -- the memory that is kept for batches, or a new one

@@ -12,7 +12,7 @@ use Rattle.hound_walk.proofs.WrittenLemmas.{header_head}
 use Rattle.std.specs.declared.io.Error.{Error as IoFault}
 use Rattle.hound_writer.specs.Beginning.{PutsHeader}
 use Rattle.hound_writer.specs.Parts.{of_fields, CountsAtMost}
-use Rattle.hound_writer.specs.Writer.{field, IsSound, IsWhole, HasHeader}
+use Rattle.hound_writer.specs.Writer.{Ghosts, field, IsSound, IsWhole, HasHeader}
 use Rattle.hound_writer.proofs.Samples.{counts_at, whole_written}
 
 -- the data length of a header with 0 in it
@@ -39,23 +39,23 @@ pub sound_begin : {W : Type 0} (medium : W) (s : WavSpecEx) (start : ℕ) → Is
 sound_begin medium s start writable is = grind (arith, common_steps)
 
 -- what a constructor has written
-module _ {W : Type 0} (keeps : Bool) (state : W → MediumState) (s : WavSpecEx) (old : MediumState)
+module _ {W : Type 0} (kind : Ghosts W) (s : WavSpecEx) (old : MediumState)
     (medium : W) (writable : IsWritable s) (begins : old.place ≡ 0)
-    (puts : PutsAll {T = Unit {0}} {E = IoFault} keeps (header s 0 0) (Ok tt) old (state medium))
+    (puts : PutsAll {T = Unit {0}} {E = IoFault} kind.keeps (header s 0 0) (Ok tt) old (kind.state medium))
   where
     abbrev rest : List ℕ
     rest = drop (length (header s 0 0)) old.contents
 
     -- the header, and what was after it before
-    contents_begin : (state medium).contents ≡ header s 0 0 ++ rest
+    contents_begin : (kind.state medium).contents ≡ header s 0 0 ++ rest
     contents_begin = grind (arith, common_steps, take_all, overlay_is)
 
     -- its file
-    pub at_most_begin : CountsAtMost s (length (header s 0 0)) 0 (state medium).contents
+    pub at_most_begin : CountsAtMost s (length (header s 0 0)) 0 (kind.state medium).contents
     at_most_begin =
         let size = length-header s 0 0 in
         let p = length (header s 0 0) - 4 in
-        let none : field p (state medium).contents ≡ 0 =
+        let none : field p (kind.state medium).contents ≡ 0 =
         ap (field p) contents_begin
         ∙ field-header s p rest (omega (arith, size, data_start_least s)) in
         record {
@@ -63,22 +63,22 @@ module _ {W : Type 0} (keeps : Bool) (state : W → MediumState) (s : WavSpecEx)
           counted = omega (arith, none);
         }
 
-    pub header_file : PutsHeader keeps state old (of_fields medium s (length (header s 0 0)) 0 [] [])
+    pub header_file : PutsHeader kind old (of_fields medium s (length (header s 0 0)) 0 [] [])
     header_file =
         let h = header s 0 0 in
         let w = of_fields medium s (length h) 0 [] [] in
         let sound = sound_begin medium s (length h) writable (length-header s 0 0) in
-        let whole : IsWhole state w =
+        let whole : IsWhole kind.state w =
         omega (arith, ap length contents_begin, length-append h rest) in
         let put = rw puts.whole at puts.takes in
-        let has : HasHeader s (state medium).contents =
+        let has : HasHeader s (kind.state medium).contents =
         (0, 0, ap (take (length h)) contents_begin ∙ take_at h rest (length h) refl) in
-        let reach : length (state medium).contents ≤ max (length old.contents) (length h) = omega (
+        let reach : length (kind.state medium).contents ≤ max (length old.contents) (length h) = omega (
           arith,
           ap length contents_begin,
           length-append h rest,
           length-drop (length h) old.contents,
         ) in
-        let counts = counts_at state w sound (whole_written state w refl sound)
-        (state medium).contents whole at_most_begin refl in
+        let counts = counts_at kind.state w sound (whole_written kind.state w refl sound)
+        (kind.state medium).contents whole at_most_begin refl in
         search rules

@@ -9,7 +9,7 @@ use Rattle.hound_medium.proofs.Spans.{span_still, span_weaker}
 use Rattle.hound_sample.specs.{containers}
 use Rattle.hound_writer.specs.Accepting.{AcceptsBytes, AddsAtEach, StaysStored}
 use Rattle.hound_writer.specs.Parts.{GoesAtEach, GoesOut, IsLimit, StaysAround, after_out, all_out, IsConsistent, CountsAtMost, PutsAt}
-use Rattle.hound_writer.specs.Writer.{Counts, WriterState, block_length, HasRoom, IsSound, IsWhole, accepted_samples, data_length, data_end}
+use Rattle.hound_writer.specs.Writer.{Ghosts, Counts, WriterState, block_length, HasRoom, IsSound, IsWhole, accepted_samples, data_length, data_end}
 use Rattle.hound_writer.proofs.Accepting.{accepts_all, adds_nothing, around, at_each, goes_at_each, goes_beside, room_fits, sound_more, still}
 use Rattle.hound_writer.proofs.Containers.{joined_bytes, none_whole, whole_more}
 use Rattle.hound_writer.proofs.Counted.{counts_more}
@@ -19,8 +19,8 @@ use Rattle.hound_writer.proofs.AtMost.{at_most_more}
 use Rattle.hound_writer.proofs.Storing.{joined_samples, puts_stored}
 
 -- a writer over a medium that stays
-module _ {W : Type 0} (tells keeps : Bool) (state : W → MediumState) (w : WriterState W)
-    (moved : Bool) (limit : ℕ) (known : IsConsistent tells state w moved limit)
+module _ {W : Type 0} (kind : Ghosts W) (w : WriterState W)
+    (moved : Bool) (limit : ℕ) (known : IsConsistent kind w moved limit)
     (bytes : List ℕ) (room : HasRoom w (length bytes))
     (whole_bytes : length bytes % w.spec_ex.bytes_per_sample ≡ 0) where
   abbrev sound : IsSound w
@@ -39,7 +39,7 @@ module _ {W : Type 0} (tells keeps : Bool) (state : W → MediumState) (w : Writ
   sound_longer = grind (arith, common_steps, sound_with, more, whole_more)
 
   pub consistent_longer : length w.buffered + length bytes ≤ block_length
-      → IsConsistent tells state (record w { buffered = w.buffered ++ bytes }) moved limit
+      → IsConsistent kind (record w { buffered = w.buffered ++ bytes }) moved limit
   consistent_longer few =
       let sound = sound_longer in
       let size = length-append w.buffered bytes in
@@ -48,11 +48,11 @@ module _ {W : Type 0} (tells keeps : Bool) (state : W → MediumState) (w : Writ
       search rules
 
   -- samples join the buffered ones
-  pub accepts_buffered : WhereKeeps tells keeps
-      ((state w.medium).contents ≡ overlay (state w.medium).start (state w.medium).past)
-      → AcceptsBytes tells keeps state bytes (Ok tt) w (record w { buffered = w.buffered ++ bytes })
+  pub accepts_buffered : WhereKeeps kind.tells kind.keeps
+      ((kind.state w.medium).contents ≡ overlay (kind.state w.medium).start (kind.state w.medium).past)
+      → AcceptsBytes kind bytes (Ok tt) w (record w { buffered = w.buffered ++ bytes })
   accepts_buffered replays =
-      let old = state w.medium in
+      let old = kind.state w.medium in
       record {
         adds =
             let fits = room_fits w bytes room whole_bytes in
@@ -60,23 +60,23 @@ module _ {W : Type 0} (tells keeps : Bool) (state : W → MediumState) (w : Writ
             let longer = more in
             search rules;
         file = λ told.
-            let more = λ (whole : IsWhole state w).
-            samples_append state w w.medium w.bytes_written (w.buffered ++ bytes) bytes sound whole more
+            let more = λ (whole : IsWhole kind.state w).
+            samples_append kind.state w w.medium w.bytes_written (w.buffered ++ bytes) bytes sound whole more
             (sym (append_assoc (take w.bytes_written (drop w.data_start old.contents)) w.buffered bytes)) in
-            let counts = counts_at state longer sound_longer known.whole_written old.contents in
+            let counts = counts_at kind.state longer sound_longer known.whole_written old.contents in
             search rules;
-        moments = λ told kept. adds_nothing state w
-            ((valid_of tells state moved limit w known).counts told) (replays told kept);
+        moments = λ told kept. adds_nothing kind.state w
+            ((valid_of kind moved limit w known).counts told) (replays told kept);
       }
 
 -- the buffered samples are written after the bytes in the medium
-module _ {W : Type 0} (tells keeps : Bool) (state : W → MediumState) (w : WriterState W)
-    (moved : Bool) (limit : ℕ) (known : IsConsistent tells state w moved limit)
-    (replays : WhereKeeps tells keeps
-    ((state w.medium).contents ≡ overlay (state w.medium).start (state w.medium).past))
+module _ {W : Type 0} (kind : Ghosts W) (w : WriterState W)
+    (moved : Bool) (limit : ℕ) (known : IsConsistent kind w moved limit)
+    (replays : WhereKeeps kind.tells kind.keeps
+    ((kind.state w.medium).contents ≡ overlay (kind.state w.medium).start (kind.state w.medium).past))
     (m : W) where
-  abbrev at_most : WhereTells tells
-      (CountsAtMost w.spec_ex w.data_start w.bytes_written (state w.medium).contents)
+  abbrev at_most : WhereTells kind.tells
+      (CountsAtMost w.spec_ex w.data_start w.bytes_written (kind.state w.medium).contents)
   at_most = known.at_most
 
   -- the writer without the buffered samples
@@ -84,7 +84,7 @@ module _ {W : Type 0} (tells keeps : Bool) (state : W → MediumState) (w : Writ
   shorter = record w { buffered = [] }
 
   abbrev old : MediumState
-  old = state w.medium
+  old = kind.state w.medium
 
   abbrev wide : ℕ
   wide = w.spec_ex.bytes_per_sample
@@ -96,23 +96,23 @@ module _ {W : Type 0} (tells keeps : Bool) (state : W → MediumState) (w : Writ
   sound_shorter = grind (arith, common_steps)
 
   -- its samples are the first ones of the writer's
-  samples_first : IsWhole state w
-      → accepted_samples state w ≡ accepted_samples state shorter ++ containers wide
+  samples_first : IsWhole kind.state w
+      → accepted_samples kind.state w ≡ accepted_samples kind.state shorter ++ containers wide
       (length w.buffered / wide) w.buffered
   samples_first whole =
-      samples_append state shorter w.medium w.bytes_written w.buffered w.buffered sound_shorter whole
+      samples_append kind.state shorter w.medium w.bytes_written w.buffered w.buffered sound_shorter whole
       (omega arith)
       (ap (λ l. l ++ w.buffered) (sym (append-nil (take w.bytes_written (drop w.data_start old.contents)))))
 
-  moments : (IsWhole state w
-      → StaysStored w.data_start (concat (accepted_samples state w)) (state w.medium) (state m))
-      → AddsAtEach state shorter (state m) → AddsAtEach state w (state m)
+  moments : (IsWhole kind.state w
+      → StaysStored w.data_start (concat (accepted_samples kind.state w)) (kind.state w.medium) (kind.state m))
+      → AddsAtEach kind.state shorter (kind.state m) → AddsAtEach kind.state w (kind.state m)
   moments stored at_each = record {
     counts =
-        λ whole. span_weaker (λ _. Counts w.spec_ex w.data_start (accepted_samples state shorter))
-        (λ _. Counts w.spec_ex w.data_start (accepted_samples state w)) 0 old (state m)
+        λ whole. span_weaker (λ _. Counts w.spec_ex w.data_start (accepted_samples kind.state shorter))
+        (λ _. Counts w.spec_ex w.data_start (accepted_samples kind.state w)) 0 old (kind.state m)
         (λ j c counts. rw (samples_first whole)
-        (counts_more w.spec_ex w.data_start (accepted_samples state shorter)
+        (counts_more w.spec_ex w.data_start (accepted_samples kind.state shorter)
         (containers wide (length w.buffered / wide) w.buffered) c known.sound.width counts))
         (at_each.counts whole);
     front = at_each.front;
@@ -121,43 +121,43 @@ module _ {W : Type 0} (tells keeps : Bool) (state : W → MediumState) (w : Writ
 
   -- all of it, or a beginning
   module _ (all : Bool)
-      (puts : WhereTells tells
-      (PutsAt keeps (w.data_start + w.bytes_written) w.buffered (all_out all) (state w.medium) (state m)))
+      (puts : WhereTells kind.tells
+      (PutsAt kind.keeps (w.data_start + w.bytes_written) w.buffered (all_out all) (kind.state w.medium) (kind.state m)))
     where
-      stored_out : IsTrue tells → IsTrue keeps → IsWhole state w
-          → StaysStored w.data_start (concat (accepted_samples state w)) (state w.medium) (state m)
+      stored_out : IsTrue kind.tells → IsTrue kind.keeps → IsWhole kind.state w
+          → StaysStored w.data_start (concat (accepted_samples kind.state w)) (kind.state w.medium) (kind.state m)
       stored_out told kept whole =
           let held = drop w.data_start old.contents in
           let size : w.data_start + length (take w.bytes_written held) ≡ end =
           ap (λ n. w.data_start + n)
           (length-take-le w.bytes_written held
           (omega (arith, whole, length-drop w.data_start old.contents))) in
-          rw (joined_samples state w known.sound whole)
-          (puts_stored w.data_start end (take w.bytes_written held) w.buffered (puts told).count old (state m)
+          rw (joined_samples kind.state w known.sound whole)
+          (puts_stored w.data_start end (take w.bytes_written held) w.buffered (puts told).count old (kind.state m)
           size ((puts told).past kept))
 
-      moments_out : WhereKeeps tells keeps (GoesAtEach state w (state m))
+      moments_out : WhereKeeps kind.tells kind.keeps (GoesAtEach kind.state w (kind.state m))
       moments_out told kept =
-          goes_at_each tells keeps state w at_most m w.buffered (all_out all) told (puts told) kept
+          goes_at_each kind w at_most m w.buffered (all_out all) told (puts told) kept
           (replays told kept)
           (moments (stored_out told kept)
-          (at_each tells keeps state shorter refl sound_shorter at_most m w.buffered
+          (at_each kind shorter refl sound_shorter at_most m w.buffered
           (all_out all) told (puts told) kept (replays told kept)))
 
-      stays_around : IsTrue tells → StaysAround state (data_end w) w (state m)
+      stays_around : IsTrue kind.tells → StaysAround kind.state (data_end w) w (kind.state m)
       stays_around told =
-          around tells keeps state w at_most m w.buffered (all_out all) told (puts told) (data_end w)
+          around kind w at_most m w.buffered (all_out all) told (puts told) (data_end w)
           (omega arith)
 
   pub goes_out : (all : Bool)
-      → WhereTells tells
-      (PutsAt keeps (w.data_start + w.bytes_written) w.buffered (all_out all) (state w.medium) (state m))
-      → GoesOut tells keeps state (data_end w) all w (after_out all m w)
+      → WhereTells kind.tells
+      (PutsAt kind.keeps (w.data_start + w.bytes_written) w.buffered (all_out all) (kind.state w.medium) (kind.state m))
+      → GoesOut kind (data_end w) all w (after_out all m w)
   goes_out true puts = record {
     value = refl;
     sound = known.sound;
     file = λ told.
-        let f = (accepts_all tells keeps state shorter refl sound_shorter at_most m w.buffered
+        let f = (accepts_all kind shorter refl sound_shorter at_most m w.buffered
         (omega (arith, known.sound.fits)) known.whole_buffered puts replays).file told in
         let around = stays_around true puts told in
         let first = samples_first in
@@ -168,7 +168,7 @@ module _ {W : Type 0} (tells keeps : Bool) (state : W → MediumState) (w : Writ
     value = refl;
     sound = known.sound;
     file = λ told.
-        goes_beside state (data_end w) false w m known.sound known.whole_written (puts told).faults
+        goes_beside kind.state (data_end w) false w m known.sound known.whole_written (puts told).faults
         (stays_around false puts told);
     moments = moments_out false puts;
   }
@@ -178,32 +178,32 @@ module _ {W : Type 0} (tells keeps : Bool) (state : W → MediumState) (w : Writ
   sound_out = grind (arith, common_steps)
 
   pub consistent_out : (next : ℕ) → IsLimit w.data_start (data_length w) next
-      → WhereTells tells
-      (PutsAt keeps (w.data_start + w.bytes_written) w.buffered (all_out true) (state w.medium) (state m))
-      → IsConsistent tells state (after_out true m w) false next
+      → WhereTells kind.tells
+      (PutsAt kind.keeps (w.data_start + w.bytes_written) w.buffered (all_out true) (kind.state w.medium) (kind.state m))
+      → IsConsistent kind (after_out true m w) false next
   consistent_out next room puts =
       let sound = sound_out in
       let none = none_whole wide in
-      let at_most = λ (told : IsTrue tells).
-      at_most_more w.spec_ex w.data_start w.bytes_written (data_length w) (state m).contents (omega arith)
+      let at_most = λ (told : IsTrue kind.tells).
+      at_most_more w.spec_ex w.data_start w.bytes_written (data_length w) (kind.state m).contents (omega arith)
       (stays_around true puts told).at_most in
       search rules
 
-  pub consistent_cut : WhereTells tells
-      (PutsAt keeps (w.data_start + w.bytes_written) w.buffered (all_out false) (state w.medium) (state m))
-      → IsConsistent tells state (record w { medium = m }) true limit
+  pub consistent_cut : WhereTells kind.tells
+      (PutsAt kind.keeps (w.data_start + w.bytes_written) w.buffered (all_out false) (kind.state w.medium) (kind.state m))
+      → IsConsistent kind (record w { medium = m }) true limit
   consistent_cut puts =
-      consistent_moved tells state w m moved limit known (λ told. (stays_around false puts told).at_most)
+      consistent_moved kind w m moved limit known (λ told. (stays_around false puts told).at_most)
 
 -- if nothing is buffered nothing is written
-pub goes_out_nothing : {W : Type 0} (tells keeps : Bool) (state : W → MediumState) (far : ℕ)
-    (w : WriterState W) (moved : Bool) (limit : ℕ) → IsConsistent tells state w moved limit
-    → WhereKeeps tells keeps
-    ((state w.medium).contents ≡ overlay (state w.medium).start (state w.medium).past)
-    → length w.buffered ≡ 0 → GoesOut tells keeps state far true w w
-goes_out_nothing tells keeps state far w moved limit known replays none =
-    let old = state w.medium in
-    let counts = (valid_of tells state moved limit w known).counts in
+pub goes_out_nothing : {W : Type 0} (kind : Ghosts W) (far : ℕ)
+    (w : WriterState W) (moved : Bool) (limit : ℕ) → IsConsistent kind w moved limit
+    → WhereKeeps kind.tells kind.keeps
+    ((kind.state w.medium).contents ≡ overlay (kind.state w.medium).start (kind.state w.medium).past)
+    → length w.buffered ≡ 0 → GoesOut kind far true w w
+goes_out_nothing kind far w moved limit known replays none =
+    let old = kind.state w.medium in
+    let counts = (valid_of kind moved limit w known).counts in
     record {
       value =
           let out : w.bytes_written ≡ data_length w = omega (arith, none) in
@@ -212,7 +212,7 @@ goes_out_nothing tells keeps state far w moved limit known replays none =
       sound = known.sound;
       file = search rules;
       moments = λ told kept. record {
-        adds = adds_nothing state w (counts told) (replays told kept);
+        adds = adds_nothing kind.state w (counts told) (replays told kept);
         front = span_still (λ _ c. take w.data_start c ≡ take w.data_start old.contents) 0 old old
             (replays told kept) refl refl (inl refl) refl;
         behind = search rules;
@@ -220,26 +220,26 @@ goes_out_nothing tells keeps state far w moved limit known replays none =
     }
 
 -- containers are written at once, if nothing is buffered
-module _ {W : Type 0} (tells keeps : Bool) (state : W → MediumState) (w : WriterState W)
-    (moved : Bool) (limit : ℕ) (known : IsConsistent tells state w moved limit)
+module _ {W : Type 0} (kind : Ghosts W) (w : WriterState W)
+    (moved : Bool) (limit : ℕ) (known : IsConsistent kind w moved limit)
     (none : w.buffered ≡ [])
     (m : W) (bytes : List ℕ) where
   pub cut_at_once : (all : Bool)
-      → WhereTells tells
-      (PutsAt keeps (w.data_start + w.bytes_written) bytes (all_out all) (state w.medium) (state m))
-      → IsConsistent tells state (record w { medium = m }) true limit
+      → WhereTells kind.tells
+      (PutsAt kind.keeps (w.data_start + w.bytes_written) bytes (all_out all) (kind.state w.medium) (kind.state m))
+      → IsConsistent kind (record w { medium = m }) true limit
   cut_at_once all puts = grind (arith, common_steps, consistent_moved, still)
 
   pub kept_at_once : (next : ℕ) → IsLimit w.data_start (w.bytes_written + length bytes) next
       → HasRoom w (length bytes) → length bytes % w.spec_ex.bytes_per_sample ≡ 0
-      → WhereTells tells
-      (PutsAt keeps (w.data_start + w.bytes_written) bytes (all_out true) (state w.medium) (state m))
-      → IsConsistent tells state
+      → WhereTells kind.tells
+      (PutsAt kind.keeps (w.data_start + w.bytes_written) bytes (all_out true) (kind.state w.medium) (kind.state m))
+      → IsConsistent kind
       (record w { medium = m; bytes_written = w.bytes_written + length bytes }) false next
   kept_at_once next limit_next room whole puts =
-      let sound = sound_more tells keeps state w none known.sound known.at_most m bytes room whole in
+      let sound = sound_more kind w none known.sound known.at_most m bytes room whole in
       let both = whole_more w.bytes_written (length bytes) w.spec_ex.bytes_per_sample known.whole_written whole in
-      let at_most = λ (told : IsTrue tells).
-      at_most_more w.spec_ex w.data_start w.bytes_written (w.bytes_written + length bytes) (state m).contents (omega arith)
-      (still tells keeps state w known.at_most m bytes (all_out true) told (puts told)) in
+      let at_most = λ (told : IsTrue kind.tells).
+      at_most_more w.spec_ex w.data_start w.bytes_written (w.bytes_written + length bytes) (kind.state m).contents (omega arith)
+      (still kind w known.at_most m bytes (all_out true) told (puts told)) in
       search rules

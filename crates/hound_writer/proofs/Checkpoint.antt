@@ -11,7 +11,7 @@ use Rattle.hound_medium.specs.{MediumState, Flushes, faults_after}
 use Rattle.hound_medium.proofs.Outcomes.{on_ok, on_ok_self}
 use Rattle.hound_medium.proofs.Spans.{flushed_since, span_still}
 use Rattle.hound_writer.specs.Accepting.{AddsAtEach}
-use Rattle.hound_writer.specs.Effects.{Log, Performed, checkpoint, log_state, pad_effects, size_effects}
+use Rattle.hound_writer.specs.Effects.{Log, Performed, checkpoint, log_kind, pad_effects, size_effects}
 use Rattle.hound_writer.specs.Parts.{all_out, after_out, GoesOut, HasSize, IsConsistent, IsPublishResult, CountsAtMost, Patches, PatchesAtEach, PutsAt, StaysAround}
 use Rattle.hound_writer.specs.Publishing.{PublishesTo}
 use Rattle.hound_writer.specs.Recording.{IsIdle}
@@ -66,9 +66,9 @@ module _ (w : WriterState Log) (good : IsIdle w) where
   a = w.medium.state
 
   long : data_length w ≡ w.bytes_written
-  long = length_written log_state w good.none
+  long = length_written log_kind.state w good.none
 
-  pub known : IsConsistent true log_state w true 0
+  pub known : IsConsistent log_kind w true 0
   known = grind (arith, common_steps, whole_written, none_whole)
 
   has : HasSize p a.contents
@@ -127,21 +127,21 @@ module _ (w : WriterState Log) (good : IsIdle w) where
     pub at_most_still : CountsAtMost w.spec_ex w.data_start w.bytes_written m.state.contents
     at_most_still = rw flush.stays.contents good.at_most
 
-    around_still : StaysAround log_state far w m.state
+    around_still : StaysAround log_kind.state far w m.state
     around_still = grind (arith, common_steps, at_most_still)
 
-    adds_still : AddsAtEach log_state w m.state
+    adds_still : AddsAtEach log_kind.state w m.state
     adds_still =
         let since = flushed_since r a m.state flush in
-        let counts = (valid_of true log_state true 0 w known).counts refl in
+        let counts = (valid_of log_kind true 0 w known).counts refl in
         let same : length m.state.past ≡ length a.past = ap length flush.stays.past in
         grind (arith, common_steps, span_still)
 
-    pub goes_still : GoesOut true true log_state far (is_ok r) w (record w { medium = m })
+    pub goes_still : GoesOut log_kind far (is_ok r) w (record w { medium = m })
     goes_still = record {
       value = value (is_ok r) m;
       sound = good.sound;
-      file = λ _. goes_beside log_state far (is_ok r) w m good.sound (whole_written log_state w good.none good.sound)
+      file = λ _. goes_beside log_kind.state far (is_ok r) w m good.sound (whole_written log_kind.state w good.none good.sound)
           (flush.faults ∙ faults_as r a.faults) around_still;
       moments = λ _ _.
           let adds = adds_still in
@@ -155,7 +155,7 @@ module _ (outcome : Result (Unit {0}) IoFault) (are_frames : Bool) (answer : Res
     (is : IsPublishResult outcome are_frames answer) (end : Log) where
   -- all that is published, and the file that is left
   abbrev Left : WriterState Log → Type 0
-  Left w = PublishesTo true true log_state end.state.place answer w (record w { medium = end })
+  Left w = PublishesTo log_kind end.state.place answer w (record w { medium = end })
       × CountsAtMost w.spec_ex w.data_start w.bytes_written end.state.contents
 
   abbrev HasFrames : WriterState Log → Type 0
@@ -167,7 +167,7 @@ module _ (outcome : Result (Unit {0}) IoFault) (are_frames : Bool) (answer : Res
   after_pad w good frames padded did =
       let both = sizes w good outcome end did in
       let half = both.0.half in (
-        publishes_to true true log_state w end good.none good.sound (λ _. good.at_most) (λ _. padded)
+        publishes_to log_kind w end good.none good.sound (λ _. good.at_most) (λ _. padded)
             outcome are_frames answer is (record w { medium = end }) refl frames (λ _. w.medium.small)
             (λ _. end.small) (λ _. both.0) (λ _ _. both.1) end.state.place (λ _. on_ok outcome refl),
         at_most_patched w.spec_ex w.data_start w.bytes_written w.medium.state.contents end.state.contents
@@ -176,19 +176,19 @@ module _ (outcome : Result (Unit {0}) IoFault) (are_frames : Bool) (answer : Res
 
   -- an effect before the sizes, and then those that follow
   step : (w : WriterState Log) (m : Log) (r : Result (Unit {0}) IoFault) (effects : List Effect)
-      → GoesOut true true log_state (padded_end w) (is_ok r) w (record w { medium = m })
+      → GoesOut log_kind (padded_end w) (is_ok r) w (record w { medium = m })
       → MatchResult r (λ _. Performed effects outcome m end) (λ e. (outcome ≡ Err e) × (end ≡ m))
       → (IsTrue (is_ok r) → Performed effects outcome m end → Left (record w { medium = m })) → Left w
   step w m (Ok x) effects goes did next =
       let rest = next refl did in (
-        published_later true true log_state (padded_end w) end.state.place w (record w { medium = m })
+        published_later log_kind (padded_end w) end.state.place w (record w { medium = m })
             (record w { medium = end }) answer (omega arith) goes (λ _. w.medium.small) rest.0,
         rest.1,
       )
   step w m (Err e) effects goes (is_e, last) next =
       let cut_is : answer ≡ Err (IoError e) = subst (λ r. IsPublishResult r are_frames answer) is_e is in
       rw (cut_is, last) (
-        published_cut true true log_state (padded_end w) m.state.place w (record w { medium = m }) e
+        published_cut log_kind (padded_end w) m.state.place w (record w { medium = m }) e
             (omega arith) goes (λ _. w.medium.small),
         (goes.file refl).around.at_most,
       )
@@ -211,11 +211,11 @@ module _ (outcome : Result (Unit {0}) IoFault) (are_frames : Bool) (answer : Res
   by_parity w good frames (suc n) odd (m, r, puts, rest) =
       let put = as_out (w.data_start + w.bytes_written) (0 ∷ []) r w.medium.state m.state puts in
       let no : w.bytes_written % 2 ≡ 0 → ⊥ = λ even. omega (arith, even, odd) in
-      let goes = goes_out true true log_state w true 0 (known w good) good.none (λ _ _. w.medium.replays) no m
+      let goes = goes_out log_kind w true 0 (known w good) good.none (λ _ _. w.medium.replays) no m
       (is_ok r) (λ _. put) in
       step w m r (size_effects w.data_start w.bytes_written) goes rest
       (λ ok did. after_sync (record w { medium = m }) (good_over w m good (goes.file refl).around.at_most) frames
-      (padded_odd true true log_state w true 0 (known w good) good.none (λ _ _. w.medium.replays) no m (is_ok r)
+      (padded_odd log_kind w true 0 (known w good) good.none (λ _ _. w.medium.replays) no m (is_ok r)
       (λ _. put) refl ok) did)
 
   pub publishes_checkpoint : (w : WriterState Log) → IsIdle w → HasFrames w

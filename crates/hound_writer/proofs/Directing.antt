@@ -18,7 +18,7 @@ use Rattle.hound_writer.specs.Accepting.{mark_of, whole_containers}
 use Rattle.hound_writer.specs.Appending.{head_fault}
 use Rattle.hound_writer.specs.Beginning.{Begins}
 use Rattle.hound_writer.specs.Calls.{Asked, Begun, Does, Known, Opens, Recorded, handed_in, marked, new_file, publish, write}
-use Rattle.hound_writer.specs.Effects.{Log, Performed, Performs, checkpoint, log_state, nth}
+use Rattle.hound_writer.specs.Effects.{Log, Performed, Performs, checkpoint, log_kind, nth}
 use Rattle.hound_writer.specs.Parts.{IsPublishResult, PutsAt, of_fields}
 use Rattle.hound_writer.specs.Recorder.{AppendsRecorder, BeginsRecorder, HasData, HasFailed, NextEffect, Places, Reports, effects_of, length_with}
 use Rattle.hound_writer.specs.Recording.{Directed, IsIdle, IsOrdered, IsRecorderOf, IsSynced, Opened, Resumed, block_known, resumed_file}
@@ -42,7 +42,7 @@ use Rattle.hound_writer.proofs.AtMost.{at_most_more}
 -- what a call with this mark did
 record IsCall (asked : Asked) (ok : Bool) (old new : WriterState Log) : Type 0 where
   pub answer : Result (Unit {0}) Error
-  pub does : Does true true log_state asked answer old new
+  pub does : Does log_kind asked answer old new
   pub mark : mark_of answer ≡ ok
   pub idle : IsIdle new
 
@@ -94,29 +94,29 @@ block_call bytes (Ok x) w m idle room whole puts =
     let all = as_out (w.data_start + w.bytes_written) bytes (fine x) w.medium.state m.state puts in
     record {
       answer = Ok tt;
-      does = accepts_all true true log_state w idle.none idle.sound (λ _. idle.at_most) m bytes room
+      does = accepts_all log_kind w idle.none idle.sound (λ _. idle.at_most) m bytes room
           whole (λ _. all) (λ _ _. w.medium.replays);
       mark = refl;
       idle =
           let none = idle.none in
-          let sound = sound_more true true log_state w idle.none idle.sound (λ _. idle.at_most) m bytes room whole in
+          let sound = sound_more log_kind w idle.none idle.sound (λ _. idle.at_most) m bytes room whole in
           let at_most = at_most_more w.spec_ex w.data_start w.bytes_written (w.bytes_written + length bytes) m.state.contents
-          (omega arith) (still true true log_state w (λ _. idle.at_most) m bytes _ refl all) in
+          (omega arith) (still log_kind w (λ _. idle.at_most) m bytes _ refl all) in
           search rules;
     }
 block_call bytes (Err e) w m idle room whole puts =
     let some = as_out (w.data_start + w.bytes_written) bytes (bad e) w.medium.state m.state puts in
     record {
       answer = Err (IoError e);
-      does = accepts_none true true log_state w idle.none idle.sound (λ _. idle.at_most) m bytes room
+      does = accepts_none log_kind w idle.none idle.sound (λ _. idle.at_most) m bytes room
           whole e (λ _. some) (λ _ _. w.medium.replays);
       mark = refl;
-      idle = good_over w m idle (still true true log_state w (λ _. idle.at_most) m bytes _ refl some);
+      idle = good_over w m idle (still log_kind w (λ _. idle.at_most) m bytes _ refl some);
     }
 
 -- a recording between two calls
 at_rest : (s : WavSpecEx) (file : Begun) (known : List Known) (r : Recorder) (w : WriterState Log)
-    → Recorded true true log_state s file known w → IsIdle w → IsRecorderOf r w → r.number ≡ 0
+    → Recorded log_kind s file known w → IsIdle w → IsRecorderOf r w → r.number ≡ 0
     → (IsSynced (handed_in file) → (high : ℕ) × IsOrdered high w.medium.state
     × (r.condition ≡ 0 → high ≤ r.data_start + r.data_length))
     → Directed s file known r true w.medium.state
@@ -148,15 +148,15 @@ directed_new s old log r opens (writable, is) =
     let w = of_fields log s start 0 [] [] in
     let here = length-header s 0 0 in
     let sound : IsSound w = sound_begin log s start writable here in
-    let begins : Begins true true log_state s old w = record {
+    let begins : Begins log_kind s old w = record {
       begun = let begins = here in search rules;
-      file = λ _. header_file true log_state s old log writable opens.begins opens.puts;
+      file = λ _. header_file log_kind s old log writable opens.begins opens.puts;
     } in
-    at_rest s (new_file old) [] r w (recorded_first true true log_state s (new_file old) w begins)
+    at_rest s (new_file old) [] r w (recorded_first log_kind s (new_file old) w begins)
     (record {
       none = refl;
       sound = sound;
-      at_most = at_most_begin true log_state s old log writable opens.begins opens.puts;
+      at_most = at_most_begin log_kind s old log writable opens.begins opens.puts;
     })
     (rw (is, here) (refl, refl, refl)) (ap (λ (x : Recorder). x.number) is)
     (λ synced. (data_start s, header_in_order s old log.state opens synced, λ _. rw is (omega arith)))
@@ -190,17 +190,17 @@ directed_resumed s samples start old log r is (frames, pair, channels, (far, wid
     let sound : IsSound w = sound_head log s len start is.sound after check in
     let stays = is.goes.stays.contents in
     let file = λ (told : IsTrue true).
-    follows log_state log s len start old is.sound after head check is.goes in
+    follows log_kind.state log s len start old is.sound after head check is.goes in
     let count : len / s.bytes_per_sample ≡ samples = mul-div_cancel samples is.sound.1 in
-    let found : accepted_samples log_state w ≡ containers s.bytes_per_sample samples (drop start old.contents) =
-    rw count at (samples_out log_state w refl sound)
+    let found : accepted_samples log_kind.state w ≡ containers s.bytes_per_sample samples (drop start old.contents) =
+    rw count at (samples_out log_kind.state w refl sound)
     ∙ ap (λ c. containers s.bytes_per_sample samples (drop start c)) stays in
     let at_most = at_most_on s len start old.contents log.state.contents head stays in
     let kind = is.sound in
     let held : start + len ≤ length log.state.contents = rw stays is.held in
     let begun = resumed_file s samples start old in
-    let opens : Opens true true log_state s begun w = search rules in
-    at_rest s begun [] r w (recorded_first true true log_state s begun w opens)
+    let opens : Opens log_kind s begun w = search rules in
+    at_rest s begun [] r w (recorded_first log_kind s begun w opens)
     (record { none = refl; sound = sound; at_most = at_most })
     (rw same (refl, refl, refl)) (ap (λ (x : Recorder). x.number) same)
     (λ synced. (
@@ -236,7 +236,7 @@ pub directed_block : (s : WavSpecEx) (file : Begun) (known : List Known) (old ne
 directed_block s file known old new m end samples place bytes result d (clean, none, has, there) long puts (places, is) =
     let w = d.writer in
     let (done, same) = at_none old d.result w.medium d.log none d.performed in
-    let here : m ≡ w.medium.state = sym d.state ∙ ap log_state same in
+    let here : m ≡ w.medium.state = sym d.state ∙ ap log_kind.state same in
     let at : place ≡ w.data_start + w.bytes_written = there ∙ omega (arith, d.is.0, d.is.1) in
     let more : length bytes ≡ samples * w.spec_ex.bytes_per_sample = rw d.is.2 at long in
     let whole : length bytes % w.spec_ex.bytes_per_sample ≡ 0 =
@@ -246,10 +246,10 @@ directed_block s file known old new m end samples place bytes result d (clean, n
     whole written in
     let known_more = known ++ block_known bytes (is_ok result) s ∷ [] in
     let next = record w { medium = end; bytes_written = out_after result (length bytes) w.bytes_written } in
-    let recorded : Recorded true true log_state s file known_more next =
-    subst (λ x. Recorded true true log_state s file (known ++ block_known bytes (is_ok result) x ∷ []) next)
-    (recorded_spec true true log_state s file known w d.recorded)
-    (recorded_more true true log_state (block_known bytes (is_ok result) w.spec_ex)
+    let recorded : Recorded log_kind s file known_more next =
+    subst (λ x. Recorded log_kind s file (known ++ block_known bytes (is_ok result) x ∷ []) next)
+    (recorded_spec log_kind s file known w d.recorded)
+    (recorded_more log_kind (block_known bytes (is_ok result) w.spec_ex)
     (write (whole_containers w.spec_ex bytes)) call.answer s file known w next (refl, call.mark) d.recorded call.does) in
     let (fields, number, below) = reported old new w end samples (length bytes) result d.is none long is in
     at_rest s file known_more new next recorded call.idle fields number
@@ -350,7 +350,7 @@ ended s file known old ok m condition d all clean =
     else Sync ∷ checkpoint w.data_start w.bytes_written) d.result w.medium d.log = rw (d.is.0, d.is.1) at whole in
     let call = save_call (old.condition == 0) d.result w d.log d.idle did in
     let next = record w { medium = d.log } in
-    let recorded = recorded_more true true log_state (marked publish (is_ok d.result)) publish call.answer s file known w
+    let recorded = recorded_more log_kind (marked publish (is_ok d.result)) publish call.answer s file known w
     next (refl, call.mark) d.recorded call.does in
     subst (Directed s file (known ++ marked publish (is_ok d.result) ∷ []) (record old { number = 0; condition = condition }) true)
     d.state

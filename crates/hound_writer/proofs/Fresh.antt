@@ -10,7 +10,7 @@ use Rattle.hound_medium.specs.{MediumState}
 use Rattle.hound_writer.specs.Accepting.{Accepts}
 use Rattle.hound_writer.specs.Beginning.{Begins}
 use Rattle.hound_writer.specs.Publishing.{Finishes}
-use Rattle.hound_writer.specs.Writer.{WriterState, IsBegun, IsSound, accepted_samples, data_length}
+use Rattle.hound_writer.specs.Writer.{Ghosts, WriterState, IsBegun, IsSound, accepted_samples, data_length}
 use Rattle.hound_writer.proofs.Sizes.{header_front}
 
 -- a writer with no accepted bytes has no samples
@@ -26,29 +26,29 @@ pub begun_front : {M : Type 0} (state : M → MediumState) (old new : WriterStat
     → IsBegun state old → IsBegun state new
 begun_front state old new spec start front (has, at) = grind (arith, common_steps, header_front)
 
-module _ {W : Type 0} (tells keeps : Bool) (state : W → MediumState) (told : IsTrue tells)
+module _ {W : Type 0} (kind : Ghosts W) (told : IsTrue kind.tells)
     (s : WavSpecEx) (old : MediumState) (first : WriterState W)
-    (begins : Begins tells keeps state s old first) where
+    (begins : Begins kind s old first) where
   -- a new file, one call for samples, and an end
   pub fresh_file : (last : WriterState W) (end : W) (list : List (List ℕ))
-      → old.contents ≡ [] → Accepts tells keeps state (Ok list) (Ok tt) first last
-      → Finishes tells keeps state last (Ok tt) end → (state end).contents ≡ canonical s list
+      → old.contents ≡ [] → Accepts kind (Ok list) (Ok tt) first last
+      → Finishes kind last (Ok tt) end → (kind.state end).contents ≡ canonical s list
   fresh_file last end list empty accepts finishes =
       let b = begins.begun in
       let f = begins.file told in
       let a = accepts.file told in
       let p = finishes.publishes told in
       let whole = a.whole f.whole in
-      let samples : accepted_samples state last ≡ list =
-      a.accepted f.whole ∙ ap (λ l. l ++ list) (none_accepted state first b.sound b.none_buffered b.none_out) in
+      let samples : accepted_samples kind.state last ≡ list =
+      a.accepted f.whole ∙ ap (λ l. l ++ list) (none_accepted kind.state first b.sound b.none_buffered b.none_out) in
       let spec : last.spec_ex ≡ s = accepts.adds.spec_ex ∙ b.spec in
-      let begun = begun_front state first last accepts.adds.spec_ex accepts.adds.data_start a.front
+      let begun = begun_front kind.state first last accepts.adds.spec_ex accepts.adds.data_start a.front
       (f.header, b.start ∙ ap data_start (sym b.spec)) in
-      let starts : StartsWith (state end).contents (canonical s list) =
+      let starts : StartsWith (kind.state end).contents (canonical s list) =
       rw (samples, spec) at (p.canonical whole begun) in
       let nothing : data_length first ≡ 0 =
       (λ i. b.none_out i + length (b.none_buffered i)) in
-      sym (take_all (length (canonical s list)) (state end).contents
+      sym (take_all (length (canonical s list)) (kind.state end).contents
       (omega (
         arith,
         p.reach,

@@ -4,7 +4,7 @@ use Rattle.std.proofs.Common.{◌≡◌, ℕ, ◌+◌, ◌%◌, ◌≤◌, Bool,
 use Rattle.hound_spec.specs.{greatest_u32, riff_size}
 use Rattle.hound_medium.specs.{MediumState, WhereTells}
 use Rattle.hound_writer.specs.Parts.{IsConsistent, CountsAtMost}
-use Rattle.hound_writer.specs.Writer.{WriterState, IsSound}
+use Rattle.hound_writer.specs.Writer.{Ghosts, WriterState, IsSound}
 
 -- a writer of the same file is sound with other whole samples whose size fits, over any medium
 pub sound_with : {W : Type 0} (w : WriterState W) (medium : W) (written : ℕ) (buffered : List ℕ)
@@ -14,16 +14,16 @@ pub sound_with : {W : Type 0} (w : WriterState W) (medium : W) (written : ℕ) (
 sound_with w medium written buffered sound whole fits = search rules
 
 -- over a medium that may have moved, if the head is still there
-pub consistent_moved : {W : Type 0} (tells : Bool) (state : W → MediumState) (w : WriterState W)
-    (m : W) (moved : Bool) (limit : ℕ) → IsConsistent tells state w moved limit
-    → WhereTells tells (CountsAtMost w.spec_ex w.data_start w.bytes_written (state m).contents)
-    → IsConsistent tells state (record w { medium = m }) true limit
-consistent_moved tells state w m moved limit known at_most = search rules
+pub consistent_moved : {W : Type 0} (kind : Ghosts W) (w : WriterState W)
+    (m : W) (moved : Bool) (limit : ℕ) → IsConsistent kind w moved limit
+    → WhereTells kind.tells (CountsAtMost w.spec_ex w.data_start w.bytes_written (kind.state m).contents)
+    → IsConsistent kind (record w { medium = m }) true limit
+consistent_moved kind w m moved limit known at_most = search rules
 
 -- over a medium with the same contents, which is where the next bytes go unless it may have moved
-pub consistent_gone : {W : Type 0} (tells : Bool) (state : W → MediumState) (w : WriterState W)
-    (m : W) (moved moved_now : Bool) (limit : ℕ) → IsConsistent tells state w moved limit
-    → WhereTells tells ((state m).contents ≡ (state w.medium).contents)
-    → WhereTells tells (moved_now ≡ false → (state m).place ≡ w.data_start + w.bytes_written)
-    → IsConsistent tells state (record w { medium = m }) moved_now limit
-consistent_gone tells state w m moved moved_now limit known same place = grind (arith, common_steps)
+pub consistent_gone : {W : Type 0} (kind : Ghosts W) (w : WriterState W)
+    (m : W) (moved moved_now : Bool) (limit : ℕ) → IsConsistent kind w moved limit
+    → WhereTells kind.tells ((kind.state m).contents ≡ (kind.state w.medium).contents)
+    → WhereTells kind.tells (moved_now ≡ false → (kind.state m).place ≡ w.data_start + w.bytes_written)
+    → IsConsistent kind (record w { medium = m }) moved_now limit
+consistent_gone kind w m moved moved_now limit known same place = grind (arith, common_steps)

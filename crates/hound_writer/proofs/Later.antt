@@ -12,7 +12,7 @@ use Rattle.hound_sample.specs.{Refusal}
 use Rattle.hound_sample.proofs.Many.{drop_further}
 use Rattle.hound_writer.specs.Accepting.{AcceptsBytes, Accepts, AddsAtEach, IsIoError, faults_told}
 use Rattle.hound_writer.specs.Parts.{GoesOut, after_out, or_fault}
-use Rattle.hound_writer.specs.Writer.{Counts, WriterState, HasRoom, IsWhole, accepted_samples, data_length, data_end}
+use Rattle.hound_writer.specs.Writer.{Ghosts, Counts, WriterState, HasRoom, IsWhole, accepted_samples, data_length, data_end}
 use Rattle.hound_writer.proofs.Accepting.{not_refused, room_fits}
 use Rattle.hound_writer.proofs.Answers.{accept_as, unless_then}
 use Rattle.hound_writer.proofs.Sizes.{take_front}
@@ -25,8 +25,8 @@ drop_later n m a b le same =
     subst (λ k. drop k a ≡ drop k b) at (drop_further n (m - n) a b same)
 
 -- all of it
-module _ {W : Type 0} (tells keeps : Bool) (state : W → MediumState) (far : ℕ) (a : WriterState W)
-    (m : W) (out : GoesOut tells keeps state far true a (after_out true m a)) where
+module _ {W : Type 0} (kind : Ghosts W) (far : ℕ) (a : WriterState W)
+    (m : W) (out : GoesOut kind far true a (after_out true m a)) where
   abbrev b : WriterState W
   b = after_out true m a
 
@@ -34,41 +34,41 @@ module _ {W : Type 0} (tells keeps : Bool) (state : W → MediumState) (far : �
   length_same = omega arith
 
   abbrev first : List ℕ
-  first = (state a.medium).contents
+  first = (kind.state a.medium).contents
 
   abbrev then : List ℕ
-  then = (state m).contents
+  then = (kind.state m).contents
 
   abbrev reach_out : ℕ
   reach_out = a.data_start + a.bytes_written
 
   -- what was up to the end of the bytes in the medium at first
-  front_later : (told : IsTrue tells) → IsWhole state a → (c : List ℕ)
+  front_later : (told : IsTrue kind.tells) → IsWhole kind.state a → (c : List ℕ)
       → take (a.data_start + data_length a) c ≡ take (a.data_start + data_length a) then
       → take reach_out c ≡ take reach_out first
   front_later told whole c same = grind (arith, common_steps, take_front)
 
-  at_each_later : (told : IsTrue tells) → IsTrue keeps → (new : MediumState)
-      → AddsAtEach state b new → AddsAtEach state a new
+  at_each_later : (told : IsTrue kind.tells) → IsTrue kind.keeps → (new : MediumState)
+      → AddsAtEach kind.state b new → AddsAtEach kind.state a new
   at_each_later told kept new at_each =
       let before = (out.moments told kept).adds in
       let f = out.file told in
       record {
-        counts = λ whole. join (λ _. Counts a.spec_ex a.data_start (accepted_samples state a)) 0
-            (state a.medium) (state m) new (before.counts whole)
+        counts = λ whole. join (λ _. Counts a.spec_ex a.data_start (accepted_samples kind.state a)) 0
+            (kind.state a.medium) (kind.state m) new (before.counts whole)
             (rw (f.accepted whole) at (at_each.counts (f.whole whole)));
-        front = λ whole. join (λ _ c. take reach_out c ≡ take reach_out first) 0 (state a.medium)
-            (state m) new (before.front whole)
+        front = λ whole. join (λ _ c. take reach_out c ≡ take reach_out first) 0 (kind.state a.medium)
+            (kind.state m) new (before.front whole)
             (span_weaker
             (λ _ c. take (a.data_start + data_length a) c ≡ take
             (a.data_start + data_length a) then)
-            (λ _ c. take reach_out c ≡ take reach_out first) 0 (state m) new
+            (λ _ c. take reach_out c ≡ take reach_out first) 0 (kind.state m) new
             (λ j c same. front_later told whole c same) (at_each.front (f.whole whole)));
         stored =
             λ whole.
             let out_span = before.front whole in
             let new_span = at_each.front (f.whole whole) in
-            stored_join a.data_start (concat (accepted_samples state a)) (state a.medium) (state m)
+            stored_join a.data_start (concat (accepted_samples kind.state a)) (kind.state a.medium) (kind.state m)
             new out_span.added new_span.added out_span.past new_span.start new_span.past
             (before.stored whole)
             (rw (f.accepted whole) at (at_each.stored (f.whole whole)));
@@ -77,8 +77,8 @@ module _ {W : Type 0} (tells keeps : Bool) (state : W → MediumState) (far : �
   accepts_after : far ≤ data_end a
       → (asked : Result (List (List ℕ)) Refusal) (answer : Result (Unit {0}) Error)
       (c : WriterState W) → IfErr answer IsIoError
-      → Accepts tells keeps state asked answer b c
-      → Accepts tells keeps state asked answer a c
+      → Accepts kind asked answer b c
+      → Accepts kind asked answer a c
   accepts_after near asked answer c failed accepts =
       let adds = accepts.adds in
       let end : data_end a ≤ data_end c =
@@ -96,26 +96,26 @@ module _ {W : Type 0} (tells keeps : Bool) (state : W → MediumState) (far : �
             let rest = drop_later far (data_end c) then first (omega (arith, near, end))
             f.around.rest in
             search (rules, unless_then);
-        moments = λ told kept. at_each_later told kept (state c.medium) (accepts.moments told kept);
+        moments = λ told kept. at_each_later told kept (kind.state c.medium) (accepts.moments told kept);
       }
 
 -- containers that are accepted once the buffered samples are written
-pub accepts_later : {W : Type 0} (tells keeps : Bool) (state : W → MediumState)
+pub accepts_later : {W : Type 0} (kind : Ghosts W)
     (a b c : WriterState W) (asked : Result (List (List ℕ)) Refusal)
     (answer : Result (Unit {0}) Error)
-    → GoesOut tells keeps state (data_end a) true a b → IfErr answer IsIoError
-    → Accepts tells keeps state asked answer (after_out true b.medium a) c
-    → Accepts tells keeps state asked answer a c
-accepts_later tells keeps state a b c asked answer out failed accepts =
-    accepts_after tells keeps state (data_end a) a b.medium
+    → GoesOut kind (data_end a) true a b → IfErr answer IsIoError
+    → Accepts kind asked answer (after_out true b.medium a) c
+    → Accepts kind asked answer a c
+accepts_later kind a b c asked answer out failed accepts =
+    accepts_after kind (data_end a) a b.medium
     (rw out.value at out) (omega arith) asked answer c failed accepts
 
 -- containers that aren't, since those weren't written
-pub accepts_cut : {W : Type 0} (tells keeps : Bool) (state : W → MediumState) (far : ℕ)
-    (a b : WriterState W) (bytes : List ℕ) (e : IoFault) → GoesOut tells keeps state far false a b
+pub accepts_cut : {W : Type 0} (kind : Ghosts W) (far : ℕ)
+    (a b : WriterState W) (bytes : List ℕ) (e : IoFault) → GoesOut kind far false a b
     → HasRoom a (length bytes) → length bytes % a.spec_ex.bytes_per_sample ≡ 0
-    → AcceptsBytes tells keeps state bytes (Err (IoError e)) a b
-accepts_cut tells keeps state far a b bytes e out room whole = grind (arith, common_steps, room_fits, append-nil)
+    → AcceptsBytes kind bytes (Err (IoError e)) a b
+accepts_cut kind far a b bytes e out room whole = grind (arith, common_steps, room_fits, append-nil)
 
 -- the result of a call that saves a fault is no other error
 pub kept_fails : (done : Bool) (fault : IoFault) → IfErr (or_fault done fault) IsIoError
@@ -123,7 +123,7 @@ kept_fails true fault = tt
 kept_fails false fault = tt
 
 -- bytes that reach no further than a place leave all the rest as it was
-pub goes_further : {W : Type 0} (tells keeps : Bool) (state : W → MediumState) (near far : ℕ)
-    (all : Bool) (a b : WriterState W) → near ≤ far → GoesOut tells keeps state near all a b
-    → GoesOut tells keeps state far all a b
-goes_further tells keeps state near far all a b le out = grind (arith, common_steps, drop_later)
+pub goes_further : {W : Type 0} (kind : Ghosts W) (near far : ℕ)
+    (all : Bool) (a b : WriterState W) → near ≤ far → GoesOut kind near all a b
+    → GoesOut kind far all a b
+goes_further kind near far all a b le out = grind (arith, common_steps, drop_later)

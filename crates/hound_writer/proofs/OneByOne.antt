@@ -6,7 +6,7 @@ use Rattle.std.specs.List.{concat}
 use Rattle.hound_medium.specs.{MediumState}
 use Rattle.hound_sample.specs.{Refusal, and_more}
 use Rattle.hound_writer.specs.Accepting.{Accepts, one, AcceptsEach, containers_in}
-use Rattle.hound_writer.specs.Writer.{WriterState, IsWhole, accepted_samples, data_length}
+use Rattle.hound_writer.specs.Writer.{Ghosts, WriterState, IsWhole, accepted_samples, data_length}
 
 -- a writer that accepted these containers, over a medium that has the accepted samples
 pub record HasMore {W : Type 0} (state : W → MediumState) (list : List (List ℕ))
@@ -15,53 +15,53 @@ pub record HasMore {W : Type 0} (state : W → MediumState) (list : List (List �
   pub size : data_length new ≡ data_length old + length (concat list)
 
 -- an Ok accepted all containers of its call, which are there
-pub all_accepted : {W : Type 0} (tells keeps : Bool) (state : W → MediumState)
-    (asked : Result (List (List ℕ)) Refusal) (old new : WriterState W) → IsTrue tells
-    → IsWhole state old → Accepts tells keeps state asked (Ok tt) old new
-    → (list : List (List ℕ)) × (asked ≡ Ok list) × HasMore state list old new
-all_accepted tells keeps state (Err refusal) old new told whole accepts = let h =
+pub all_accepted : {W : Type 0} (kind : Ghosts W)
+    (asked : Result (List (List ℕ)) Refusal) (old new : WriterState W) → IsTrue kind.tells
+    → IsWhole kind.state old → Accepts kind asked (Ok tt) old new
+    → (list : List (List ℕ)) × (asked ≡ Ok list) × HasMore kind.state list old new
+all_accepted kind (Err refusal) old new told whole accepts = let h =
     accepts.adds.answers in absurd (cc h)
-all_accepted tells keeps state (Ok list) old new told whole accepts = (
+all_accepted kind (Ok list) old new told whole accepts = (
   list,
   refl,
   record { samples = (accepts.file told).accepted whole; size = accepts.adds.data_length },
 )
 
-module _ {V W : Type 0} (tells keeps : Bool) (state : W → MediumState)
-    (container : V → ℕ → ℕ → Result (List ℕ) Refusal) (told : IsTrue tells) where
+module _ {V W : Type 0} (kind : Ghosts W)
+    (container : V → ℕ → ℕ → Result (List ℕ) Refusal) (told : IsTrue kind.tells) where
   -- all that were written one by one
-  each_accepted : (values : List V) (old new : WriterState W) → IsWhole state old
-      → AcceptsEach tells keeps state container values old new
+  each_accepted : (values : List V) (old new : WriterState W) → IsWhole kind.state old
+      → AcceptsEach kind container values old new
       → (list : List (List ℕ)) × (containers_in container old.spec_ex values ≡ Ok list)
-      × HasMore state list old new
+      × HasMore kind.state list old new
   each_accepted [] old new whole same =
-      let none = append-nil (accepted_samples state old) in ([], refl, search rules)
+      let none = append-nil (accepted_samples kind.state old) in ([], refl, search rules)
   each_accepted (value ∷ values) old new whole (mid, accepts, each) =
       go (container value old.spec_ex.spec.bits_per_sample old.spec_ex.bytes_per_sample) refl accepts
       (each_accepted values mid new ((accepts.file told).whole whole) each)
     where
       go : (asked : Result (List ℕ) Refusal)
           → container value old.spec_ex.spec.bits_per_sample old.spec_ex.bytes_per_sample ≡ asked
-          → Accepts tells keeps state (one asked) (Ok tt) old mid
+          → Accepts kind (one asked) (Ok tt) old mid
           → (list : List (List ℕ)) × (containers_in container mid.spec_ex values ≡ Ok list)
-          × HasMore state list mid new
+          × HasMore kind.state list mid new
           → (list : List (List ℕ))
           × (containers_in container old.spec_ex (value ∷ values) ≡ Ok list)
-          × HasMore state list old new
+          × HasMore kind.state list old new
       go (Err refusal) is accepts rest = let h = accepts.adds.answers in absurd (cc h)
       go (Ok c) is accepts (list, list_is, more) = (
         c ∷ list,
         (λ i. and_more (is i) ((ap (λ s. containers_in container s values)
             (sym accepts.adds.spec_ex) ∙ list_is) i)),
-        let samples = append_assoc (accepted_samples state old) (c ∷ []) list in
+        let samples = append_assoc (accepted_samples kind.state old) (c ∷ []) list in
             let one = length-append c [] in
             let all = length-append c (concat list) in
             let accepted = (accepts.file told).accepted whole in
             search rules,
       )
 
-  pub block_is_samples : (values : List V) (a b c : WriterState W) → IsWhole state a
-      → Accepts tells keeps state (containers_in container a.spec_ex values) (Ok tt) a b
-      → AcceptsEach tells keeps state container values a c
-      → (accepted_samples state b ≡ accepted_samples state c) × (data_length b ≡ data_length c)
+  pub block_is_samples : (values : List V) (a b c : WriterState W) → IsWhole kind.state a
+      → Accepts kind (containers_in container a.spec_ex values) (Ok tt) a b
+      → AcceptsEach kind container values a c
+      → (accepted_samples kind.state b ≡ accepted_samples kind.state c) × (data_length b ≡ data_length c)
   block_is_samples values a b c whole block each = grind (arith, common_steps, all_accepted, each_accepted)

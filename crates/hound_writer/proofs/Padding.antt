@@ -4,7 +4,7 @@ use Rattle.std.proofs.Common.{◌≡◌, ℕ, zero, suc, ◌+◌, ◌%◌, Bool,
 use Rattle.std.proofs.lemmas.List.{take_all}
 use Rattle.hound_medium.specs.{overlay, put_at, MediumState, WhereTells, WhereKeeps}
 use Rattle.hound_writer.specs.Parts.{GoesOut, after_out, all_out, IsConsistent, PutsAt}
-use Rattle.hound_writer.specs.Writer.{WriterState, IsPadded, data_length, padded_end}
+use Rattle.hound_writer.specs.Writer.{Ghosts, WriterState, IsPadded, data_length, padded_end}
 use Rattle.hound_writer.proofs.Accepting.{around, at_each, goes_at_each, goes_beside}
 
 -- a byte that was written is at its place
@@ -15,18 +15,18 @@ put_in_place (suc p) b [] = put_in_place p b []
 put_in_place (suc p) b (x ∷ c) = put_in_place p b c
 
 -- a writer with an empty block, whose data have an odd length, and a byte written after them
-module _ {W : Type 0} (tells keeps : Bool) (state : W → MediumState) (w : WriterState W)
-    (moved : Bool) (limit : ℕ) (known : IsConsistent tells state w moved limit)
+module _ {W : Type 0} (kind : Ghosts W) (w : WriterState W)
+    (moved : Bool) (limit : ℕ) (known : IsConsistent kind w moved limit)
     (none : w.buffered ≡ [])
-    (replays : WhereKeeps tells keeps
-    ((state w.medium).contents ≡ overlay (state w.medium).start (state w.medium).past))
+    (replays : WhereKeeps kind.tells kind.keeps
+    ((kind.state w.medium).contents ≡ overlay (kind.state w.medium).start (kind.state w.medium).past))
     (odd : w.bytes_written % 2 ≡ 0 → ⊥)
     (m : W) (all : Bool)
-    (puts : WhereTells tells
-    (PutsAt keeps (w.data_start + w.bytes_written) (0 ∷ []) (all_out all) (state w.medium) (state m)))
+    (puts : WhereTells kind.tells
+    (PutsAt kind.keeps (w.data_start + w.bytes_written) (0 ∷ []) (all_out all) (kind.state w.medium) (kind.state m)))
   where
     abbrev old : MediumState
-    old = state w.medium
+    old = kind.state w.medium
 
     abbrev end : ℕ
     end = w.data_start + w.bytes_written
@@ -48,21 +48,21 @@ module _ {W : Type 0} (tells keeps : Bool) (state : W → MediumState) (w : Writ
     value true = λ i. record w { medium = m; bytes_written = sym size i; buffered = none i }
     value false = refl
 
-    pub goes_out : GoesOut tells keeps state (padded_end w) all w (record w { medium = m })
+    pub goes_out : GoesOut kind (padded_end w) all w (record w { medium = m })
     goes_out = record {
       value = value all;
       sound = known.sound;
       file = λ told.
-          goes_beside state (padded_end w) all w m known.sound known.whole_written (puts told).faults
-          (around tells keeps state w known.at_most m pad (all_out all) told (puts told)
+          goes_beside kind.state (padded_end w) all w m known.sound known.whole_written (puts told).faults
+          (around kind w known.at_most m pad (all_out all) told (puts told)
           (padded_end w) (omega (arith, size, odd_size)));
       moments = λ told kept.
-          goes_at_each tells keeps state w known.at_most m pad (all_out all) told (puts told) kept
+          goes_at_each kind w known.at_most m pad (all_out all) told (puts told) kept
           (replays told kept)
-          (at_each tells keeps state w none known.sound known.at_most m pad (all_out all) told
+          (at_each kind w none known.sound known.at_most m pad (all_out all) told
           (puts told) kept (replays told kept));
     }
 
     -- once it is written it is there
-    pub padded_odd : WhereTells tells (IsTrue all → IsPadded w (state m).contents)
+    pub padded_odd : WhereTells kind.tells (IsTrue all → IsPadded w (kind.state m).contents)
     padded_odd told done = grind (arith, common_steps, take_all, put_in_place, odd_size, size)

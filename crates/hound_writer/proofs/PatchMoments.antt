@@ -14,7 +14,7 @@ use Rattle.hound_medium.proofs.Outcomes.{from_ok}
 use Rattle.hound_medium.proofs.Spans.{span_puts, span_end_zero, span_weaker, join}
 use Rattle.hound_medium.proofs.Torn.{number_at_small}
 use Rattle.hound_spec.specs.declared.error.Error.{Error}
-use Rattle.hound_writer.specs.Writer.{Counts, field, WriterState, AreFrames, IsPadded, IsSound, IsWhole, accepted_samples, data_length, data_end}
+use Rattle.hound_writer.specs.Writer.{Ghosts, Counts, field, WriterState, AreFrames, IsPadded, IsSound, IsWhole, accepted_samples, data_length, data_end}
 use Rattle.hound_writer.specs.Parts.{HasSize, IsPatched, Patches, PatchesAtEach, PutsAt, CountsAtMost, IsPublishResult}
 use Rattle.hound_writer.specs.Accepting.{IsPublishing}
 use Rattle.hound_durable.specs.{place_of}
@@ -187,22 +187,22 @@ publishes_at_each state w none sound at_most padded small end patched are_frames
     }
 
 -- a call of a writer that patches, and its result by the frames
-module _ {W : Type 0} (tells keeps : Bool) (state : W → MediumState) (w : WriterState W) (end : W)
+module _ {W : Type 0} (kind : Ghosts W) (w : WriterState W) (end : W)
     (none : w.buffered ≡ []) (sound : IsSound w)
-    (at_most : WhereTells tells (CountsAtMost w.spec_ex w.data_start w.bytes_written (state w.medium).contents))
-    (padded : WhereTells tells (IsPadded w (state w.medium).contents))
+    (at_most : WhereTells kind.tells (CountsAtMost w.spec_ex w.data_start w.bytes_written (kind.state w.medium).contents))
+    (padded : WhereTells kind.tells (IsPadded w (kind.state w.medium).contents))
     (patched : Result (Unit {0}) IoFault) (are_frames : Bool) (told : Result (Unit {0}) Error)
     (is : IsPublishResult patched are_frames told)
     (new : WriterState W) (same : new ≡ record w { medium = end })
     (of_new : (IsTrue are_frames → AreFrames new) × (AreFrames new → IsTrue are_frames))
-    (before : WhereTells tells (AreBytes (state w.medium).contents))
-    (after : WhereTells tells (AreBytes (state end).contents))
-    (patches : WhereTells tells
-    (Patches (w.data_start - 4) (riff_size w.data_start w.bytes_written) w.bytes_written patched (state w.medium)
-    (state end)))
-    (moments : WhereKeeps tells keeps
+    (before : WhereTells kind.tells (AreBytes (kind.state w.medium).contents))
+    (after : WhereTells kind.tells (AreBytes (kind.state end).contents))
+    (patches : WhereTells kind.tells
+    (Patches (w.data_start - 4) (riff_size w.data_start w.bytes_written) w.bytes_written patched (kind.state w.medium)
+    (kind.state end)))
+    (moments : WhereKeeps kind.tells kind.keeps
     (PatchesAtEach (w.data_start - 4) (riff_size w.data_start w.bytes_written) w.bytes_written patched
-    (state w.medium) (state end))) where
+    (kind.state w.medium) (kind.state end))) where
   frames : (IsTrue are_frames → AreFrames w) × (AreFrames w → IsTrue are_frames)
   frames =
       rw same at of_new
@@ -210,17 +210,17 @@ module _ {W : Type 0} (tells keeps : Bool) (state : W → MediumState) (w : Writ
   answers : IsPublishing told w
   answers = grind (arith, common_steps)
 
-  published_all : WhereTells tells (Publishes state w told end)
+  published_all : WhereTells kind.tells (Publishes kind.state w told end)
   published_all known =
-      publishes state w none sound (at_most known)
+      publishes kind.state w none sound (at_most known)
       (padded known) end patched are_frames told is frames.0 (after known) (patches known)
 
-  at_each : WhereKeeps tells keeps (PublishesAtEach state w told end)
+  at_each : WhereKeeps kind.tells kind.keeps (PublishesAtEach kind.state w told end)
   at_each known kept =
-      publishes_at_each state w none sound (at_most known) (padded known)
+      publishes_at_each kind.state w none sound (at_most known) (padded known)
       (before known) end patched are_frames told is (moments known kept)
 
   -- all was published, and the medium left somewhere
-  pub publishes_to : (at : ℕ) → WhereTells tells (OnOk patched ((state end).place ≡ at))
-      → PublishesTo tells keeps state at told w new
+  pub publishes_to : (at : ℕ) → WhereTells kind.tells (OnOk patched ((kind.state end).place ≡ at))
+      → PublishesTo kind at told w new
   publishes_to at place = grind (arith, common_steps, in_medium, answers, published_all, published, at_each)

@@ -15,7 +15,7 @@ use Rattle.hound_spec.specs.declared.error.Error.{Error}
 use Rattle.hound_spec.specs.declared.error.Error.TheVariants.{IoError}
 use Rattle.hound_writer.specs.Accepting.{faults_told}
 use Rattle.hound_writer.specs.Parts.{GoesAtEach, GoesOut, StaysAround, after_out}
-use Rattle.hound_writer.specs.Writer.{Counts, ChangesSizesOnly, field, WriterState, IsBegun, IsPadded, IsSound, HasHeader, accepted_samples, data_end, data_length, padded_end}
+use Rattle.hound_writer.specs.Writer.{Ghosts, Counts, ChangesSizesOnly, field, WriterState, IsBegun, IsPadded, IsSound, HasHeader, accepted_samples, data_end, data_length, padded_end}
 use Rattle.hound_durable.specs.{place_of}
 use Rattle.hound_durable.proofs.Ascending.{place_before}
 use Rattle.hound_writer.specs.Publishing.{PublishesTo, Finishes, IsHalfPublished, IsOldOrNew, OncePutBefore, Publishes, PublishesAtEach}
@@ -80,32 +80,32 @@ module _ {W : Type 0} (state : W → MediumState) (a : WriterState W) (sound : I
     }
 
 -- nothing is published if they aren't written
-module _ {W : Type 0} (tells keeps : Bool) (state : W → MediumState) (a : WriterState W) (m : W)
-    (out : GoesOut tells keeps state (padded_end a) false a (after_out false m a))
+module _ {W : Type 0} (kind : Ghosts W) (a : WriterState W) (m : W)
+    (out : GoesOut kind (padded_end a) false a (after_out false m a))
     (e : IoFault) where
-  publishes_cut : IsTrue tells → Publishes state a (Err (IoError e)) m
+  publishes_cut : IsTrue kind.tells → Publishes kind.state a (Err (IoError e)) m
   publishes_cut told =
       let f = out.file told in
-      let front = sizes_of state a out.sound (state m).contents f.around.front in
-      let bytes = data_of state a out.sound (state m).contents in
-      let begun = header_of state a out.sound (state m).contents f.around.front in
+      let front = sizes_of kind.state a out.sound (kind.state m).contents f.around.front in
+      let bytes = data_of kind.state a out.sound (kind.state m).contents in
+      let begun = header_of kind.state a out.sound (kind.state m).contents f.around.front in
       search rules
 
-  publishes_at_each_cut : IsTrue tells → IsTrue keeps → AreBytes (state a.medium).contents
-      → PublishesAtEach state a (Err (IoError e)) m
+  publishes_at_each_cut : IsTrue kind.tells → IsTrue kind.keeps → AreBytes (kind.state a.medium).contents
+      → PublishesAtEach kind.state a (Err (IoError e)) m
   publishes_at_each_cut told kept small =
       let goes = out.moments told kept in
       let around = (out.file told).around in
-      let split = length (state m).past in
+      let split = length (kind.state m).past in
       record {
         counts = goes.adds.counts;
         split = split;
-        half = half_out state a out.sound small (state m) around goes split (omega arith);
-        puts = let later = longer state a out.sound small (state m) around goes in search rules;
+        half = half_out kind.state a out.sound small (kind.state m) around goes split (omega arith);
+        puts = let later = longer kind.state a out.sound small (kind.state m) around goes in search rules;
         whole = tt;
         old_or_new =
             λ k from to outside.
-            inl (field_of state a out.sound (moment (state m).start (state m).past k)
+            inl (field_of kind.state a out.sound (moment (kind.state m).start (kind.state m).past k)
             (goes.front.each k from to));
         padded =
             λ i k from to before later last. absurd (omega (arith, before, goes.behind i from to));
@@ -115,25 +115,25 @@ module _ {W : Type 0} (tells keeps : Bool) (state : W → MediumState) (a : Writ
         stored = goes.adds.stored;
       }
 
-  published_of : (at : ℕ) → WhereTells tells (AreBytes (state a.medium).contents)
-      → PublishesTo tells keeps state at (Err (IoError e)) a (after_out false m a)
+  published_of : (at : ℕ) → WhereTells kind.tells (AreBytes (kind.state a.medium).contents)
+      → PublishesTo kind at (Err (IoError e)) a (after_out false m a)
   published_of at small =
-      in_medium tells keeps state at (Err (IoError e)) a m tt publishes_cut (λ _. tt)
+      in_medium kind at (Err (IoError e)) a m tt publishes_cut (λ _. tt)
       (λ told kept. publishes_at_each_cut told kept (small told))
 
 -- the same for a writer as contracts see it
-pub published_cut : {W : Type 0} (tells keeps : Bool) (state : W → MediumState) (far at : ℕ)
+pub published_cut : {W : Type 0} (kind : Ghosts W) (far at : ℕ)
     (a b : WriterState W) (e : IoFault) → far ≤ padded_end a
-    → GoesOut tells keeps state far false a b
-    → WhereTells tells (AreBytes (state a.medium).contents)
-    → PublishesTo tells keeps state at (Err (IoError e)) a b
-published_cut tells keeps state far at a b e within out small =
-    let further = goes_further tells keeps state far (padded_end a) false a b within out in
-    rw out.value (published_of tells keeps state a b.medium (rw out.value at further) e at small)
+    → GoesOut kind far false a b
+    → WhereTells kind.tells (AreBytes (kind.state a.medium).contents)
+    → PublishesTo kind at (Err (IoError e)) a b
+published_cut kind far at a b e within out small =
+    let further = goes_further kind far (padded_end a) false a b within out in
+    rw out.value (published_of kind a b.medium (rw out.value at further) e at small)
 
 -- what is published once all is written
-module _ {W : Type 0} (tells keeps : Bool) (state : W → MediumState) (a : WriterState W) (m : W)
-    (out : GoesOut tells keeps state (padded_end a) true a (after_out true m a)) where
+module _ {W : Type 0} (kind : Ghosts W) (a : WriterState W) (m : W)
+    (out : GoesOut kind (padded_end a) true a (after_out true m a)) where
   abbrev b : WriterState W
   b = after_out true m a
 
@@ -141,31 +141,31 @@ module _ {W : Type 0} (tells keeps : Bool) (state : W → MediumState) (a : Writ
   sound = out.sound
 
   abbrev old : List ℕ
-  old = (state a.medium).contents
+  old = (kind.state a.medium).contents
 
   abbrev mid : List ℕ
-  mid = (state m).contents
+  mid = (kind.state m).contents
 
   same_length : data_length b ≡ data_length a
-  same_length = length_same tells keeps state (padded_end a) a m out
+  same_length = length_same kind (padded_end a) a m out
 
   module _ (answer : Result (Unit {0}) Error) (end : W) where
     abbrev new : List ℕ
-    new = (state end).contents
+    new = (kind.state end).contents
 
-    publishes_later : IsTrue tells → Publishes state b answer end → Publishes state a answer end
+    publishes_later : IsTrue kind.tells → Publishes kind.state b answer end → Publishes kind.state a answer end
     publishes_later told g =
         let f = out.file told in
         let around = f.around in
-        let begun : IsBegun state a → IsBegun state b =
-        λ is. (header_of state a sound mid around.front is, is.1) in
+        let begun : IsBegun kind.state a → IsBegun kind.state b =
+        λ is. (header_of kind.state a sound mid around.front is, is.1) in
         record {
           faults = g.faults ∙ ap (faults_told answer) f.faults;
-          front = sizes_then a.data_start old mid new (sizes_of state a sound mid around.front)
+          front = sizes_then a.data_start old mid new (sizes_of kind.state a sound mid around.front)
               g.front;
           bytes_written = λ whole. take_front a.bytes_written (data_length a) (drop a.data_start mid)
               (drop a.data_start new) (omega arith) (g.bytes_written (f.whole whole))
-              ∙ data_of state a sound mid (around.bytes_written whole);
+              ∙ data_of kind.state a sound mid (around.bytes_written whole);
           rest = (rw same_length at g.rest) ∙ around.rest;
           grows = omega (arith, around.grows, g.grows);
           reach = omega (arith, around.reach, g.reach, ap (λ n. n % 2) same_length);
@@ -180,35 +180,35 @@ module _ {W : Type 0} (tells keeps : Bool) (state : W → MediumState) (a : Writ
           canonical = λ whole is. rw (f.accepted whole) at (g.canonical (f.whole whole) (begun is));
         }
 
-    module _ (told : IsTrue tells) (kept : IsTrue keeps)
-        (small : AreBytes (state a.medium).contents) (g : PublishesAtEach state b answer end) where
-      goes : GoesAtEach state a (state m)
+    module _ (told : IsTrue kind.tells) (kept : IsTrue kind.keeps)
+        (small : AreBytes (kind.state a.medium).contents) (g : PublishesAtEach kind.state b answer end) where
+      goes : GoesAtEach kind.state a (kind.state m)
       goes = out.moments told kept
 
       field_same : field (a.data_start - 4) mid ≡ field (a.data_start - 4) old
-      field_same = field_of state a sound mid (out.file told).around.front
+      field_same = field_of kind.state a sound mid (out.file told).around.front
 
       half_later : (j : ℕ) (c : List ℕ) → IsHalfPublished b mid j c → IsHalfPublished a old j c
       half_later j c half = record {
         front = sizes_then a.data_start old mid c
-            (sizes_of state a sound mid (out.file told).around.front) half.front;
+            (sizes_of kind.state a sound mid (out.file told).around.front) half.front;
         bytes_written = λ whole. take_front a.bytes_written (data_length a) (drop a.data_start mid)
             (drop a.data_start c) (omega arith) (half.bytes_written ((out.file told).whole whole))
-            ∙ data_of state a sound mid ((out.file told).around.bytes_written whole);
+            ∙ data_of kind.state a sound mid ((out.file told).around.bytes_written whole);
         length_is = half.length_is ∙ (λ i. mix j (field_same i) (same_length i));
       }
 
       -- while it is written the field is the old one
-      at_first : (k : ℕ) → length (state a.medium).past ≤ k → k ≤ length (state m).past
-          → field (a.data_start - 4) (moment (state end).start (state end).past k) ≡ field
+      at_first : (k : ℕ) → length (kind.state a.medium).past ≤ k → k ≤ length (kind.state m).past
+          → field (a.data_start - 4) (moment (kind.state end).start (kind.state end).past k) ≡ field
           (a.data_start - 4) old
       at_first k from to = grind (arith, common_steps, moment_before, field_of, goes)
 
       old_or_new_later : IsOldOrNew (a.data_start - 4) (field (a.data_start - 4) old)
-          (data_length a) (state a.medium) (state end)
+          (data_length a) (kind.state a.medium) (kind.state end)
       old_or_new_later k from to outside =
-          let sooner = longer state a sound small (state m) (out.file told).around goes in
-          elim (cases_lt (length (state m).past) k) [
+          let sooner = longer kind.state a sound small (kind.state m) (out.file told).around goes in
+          elim (cases_lt (length (kind.state m).past) k) [
             | inl later ↦
                 (rw (field_same, same_length) at g.old_or_new) k (omega (arith, later)) to
                 (λ i low high. outside i (omega (arith, low, sooner)) high)
@@ -216,34 +216,34 @@ module _ {W : Type 0} (tells keeps : Bool) (state : W → MediumState) (a : Writ
           ]
 
       -- no byte is written before the data meanwhile
-      once_later : (P : List ℕ → Type 0) → OncePutBefore a.data_start P (state m) (state end)
-          → OncePutBefore a.data_start P (state a.medium) (state end)
+      once_later : (P : List ℕ → Type 0) → OncePutBefore a.data_start P (kind.state m) (kind.state end)
+          → OncePutBefore a.data_start P (kind.state a.medium) (kind.state end)
       once_later P once i k from to before later last =
-          elim (cases_lt i (length (state m).past)) [
+          elim (cases_lt i (length (kind.state m).past)) [
             | inl sooner ↦
-                let same : place_of (state end).past i ≡ place_of (state m).past i =
+                let same : place_of (kind.state end).past i ≡ place_of (kind.state m).past i =
                 ap (λ l. place_of l i) g.half.past
-                ∙ place_before (state m).past g.half.added i sooner in
+                ∙ place_before (kind.state m).past g.half.added i sooner in
                 absurd (omega (arith, before, same, goes.behind i from sooner))
             | inr then ↦ once i k then to before later last
           ]
 
-      publishes_at_each_later : PublishesAtEach state a answer end
+      publishes_at_each_later : PublishesAtEach kind.state a answer end
       publishes_at_each_later =
           let f = out.file told in
           record {
             counts =
-                λ whole. join (λ _. Counts a.spec_ex a.data_start (accepted_samples state a)) 0
-                (state a.medium) (state m) (state end) (goes.adds.counts whole)
+                λ whole. join (λ _. Counts a.spec_ex a.data_start (accepted_samples kind.state a)) 0
+                (kind.state a.medium) (kind.state m) (kind.state end) (goes.adds.counts whole)
                 (rw (f.accepted whole) at (g.counts (f.whole whole)));
             split = g.split;
-            half = join (IsHalfPublished a old) g.split (state a.medium) (state m) (state end)
-                (half_out state a sound small (state m)
+            half = join (IsHalfPublished a old) g.split (kind.state a.medium) (kind.state m) (kind.state end)
+                (half_out kind.state a sound small (kind.state m)
                 (out.file told).around goes g.split g.puts.later)
-                (span_weaker (IsHalfPublished b mid) (IsHalfPublished a old) g.split (state m)
-                (state end) half_later g.half);
+                (span_weaker (IsHalfPublished b mid) (IsHalfPublished a old) g.split (kind.state m)
+                (kind.state end) half_later g.half);
             puts =
-                let sooner = longer state a sound small (state m) (out.file told).around goes in
+                let sooner = longer kind.state a sound small (kind.state m) (out.file told).around goes in
                 search rules;
             whole = g.whole;
             old_or_new = old_or_new_later;
@@ -251,15 +251,15 @@ module _ {W : Type 0} (tells keeps : Bool) (state : W → MediumState) (a : Writ
             there = λ whole. once_later (λ c. data_end a ≤ length c)
                 (rw same_length at (g.there (f.whole whole)));
             stored =
-                λ whole. stored_join a.data_start (concat (accepted_samples state a))
-                (state a.medium) (state m) (state end) goes.front.added g.half.added goes.front.past
+                λ whole. stored_join a.data_start (concat (accepted_samples kind.state a))
+                (kind.state a.medium) (kind.state m) (kind.state end) goes.front.added g.half.added goes.front.past
                 g.half.start g.half.past (goes.adds.stored whole)
                 (rw (f.accepted whole) at (g.stored (f.whole whole)));
           }
 
   published_after : (at : ℕ) (answer : Result (Unit {0}) Error) (c : WriterState W)
-      → WhereTells tells (AreBytes (state a.medium).contents)
-      → PublishesTo tells keeps state at answer b c → PublishesTo tells keeps state at answer a c
+      → WhereTells kind.tells (AreBytes (kind.state a.medium).contents)
+      → PublishesTo kind at answer b c → PublishesTo kind at answer a c
   published_after at answer c small g = record {
     answers = publishing_as answer b a refl same_length g.answers;
     samples = let same = same_length in search rules;
@@ -275,18 +275,18 @@ module _ {W : Type 0} (tells keeps : Bool) (state : W → MediumState) (a : Writ
   }
 
 -- the same for a writer as contracts see it
-pub published_later : {W : Type 0} (tells keeps : Bool) (state : W → MediumState) (far at : ℕ)
+pub published_later : {W : Type 0} (kind : Ghosts W) (far at : ℕ)
     (a b c : WriterState W) (answer : Result (Unit {0}) Error) → far ≤ padded_end a
-    → GoesOut tells keeps state far true a b → WhereTells tells (AreBytes (state a.medium).contents)
-    → PublishesTo tells keeps state at answer b c → PublishesTo tells keeps state at answer a c
-published_later tells keeps state far at a b c answer within out small g =
-    let further = goes_further tells keeps state far (padded_end a) true a b within out in
-    published_after tells keeps state a b.medium (rw out.value at further) at answer c small
+    → GoesOut kind far true a b → WhereTells kind.tells (AreBytes (kind.state a.medium).contents)
+    → PublishesTo kind at answer b c → PublishesTo kind at answer a c
+published_later kind far at a b c answer within out small g =
+    let further = goes_further kind far (padded_end a) true a b within out in
+    published_after kind a b.medium (rw out.value at further) at answer c small
     (rw out.value at g)
 
 -- the same as the end of a writer
-pub finishes_of : {W : Type 0} (tells keeps : Bool) (state : W → MediumState)
+pub finishes_of : {W : Type 0} (kind : Ghosts W)
     (answer : Result (Unit {0}) Error) (w new : WriterState W)
-    → PublishesTo tells keeps state new.data_start answer w new
-    → Finishes tells keeps state w answer new.medium
-finishes_of tells keeps state answer w new p = grind (arith, common_steps)
+    → PublishesTo kind new.data_start answer w new
+    → Finishes kind w answer new.medium
+finishes_of kind answer w new p = grind (arith, common_steps)

@@ -16,7 +16,7 @@ use Rattle.hound_spec.specs.{riff_tag, data_start, header, riff_size, padding, c
 use Rattle.hound_spec.proofs.HeaderLemmas.{described, header-parts, length-header, length-described}
 use Rattle.hound_sample.specs.{containers}
 use Rattle.hound_writer.specs.Parts.{IsConsistent, IsPublishResult, Patches, CountsAtMost}
-use Rattle.hound_writer.specs.Writer.{SameButSizes, with_sizes, field, Counts, WriterState, AreFrames, IsPadded, IsSound, IsWhole, IsBegun, HasHeader, accepted_samples, data_length, data_end, padded_end}
+use Rattle.hound_writer.specs.Writer.{Ghosts, SameButSizes, with_sizes, field, Counts, WriterState, AreFrames, IsPadded, IsSound, IsWhole, IsBegun, HasHeader, accepted_samples, data_length, data_end, padded_end}
 use Rattle.hound_writer.specs.Accepting.{IsPublishing, OnPublished}
 use Rattle.hound_writer.specs.Publishing.{Publishes, PublishesAtEach, PublishesTo, ReadsAs}
 use Rattle.hound_writer.proofs.Answers.{published, told_faults, told_ok}
@@ -224,21 +224,21 @@ module _ {W : Type 0} (state : W → MediumState) (w : WriterState W) (none : w.
       }
 
 -- what a writer keeps true after a patch, which a fault may have cut
-pub consistent_patched : {W : Type 0} (tells : Bool) (state : W → MediumState) (w : WriterState W)
+pub consistent_patched : {W : Type 0} (kind : Ghosts W) (w : WriterState W)
     (end : W) (may_have_moved : Bool) (limit : ℕ) (riff : ℕ) (result : Result (Unit {0}) IoFault)
-    → IsConsistent tells state w may_have_moved limit
-    → WhereTells tells (Patches (w.data_start - 4) riff w.bytes_written result (state w.medium) (state end))
-    → IsConsistent tells state (record w { medium = end }) true limit
-consistent_patched tells state w end may_have_moved limit riff result keeps patches =
-    consistent_moved tells state w end may_have_moved limit keeps
+    → IsConsistent kind w may_have_moved limit
+    → WhereTells kind.tells (Patches (w.data_start - 4) riff w.bytes_written result (kind.state w.medium) (kind.state end))
+    → IsConsistent kind (record w { medium = end }) true limit
+consistent_patched kind w end may_have_moved limit riff result before patches =
+    consistent_moved kind w end may_have_moved limit before
     (λ told. let half = (patches told).half in at_most_patched w.spec_ex w.data_start w.bytes_written
-    (state w.medium).contents (state end).contents (keeps.at_most told) half.0 half.2.same half.2.field)
+    (kind.state w.medium).contents (kind.state end).contents (before.at_most told) half.0 half.2.same half.2.field)
 
 -- a call that publishes, of a writer of which only the medium changes
-pub in_medium : {W : Type 0} (tells keeps : Bool) (state : W → MediumState) (at : ℕ)
+pub in_medium : {W : Type 0} (kind : Ghosts W) (at : ℕ)
     (answer : Result (Unit {0}) Error) (w : WriterState W) (end : W) → IsPublishing answer w
-    → WhereTells tells (Publishes state w answer end)
-    → WhereTells tells (OnPublished answer ((state end).place ≡ at))
-    → WhereKeeps tells keeps (PublishesAtEach state w answer end)
-    → PublishesTo tells keeps state at answer w (record w { medium = end })
-in_medium tells keeps state at answer w end answers publishes place moments = search rules
+    → WhereTells kind.tells (Publishes kind.state w answer end)
+    → WhereTells kind.tells (OnPublished answer ((kind.state end).place ≡ at))
+    → WhereKeeps kind.tells kind.keeps (PublishesAtEach kind.state w answer end)
+    → PublishesTo kind at answer w (record w { medium = end })
+in_medium kind at answer w end answers publishes place moments = search rules

@@ -11,7 +11,7 @@ use Rattle.hound_writer.specs.Appending.{Appends}
 use Rattle.hound_writer.specs.Batch.{IsSameFile}
 use Rattle.hound_writer.specs.Beginning.{Begins}
 use Rattle.hound_writer.specs.Publishing.{Checkpoints, Finishes, PublishesTo}
-use Rattle.hound_writer.specs.Writer.{WriterState, IsWhole, accepted_samples}
+use Rattle.hound_writer.specs.Writer.{Ghosts, WriterState, IsWhole, accepted_samples}
 use Rattle.hound_writer.specs.Calls.{AreKnown, Asked, write, publish, Call, Does, Begun, IsKnown, Known, Lead, Left, Opens, Recorded, asked_by_all, appended, new_file, with_memory}
 use Rattle.hound_writer.proofs.Answers.{on_published_then}
 
@@ -29,21 +29,21 @@ known_more (k ∷ known) [] one call are is = absurd are
 known_more (k ∷ known) (other ∷ calls) one call are is =
     (are.0, known_more known calls one call are.1 is)
 
-module _ {W : Type 0} (tells keeps : Bool) (state : W → MediumState) where
+module _ {W : Type 0} (kind : Ghosts W) where
   abbrev pub call_at : Asked → Result (Unit {0}) Error → WriterState W → Call
   call_at asked answer old =
-      record { asked = asked; answer = answer; began = length (state old.medium).past }
+      record { asked = asked; answer = answer; began = length (kind.state old.medium).past }
 
   -- one call more
   pub lead_more : (calls : List Call) (asked : Asked) (answer : Result (Unit {0}) Error)
-      (a b c : WriterState W) → Lead tells keeps state calls a b
-      → Does tells keeps state asked answer b c
-      → Lead tells keeps state (calls ++ call_at asked answer b ∷ []) a c
+      (a b c : WriterState W) → Lead kind calls a b
+      → Does kind asked answer b c
+      → Lead kind (calls ++ call_at asked answer b ∷ []) a c
   lead_more [] asked answer a b c (memory, same) does = (
     memory,
     c,
-    ap (λ (w : WriterState W). length (state w.medium).past) same,
-    subst (λ w. Does tells keeps state asked answer w c) same does,
+    ap (λ (w : WriterState W). length (kind.state w.medium).past) same,
+    subst (λ w. Does kind asked answer w c) same does,
     (c.batch_memory, refl),
   )
   lead_more (call ∷ calls) asked answer a b c (memory, mid, at, first, rest) does =
@@ -51,7 +51,7 @@ module _ {W : Type 0} (tells keeps : Bool) (state : W → MediumState) where
 
   -- and the same calls with another memory
   lead_same : (calls : List Call) (a b : WriterState W) (memory : List ℕ)
-      → Lead tells keeps state calls a b → Lead tells keeps state calls a (with_memory b memory)
+      → Lead kind calls a b → Lead kind calls a (with_memory b memory)
   lead_same [] a b memory (first, same) =
       (memory, ap (λ (w : WriterState W). with_memory w memory) same)
   lead_same (call ∷ calls) a b memory (first, mid, at, does, rest) =
@@ -66,11 +66,11 @@ module _ {W : Type 0} (tells keeps : Bool) (state : W → MediumState) where
 
   -- the spec stays
   pub call_spec : (asked : Asked) (answer : Result (Unit {0}) Error) (a b : WriterState W)
-      → Does tells keeps state asked answer a b → b.spec_ex ≡ a.spec_ex
+      → Does kind asked answer a b → b.spec_ex ≡ a.spec_ex
   call_spec (write containers) answer a b accepts = accepts.adds.spec_ex
   call_spec publish answer a b does = does.samples.spec_ex
 
-  pub lead_spec : (calls : List Call) (a b : WriterState W) → Lead tells keeps state calls a b
+  pub lead_spec : (calls : List Call) (a b : WriterState W) → Lead kind calls a b
       → b.spec_ex ≡ a.spec_ex
   lead_spec [] a b (memory, same) = ap (λ (w : WriterState W). w.spec_ex) same
   lead_spec (call ∷ calls) a b (memory, mid, at, does, rest) =
@@ -78,13 +78,13 @@ module _ {W : Type 0} (tells keeps : Bool) (state : W → MediumState) where
       ∙ call_spec call.asked call.answer (with_memory a memory) mid does
 
   pub opens_spec : (s : WavSpecEx) (file : Begun) (first : WriterState W)
-      → Opens tells keeps state s file first → first.spec_ex ≡ s
+      → Opens kind s file first → first.spec_ex ≡ s
   opens_spec s (new_file old) first opens = opens.begun.spec
   opens_spec s (appended old start found) first opens = opens.spec_is
 
   -- a flush or an end leaves its medium somewhere
   pub leaves : {at : ℕ} (answer : Result (Unit {0}) Error) (a b : WriterState W)
-      → PublishesTo tells keeps state at answer a b → Does tells keeps state publish answer a b
+      → PublishesTo kind at answer a b → Does kind publish answer a b
   leaves answer a b p = search (rules, on_published_then)
 
   -- the writer that an end leaves: the same but for its medium
@@ -94,9 +94,9 @@ module _ {W : Type 0} (tells keeps : Bool) (state : W → MediumState) where
   pub recorded_more : (one : Known) (asked : Asked) (answer : Result (Unit {0}) Error)
       (s : WavSpecEx) (file : Begun) (known : List Known) (b c : WriterState W)
       → IsKnown one (call_at asked answer b)
-      → (so_far : Recorded tells keeps state s file known b)
-      → Does tells keeps state asked answer b c
-      → Recorded tells keeps state s file (known ++ one ∷ []) c
+      → (so_far : Recorded kind s file known b)
+      → Does kind asked answer b c
+      → Recorded kind s file (known ++ one ∷ []) c
   unfolding Recorded
   recorded_more one asked answer s file known b c is so_far does = record {
     first = so_far.first;
@@ -108,7 +108,7 @@ module _ {W : Type 0} (tells keeps : Bool) (state : W → MediumState) where
 
   -- the spec of a writer is that of its file
   pub recorded_spec : (s : WavSpecEx) (file : Begun) (known : List Known) (w : WriterState W)
-      → Recorded tells keeps state s file known w → w.spec_ex ≡ s
+      → Recorded kind s file known w → w.spec_ex ≡ s
   unfolding Recorded
   recorded_spec s file known w r =
       lead_spec r.calls r.first w r.lead ∙ opens_spec s file r.first r.opens
@@ -118,27 +118,27 @@ module _ {W : Type 0} (tells keeps : Bool) (state : W → MediumState) where
       (wanted : WavSpecEx → Result (List (List ℕ)) Refusal) (answer : Result (Unit {0}) Error)
       (s : WavSpecEx) (file : Begun) (known : List Known) (b c : WriterState W)
       → ((asked : Asked) → IsKnown (one asked) (call_at asked answer b))
-      → Recorded tells keeps state s file known b
-      → Accepts tells keeps state (wanted b.spec_ex) answer b c
-      → Recorded tells keeps state s file (known ++ one (write (wanted s)) ∷ []) c
+      → Recorded kind s file known b
+      → Accepts kind (wanted b.spec_ex) answer b c
+      → Recorded kind s file (known ++ one (write (wanted s)) ∷ []) c
   recorded_write one wanted answer s file known b c is so_far accepts =
-      subst (λ x. Recorded tells keeps state s file (known ++ one (write (wanted x)) ∷ []) c)
+      subst (λ x. Recorded kind s file (known ++ one (write (wanted x)) ∷ []) c)
       (recorded_spec s file known b so_far)
       (recorded_more (one (write (wanted b.spec_ex))) (write (wanted b.spec_ex)) answer s file known
       b c (is (write (wanted b.spec_ex))) so_far accepts)
 
   pub recorded_flush : (one : Known) (answer : Result (Unit {0}) Error) (s : WavSpecEx)
       (file : Begun) (known : List Known) (b c : WriterState W)
-      → IsKnown one (call_at publish answer b) → Recorded tells keeps state s file known b
-      → Checkpoints tells keeps state answer b c
-      → Recorded tells keeps state s file (known ++ one ∷ []) c
+      → IsKnown one (call_at publish answer b) → Recorded kind s file known b
+      → Checkpoints kind answer b c
+      → Recorded kind s file (known ++ one ∷ []) c
   recorded_flush one answer s file known b c is so_far does =
       recorded_more one publish answer s file known b c is so_far (leaves answer b c does)
 
   -- the same writer with another memory for batches
   pub recorded_same : (s : WavSpecEx) (file : Begun) (known : List Known) (a b : WriterState W)
-      → IsSameFile a b → Recorded tells keeps state s file known a
-      → Recorded tells keeps state s file known b
+      → IsSameFile a b → Recorded kind s file known a
+      → Recorded kind s file known b
   unfolding Recorded
   recorded_same s file known a b same r = record {
     first = r.first;
@@ -150,35 +150,35 @@ module _ {W : Type 0} (tells keeps : Bool) (state : W → MediumState) where
 
   -- a writer that has begun a file
   pub recorded_first : (s : WavSpecEx) (file : Begun) (w : WriterState W)
-      → Opens tells keeps state s file w → Recorded tells keeps state s file [] w
+      → Opens kind s file w → Recorded kind s file [] w
   unfolding Recorded
   recorded_first s file w opens =
       record { first = w; calls = []; opens = opens; lead = (w.batch_memory, refl); are_known = tt }
 
   pub recorded_new : (s : WavSpecEx) (old : MediumState) (w : WriterState W)
-      → Begins tells keeps state s old w → Recorded tells keeps state s (new_file old) [] w
+      → Begins kind s old w → Recorded kind s (new_file old) [] w
   recorded_new s old w begins = recorded_first s (new_file old) w begins
 
-  pub recorded_append : (old : MediumState) (w : WriterState W) → Appends tells state old w
-      → WhereTells tells (IsWhole state w)
-      → Recorded tells keeps state w.spec_ex
-      (appended old w.data_start (accepted_samples state w)) [] w
+  pub recorded_append : (old : MediumState) (w : WriterState W) → Appends kind old w
+      → WhereTells kind.tells (IsWhole kind.state w)
+      → Recorded kind w.spec_ex
+      (appended old w.data_start (accepted_samples kind.state w)) [] w
   recorded_append old w appends whole = grind (arith, common_steps, recorded_first)
 
   pub recorded_appended : {E : Type 0} (Q : E → Type 0) (old : MediumState)
-      (r : Result (WriterState W) E) → MatchResult r (Appends tells state old) Q
-      → MatchResult r (λ w. WhereTells tells (IsWhole state w)
-      → Recorded tells keeps state w.spec_ex
-      (appended old w.data_start (accepted_samples state w)) [] w) (λ _. ⊤)
+      (r : Result (WriterState W) E) → MatchResult r (Appends kind old) Q
+      → MatchResult r (λ w. WhereTells kind.tells (IsWhole kind.state w)
+      → Recorded kind w.spec_ex
+      (appended old w.data_start (accepted_samples kind.state w)) [] w) (λ _. ⊤)
   recorded_appended Q old (Ok w) appends = recorded_append old w appends
   recorded_appended Q old (Err e) appends = tt
 
   -- an end, as the last of the calls
   pub left_by : (one : Known) (answer : Result (Unit {0}) Error) (s : WavSpecEx) (file : Begun)
       (known : List Known) (w : WriterState W) (end : W) → IsKnown one (call_at publish answer w)
-      → Finishes tells keeps state w answer end
-      → Recorded tells keeps state s file known w
-      → Left tells keeps state s file (known ++ one ∷ []) end
+      → Finishes kind w answer end
+      → Recorded kind s file known w
+      → Left kind s file (known ++ one ∷ []) end
   unfolding Left Recorded
   left_by one answer s file known w end is f so_far = record {
     last = ended w end;

@@ -5,7 +5,7 @@ use Rattle.std.proofs.lemmas.List.{append-nil}
 use Rattle.std.specs.List.{concat}
 use Rattle.hound_medium.specs.{MediumState}
 use Rattle.hound_sample.specs.{containers}
-use Rattle.hound_writer.specs.Writer.{Counts, WriterState, IsSound, IsValid, IsWhole, accepted_bytes, accepted_samples, data_length}
+use Rattle.hound_writer.specs.Writer.{Ghosts, Counts, WriterState, IsSound, IsValid, IsWhole, accepted_bytes, accepted_samples, data_length}
 use Rattle.hound_writer.specs.Parts.{IsConsistent, CountsAtMost}
 use Rattle.hound_sample.proofs.Containers.{length-containers}
 use Rattle.hound_writer.proofs.Containers.{concat-containers, containers_cut, containers_join, count_bytes}
@@ -90,6 +90,6 @@ module _ {W : Type 0} (state : W → MediumState) (w : WriterState W) (none : w.
     concat-samples = grind (arith, common_steps, samples_out, concat-containers, count_bytes, whole_written)
 
 -- what a writer keeps true is what holds of it
-pub valid_of : {W : Type 0} (tells : Bool) (state : W → MediumState) (moved : Bool) (limit : ℕ)
-    (w : WriterState W) → IsConsistent tells state w moved limit → IsValid tells state w
-valid_of tells state moved limit w known = grind (arith, common_steps, counts_at, whole_written)
+pub valid_of : {W : Type 0} (kind : Ghosts W) (moved : Bool) (limit : ℕ)
+    (w : WriterState W) → IsConsistent kind w moved limit → IsValid kind w
+valid_of kind moved limit w known = grind (arith, common_steps, counts_at, whole_written)

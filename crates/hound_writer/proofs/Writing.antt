@@ -9,7 +9,7 @@ use Rattle.hound_spec.specs.{riff_size, greatest_u32}
 use Rattle.hound_sample.specs.{Refusal, error_of, too_wide, unsupported, containers, IsEncoded}
 use Rattle.hound_writer.specs.Accepting.{AcceptsBytes, Accepts, one}
 use Rattle.hound_writer.specs.Parts.{IsConsistent}
-use Rattle.hound_writer.specs.Writer.{WriterState, HasRoom, IsCounted, IsWhole, data_length}
+use Rattle.hound_writer.specs.Writer.{Ghosts, WriterState, HasRoom, IsCounted, IsWhole, data_length}
 use Rattle.hound_writer.proofs.Accepting.{accepts_refused, type_refuses}
 use Rattle.hound_writer.proofs.Containers.{container_alone, joined_bytes}
 use Rattle.hound_writer.proofs.Samples.{valid_of}
@@ -20,16 +20,16 @@ pub no_room : {W : Type 0} (w : WriterState W) (n : ℕ) → (HasRoom w n → �
 no_room w n none = grind (arith, common_steps)
 
 -- the file has no room for this many bytes
-pub bytes_too_long : {W : Type 0} (tells keeps : Bool) (state : W → MediumState) (w : WriterState W)
-    (bytes : List ℕ) → WhereTells tells (IsWhole state w → IsCounted state w)
-    → WhereKeeps tells keeps
-    ((state w.medium).contents ≡ overlay (state w.medium).start (state w.medium).past)
+pub bytes_too_long : {W : Type 0} (kind : Ghosts W) (w : WriterState W)
+    (bytes : List ℕ) → WhereTells kind.tells (IsWhole kind.state w → IsCounted kind.state w)
+    → WhereKeeps kind.tells kind.keeps
+    ((kind.state w.medium).contents ≡ overlay (kind.state w.medium).start (kind.state w.medium).past)
     → length bytes % w.spec_ex.bytes_per_sample ≡ 0 → (HasRoom w (length bytes) → ⊥)
-    → AcceptsBytes tells keeps state bytes (Err TooLong) w w
-bytes_too_long tells keeps state w bytes counts replays whole none =
+    → AcceptsBytes kind bytes (Err TooLong) w w
+bytes_too_long kind w bytes counts replays whole none =
     let width = w.spec_ex.bytes_per_sample in
     let list = containers width (length bytes / width) bytes in
-    accepts_refused tells keeps state w (Ok list) TooLong counts replays refl (λ _. refl)
+    accepts_refused kind w (Ok list) TooLong counts replays refl (λ _. refl)
     (rw (no_room w (length (concat list))
     (λ room. none (omega (arith, room, ap length (joined_bytes width bytes whole))))) refl)
 
@@ -41,24 +41,24 @@ else_unsupported (Err too_wide) e is other = let same : e ≡ TooWide = cc in ab
 else_unsupported (Err unsupported) e is other = cc
 
 -- a sample, and what a writer keeps true
-module _ {W : Type 0} (tells keeps : Bool) (state : W → MediumState) (moved : Bool) (limit : ℕ)
-    (w : WriterState W) (known : IsConsistent tells state w moved limit) where
+module _ {W : Type 0} (kind : Ghosts W) (moved : Bool) (limit : ℕ)
+    (w : WriterState W) (known : IsConsistent kind w moved limit) where
   -- its type has no container for it
   pub sample_refused : (asked : Result (List ℕ) Refusal) (e : Error) → IsEncoded asked (Err e)
-      → WhereKeeps tells keeps
-      ((state w.medium).contents ≡ overlay (state w.medium).start (state w.medium).past)
-      → Accepts tells keeps state (one asked) (Err e) w w
+      → WhereKeeps kind.tells kind.keeps
+      ((kind.state w.medium).contents ≡ overlay (kind.state w.medium).start (kind.state w.medium).past)
+      → Accepts kind (one asked) (Err e) w w
   sample_refused (Ok c) e is replays = cc
   sample_refused (Err refusal) e is replays =
       let same : e ≡ error_of refusal = cc in
       rw same
-      (type_refuses tells keeps state w refusal (valid_of tells state moved limit w known).counts replays)
+      (type_refuses kind w refusal (valid_of kind moved limit w known).counts replays)
 
   -- the call was for its container
   pub sample_accepts : (asked : Result (List ℕ) Refusal) (bytes : List ℕ)
       (answer : Result (Unit {0}) Error) (new : WriterState W) → asked ≡ Ok bytes
-      → length bytes ≡ w.spec_ex.bytes_per_sample → AcceptsBytes tells keeps state bytes answer w new
-      → Accepts tells keeps state (one asked) answer w new
+      → length bytes ≡ w.spec_ex.bytes_per_sample → AcceptsBytes kind bytes answer w new
+      → Accepts kind (one asked) answer w new
   sample_accepts asked bytes answer new is size accepts =
       rw is
       (rw (container_alone w.spec_ex.bytes_per_sample bytes known.sound.width size) at accepts)

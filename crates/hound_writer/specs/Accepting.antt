@@ -6,7 +6,7 @@ use Rattle.hound_spec.specs.declared.error.Error.TheVariants.{IoError, Unfinishe
 use Rattle.hound_spec.specs.{riff_size, greatest_u32}
 use Rattle.hound_sample.specs.{Refusal, containers, error_of, int_container, too_wide, unsupported, all_containers, joined_containers}
 use Rattle.hound_medium.specs.{one_more, moment, MediumState, WhereTells, WhereKeeps, Span}
-use Rattle.hound_writer.specs.Writer.{WriterState, AreFrames, data_length, Counts, IsWhole, IsCounted, accepted_samples, data_end}
+use Rattle.hound_writer.specs.Writer.{Ghosts, WriterState, AreFrames, data_length, Counts, IsWhole, IsCounted, accepted_samples, data_end}
 use Rattle.hound_number.specs.{signed_bytes_of}
 use Rattle.hound_spec.specs.declared.spec.WavSpecEx.{WavSpecEx}
 use Rattle.hound_writer.specs.declared.outcome.Outcome.{Outcome}
@@ -144,12 +144,12 @@ pub record AddsAtEach {W : Type 0} (state : W → MediumState) (old : WriterStat
       StaysStored old.data_start (concat (accepted_samples state old)) (state old.medium) new
 
 -- What a call with these containers does, by its result.
-pub record Accepts {W : Type 0} (tells keeps : Bool) (state : W → MediumState)
+pub record Accepts {W : Type 0} (kind : Ghosts W)
     (asked : Result (List (List ℕ)) Refusal) (answer : Result (Unit {0}) Error)
     (old new : WriterState W) : Type 0 where
   pub adds : Adds asked answer old new
-  pub file : WhereTells tells (AddsToFile state asked answer old new)
-  pub moments : WhereKeeps tells keeps (AddsAtEach state old (state new.medium))
+  pub file : WhereTells kind.tells (AddsToFile kind.state asked answer old new)
+  pub moments : WhereKeeps kind.tells kind.keeps (AddsAtEach kind.state old (kind.state new.medium))
 
 -- the containers in these bytes, in a file of this spec
 abbrev pub whole_containers : WavSpecEx → List ℕ → Result (List (List ℕ)) Refusal
@@ -157,10 +157,10 @@ whole_containers s bytes =
     Ok (containers s.bytes_per_sample (length bytes / s.bytes_per_sample) bytes)
 
 -- what a call with the containers in these bytes does, by its result
-abbrev pub AcceptsBytes : {W : Type 0} → Bool → Bool → (W → MediumState) → List ℕ →
+abbrev pub AcceptsBytes : {W : Type 0} → Ghosts W → List ℕ →
     Result (Unit {0}) Error → WriterState W → WriterState W → Type 0
-AcceptsBytes tells keeps state bytes answer old new =
-    Accepts tells keeps state (whole_containers old.spec_ex bytes) answer old new
+AcceptsBytes kind bytes answer old new =
+    Accepts kind (whole_containers old.spec_ex bytes) answer old new
 
 -- the outcome of samples by their containers only
 abbrev pub outcome_of : {T : Type 0} → Result T Refusal → Outcome
@@ -194,10 +194,10 @@ abbrev pub i16_bytes : List ℤ → List ℕ
 i16_bytes values = flat_map (signed_bytes_of 2) values
 
 -- Samples that were written one by one, each where the one before ended, and all accepted.
-abbrev pub AcceptsEach : {V W : Type 0} → Bool → Bool → (W → MediumState) →
+abbrev pub AcceptsEach : {V W : Type 0} → Ghosts W →
     (V → ℕ → ℕ → Result (List ℕ) Refusal) → List V → WriterState W → WriterState W → Type 0
-AcceptsEach tells keeps state container [] old new = new ≡ old
-AcceptsEach {V} {W} tells keeps state container (value ∷ values) old new =
+AcceptsEach kind container [] old new = new ≡ old
+AcceptsEach {V} {W} kind container (value ∷ values) old new =
     (mid : WriterState W)
-    × Accepts tells keeps state (container_in container old.spec_ex value) (Ok tt) old mid
-    × AcceptsEach tells keeps state container values mid new
+    × Accepts kind (container_in container old.spec_ex value) (Ok tt) old mid
+    × AcceptsEach kind container values mid new

@@ -10,7 +10,7 @@ use Rattle.hound_walk.specs.declared.cause.Cause.TheVariants.{Format, Unsupporte
 use Rattle.hound_walk.specs.declared.cause.Reason.TheVariants.{DataLength, FrameLength}
 use Rattle.hound_walk.specs.{Head, IsSoundSpec, Refused, Names}
 use Rattle.hound_writer.specs.Accepting.{IsIoError}
-use Rattle.hound_writer.specs.Writer.{WriterState, IsSound, IsWhole, IsCounted, data_length, data_end}
+use Rattle.hound_writer.specs.Writer.{Ghosts, WriterState, IsSound, IsWhole, IsCounted, data_length, data_end}
 
 -- why a file isn't appended to: for a cause that its bytes decide, or since its RIFF size would not
 -- fit 32 bits
@@ -76,13 +76,13 @@ pub record FollowsData {W : Type 0} (old : MediumState) (state : W → MediumSta
   pub counts : IsWhole state w → IsCounted state w
 
 -- A writer that appends to a file.
-pub record Appends {W : Type 0} (tells : Bool) (state : W → MediumState) (old : MediumState)
+pub record Appends {W : Type 0} (kind : Ghosts W) (old : MediumState)
     (w : WriterState W) : Type 0 where
   pub sound : IsSound w
   pub sound_spec : IsSoundSpec w.spec_ex
   pub none_buffered : w.buffered ≡ []
   pub batch_memory : w.batch_memory ≡ []
-  pub file : WhereTells tells (FollowsData old state w)
+  pub file : WhereTells kind.tells (FollowsData old kind.state w)
 
 -- A file that isn't appended to, for a fault that its bytes have, or since the medium failed.
 pub record IsNotAppended (old new : MediumState) (e : Error) : Type 0 where

@@ -1,11 +1,10 @@
 -- What contracts see of a batch of samples of sixteen bits.
 use Rattle.std.specs.Prelude.{◌≡◌, ◌+◌, ◌++◌, ℕ, List, length, take}
 use Rattle.std.specs.Borrow.{GName}
-use Rattle.hound_medium.specs.declared.medium.Placed.{Ghosts}
 use Rattle.hound_writer.specs.declared.memory.BatchMemory.{Ghosts as MemoryGhosts}
 use Rattle.hound_writer.specs.Accepting.{i16_bytes}
 use Rattle.hound_writer.specs.Calls.{HasSameCalls}
-use Rattle.hound_writer.specs.Writer.{WriterState}
+use Rattle.hound_writer.specs.Writer.{Ghosts, WriterState}
 use Rattle.hound_writer.specs.declared.batch.SampleWriter16.{SampleWriter16}
 
 -- a writer of the same file: its medium and what was accepted are the same
@@ -44,5 +43,5 @@ module _ {W B : Type 0} {medium : Ghosts W} {memory : MemoryGhosts B} where
       pub left : remaining new + 1 ≡ remaining old
       pub stays : IsSameFile (batch_writer old) (batch_writer new)
       pub kept : length (batch_writer new).batch_memory ≡ length (batch_writer old).batch_memory
-      pub recorded : HasSameCalls medium.tells medium.keeps medium.state (batch_writer old)
+      pub recorded : HasSameCalls medium (batch_writer old)
           (batch_writer new)

@@ -6,19 +6,19 @@ use Rattle.hound_spec.specs.declared.spec.WavSpecEx.{WavSpecEx}
 use Rattle.hound_spec.specs.{header, data_start, IsWritable}
 use Rattle.hound_medium.specs.{MediumState, PutsFirst, PutsAll, WhereTells}
 use Rattle.hound_writer.specs.Accepting.{IsIoError}
-use Rattle.hound_writer.specs.Writer.{WriterState, HasHeader, IsSound, IsWhole, IsCounted}
+use Rattle.hound_writer.specs.Writer.{Ghosts, WriterState, HasHeader, IsSound, IsWhole, IsCounted}
 
 -- The whole header was written where the medium was, with both sizes 0, and nothing else; all that
 -- was accepted, which is nothing, is there and counted.
-pub record PutsHeader {W : Type 0} (keeps : Bool) (state : W → MediumState) (old : MediumState)
+pub record PutsHeader {W : Type 0} (kind : Ghosts W) (old : MediumState)
     (w : WriterState W) : Type 0 where
-  pub puts : PutsFirst keeps (header w.spec_ex 0 0) (length (header w.spec_ex 0 0)) old
-      (state w.medium)
-  pub faults : (state w.medium).faults ≡ old.faults
-  pub header : HasHeader w.spec_ex (state w.medium).contents
-  pub reach : length (state w.medium).contents ≤ max (length old.contents) w.data_start
-  pub whole : IsWhole state w
-  pub counts : IsCounted state w
+  pub puts : PutsFirst kind.keeps (header w.spec_ex 0 0) (length (header w.spec_ex 0 0)) old
+      (kind.state w.medium)
+  pub faults : (kind.state w.medium).faults ≡ old.faults
+  pub header : HasHeader w.spec_ex (kind.state w.medium).contents
+  pub reach : length (kind.state w.medium).contents ≤ max (length old.contents) w.data_start
+  pub whole : IsWhole kind.state w
+  pub counts : IsCounted kind.state w
 
 -- A writer of a new file of this writable spec: nothing is accepted yet.
 pub record HasBegun {W : Type 0} (spec_ex : WavSpecEx) (w : WriterState W) : Type 0 where
@@ -37,18 +37,16 @@ BeginsFile spec_ex result =
     (λ e. (IsIoError e ⊎ (e ≡ OutOfMemory)) ⊎ ((e ≡ Unsupported) × (IsWritable spec_ex → ⊥)))
 
 -- how it began: only its header was written
-pub record Begins {W : Type 0} (tells keeps : Bool) (state : W → MediumState) (spec_ex : WavSpecEx)
-    (old : MediumState)
+pub record Begins {W : Type 0} (kind : Ghosts W) (spec_ex : WavSpecEx) (old : MediumState)
     (w : WriterState W) : Type 0 where
   pub begun : HasBegun spec_ex w
-  pub file : WhereTells tells (PutsHeader keeps state old w)
+  pub file : WhereTells kind.tells (PutsHeader kind old w)
 
 -- Why no file is begun: a spec that can't be written, and the medium is as it was; or the medium
 -- failed, and a beginning of the header was written.
-abbrev pub IsNotBegun : {W : Type 0} → Bool → Bool → (W → MediumState) → WavSpecEx → W → W → Error →
-    Type 0
-IsNotBegun tells keeps state spec_ex old new e =
+abbrev pub IsNotBegun : {W : Type 0} → Ghosts W → WavSpecEx → W → W → Error → Type 0
+IsNotBegun kind spec_ex old new e =
     ((IsWritable spec_ex → ⊥) × (e ≡ Unsupported) × (new ≡ old))
     ⊎ (IsWritable spec_ex × IsIoError e
-    × WhereTells tells
-    (PutsAll {T = Unit {0}} keeps (header spec_ex 0 0) (Err e) (state old) (state new)))
+    × WhereTells kind.tells
+    (PutsAll {T = Unit {0}} kind.keeps (header spec_ex 0 0) (Err e) (kind.state old) (kind.state new)))

@@ -9,7 +9,7 @@ use Rattle.hound_writer.specs.Accepting.{Accepts, mark_of}
 use Rattle.hound_writer.specs.Appending.{Appends}
 use Rattle.hound_writer.specs.Beginning.{Begins}
 use Rattle.hound_writer.specs.Publishing.{LeavesWriter}
-use Rattle.hound_writer.specs.Writer.{WriterState, IsWhole, accepted_samples}
+use Rattle.hound_writer.specs.Writer.{Ghosts, WriterState, IsWhole, accepted_samples}
 
 -- What a call asks of a writer: to accept these containers, or none, with the reason; or to publish
 -- what was accepted, by a flush or an end.
@@ -53,11 +53,10 @@ AreKnown (one ∷ known) (call ∷ calls) = IsKnown one call × AreKnown known c
 AreKnown _ _ = ⊥
 
 -- what a call did to its writer, by what it asked and what it returned
-abbrev pub Does : {W : Type 0} → Bool → Bool → (W → MediumState) → Asked →
+abbrev pub Does : {W : Type 0} → Ghosts W → Asked →
     Result (Unit {0}) Error → WriterState W → WriterState W → Type 0
-Does tells keeps state (write containers) answer old new =
-    Accepts tells keeps state containers answer old new
-Does tells keeps state publish answer old new = LeavesWriter tells keeps state answer old new
+Does kind (write containers) answer old new = Accepts kind containers answer old new
+Does kind publish answer old new = LeavesWriter kind answer old new
 
 -- the writer with this memory for batches
 abbrev pub with_memory : {W : Type 0} → WriterState W → List ℕ → WriterState W
@@ -65,13 +64,12 @@ with_memory w memory = record w { batch_memory = memory }
 
 -- These calls led from the one writer to the other, each from where the one before it ended; between
 -- them only the memory for batches may have changed.
-abbrev pub Lead : {W : Type 0} → Bool → Bool → (W → MediumState) → List Call → WriterState W →
-    WriterState W → Type 0
-Lead tells keeps state [] old new = (memory : List ℕ) × (new ≡ with_memory old memory)
-Lead {W} tells keeps state (call ∷ calls) old new =
-    (memory : List ℕ) × (mid : WriterState W) × (call.began ≡ length (state old.medium).past)
-    × Does tells keeps state call.asked call.answer (with_memory old memory) mid
-    × Lead tells keeps state calls mid new
+abbrev pub Lead : {W : Type 0} → Ghosts W → List Call → WriterState W → WriterState W → Type 0
+Lead kind [] old new = (memory : List ℕ) × (new ≡ with_memory old memory)
+Lead {W} kind (call ∷ calls) old new =
+    (memory : List ℕ) × (mid : WriterState W) × (call.began ≡ length (kind.state old.medium).past)
+    × Does kind call.asked call.answer (with_memory old memory) mid
+    × Lead kind calls mid new
 
 -- A file as its writer began it in a medium that was handed in with this state: a new one, or one
 -- whose data begin at a place and which had these samples.
@@ -96,65 +94,60 @@ found_in (appended old start found) = found
 
 -- A file that was appended to in this medium has this spec, and had its data at this place, all of
 -- them there.
-pub record HadData {W : Type 0} (tells : Bool) (state : W → MediumState) (s : WavSpecEx)
+pub record HadData {W : Type 0} (kind : Ghosts W) (s : WavSpecEx)
     (old : MediumState) (start : ℕ) (found : List (List ℕ)) (first : WriterState W) : Type 0 where
-  pub appends : Appends tells state old first
+  pub appends : Appends kind old first
   pub spec_is : first.spec_ex ≡ s
   pub start_is : first.data_start ≡ start
-  pub whole : WhereTells tells (IsWhole state first)
-  pub found_is : WhereTells tells (accepted_samples state first ≡ found)
+  pub whole : WhereTells kind.tells (IsWhole kind.state first)
+  pub found_is : WhereTells kind.tells (accepted_samples kind.state first ≡ found)
 
 -- the writer of such a file, as its constructor returned it
-abbrev pub Opens : {W : Type 0} → Bool → Bool → (W → MediumState) → WavSpecEx → Begun →
-    WriterState W → Type 0
-Opens tells keeps state s (new_file old) first = Begins tells keeps state s old first
-Opens tells keeps state s (appended old start found) first =
-    HadData tells state s old start found first
+abbrev pub Opens : {W : Type 0} → Ghosts W → WavSpecEx → Begun → WriterState W → Type 0
+Opens kind s (new_file old) first = Begins kind s old first
+Opens kind s (appended old start found) first = HadData kind s old start found first
 
 -- Calls of which these are known were made with the writer of such a file, and led to this one.
-pub record RecordedBy {W : Type 0} (tells keeps : Bool) (state : W → MediumState) (s : WavSpecEx)
+pub record RecordedBy {W : Type 0} (kind : Ghosts W) (s : WavSpecEx)
     (file : Begun) (known : List Known) (last : WriterState W) : Type 0 where
   pub first : WriterState W
   pub calls : List Call
-  pub opens : Opens tells keeps state s file first
-  pub lead : Lead tells keeps state calls first last
+  pub opens : Opens kind s file first
+  pub lead : Lead kind calls first last
   pub are_known : AreKnown known calls
 
 -- calls of which these are known were made with the writer of such a file, and led to this one:
 -- `RecordedBy` as a word that a caller's proof doesn't open
-unfoldable pub Recorded : {W : Type 0} → Bool → Bool → (W → MediumState) → WavSpecEx → Begun →
+unfoldable pub Recorded : {W : Type 0} → Ghosts W → WavSpecEx → Begun →
     List Known → WriterState W → Type 0
-Recorded tells keeps state s file known last = RecordedBy tells keeps state s file known last
+Recorded kind s file known last = RecordedBy kind s file known last
 
 -- what is known of the calls of the one writer is known of those of the other
-abbrev pub HasSameCalls : {W : Type 0} → Bool → Bool → (W → MediumState) → WriterState W →
-    WriterState W → Type 0
-HasSameCalls tells keeps state old new = (s : WavSpecEx) (file : Begun) (known : List Known) →
-    Recorded tells keeps state s file known old → Recorded tells keeps state s file known new
+abbrev pub HasSameCalls : {W : Type 0} → Ghosts W → WriterState W → WriterState W → Type 0
+HasSameCalls kind old new = (s : WavSpecEx) (file : Begun) (known : List Known) →
+    Recorded kind s file known old → Recorded kind s file known new
 
 -- a call appends this to what is known, by the spec of the file
-abbrev pub Extends : {W : Type 0} → Bool → Bool → (W → MediumState) → (WavSpecEx → Known) →
+abbrev pub Extends : {W : Type 0} → Ghosts W → (WavSpecEx → Known) →
     WriterState W → WriterState W → Type 0
-Extends tells keeps state one old new = (s : WavSpecEx) (file : Begun) (known : List Known) →
-    Recorded tells keeps state s file known old →
-    Recorded tells keeps state s file (known ++ one s ∷ []) new
+Extends kind one old new = (s : WavSpecEx) (file : Begun) (known : List Known) →
+    Recorded kind s file known old →
+    Recorded kind s file (known ++ one s ∷ []) new
 
 -- The medium of a writer to which calls led of which these are known; of an end the last of them is
 -- the end's own, to publish.
-pub record LeftBy {W : Type 0} (tells keeps : Bool) (state : W → MediumState) (s : WavSpecEx)
+pub record LeftBy {W : Type 0} (kind : Ghosts W) (s : WavSpecEx)
     (file : Begun) (known : List Known) (medium : W) : Type 0 where
   pub last : WriterState W
-  pub recorded : RecordedBy tells keeps state s file known last
+  pub recorded : RecordedBy kind s file known last
   pub is : medium ≡ last.medium
 
 -- calls of which these are known led to a writer that left this medium: `LeftBy` as such a word
-unfoldable pub Left : {W : Type 0} → Bool → Bool → (W → MediumState) → WavSpecEx → Begun →
-    List Known → W → Type 0
-Left tells keeps state s file known medium = LeftBy tells keeps state s file known medium
+unfoldable pub Left : {W : Type 0} → Ghosts W → WavSpecEx → Begun → List Known → W → Type 0
+Left kind s file known medium = LeftBy kind s file known medium
 
 -- an end appends this to what is known, and leaves the medium
-abbrev pub Ends : {W : Type 0} → Bool → Bool → (W → MediumState) → Known → WriterState W → W →
-    Type 0
-Ends tells keeps state one last medium = (s : WavSpecEx) (file : Begun) (known : List Known) →
-    Recorded tells keeps state s file known last →
-    Left tells keeps state s file (known ++ one ∷ []) medium
+abbrev pub Ends : {W : Type 0} → Ghosts W → Known → WriterState W → W → Type 0
+Ends kind one last medium = (s : WavSpecEx) (file : Begun) (known : List Known) →
+    Recorded kind s file known last →
+    Left kind s file (known ++ one ∷ []) medium

@@ -3,6 +3,7 @@ use Rattle.std.specs.Prelude.{◌≡◌, ℕ, zero, suc, ◌+◌, ◌-◌, ◌%�
 use Rattle.std.specs.declared.io.Error.{Error as IoFault}
 use Rattle.hound_number.specs.{AreBytes, bytes_of}
 use Rattle.hound_medium.specs.{MediumState, Flushes, overlay}
+use Rattle.hound_medium.specs.declared.medium.Placed.{Ghosts}
 use Rattle.hound_spec.specs.{riff_size}
 use Rattle.hound_writer.specs.Parts.{PutsAt}
 use Rattle.hound_writer.specs.declared.effects.Effect.{Effect}
@@ -34,8 +35,9 @@ pub record Log : Type 0 where
   pub replays : state.contents ≡ overlay state.start state.past
   pub small : AreBytes state.contents
 
-abbrev pub log_state : Log → MediumState
-log_state log = log.state
+-- a log as a medium whose bytes are known, with every byte that was written
+abbrev pub log_kind : Ghosts Log
+log_kind = record { tells = true; keeps = true; state = λ log. log.state }
 
 -- what one effect did: at an Err a write may have written a beginning
 abbrev pub Performs : Effect → Result (Unit {0}) IoFault → MediumState → MediumState → Type 0

@@ -7,10 +7,10 @@ pub use Rattle.hound_writer.specs.Beginning.{Begins, BeginsFile, HasBegun, IsNot
 pub use Rattle.hound_writer.specs.Parts.{CountsAtMost, GoesAtEach, GoesOut, GoesToFile, HasSize, IsConsistent, IsLimit, IsPatched, IsPublishResult, Patches, PatchesAtEach, PutsAt, StaysAround, after_out, all_out, memory_bytes, of_fields, or_fault, result_of}
 pub use Rattle.hound_writer.specs.Calls.{AreKnown, Asked, Begun, Call, Does, Ends, Extends, HadData, HasSameCalls, IsKnown, Known, Lead, LeftBy, Opens, RecordedBy, appended, asked_by_all, found_in, handed_in, made, marked, new_file, publish, start_of, with_memory, write}
 unfoldable pub use Rattle.hound_writer.specs.Calls.{Left, Recorded}
-pub use Rattle.hound_writer.specs.Writer.{AreFrames, ChangesSizesOnly, Counts, HasHeader, HasRoom, HasSameSamples, IsBegun, IsCounted, IsPadded, IsSixteen, IsSound, IsValid, IsWhole, ReadsFirst, SameButSizes, WriterState, accepted_bytes, accepted_samples, block_length, data_end, data_length, field, padded_end, sample_count}
+pub use Rattle.hound_writer.specs.Writer.{AreFrames, ChangesSizesOnly, Counts, Ghosts, HasHeader, HasRoom, HasSameSamples, IsBegun, IsCounted, IsPadded, IsSixteen, IsSound, IsValid, IsWhole, ReadsFirst, SameButSizes, WriterState, accepted_bytes, accepted_samples, block_length, data_end, data_length, field, padded_end, sample_count}
 unfoldable pub use Rattle.hound_writer.specs.Writer.{with_sizes}
 pub use Rattle.hound_writer.specs.Publishing.{Checkpoints, Finishes, IsHalfPublished, IsOldOrNew, IsOutside, LeavesWriter, OncePutBefore, Publishes, PublishesAtEach, PublishesTo, PutsFrom, PutsLast, ReadsAs, place_after}
-pub use Rattle.hound_writer.specs.Effects.{Log, Performed, Performs, checkpoint, log_state, nth, pad_effects, size_effects}
+pub use Rattle.hound_writer.specs.Effects.{Log, Performed, Performs, checkpoint, log_kind, nth, pad_effects, size_effects}
 pub use Rattle.hound_writer.specs.Recorder.{AppendsRecorder, BeginsRecorder, HasData, HasFailed, HasNoData, NextEffect, Places, Reports, advanced, effects_of, length_with, recorder_of}
 pub use Rattle.hound_writer.specs.Recording.{Directed, IsIdle, IsOrdered, IsRecorderOf, IsSynced, Opened, Resumed, block_known, resumed_file}
 pub mod Accepting

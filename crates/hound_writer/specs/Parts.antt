@@ -9,7 +9,7 @@ use Rattle.hound_spec.specs.declared.spec.WavSpecEx.{WavSpecEx}
 use Rattle.hound_medium.specs.{placed, overlay, MediumState, faults_after, Span, WhereTells, WhereKeeps}
 use Rattle.hound_walk.specs.{Head}
 use Rattle.hound_writer.specs.Publishing.{PutsLast, PutsFrom}
-use Rattle.hound_writer.specs.Writer.{SameButSizes, block_length, field, with_sizes, WriterState, IsSound, IsWhole, IsCounted, accepted_samples, data_length}
+use Rattle.hound_writer.specs.Writer.{Ghosts, SameButSizes, block_length, field, with_sizes, WriterState, IsSound, IsWhole, IsCounted, accepted_samples, data_length}
 use Rattle.hound_spec.specs.{riff_size, greatest_u32}
 use Rattle.hound_writer.specs.Accepting.{AddsAtEach, i16_bytes}
 use Rattle.hound_writer.specs.declared.outcome.Outcome.{Outcome}
@@ -127,12 +127,12 @@ pub record GoesAtEach {W : Type 0} (state : W → MediumState) (old : WriterStat
 
 -- The buffered samples are written, and then perhaps bytes up to `end`; or a beginning of all that
 -- if the medium fails, and then all samples stay buffered.
-pub record GoesOut {W : Type 0} (tells keeps : Bool) (state : W → MediumState) (end : ℕ)
+pub record GoesOut {W : Type 0} (kind : Ghosts W) (end : ℕ)
     (all : Bool) (old new : WriterState W) : Type 0 where
   pub value : new ≡ after_out all new.medium old
   pub sound : IsSound old
-  pub file : WhereTells tells (GoesToFile state end all old new)
-  pub moments : WhereKeeps tells keeps (GoesAtEach state old (state new.medium))
+  pub file : WhereTells kind.tells (GoesToFile kind.state end all old new)
+  pub moments : WhereKeeps kind.tells kind.keeps (GoesAtEach kind.state old (kind.state new.medium))
 
 -- Below this many buffered bytes there is room for a sample of any width: in the block, and in the
 -- file for a whole block.
@@ -155,16 +155,16 @@ of_fields medium spec_ex start written buffered memory = record {
 -- What a writer keeps true between its calls: the samples in the medium are whole and so are the
 -- buffered ones, in one block; the head of its file is there, the data length counts no more than
 -- the bytes in the medium, and the next ones go after these.
-pub record IsConsistent {W : Type 0} (tells : Bool) (state : W → MediumState) (w : WriterState W)
+pub record IsConsistent {W : Type 0} (kind : Ghosts W) (w : WriterState W)
     (may_have_moved : Bool) (limit : ℕ) : Type 0 where
   pub sound : IsSound w
   pub whole_written : w.bytes_written % w.spec_ex.bytes_per_sample ≡ 0
   pub whole_buffered : length w.buffered % w.spec_ex.bytes_per_sample ≡ 0
   pub block : length w.buffered ≤ block_length
   pub room : IsLimit w.data_start w.bytes_written limit
-  pub at_most : WhereTells tells (CountsAtMost w.spec_ex w.data_start w.bytes_written (state w.medium).contents)
-  pub place : WhereTells tells
-      (may_have_moved ≡ false → (state w.medium).place ≡ w.data_start + w.bytes_written)
+  pub at_most : WhereTells kind.tells (CountsAtMost w.spec_ex w.data_start w.bytes_written (kind.state w.medium).contents)
+  pub place : WhereTells kind.tells
+      (may_have_moved ≡ false → (kind.state w.medium).place ≡ w.data_start + w.bytes_written)
 
 -- the bytes of the memory that a writer holds for its batches, if it has some
 abbrev pub memory_bytes : {V : Type 0} → (V → List ℤ) → Option V → List ℕ

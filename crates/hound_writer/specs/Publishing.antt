@@ -11,7 +11,7 @@ use Rattle.hound_medium.specs.{moment, MediumState, WhereTells, WhereKeeps, Span
 use Rattle.hound_durable.specs.{place_of}
 use Rattle.hound_walk.specs.{Readable}
 use Rattle.hound_writer.specs.Accepting.{IsPublishing, OnPublished, faults_told, StaysStored}
-use Rattle.hound_writer.specs.Writer.{Counts, ChangesSizesOnly, field, WriterState, HasSameSamples, IsWhole, IsBegun, IsPadded, HasHeader, accepted_samples, data_end, data_length, padded_end}
+use Rattle.hound_writer.specs.Writer.{Ghosts, Counts, ChangesSizesOnly, field, WriterState, HasSameSamples, IsWhole, IsBegun, IsPadded, HasHeader, accepted_samples, data_end, data_length, padded_end}
 
 -- The contents are read as exactly these samples, with this spec, from this place on.
 pub record ReadsAs (s : WavSpecEx) (start : ℕ) (samples : List (List ℕ))
@@ -119,22 +119,21 @@ pub record PublishesAtEach {W : Type 0} (state : W → MediumState) (w : WriterS
 
 -- What a call that publishes does, by its result: the writer keeps the same samples. If all was
 -- published its medium is at this place.
-pub record PublishesTo {W : Type 0} (tells keeps : Bool) (state : W → MediumState) (at : ℕ)
+pub record PublishesTo {W : Type 0} (kind : Ghosts W) (at : ℕ)
     (answer : Result (Unit {0}) Error) (old new : WriterState W) : Type 0 where
   pub answers : IsPublishing answer old
   pub samples : HasSameSamples old new
-  pub publishes : WhereTells tells (Publishes state old answer new.medium)
-  pub whole : WhereTells tells (IsWhole state old → IsWhole state new)
-  pub accepted : WhereTells tells
-      (IsWhole state old → accepted_samples state new ≡ accepted_samples state old)
-  pub place : WhereTells tells (OnPublished answer ((state new.medium).place ≡ at))
-  pub moments : WhereKeeps tells keeps (PublishesAtEach state old answer new.medium)
+  pub publishes : WhereTells kind.tells (Publishes kind.state old answer new.medium)
+  pub whole : WhereTells kind.tells (IsWhole kind.state old → IsWhole kind.state new)
+  pub accepted : WhereTells kind.tells
+      (IsWhole kind.state old → accepted_samples kind.state new ≡ accepted_samples kind.state old)
+  pub place : WhereTells kind.tells (OnPublished answer ((kind.state new.medium).place ≡ at))
+  pub moments : WhereKeeps kind.tells kind.keeps (PublishesAtEach kind.state old answer new.medium)
 
 -- What such a call leaves of the writer, wherever the medium is then.
-abbrev pub LeavesWriter : {W : Type 0} → Bool → Bool → (W → MediumState) →
+abbrev pub LeavesWriter : {W : Type 0} → Ghosts W →
     Result (Unit {0}) Error → WriterState W → WriterState W → Type 0
-LeavesWriter tells keeps state answer old new =
-    PublishesTo tells keeps state (state new.medium).place answer old new
+LeavesWriter kind answer old new = PublishesTo kind (kind.state new.medium).place answer old new
 
 -- where the medium is then: at the end of the accepted data if the writer continues, or else where
 -- the data begin
@@ -143,14 +142,11 @@ place_after true w = data_end w
 place_after false w = w.data_start
 
 -- What `flush` does, by its result: it publishes, and the writer continues at the end of the data.
-abbrev pub Checkpoints : {W : Type 0} → Bool → Bool → (W → MediumState) →
+abbrev pub Checkpoints : {W : Type 0} → Ghosts W →
     Result (Unit {0}) Error → WriterState W → WriterState W → Type 0
-Checkpoints tells keeps state answer old new =
-    PublishesTo tells keeps state (data_end new) answer old new
+Checkpoints kind answer old new = PublishesTo kind (data_end new) answer old new
 
 -- What the end of a writer does, by its result: it publishes, and leaves the medium where the data
 -- begin.
-abbrev pub Finishes : {W : Type 0} → Bool → Bool → (W → MediumState) → WriterState W →
-    Result (Unit {0}) Error → W → Type 0
-Finishes tells keeps state w answer end =
-    PublishesTo tells keeps state w.data_start answer w (record w { medium = end })
+abbrev pub Finishes : {W : Type 0} → Ghosts W → WriterState W → Result (Unit {0}) Error → W → Type 0
+Finishes kind w answer end = PublishesTo kind w.data_start answer w (record w { medium = end })

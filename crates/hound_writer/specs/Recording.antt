@@ -9,7 +9,7 @@ use Rattle.hound_spec.specs.{header}
 use Rattle.hound_walk.specs.{IsSoundSpec, Readable}
 use Rattle.hound_writer.specs.Accepting.{whole_containers}
 use Rattle.hound_writer.specs.Calls.{Begun, Known, Recorded, appended, handed_in, marked, write}
-use Rattle.hound_writer.specs.Effects.{Log, Performed, log_state}
+use Rattle.hound_writer.specs.Effects.{Log, Performed, log_kind}
 use Rattle.hound_writer.specs.Parts.{CountsAtMost}
 use Rattle.hound_writer.specs.Recorder.{effects_of}
 use Rattle.hound_writer.specs.Writer.{WriterState, IsSound}
@@ -61,7 +61,7 @@ IsRecorderOf r w = (r.data_start ≡ w.data_start) × (r.data_length ≡ w.bytes
 pub record Directed (s : WavSpecEx) (file : Begun) (known : List Known) (r : Recorder) (ok : Bool)
     (m : MediumState) : Type 0 where
   pub writer : WriterState Log
-  pub recorded : Recorded true true log_state s file known writer
+  pub recorded : Recorded log_kind s file known writer
   pub idle : IsIdle writer
   pub is : IsRecorderOf r writer
   pub order : IsSynced (handed_in file) → (high : ℕ) × IsOrdered high writer.medium.state

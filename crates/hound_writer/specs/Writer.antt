@@ -9,6 +9,7 @@ use Rattle.hound_walk.specs.{Readable, Unreadable, data_fault}
 use Rattle.std.specs.Io.{StartsWith}
 use Rattle.hound_spec.specs.{header, data_start, riff_size, padded, padding, IsPair, greatest_u32}
 use Rattle.hound_medium.specs.{MediumState, WhereTells}
+pub use Rattle.hound_medium.specs.declared.medium.Placed.{Ghosts}
 use Rattle.hound_spec.specs.declared.spec.SampleFormat.TheVariants.{Int}
 
 -- the number in the four bytes at a place
@@ -131,11 +132,10 @@ block_length = 4096
 
 -- What holds of every writer: it is sound, no more than a block is buffered, and its data length
 -- counts accepted samples if the medium has all their bytes.
-pub record IsValid {W : Type 0} (tells : Bool) (state : W → MediumState)
-    (w : WriterState W) : Type 0 where
+pub record IsValid {W : Type 0} (kind : Ghosts W) (w : WriterState W) : Type 0 where
   pub sound : IsSound w
   pub buffered : length w.buffered ≤ block_length
-  pub counts : WhereTells tells (IsWhole state w → IsCounted state w)
+  pub counts : WhereTells kind.tells (IsWhole kind.state w → IsCounted kind.state w)
 
 -- the contents begin with the header of this spec, with any two sizes
 abbrev pub HasHeader : WavSpecEx → List ℕ → Type 0

@@ -44,7 +44,7 @@ pub(crate) fn append_at<W: Medium>(
     requires start { IsDataPlace head.data_start }
     requires head { WhereTells W.tells
         (Head (W.state writer).contents head.spec_ex head.data_length head.data_start) }
-    ensures { MatchResult result (Appends W.tells W.state (W.state writer))
+    ensures { MatchResult result (Appends W.Placed (W.state writer))
         (λ refused. WhereTells W.tells (IsNotAppended (W.state writer) (W.state refused.0) refused.1)) }
 {
     if let Err(error) = check_head(head) {
@@ -69,10 +69,10 @@ impl<W: Source + Medium> WavWriter<W> {
     /// ```
     pub fn new_append(writer: W) -> Result<WavWriter<W>>
         requires { WhereTells W.tells ((W.state writer).place ≡ 0) }
-        ensures appends { MatchResult result (Appends W.tells W.state (W.state writer))
+        ensures appends { MatchResult result (Appends W.Placed (W.state writer))
             (λ e. (back : W) × WhereTells W.tells (IsNotAppended (W.state writer) (W.state back) e)) }
         ensures recorded { MatchResult result (λ w. WhereTells W.tells (IsWhole W.state w) →
-            Recorded W.tells W.keeps W.state w.spec_ex (appended (W.state writer) w.data_start
+            Recorded W.Placed w.spec_ex (appended (W.state writer) w.data_start
             (accepted_samples W.state w)) [] w) (λ _. ⊤) }
     {
         WavWriter::try_append(writer).map_err(|(_, error)| error)
@@ -92,10 +92,10 @@ impl<W: Source + Medium> WavWriter<W> {
     /// failed. An early end is an `IoError` of kind `Other`.
     pub fn try_append(writer: W) -> result::Result<WavWriter<W>, (W, Error)>
         requires { WhereTells W.tells ((W.state writer).place ≡ 0) }
-        ensures appends { MatchResult result (Appends W.tells W.state (W.state writer))
+        ensures appends { MatchResult result (Appends W.Placed (W.state writer))
             (λ refused. WhereTells W.tells (IsNotAppended (W.state writer) (W.state refused.0) refused.1)) }
         ensures recorded { MatchResult result (λ w. WhereTells W.tells (IsWhole W.state w) →
-            Recorded W.tells W.keeps W.state w.spec_ex (appended (W.state writer) w.data_start
+            Recorded W.Placed w.spec_ex (appended (W.state writer) w.data_start
             (accepted_samples W.state w)) [] w) (λ _. ⊤) }
     {
         let (writer, head) = find_data(writer);

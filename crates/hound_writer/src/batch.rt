@@ -51,12 +51,12 @@ impl<W: Medium, B: BatchMemory> SampleWriter16<'_, W, B> {
     #[inline]
     pub fn flush(self) -> Result<()>
         requires { remaining self ≡ 0 }
-        ensures accepts { let old = batch_writer self.entry in Accepts W.tells W.keeps W.state
+        ensures accepts { let old = batch_writer self.entry in Accepts W.Placed
             (whole_containers old.spec_ex (batch_bytes self.entry)) result old self.exit.0.now }
-        ensures recorded { Extends W.tells W.keeps W.state
+        ensures recorded { Extends W.Placed
             (λ s. made (write (whole_containers s (batch_bytes self.entry))))
             (batch_writer self.entry) self.exit.0.now }
-        ensures marked { Extends W.tells W.keeps W.state
+        ensures marked { Extends W.Placed
             (λ s. marked (write (whole_containers s (batch_bytes self.entry))) (mark_of result))
             (batch_writer self.entry) self.exit.0.now }
     {
@@ -154,7 +154,7 @@ impl<W: Medium> WavWriter<W> {
         ensures kept { IfOk result (λ batch. length (batch_writer batch).batch_memory
             ≡ max (length self.old.batch_memory) (2 * num_samples)) }
         ensures recorded { IfOk result (λ batch.
-            HasSameCalls W.tells W.keeps W.state self.old (batch_writer batch)) }
+            HasSameCalls W.Placed self.old (batch_writer batch)) }
     {
         if !self.output.has_room(num_samples as u64 * 2) {
             return Err(Error::TooLong);

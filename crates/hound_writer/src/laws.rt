@@ -33,8 +33,8 @@ pub fn one_append_answer()
 /// if `write_samples` and each `write_sample` returned Ok.
 pub fn a_block_is_its_samples<S: Sample, M: Medium>()
     ensures { WhereTells M.tells ((samples : List S) (a b c : WriterState M) → IsWhole M.state a →
-        Accepts M.tells M.keeps M.state (containers_in S.container a.spec_ex samples) (Ok tt) a b
-        → AcceptsEach M.tells M.keeps M.state S.container samples a c →
+        Accepts M.Placed (containers_in S.container a.spec_ex samples) (Ok tt) a b
+        → AcceptsEach M.Placed S.container samples a c →
         (accepted_samples M.state b ≡ accepted_samples M.state c) × (data_length b ≡ data_length c)) }
 {}
 

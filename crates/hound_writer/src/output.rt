@@ -50,7 +50,7 @@ impl<W: Medium> Model for Output<W> {
     ghost view = { λ w. of_fields w.writer w.spec_ex w.data_start w.data_bytes_written w.block
         (memory_bytes (λ memory. memory.items) w.batch_memory) };
 
-    ghost invariant = { λ w. IsConsistent W.tells W.state
+    ghost invariant = { λ w. IsConsistent W.Placed
         (of_fields w.writer w.spec_ex w.data_start w.data_bytes_written w.block
         (memory_bytes (λ memory. memory.items) w.batch_memory)) w.may_have_moved w.fast_path_limit };
 }
@@ -120,7 +120,7 @@ impl<W: Medium> Output<W> {
     pub(crate) fn has_room(&self, more: u64) -> bool
         requires { more ≤ 2 ^ 34 }
         ensures room { IsTrue result ↔ HasRoom self.now more }
-        ensures valid { IsValid W.tells W.state self.now }
+        ensures valid { IsValid W.Placed self.now }
     {
         riff_size(self.data_start, self.data_length() as u64 + more) <= u32::MAX as u64
     }
@@ -136,7 +136,7 @@ impl<W: Medium> Output<W> {
     // Writes the buffered samples, and saves a fault: then all of them stay buffered.
     #[inline(never)]
     fn put_block(&mut self, fault: &mut io::Error) -> bool
-        ensures { GoesOut W.tells W.keeps W.state (data_end self.old) result self.old self.new }
+        ensures { GoesOut W.Placed (data_end self.old) result self.old self.new }
     {
         if self.block.len() == 0 {
             return true;
@@ -162,8 +162,7 @@ impl<W: Medium> Output<W> {
     // The medium is then elsewhere than where the next sample goes.
     fn put_pad(&mut self, fault: &mut io::Error) -> bool
         requires { self.old.buffered ≡ [] }
-        ensures goes { GoesOut W.tells W.keeps W.state
-            (padded_end self.old) result self.old self.new }
+        ensures goes { GoesOut W.Placed (padded_end self.old) result self.old self.new }
         ensures padded { WhereTells W.tells (IsTrue result
             → IsPadded self.new (W.state self.new.medium).contents) }
     {
@@ -181,7 +180,7 @@ impl<W: Medium> Output<W> {
         requires room { HasRoom self.old (length bytes.now) }
         requires whole { length bytes.now % self.old.spec_ex.bytes_per_sample ≡ 0 }
         requires few { length self.old.buffered + length bytes.now ≤ block_length }
-        ensures { AcceptsBytes W.tells W.keeps W.state bytes.now (Ok tt) self.old self.new }
+        ensures { AcceptsBytes W.Placed bytes.now (Ok tt) self.old self.new }
     {
         self.block.extend(bytes);
     }
@@ -191,7 +190,7 @@ impl<W: Medium> Output<W> {
     #[cold]
     #[inline(never)]
     fn accept_slowly(&mut self, container: [u8; 4], fault: &mut io::Error) -> Outcome
-        ensures { AcceptsBytes W.tells W.keeps W.state
+        ensures { AcceptsBytes W.Placed
             (take self.old.spec_ex.bytes_per_sample container) (result_of result fault.new) self.old self.new }
     {
         let width = self.spec_ex.bytes_per_sample as usize;
@@ -212,7 +211,7 @@ impl<W: Medium> Output<W> {
     /// Accepts a sample, or returns why it doesn't, and saves a fault.
     #[inline(always)]
     pub(crate) fn accept_sample<S: Sample>(&mut self, sample: S, fault: &mut io::Error) -> Outcome
-        ensures { Accepts W.tells W.keeps W.state
+        ensures { Accepts W.Placed
             (container_in S.container self.old.spec_ex sample) (result_of result fault.new) self.old self.new }
     {
         let width = self.spec_ex.bytes_per_sample;
@@ -239,7 +238,7 @@ impl<W: Medium> Output<W> {
             (self.old.spec_ex.bytes_per_sample * length samples.now) }
         requires few { length self.old.buffered
             + self.old.spec_ex.bytes_per_sample * length samples.now ≤ block_length }
-        ensures { AcceptsBytes W.tells W.keeps W.state
+        ensures { AcceptsBytes W.Placed
             (sample_bytes S.container self.old.spec_ex samples.now) (Ok tt) self.old self.new }
     {
         let spec = self.spec_ex.spec;
@@ -257,7 +256,7 @@ impl<W: Medium> Output<W> {
         requires room { HasRoom self.old
             (self.old.spec_ex.bytes_per_sample * length samples.now) }
         requires none_buffered { self.old.buffered ≡ [] }
-        ensures { AcceptsBytes W.tells W.keeps W.state
+        ensures { AcceptsBytes W.Placed
             (sample_bytes S.container self.old.spec_ex samples.now) (or_fault result fault.new) self.old self.new }
     {
         let end = self.data_start + self.data_bytes_written as u64;
@@ -285,7 +284,7 @@ impl<W: Medium> Output<W> {
         requires have { IsOk (containers_in S.container self.old.spec_ex samples.now) }
         requires room { HasRoom self.old
             (self.old.spec_ex.bytes_per_sample * length samples.now) }
-        ensures { AcceptsBytes W.tells W.keeps W.state
+        ensures { AcceptsBytes W.Placed
             (sample_bytes S.container self.old.spec_ex samples.now) (or_fault result fault.new) self.old self.new }
     {
         let num_bytes = samples.len() * self.spec_ex.bytes_per_sample as usize;
@@ -309,7 +308,7 @@ impl<W: Medium> Output<W> {
         samples: &[S],
         fault: &mut io::Error,
     ) -> Outcome
-        ensures { Accepts W.tells W.keeps W.state
+        ensures { Accepts W.Placed
             (containers_in S.container self.old.spec_ex samples.now) (result_of result fault.new) self.old self.new }
     {
         let bits = self.spec_ex.spec.bits_per_sample;
@@ -382,8 +381,7 @@ impl<W: Medium> Output<W> {
     /// Publishes all accepted samples. The medium is then at their end if the writer continues, or
     /// else where the data begin.
     pub(crate) fn publish_all(&mut self, continues: bool, fault: &mut io::Error) -> Result<()>
-        ensures { PublishesTo W.tells W.keeps W.state (place_after continues self.new) result
-            self.old self.new }
+        ensures { PublishesTo W.Placed (place_after continues self.new) result self.old self.new }
     {
         if !self.put_block(fault) {
             return Err(Error::IoError(*fault));
@@ -406,7 +404,7 @@ impl<W: Medium> Output<W> {
     /// The spec that the file was begun with, with the bytes that a sample takes.
     pub(crate) fn spec_ex(&self) -> WavSpecEx
         ensures spec { result ≡ self.now.spec_ex }
-        ensures valid { IsValid W.tells W.state self.now }
+        ensures valid { IsValid W.Placed self.now }
     {
         self.spec_ex
     }
@@ -414,7 +412,7 @@ impl<W: Medium> Output<W> {
     /// How many samples were accepted.
     pub(crate) fn len(&self) -> u32
         ensures samples { result ≡ sample_count self.now }
-        ensures valid { IsValid W.tells W.state self.now }
+        ensures valid { IsValid W.Placed self.now }
     {
         self.data_length() / self.spec_ex.bytes_per_sample as u32
     }

@@ -53,10 +53,10 @@ impl<W: Medium> Model for WavWriter<W> {
 fn begin<W: Medium>(writer: &mut W, spec_ex: WavSpecEx) -> Result<u64>
     requires { WhereTells W.tells ((W.state writer.old).place ≡ 0) }
     ensures begins { MatchResult result
-        (λ start. Begins W.tells W.keeps W.state spec_ex (W.state writer.old)
+        (λ start. Begins W.Placed spec_ex (W.state writer.old)
         (of_fields writer.new spec_ex start 0 [] []))
-        (λ e. IsNotBegun W.tells W.keeps W.state spec_ex writer.old writer.new e) }
-    ensures recorded { IfOk result (λ start. Recorded W.tells W.keeps W.state spec_ex
+        (λ e. IsNotBegun W.Placed spec_ex writer.old writer.new e) }
+    ensures recorded { IfOk result (λ start. Recorded W.Placed spec_ex
         (new_file (W.state writer.old)) [] (of_fields writer.new spec_ex start 0 [] [])) }
     ensures at_most { IfOk result (λ start. WhereTells W.tells
         (CountsAtMost spec_ex start 0 (W.state writer.new).contents)) }
@@ -91,11 +91,11 @@ impl<W: Medium> WavWriter<W> {
     /// dropped at an error, unless it was lent.
     pub fn new(writer: W, spec: WavSpec) -> Result<WavWriter<W>>
         requires { WhereTells W.tells ((W.state writer).place ≡ 0) }
-        ensures begins { MatchResult result (Begins W.tells W.keeps W.state (with_default_width spec)
+        ensures begins { MatchResult result (Begins W.Placed (with_default_width spec)
             (W.state writer))
-            (λ e. (back : W) × IsNotBegun W.tells W.keeps W.state (with_default_width spec) writer back e) }
+            (λ e. (back : W) × IsNotBegun W.Placed (with_default_width spec) writer back e) }
         ensures recorded { MatchResult result
-            (Recorded W.tells W.keeps W.state (with_default_width spec) (new_file (W.state writer)) []) (λ _. ⊤) }
+            (Recorded W.Placed (with_default_width spec) (new_file (W.state writer)) []) (λ _. ⊤) }
     {
         WavWriter::new_with_spec_ex(writer, WavSpecEx::from(spec))
     }
@@ -104,10 +104,10 @@ impl<W: Medium> WavWriter<W> {
     /// with the bytes that the bits need: condition and errors are the same.
     pub fn new_with_spec_ex(writer: W, spec_ex: WavSpecEx) -> Result<WavWriter<W>>
         requires { WhereTells W.tells ((W.state writer).place ≡ 0) }
-        ensures begins { MatchResult result (Begins W.tells W.keeps W.state spec_ex (W.state writer))
-            (λ e. (back : W) × IsNotBegun W.tells W.keeps W.state spec_ex writer back e) }
+        ensures begins { MatchResult result (Begins W.Placed spec_ex (W.state writer))
+            (λ e. (back : W) × IsNotBegun W.Placed spec_ex writer back e) }
         ensures recorded { MatchResult result
-            (Recorded W.tells W.keeps W.state spec_ex (new_file (W.state writer)) []) (λ _. ⊤) }
+            (Recorded W.Placed spec_ex (new_file (W.state writer)) []) (λ _. ⊤) }
     {
         let mut writer = writer;
         let data_start = begin(&mut writer, spec_ex)?;
@@ -125,10 +125,10 @@ impl<W: Medium> WavWriter<W> {
     /// After an error nothing more is written.
     pub fn try_new(writer: W, spec_ex: WavSpecEx) -> result::Result<WavWriter<W>, (W, Error)>
         requires { WhereTells W.tells ((W.state writer).place ≡ 0) }
-        ensures begins { MatchResult result (Begins W.tells W.keeps W.state spec_ex (W.state writer))
-            (λ refused. IsNotBegun W.tells W.keeps W.state spec_ex writer refused.0 refused.1) }
+        ensures begins { MatchResult result (Begins W.Placed spec_ex (W.state writer))
+            (λ refused. IsNotBegun W.Placed spec_ex writer refused.0 refused.1) }
         ensures recorded { MatchResult result
-            (Recorded W.tells W.keeps W.state spec_ex (new_file (W.state writer)) []) (λ _. ⊤) }
+            (Recorded W.Placed spec_ex (new_file (W.state writer)) []) (λ _. ⊤) }
     {
         let mut writer = writer;
         match begin(&mut writer, spec_ex) {
@@ -156,11 +156,11 @@ impl<W: Medium> WavWriter<W> {
     /// accepted, and writing can continue: the next sample goes where this one should have gone.
     #[inline(always)]
     pub fn write_sample<S: Sample>(&mut self, sample: S) -> Result<()>
-        ensures accepts { Accepts W.tells W.keeps W.state
+        ensures accepts { Accepts W.Placed
             (container_in S.container self.old.spec_ex sample) result self.old self.new }
-        ensures recorded { Extends W.tells W.keeps W.state
+        ensures recorded { Extends W.Placed
             (λ s. made (write (container_in S.container s sample))) self.old self.new }
-        ensures marked { Extends W.tells W.keeps W.state
+        ensures marked { Extends W.Placed
             (λ s. marked (write (container_in S.container s sample)) (mark_of result)) self.old self.new }
     {
         let outcome = self.output.accept_sample(sample, &mut self.fault);
@@ -183,11 +183,11 @@ impl<W: Medium> WavWriter<W> {
     /// have gone.
     #[inline(always)]
     pub fn write_samples<S: Sample + Copy>(&mut self, samples: &[S]) -> Result<()>
-        ensures accepts { Accepts W.tells W.keeps W.state
+        ensures accepts { Accepts W.Placed
             (containers_in S.container self.old.spec_ex samples.now) result self.old self.new }
-        ensures recorded { Extends W.tells W.keeps W.state
+        ensures recorded { Extends W.Placed
             (λ s. made (write (containers_in S.container s samples.now))) self.old self.new }
-        ensures marked { Extends W.tells W.keeps W.state
+        ensures marked { Extends W.Placed
             (λ s. marked (write (containers_in S.container s samples.now)) (mark_of result)) self.old self.new }
     {
         let outcome = self.output.accept_samples(samples, &mut self.fault);
@@ -207,11 +207,9 @@ impl<W: Medium> WavWriter<W> {
     /// of them are published and the medium is flushed. A recorder relies on it for checkpoints. Of
     /// a file the system has all bytes then; nothing here syncs them to the disk.
     pub fn flush(&mut self) -> Result<()>
-        ensures checkpoints { Checkpoints W.tells W.keeps W.state result self.old self.new }
-        ensures recorded { Extends W.tells W.keeps W.state
-            (λ _. made publish) self.old self.new }
-        ensures marked { Extends W.tells W.keeps W.state
-            (λ _. marked publish (mark_of result)) self.old self.new }
+        ensures checkpoints { Checkpoints W.Placed result self.old self.new }
+        ensures recorded { Extends W.Placed (λ _. made publish) self.old self.new }
+        ensures marked { Extends W.Placed (λ _. marked publish (mark_of result)) self.old self.new }
     {
         self.output.publish_all(true, &mut self.fault)
     }
@@ -221,10 +219,10 @@ impl<W: Medium> WavWriter<W> {
     ///
     /// The errors are those of [`WavWriter::finalize_into`], which also returns the medium.
     pub fn finalize(self) -> Result<()>
-        ensures finishes { (end : W) × Finishes W.tells W.keeps W.state self result end }
-        ensures left { (end : W) × Ends W.tells W.keeps W.state (made publish) self end }
+        ensures finishes { (end : W) × Finishes W.Placed self result end }
+        ensures left { (end : W) × Ends W.Placed (made publish) self end }
         ensures marked { (end : W)
-            × Ends W.tells W.keeps W.state (marked publish (mark_of result)) self end }
+            × Ends W.Placed (marked publish (mark_of result)) self end }
     {
         let (_, result) = self.finalize_into();
         result
@@ -244,9 +242,9 @@ impl<W: Medium> WavWriter<W> {
     /// Ok(tape.into_bytes())
     /// ```
     pub fn finalize_into(self) -> (W, Result<()>)
-        ensures finishes { Finishes W.tells W.keeps W.state self result.1 result.0 }
-        ensures left { Ends W.tells W.keeps W.state (made publish) self result.0 }
-        ensures marked { Ends W.tells W.keeps W.state (marked publish (mark_of result.1)) self result.0 }
+        ensures finishes { Finishes W.Placed self result.1 result.0 }
+        ensures left { Ends W.Placed (made publish) self result.0 }
+        ensures marked { Ends W.Placed (marked publish (mark_of result.1)) self result.0 }
     {
         let WavWriter {
             mut output,
@@ -260,8 +258,8 @@ impl<W: Medium> WavWriter<W> {
     /// [`WavWriter::finalize_into`] does, and its error goes unseen.
     pub fn drop_into(self) -> W
         ensures finishes { (answer : Result Unit Error)
-            × Finishes W.tells W.keeps W.state self answer result }
-        ensures left { Ends W.tells W.keeps W.state (made publish) self result }
+            × Finishes W.Placed self answer result }
+        ensures left { Ends W.Placed (made publish) self result }
     {
         let (writer, _) = self.finalize_into();
         writer
@@ -271,7 +269,7 @@ impl<W: Medium> WavWriter<W> {
     /// with the bytes that a sample takes.
     pub fn spec_ex(&self) -> WavSpecEx
         ensures spec { result ≡ self.now.spec_ex }
-        ensures valid { IsValid W.tells W.state self.now }
+        ensures valid { IsValid W.Placed self.now }
     {
         self.output.spec_ex()
     }
@@ -280,7 +278,7 @@ impl<W: Medium> WavWriter<W> {
     /// It shows whether batches can be written: integers of 16 bits.
     pub fn spec(&self) -> WavSpec
         ensures spec { result ≡ self.now.spec_ex.spec }
-        ensures valid { IsValid W.tells W.state self.now }
+        ensures valid { IsValid W.Placed self.now }
     {
         self.spec_ex().spec
     }
@@ -289,7 +287,7 @@ impl<W: Medium> WavWriter<W> {
     /// each channel. Divided by the sample rate it is the time in seconds.
     pub fn duration(&self) -> u32
         ensures frames { result ≡ sample_count self.now / self.now.spec_ex.spec.channels }
-        ensures valid { IsValid W.tells W.state self.now }
+        ensures valid { IsValid W.Placed self.now }
     {
         self.len() / self.spec().channels as u32
     }
@@ -298,7 +296,7 @@ impl<W: Medium> WavWriter<W> {
     /// accepted, whether buffered or written, and those that a file had before it was appended to.
     pub fn len(&self) -> u32
         ensures samples { result ≡ sample_count self.now }
-        ensures valid { IsValid W.tells W.state self.now }
+        ensures valid { IsValid W.Placed self.now }
     {
         self.output.len()
     }
@@ -312,8 +310,8 @@ impl<W: Medium> Drop for WavWriter<W> {
 
     fn drop(self)
         ensures finishes { (answer : Result Unit Error) × (end : W)
-            × Finishes W.tells W.keeps W.state self answer end }
-        ensures left { (end : W) × Ends W.tells W.keeps W.state (made publish) self end }
+            × Finishes W.Placed self answer end }
+        ensures left { (end : W) × Ends W.Placed (made publish) self end }
     {
         let _ = self.finalize_into();
     }

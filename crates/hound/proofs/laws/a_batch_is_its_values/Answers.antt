@@ -3,5 +3,5 @@ use Rattle.hound.proofs.laws.a_batch_is_its_values.Goals as goal
 
 pub returns : goal.returns
 returns g x tells first a b c whole sixteen two same batch each =
-    same_samples g.M.Placed.tells g.M.Placed.keeps g.M.Placed.state tells x.args.values.now first
+    same_samples g.M.Placed tells x.args.values.now first
     a b c whole sixteen two same batch each

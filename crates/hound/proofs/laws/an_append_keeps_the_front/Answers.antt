@@ -4,4 +4,4 @@ use Rattle.hound.proofs.laws.an_append_keeps_the_front.Goals as goal
 pub returns : goal.returns
 returns g c told =
     let M = g.M.Placed in
-    front_left M.tells M.keeps M.state told
+    front_left M told

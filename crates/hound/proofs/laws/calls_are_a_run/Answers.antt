@@ -5,5 +5,5 @@ use Rattle.hound.proofs.laws.calls_are_a_run.Goals as goal
 pub returns : goal.returns
 returns g x begin end old medium first last calls answer finished begins lead asked ends told =
     let M = g.M.Placed in
-    ran M.tells M.keeps M.state begin x.args.steps.now _ end old answer finished medium first last
+    ran M begin x.args.steps.now _ end old answer finished medium first last
     calls begins lead asked refl ends told (g.met.M.Medium.replays)

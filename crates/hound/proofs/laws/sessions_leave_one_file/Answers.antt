@@ -5,5 +5,5 @@ use Rattle.hound.proofs.laws.sessions_leave_one_file.Goals as goal
 pub returns : goal.returns
 returns g x told old new place empty some are =
     let M = g.M.Placed in
-    ((leave M.tells M.keeps M.state x.args.spec_ex old new told (λ m. g.met.M.Placed.bytes m told)
+    ((leave M x.args.spec_ex old new told (λ m. g.met.M.Placed.bytes m told)
     place x.args.sessions.now (Ok tt) are).file some).1 empty

@@ -4,9 +4,9 @@ use Rattle.hound.proofs.laws.what_is_kept.Goals as goal
 pub returns-clause-at_end : goal.returns-clause-at_end
 returns-clause-at_end g c told s file known medium left =
     let M = g.M.Placed in
-    left_holds M.tells M.keeps M.state s file known medium left told
+    left_holds M s file known medium left told
 
 pub returns-clause-kept : goal.returns-clause-kept
 returns-clause-kept g c told keeps s file known medium left =
     let M = g.M.Placed in
-    left_kept M.tells M.keeps M.state (g.met.M.Medium.replays) s file known medium left told keeps
+    left_kept M (g.met.M.Medium.replays) s file known medium left told keeps

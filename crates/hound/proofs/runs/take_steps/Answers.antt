@@ -17,7 +17,7 @@ loop-i-preserved g c =
     record {
       size = search rules;
       within = omega arith;
-      runs = marked_more g.M.Placed.tells g.M.Placed.keeps g.M.Placed.state c.args.steps.now
+      runs = marked_more g.M.Placed c.args.steps.now
           c.loop-i.marks i _ c.take_step-answer.result c.is_marked.result c.args.writer.now
           c.loop-i.writer c.take_step-answer.new.writer
           inside (omega (arith, loop.size, c.requires, inside)) c.is_marked.ensures loop.runs

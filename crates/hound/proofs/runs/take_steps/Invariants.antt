@@ -6,6 +6,5 @@ abbrev pub invariant-loop-i : goal.invariant-loop-i
 invariant-loop-i g l = record {
   size : length l.marks ≡ length l.fn.marks;
   within : l.i ≤ length l.steps;
-  runs : MarkedRun g.M.Placed.tells g.M.Placed.keeps g.M.Placed.state (take l.i l.steps)
-      (take l.i l.marks) l.fn.writer l.writer;
+  runs : MarkedRun g.M.Placed (take l.i l.steps) (take l.i l.marks) l.fn.writer l.writer;
 }

@@ -7,7 +7,7 @@ use Rattle.hound.proofs.sessions.append_sessions.Goals as goal
 pub returns-in-Err : goal.returns-in-Err
 returns-in-Err g c =
     let W = g.M.Placed in
-    leads_on (RunsOn W.tells W.keeps W.state Append) c.args.sessions.now c.loop-i.i c.args.medium
+    leads_on (RunsOn W Append) c.args.sessions.now c.loop-i.i c.args.medium
     c.loop-i.medium c.loop-i.invariant.leads _ c.loop-i-test.true _ _
     (inl (c.in-Err.error, refl, rw c.in-Err.is at c.append_session-back.ensures))
 
@@ -19,7 +19,7 @@ loop-i-preserved g c =
     record {
       within = omega arith;
       leads = λ answer medium others.
-          leads_on (RunsOn W.tells W.keeps W.state Append) c.args.sessions.now c.loop-i.i
+          leads_on (RunsOn W Append) c.args.sessions.now c.loop-i.i
           c.args.medium c.loop-i.medium c.loop-i.invariant.leads _ c.loop-i-test.true answer medium
           (inr (again.result.0, rw ok at again.ensures, others));
     }

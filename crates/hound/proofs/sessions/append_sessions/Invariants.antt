@@ -7,6 +7,5 @@ use Rattle.hound.proofs.sessions.append_sessions.Given as goal
 abbrev pub invariant-loop-i : goal.invariant-loop-i
 invariant-loop-i g l = record {
   within : l.i ≤ length l.sessions;
-  leads : Leads (RunsOn g.M.Placed.tells g.M.Placed.keeps g.M.Placed.state Append) l.sessions
-      (drop l.i l.sessions) l.fn.medium l.medium;
+  leads : Leads (RunsOn g.M.Placed Append) l.sessions (drop l.i l.sessions) l.fn.medium l.medium;
 }

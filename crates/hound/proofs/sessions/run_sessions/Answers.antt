@@ -10,23 +10,23 @@ pub returns-in-Err : goal.returns-in-Err
 returns-in-Err g c =
     let W = g.M.Placed in
     let run = c.run_until_error-medium in
-    let runs = subst (λ l. RunsOn W.tells W.keeps W.state (New c.args.spec_ex) l c.args.medium
+    let runs = subst (λ l. RunsOn W (New c.args.spec_ex) l c.args.medium
     (Err c.in-Err.error) run.result.0) (sym c.in-Some.ensures.cases.0)
     (inl (
       c.in-Err.error,
       refl,
-      subst (λ r. RunsOnce W.tells W.keeps W.state
+      subst (λ r. RunsOnce W
           (New c.args.spec_ex) c.in-Some.first.now.now c.args.medium r run.result.0) c.in-Err.is
           run.ensures,
     )) in
     record {
       sessions = runs;
-      answered = sessions_answered W.tells W.keeps W.state c.args.spec_ex c.args.medium _
+      answered = sessions_answered W c.args.spec_ex c.args.medium _
           (λ told m. g.met.M.Placed.bytes m told) c.requires c.args.sessions.now
           (Err c.in-Err.error) runs;
       canonical = λ _ _. tt;
       exact = λ _ _ _. tt;
-      stops = λ told. (leave W.tells W.keeps W.state c.args.spec_ex c.args.medium _ told
+      stops = λ told. (leave W c.args.spec_ex c.args.medium _ told
           (λ m. g.met.M.Placed.bytes m told) (c.requires told) c.args.sessions.now
           (Err c.in-Err.error) runs).stops;
     }
@@ -38,19 +38,19 @@ returns g c =
     let on = c.append_sessions in
     let ok = is_ok run.result.1 c.in_default-answer.not-Err in
     let runs = subst (λ l.
-    RunsOn W.tells W.keeps W.state (New c.args.spec_ex) l c.args.medium on.result.1 on.result.0)
+    RunsOn W (New c.args.spec_ex) l c.args.medium on.result.1 on.result.0)
     (sym c.in-Some.ensures.cases.0)
     (inr (
       run.result.0,
-      subst (λ r. RunsOnce W.tells W.keeps W.state
+      subst (λ r. RunsOnce W
           (New c.args.spec_ex) c.in-Some.first.now.now c.args.medium r run.result.0) ok run.ensures,
       on.ensures,
     )) in
-    let left = λ (told : IsTrue W.tells). leave W.tells W.keeps W.state c.args.spec_ex c.args.medium on.result.0 told
+    let left = λ (told : IsTrue W.tells). leave W c.args.spec_ex c.args.medium on.result.0 told
     (λ m. g.met.M.Placed.bytes m told) (c.requires told) c.args.sessions.now on.result.1 runs in
     record {
       sessions = runs;
-      answered = sessions_answered W.tells W.keeps W.state c.args.spec_ex c.args.medium _
+      answered = sessions_answered W c.args.spec_ex c.args.medium _
           (λ told m. g.met.M.Placed.bytes m told) c.requires c.args.sessions.now on.result.1 runs;
       canonical = λ told some. on_ok_weaker on.result.1 (λ both. both.0) ((left told).file some);
       exact = λ told some empty.

@@ -7,7 +7,7 @@ pub returns-in-Err : goal.returns-in-Err
 returns-in-Err g c dropped medium ends =
     let W = g.M.Placed in
     let take = c.take_step in
-    leads_on (RunsUntil W.tells W.keeps W.state) c.args.steps.now c.loop-i.i c.args.writer.now
+    leads_on (RunsUntil W) c.args.steps.now c.loop-i.i c.args.writer.now
     c.loop-i.writer c.loop-i.invariant.leads _ c.loop-i-test.true _ medium
     (inl (
       c.in-Err.error,
@@ -25,7 +25,7 @@ loop-i-preserved g c =
     record {
       within = omega arith;
       leads = λ answer medium runs.
-          leads_on (RunsUntil W.tells W.keeps W.state) c.args.steps.now c.loop-i.i
+          leads_on (RunsUntil W) c.args.steps.now c.loop-i.i
           c.args.writer.now c.loop-i.writer c.loop-i.invariant.leads _ c.loop-i-test.true answer
           medium (inr (take.new.writer, rw c.in-Ok.is at take.ensures, runs));
     }

@@ -6,6 +6,5 @@ use Rattle.hound.proofs.sessions.take_until_error.Given as goal
 abbrev pub invariant-loop-i : goal.invariant-loop-i
 invariant-loop-i g l = record {
   within : l.i ≤ length l.steps;
-  leads : Leads (RunsUntil g.M.Placed.tells g.M.Placed.keeps g.M.Placed.state) l.steps
-      (drop l.i l.steps) l.fn.writer l.writer;
+  leads : Leads (RunsUntil g.M.Placed) l.steps (drop l.i l.steps) l.fn.writer l.writer;
 }

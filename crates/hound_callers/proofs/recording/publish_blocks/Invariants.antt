@@ -10,7 +10,7 @@ invariant-loop-i g l = record {
   spec : l.writer.spec_ex ≡ l.fn.writer.spec_ex;
   have : All (λ block. IsOk (containers_by g.S.Sample.container l.fn.writer.spec_ex block)) (take l.i l.blocks);
   published : (s : WavSpecEx) (file : Begun)
-      → Recorded g.M.Placed.tells g.M.Placed.keeps g.M.Placed.state s file [] l.fn.writer
-      → Recorded g.M.Placed.tells g.M.Placed.keeps g.M.Placed.state s file
+      → Recorded g.M.Placed s file [] l.fn.writer
+      → Recorded g.M.Placed s file
       (seen (published_calls (containers_by g.S.Sample.container s) (take l.i l.blocks))) l.writer;
 }

@@ -31,5 +31,5 @@ returns-clause-same g c told =
     c.a_batch_is_its_values.ensures told first (batch_writer values) last each whole c.requires.1
     c.in_ok-values.ensures.width c.loop-value.invariant.stays
     (subst (λ (x : List ℕ × Result (Unit {0}) Error).
-    Accepts W.tells W.keeps W.state (Ok (list x.0)) x.1 (batch_writer values) last)
+    Accepts W (Ok (list x.0)) x.1 (batch_writer values) last)
     (λ i. (bytes i, is i)) c.flush.ensures.accepts) went)

@@ -12,7 +12,7 @@ loop-i-init g c =
       within = omega arith;
       recorded = λ s file known first. (
         [],
-        subst (λ l. Recorded M.tells M.keeps M.state s file l c.args.writer.now)
+        subst (λ l. Recorded M s file l c.args.writer.now)
             (sym (append-nil known)) first,
         refl,
       );
@@ -32,7 +32,7 @@ loop-i-preserved g c =
           let (asked, is, all) = c.loop-i.invariant.recorded s file known first in
           let more = block_asks (f b) (i % 4 == 3) in (
             asked ++ more,
-            subst (λ l. Recorded M.tells M.keeps M.state s file l c.record_block.new.writer)
+            subst (λ l. Recorded M s file l c.record_block.new.writer)
                 (append_assoc known asked more) (c.record_block.ensures s file (known ++ asked) is),
             append_assoc asked more (recorder_asks f (i + 1) (drop (i + 1) blocks))
                 ∙ ap (λ l. asked ++ l) (sym (at_drop_more (recorder_asks f i) blocks i b

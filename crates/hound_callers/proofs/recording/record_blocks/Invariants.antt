@@ -9,8 +9,8 @@ invariant-loop-i g l =
     record {
       within : l.i ≤ length l.blocks;
       recorded : (s : WavSpecEx) (file : Begun) (known : List Known)
-          → Recorded M.tells M.keeps M.state s file known l.fn.writer
+          → Recorded M s file known l.fn.writer
           → let f = containers_by g.S.Sample.container s in (asked : List Known)
-          × Recorded M.tells M.keeps M.state s file (known ++ asked) l.writer
+          × Recorded M s file (known ++ asked) l.writer
           × (asked ++ recorder_asks f l.i (drop l.i l.blocks) ≡ recorder_asks f 0 l.blocks);
     }

@@ -6,8 +6,8 @@ abbrev pub invariant-loop-sample : goal.invariant-loop-sample
 invariant-loop-sample g l = record {
   spec : l.writer.spec_ex ≡ l.fn.writer.spec_ex;
   recorded : (s : WavSpecEx) (file : Begun) (known : List Known)
-      → Recorded g.M.Placed.tells g.M.Placed.keeps g.M.Placed.state s file known l.fn.writer
-      → Recorded g.M.Placed.tells g.M.Placed.keeps g.M.Placed.state s file
+      → Recorded g.M.Placed s file known l.fn.writer
+      → Recorded g.M.Placed s file
       (known ++ map (λ v. made (write (container_in g.S.Sample.container s v))) (take l.sample-index l.singles))
       l.writer;
 }

@@ -9,8 +9,7 @@ returns-in_default-Ok g c = elim c.run_session.ensures.session [
   | inl none ↦
       let both : Ok tt ≡ Err none.0 = sym c.in_default-Ok.is-1 ∙ none.1 in cc
   | inr ran ↦ record {
-    run = subst (λ (r : Result (Unit {0}) Error). Ran g.M.Placed.tells g.M.Placed.keeps
-        g.M.Placed.state (New c.args.spec_ex) c.args.steps.now c.run_session.new.marks Drop
+    run = subst (λ (r : Result (Unit {0}) Error). Ran g.M.Placed (New c.args.spec_ex) c.args.steps.now c.run_session.new.marks Drop
         c.args.medium r c.run_session.result.0) c.in_default-Ok.is-1 ran;
     kept = λ told keeps.
         c.what_is_kept.ensures.kept told keeps c.args.spec_ex

@@ -3,5 +3,5 @@ use Rattle.hound_writer.proofs.laws.a_block_is_its_samples.Goals as goal
 
 pub returns : goal.returns
 returns g x told samples a b c whole block each =
-    block_is_samples g.M.Placed.tells g.M.Placed.keeps g.M.Placed.state g.S.Sample.container told
+    block_is_samples g.M.Placed g.S.Sample.container told
     samples a b c whole block each

@@ -16,14 +16,14 @@ returns-clause-begins g c =
           let start = length-header s 0 0 in
           let sound = sound_begin c.put_all.new.medium s _ writable start in
           search rules;
-      file = λ tells. header_file g.W.Placed.keeps g.W.Placed.state s _ _ writable
+      file = λ tells. header_file g.W.Placed s _ _ writable
           (c.requires tells) (rw is at (c.in_ok-put_all.ensures tells));
     }
 
 pub returns-clause-recorded : goal.returns-clause-recorded
 returns-clause-recorded g c =
     let W = g.W.Placed in
-    recorded_new W.tells W.keeps W.state c.args.spec_ex (W.state c.args.writer.now) _
+    recorded_new W c.args.spec_ex (W.state c.args.writer.now) _
     (returns-clause-begins g c)
 
 pub returns-clause-at_most : goal.returns-clause-at_most
@@ -32,5 +32,5 @@ returns-clause-at_most g c tells =
     let s = c.args.spec_ex in
     let is = c.as_slice-bytes.ensures ∙ c.header_of-header.ensures in
     let writable : IsWritable s = search rules in
-    rw is (at_most_begin W.keeps W.state s _ _ writable (c.requires tells)
+    rw is (at_most_begin W s _ _ writable (c.requires tells)
     (rw is at (c.in_ok-put_all.ensures tells)))

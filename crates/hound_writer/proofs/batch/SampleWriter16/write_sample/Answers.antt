@@ -28,6 +28,6 @@ returns g c =
       stays = search rules;
       kept = length-i16_bytes _ ∙ ap (λ n. 2 * n) c.store.ensures.kept
           ∙ sym (length-i16_bytes _);
-      recorded = λ s file known. recorded_same W.tells W.keeps W.state s file known _ _
+      recorded = λ s file known. recorded_same W s file known _ _
           (search rules);
     }

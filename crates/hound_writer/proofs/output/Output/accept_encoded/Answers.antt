@@ -11,7 +11,7 @@ returns-then-not-put_block g c =
     let values = c.args.samples.now in
     let fits = fit g.S.Sample.container g.met.S.Sample.in_width values w c.requires.have
     c.requires.room in
-    accepts_cut W.tells W.keeps W.state _ w _ (sample_bytes g.S.Sample.container w.spec_ex values)
+    accepts_cut W _ w _ (sample_bytes g.S.Sample.container w.spec_ex values)
     c.put_block.new.fault c.if-not-put_block.ensures fits.room fits.whole
 
 pub returns-then-num_bytes-gt-BLOCK_LENGTH :
@@ -20,12 +20,12 @@ returns-then-num_bytes-gt-BLOCK_LENGTH g c =
     let W = g.W.Placed in
     let out = c.if-not-put_block.ensures in
     let once = c.accept_samples_at_once in
-    accepts_later W.tells W.keeps W.state _ _ _ _ _ out (kept_fails once.result _)
+    accepts_later W _ _ _ _ _ out (kept_fails once.result _)
     (rw out.value at once.ensures)
 
 pub returns : goal.returns
 returns g c =
     let W = g.W.Placed in
     let out = c.if-not-put_block.ensures in
-    accepts_later W.tells W.keeps W.state _ _ _ _ (Ok tt) out tt
+    accepts_later W _ _ _ _ (Ok tt) out tt
     (rw out.value at c.accept_samples_in_block-2.ensures)

@@ -6,5 +6,5 @@ pub returns : goal.returns
 returns g c =
     let W = g.W.Placed in
     rw (c.extend.ensures, ← c.self.view_is)
-    (accepts_buffered W.tells W.keeps W.state _ _ _ c.self.invariant c.args.bytes.now (search rules)
+    (accepts_buffered W _ _ _ c.self.invariant c.args.bytes.now (search rules)
     (search rules) (g.met.W.Medium.replays _))

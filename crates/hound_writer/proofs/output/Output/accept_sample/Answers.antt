@@ -9,7 +9,7 @@ use Rattle.hound_writer.proofs.output.Output.accept_sample.Goals.{in-TooWide, in
 pub returns-after-refusal : goal.returns-after-refusal
 returns-after-refusal g c =
     let W = g.W.Placed in
-    let refused = sample_refused W.tells W.keeps W.state _ _ _ c.self.invariant _ c.in-Err.refusal
+    let refused = sample_refused W _ _ _ c.self.invariant _ c.in-Err.refusal
     c.in-Err.ensures (g.met.W.Medium.replays _) in
     rw (← c.self.view_is)
     (elim c.match-refusal.branch [
@@ -28,8 +28,8 @@ returns-then-len-self g c =
     let is = encoded_bytes _ _ s.bytes_per_sample (λ b e. (sized b e).0) c.in-Ok.ensures in
     let width = sized _ is in
     rw (c.push.ensures, ← c.self.view_is)
-    (sample_accepts W.tells W.keeps W.state _ _ _ known _ _ (Ok tt) _ is width.0
-    (accepts_buffered W.tells W.keeps W.state _ _ _ known (take s.bytes_per_sample c.in-Ok.container)
+    (sample_accepts W _ _ _ known _ _ (Ok tt) _ is width.0
+    (accepts_buffered W _ _ _ known (take s.bytes_per_sample c.in-Ok.container)
     (omega (
       arith,
       width,
@@ -47,5 +47,5 @@ returns-else-len-self g c =
     let sized = g.met.S.Sample.in_width c.args.sample s.spec.bits_per_sample s.bytes_per_sample in
     let is = encoded_bytes _ _ s.bytes_per_sample (λ b e. (sized b e).0) c.in-Ok.ensures in
     rw (← c.self.view_is)
-    (sample_accepts W.tells W.keeps W.state _ _ _ c.self.invariant _ _ _ _ is (sized _ is).0
+    (sample_accepts W _ _ _ c.self.invariant _ _ _ _ is (sized _ is).0
     (rw (← c.self.view_is) at c.accept_slowly.ensures))

@@ -11,8 +11,7 @@ returns-then-not-have_containers g c =
     let W = g.W.Placed in
     let outcome = c.first_outcome in
     rw (← c.self.view_is)
-    (many_refused g.S.Sample.container g.met.S.Sample.in_width c.args.samples.now W.tells
-    W.keeps W.state _ _ _ c.self.invariant
+    (many_refused g.S.Sample.container g.met.S.Sample.in_width c.args.samples.now W _ _ _ c.self.invariant
     (g.met.W.Medium.replays _) outcome.result
     c.args.fault.now outcome.ensures
     (λ is. false≢true (sym c.if-not-have_containers.true ∙ c.have_containers.ensures
@@ -22,8 +21,7 @@ pub returns-then-len-samples : goal.returns-then-len-samples
 returns-then-len-samples g c =
     let W = g.W.Placed in
     rw (← c.self.view_is)
-    (many_asked g.S.Sample.container g.met.S.Sample.in_width c.args.samples.now W.tells W.keeps
-    W.state _ _ _ c.self.invariant (Ok tt) _
+    (many_asked g.S.Sample.container g.met.S.Sample.in_width c.args.samples.now W _ _ _ c.self.invariant (Ok tt) _
     (sym c.have_containers.ensures ∙ c.if-not-have_containers.false)
     (rw (← c.self.view_is) at c.accept_samples_in_block.ensures))
 
@@ -31,8 +29,7 @@ pub returns-then-samples : goal.returns-then-samples
 returns-then-samples g c =
     let W = g.W.Placed in
     rw (← c.self.view_is)
-    (too_many g.S.Sample.container g.met.S.Sample.in_width c.args.samples.now W.tells W.keeps
-    W.state _ _ _ c.self.invariant
+    (too_many g.S.Sample.container g.met.S.Sample.in_width c.args.samples.now W _ _ _ c.self.invariant
     (g.met.W.Medium.replays _)
     (sym c.have_containers.ensures ∙ c.if-not-have_containers.false) c.if-samples.true)
 
@@ -41,8 +38,7 @@ returns-then-not-has_room g c =
     let W = g.W.Placed in
     let fits = rw (← c.self.view_is) at c.has_room.ensures.room in
     rw (← c.self.view_is)
-    (many_too_long g.S.Sample.container g.met.S.Sample.in_width c.args.samples.now W.tells W.keeps
-    W.state _ _ _ c.self.invariant
+    (many_too_long g.S.Sample.container g.met.S.Sample.in_width c.args.samples.now W _ _ _ c.self.invariant
     (g.met.W.Medium.replays _)
     (sym c.have_containers.ensures ∙ c.if-not-have_containers.false)
     (λ room. false≢true (sym c.if-not-has_room.true ∙ fits.1 room)))
@@ -52,8 +48,7 @@ pub returns-then-not-accept_encoded :
 returns-then-not-accept_encoded g c =
     let W = g.W.Placed in
     rw (← c.self.view_is)
-    (many_asked g.S.Sample.container g.met.S.Sample.in_width c.args.samples.now W.tells W.keeps
-    W.state _ _ _ c.self.invariant (Err (IoError c.accept_encoded.new.fault)) _
+    (many_asked g.S.Sample.container g.met.S.Sample.in_width c.args.samples.now W _ _ _ c.self.invariant (Err (IoError c.accept_encoded.new.fault)) _
     (sym c.have_containers.ensures ∙ c.if-not-have_containers.false)
     (rw (← c.self.view_is) at c.if-not-accept_encoded.ensures))
 
@@ -61,8 +56,7 @@ pub returns : goal.returns
 returns g c =
     let W = g.W.Placed in
     rw (← c.self.view_is)
-    (many_asked g.S.Sample.container g.met.S.Sample.in_width c.args.samples.now W.tells W.keeps
-    W.state _ _ _ c.self.invariant (Ok tt) _
+    (many_asked g.S.Sample.container g.met.S.Sample.in_width c.args.samples.now W _ _ _ c.self.invariant (Ok tt) _
     (sym c.have_containers.ensures ∙ c.if-not-have_containers.false)
     (rw (← c.self.view_is) at c.if-not-accept_encoded.ensures))
 

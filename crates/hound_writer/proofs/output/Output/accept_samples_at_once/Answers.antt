@@ -11,7 +11,7 @@ invariant_of-self g c =
     let i = c.self.inside in
     let none : i.block ≡ [] = search rules in
     rw (c.clear.ensures, ← none, c.if-not-put_samples_at_end.ensures.moved)
-    (cut_at_once W.tells W.keeps W.state _ _ _ c.self.invariant none _
+    (cut_at_once W _ _ _ c.self.invariant none _
     (sample_bytes g.S.Sample.container i.spec_ex c.args.samples.now) false
     c.if-not-put_samples_at_end.ensures.puts)
 
@@ -26,7 +26,7 @@ returns-then-not-put_samples_at_end g c =
     let fits = rw (← c.self.view_is) at (fit g.S.Sample.container g.met.S.Sample.in_width values
     c.args.self.now c.requires.have c.requires.room) in
     rw (c.clear.ensures, ← none, ← c.self.view_is)
-    (accepts_none W.tells W.keeps W.state _ none known.sound known.at_most _
+    (accepts_none W _ none known.sound known.at_most _
     (sample_bytes g.S.Sample.container i.spec_ex values) fits.room fits.whole _
     c.if-not-put_samples_at_end.ensures.puts (g.met.W.Medium.replays _))
 
@@ -42,7 +42,7 @@ invariant_of-self-2 g c =
     let more : length values * i.spec_ex.bytes_per_sample ≡ length bytes = omega
     (arith, fits.size) in
     rw (c.clear-2.ensures, ← none, more, c.if-not-put_samples_at_end.ensures.moved)
-    (kept_at_once W.tells W.keeps W.state _ _ _ c.self.invariant none _ bytes _
+    (kept_at_once W _ _ _ c.self.invariant none _ bytes _
     (rw more at c.fast_path_limit_of-self-inside.ensures.room) fits.room fits.whole
     c.if-not-put_samples_at_end.ensures.puts)
 
@@ -59,5 +59,5 @@ returns g c =
     let more : length values * i.spec_ex.bytes_per_sample ≡ length bytes = omega
     (arith, fits.size) in
     rw (c.clear-2.ensures, ← none, more, ← c.self.view_is)
-    (accepts_all W.tells W.keeps W.state _ none known.sound known.at_most _ bytes
+    (accepts_all W _ none known.sound known.at_most _ bytes
     fits.room fits.whole c.if-not-put_samples_at_end.ensures.puts (g.met.W.Medium.replays _))

@@ -13,7 +13,7 @@ invariant_of-self g c =
     c.args.self.now c.requires.have c.requires.room) in
     let few = rw (← c.self.view_is) at c.requires.few in
     rw c.extend_by.ensures
-    (consistent_longer W.tells W.keeps W.state _ _ _ c.self.invariant
+    (consistent_longer W _ _ _ c.self.invariant
     (sample_bytes g.S.Sample.container i.spec_ex values) fits.room fits.whole
     (omega (arith, few, fits.size)))
 
@@ -25,6 +25,6 @@ returns g c =
     let fits = rw (← c.self.view_is) at (fit g.S.Sample.container g.met.S.Sample.in_width values
     c.args.self.now c.requires.have c.requires.room) in
     rw (c.extend_by.ensures, ← c.self.view_is)
-    (accepts_buffered W.tells W.keeps W.state _ _ _ c.self.invariant
+    (accepts_buffered W _ _ _ c.self.invariant
     (sample_bytes g.S.Sample.container i.spec_ex values) fits.room fits.whole
     (g.met.W.Medium.replays i.writer))

@@ -13,7 +13,7 @@ returns-then-not-has_room g c =
     let same : wide ≡ c.self.inside.spec_ex.bytes_per_sample =
     ap (λ w. w.spec_ex.bytes_per_sample) (sym c.self.view_is) in
     let size : length (take wide c.args.container) ≡ wide = search rules in
-    bytes_too_long W.tells W.keeps W.state w (take wide c.args.container) c.has_room.ensures.valid.counts
+    bytes_too_long W w (take wide c.args.container) c.has_room.ensures.valid.counts
     (g.met.W.Medium.replays w.medium) (one_whole _ _ size)
     (λ room.
     absurd (false≢true (sym c.if-not-has_room.true
@@ -26,7 +26,7 @@ returns-then-not-put_block g c =
     let bytes = take w.spec_ex.bytes_per_sample c.args.container in
     let size : length bytes ≡ w.spec_ex.bytes_per_sample = search rules in
     let room = c.has_room.ensures.room.0 c.if-not-has_room.false in
-    accepts_cut W.tells W.keeps W.state _ w _ bytes c.put_block.new.fault c.if-not-put_block.ensures
+    accepts_cut W _ w _ bytes c.put_block.new.fault c.if-not-put_block.ensures
     (search (rules, room, size)) (one_whole _ _ size)
 
 pub returns : goal.returns
@@ -34,5 +34,5 @@ returns g c =
     let W = g.W.Placed in
     let out = rw (← c.self.view_is) at c.if-not-put_block.ensures in
     rw (← c.self.view_is)
-    (accepts_later W.tells W.keeps W.state _ _ _ _ (Ok tt) out tt
+    (accepts_later W _ _ _ _ (Ok tt) out tt
     (rw out.value at c.accept_in_block-2.ensures))

@@ -3,4 +3,4 @@ use Rattle.hound_writer.proofs.output.Output.len.Goals as goal
 
 pub returns-clause-valid : goal.returns-clause-valid
 returns-clause-valid g c =
-    rw (← c.self.view_is) (valid_of g.W.Placed.tells g.W.Placed.state _ _ _ c.self.invariant)
+    rw (← c.self.view_is) (valid_of g.W.Placed _ _ _ c.self.invariant)

@@ -9,7 +9,7 @@ pub returns-then-not-put_block : goal.returns-then-not-put_block
 returns-then-not-put_block g c =
     let W = g.W.Placed in
     let first = c.args.self.now in
-    published_cut W.tells W.keeps W.state
+    published_cut W
     (data_end first) _ first c.put_block.new.self c.put_block.new.fault
     (omega arith) c.if-not-put_block.ensures (g.met.W.Placed.bytes first.medium)
 
@@ -18,9 +18,9 @@ returns-then-not-put_pad g c =
     let W = g.W.Placed in
     let first = c.args.self.now in
     let mid = c.put_block.new.self in
-    published_later W.tells W.keeps W.state (data_end first) _ first mid c.put_pad.new.self _
+    published_later W (data_end first) _ first mid c.put_pad.new.self _
     (omega arith) c.if-not-put_block.ensures (g.met.W.Placed.bytes first.medium)
-    (published_cut W.tells W.keeps W.state
+    (published_cut W
     (padded_end mid) _ mid c.put_pad.new.self c.put_pad.new.fault
     (omega arith) c.if-not-put_pad.ensures.goes (g.met.W.Placed.bytes mid.medium))
 
@@ -36,13 +36,13 @@ returns g c =
     let publish = c.publish-published in
     let e = publish.ensures in
     let at = place_after c.args.continues publish.new.self in
-    published_later W.tells W.keeps W.state
+    published_later W
     (data_end first) at first mid publish.new.self c.publish_result.result (omega arith) out
     (g.met.W.Placed.bytes first.medium)
-    (published_later W.tells W.keeps W.state
+    (published_later W
     (padded_end mid) at mid padded publish.new.self c.publish_result.result (omega arith) pad.goes
     (g.met.W.Placed.bytes mid.medium)
-    (publishes_to W.tells W.keeps W.state padded publish.new.self.medium none e.sound e.at_most
+    (publishes_to W padded publish.new.self.medium none e.sound e.at_most
     (λ told.
     pad.padded told refl) publish.result c.are_frames.result c.publish_result.result c.publish_result.ensures
     publish.new.self e.stays c.are_frames.ensures (g.met.W.Placed.bytes padded.medium)

@@ -6,28 +6,28 @@ pub returns-then-len-eq0 : goal.returns-then-len-eq0
 returns-then-len-eq0 g c =
     let W = g.W.Placed in
     rw (← c.self.view_is)
-    (goes_out_nothing W.tells W.keeps W.state _ _ _ _ c.self.invariant
+    (goes_out_nothing W _ _ _ _ c.self.invariant
     (g.met.W.Medium.replays _) (search rules))
 
 pub invariant_of-self : goal.invariant_of-self
 invariant_of-self g c =
     let W = g.W.Placed in
     rw c.if-not-put_at_end.ensures.moved
-    (consistent_cut W.tells W.keeps W.state _ _ _ c.self.invariant (g.met.W.Medium.replays _) _
+    (consistent_cut W _ _ _ c.self.invariant (g.met.W.Medium.replays _) _
     (rw c.as_slice-bytes.ensures at c.if-not-put_at_end.ensures.puts))
 
 pub returns-then-not-put_at_end : goal.returns-then-not-put_at_end
 returns-then-not-put_at_end g c =
     let W = g.W.Placed in
     rw (← c.self.view_is)
-    (goes_out W.tells W.keeps W.state _ _ _ c.self.invariant (g.met.W.Medium.replays _) _ false
+    (goes_out W _ _ _ c.self.invariant (g.met.W.Medium.replays _) _ false
     (rw c.as_slice-bytes.ensures at c.if-not-put_at_end.ensures.puts))
 
 pub invariant_of-self-2 : goal.invariant_of-self-2
 invariant_of-self-2 g c =
     let W = g.W.Placed in
     rw (c.len-2.ensures.length, c.clear.ensures, c.if-not-put_at_end.ensures.moved)
-    (consistent_out W.tells W.keeps W.state _ _ _ c.self.invariant (g.met.W.Medium.replays _) _ _
+    (consistent_out W _ _ _ c.self.invariant (g.met.W.Medium.replays _) _ _
     (rw c.len-2.ensures.length at c.fast_path_limit_of-self-inside.ensures.room)
     (rw c.as_slice-bytes.ensures at c.if-not-put_at_end.ensures.puts))
 
@@ -35,5 +35,5 @@ pub returns : goal.returns
 returns g c =
     let W = g.W.Placed in
     rw (c.len-2.ensures.length, c.clear.ensures, ← c.self.view_is)
-    (goes_out W.tells W.keeps W.state _ _ _ c.self.invariant (g.met.W.Medium.replays _) _ true
+    (goes_out W _ _ _ c.self.invariant (g.met.W.Medium.replays _) _ true
     (rw c.as_slice-bytes.ensures at c.if-not-put_at_end.ensures.puts))

@@ -7,13 +7,13 @@ pub returns-then-self-eq0-clause-goes : goal.returns-then-self-eq0-clause-goes
 returns-then-self-eq0-clause-goes g c =
     let W = g.W.Placed in
     rw (← c.self.view_is)
-    (goes_out_nothing W.tells W.keeps W.state _ _ _ _ c.self.invariant
+    (goes_out_nothing W _ _ _ _ c.self.invariant
     (g.met.W.Medium.replays c.self.inside.writer) (search rules))
 
 pub invariant_of-self : goal.invariant_of-self
 invariant_of-self g c =
     let W = g.W.Placed in
-    cut_at_once W.tells W.keeps W.state _ _ _ c.self.invariant
+    cut_at_once W _ _ _ c.self.invariant
     (search rules) c.put_at_end-is_put.new.medium _ c.put_at_end-is_put.result
     c.put_at_end-is_put.ensures.puts
 
@@ -22,12 +22,12 @@ returns-clause-goes g c =
     let W = g.W.Placed in
     let put = c.put_at_end-is_put in
     rw (← c.self.view_is)
-    (goes_out W.tells W.keeps W.state _ _ _ c.self.invariant (search rules)
+    (goes_out W _ _ _ c.self.invariant (search rules)
     (g.met.W.Medium.replays _) c.if-self-eq0.false put.new.medium put.result put.ensures.puts)
 
 pub returns-clause-padded : goal.returns-clause-padded
 returns-clause-padded g c =
     let W = g.W.Placed in
     let put = c.put_at_end-is_put in
-    padded_odd W.tells W.keeps W.state _ _ _ c.self.invariant (search rules)
+    padded_odd W _ _ _ c.self.invariant (search rules)
     (g.met.W.Medium.replays _) c.if-self-eq0.false put.new.medium put.result put.ensures.puts

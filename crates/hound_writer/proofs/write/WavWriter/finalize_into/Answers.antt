@@ -10,17 +10,17 @@ returns-clause-finishes g c =
     let W = g.W.Placed in
     let publish = c.publish_all-result in
     rw c.into_medium.ensures
-    (finishes_of W.tells W.keeps W.state publish.result c.args.self publish.new.self (search rules))
+    (finishes_of W publish.result c.args.self publish.new.self (search rules))
 
 pub returns-clause-left : goal.returns-clause-left
 returns-clause-left g c s file known so_far =
     let W = g.W.Placed in
-    left_by W.tells W.keeps W.state (made publish) c.publish_all-result.result s file known c.args.self
+    left_by W (made publish) c.publish_all-result.result s file known c.args.self
     c.into_medium.result (refl, tt) (returns-clause-finishes g c) so_far
 
 pub returns-clause-marked : goal.returns-clause-marked
 returns-clause-marked g c s file known so_far =
     let W = g.W.Placed in
-    left_by W.tells W.keeps W.state (marked publish (mark_of c.publish_all-result.result))
+    left_by W (marked publish (mark_of c.publish_all-result.result))
     c.publish_all-result.result s file known c.args.self c.into_medium.result (refl, refl)
     (returns-clause-finishes g c) so_far

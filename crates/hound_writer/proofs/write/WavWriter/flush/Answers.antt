@@ -7,11 +7,11 @@ use Rattle.hound_writer.proofs.write.WavWriter.flush.Goals as goal
 pub returns-clause-recorded : goal.returns-clause-recorded
 returns-clause-recorded g c s file known so_far =
     let W = g.W.Placed in
-    recorded_flush W.tells W.keeps W.state (made publish) c.publish_all.result s file known
+    recorded_flush W (made publish) c.publish_all.result s file known
     _ _ (refl, tt) so_far (search rules)
 
 pub returns-clause-marked : goal.returns-clause-marked
 returns-clause-marked g c s file known so_far =
     let W = g.W.Placed in
-    recorded_flush W.tells W.keeps W.state (marked publish (mark_of c.publish_all.result))
+    recorded_flush W (marked publish (mark_of c.publish_all.result))
     c.publish_all.result s file known _ _ (refl, refl) so_far (search rules)

@@ -6,13 +6,13 @@ pub returns-in-Ok-clause-appends : goal.returns-in-Ok-clause-appends
 returns-in-Ok-clause-appends g c =
     let old = g.W.Placed.state c.args.writer in
     let mid = g.W.Placed.state c.find_data-writer.result.0 in
-    answer_after g.W.Placed.tells g.W.Placed.state c.in-Ok.head old mid _
+    answer_after g.W.Placed c.in-Ok.head old mid _
     (rw c.in-Ok.is at c.find_data-writer.ensures.finds) c.append_at.ensures
 
 pub returns-in-Ok-clause-recorded : goal.returns-in-Ok-clause-recorded
 returns-in-Ok-clause-recorded g c =
     let W = g.W.Placed in
-    recorded_appended W.tells W.keeps W.state _ (W.state c.args.writer) c.append_at.result
+    recorded_appended W _ (W.state c.args.writer) c.append_at.result
     (returns-in-Ok-clause-appends g c)
 
 pub returns-in-Err-clause-appends : goal.returns-in-Err-clause-appends

@@ -7,27 +7,27 @@ use Rattle.hound_writer.proofs.write.WavWriter.write_sample.Goals as goal
 pub returns-in-Accepted-clause-recorded : goal.returns-in-Accepted-clause-recorded
 returns-in-Accepted-clause-recorded g c s file known so_far =
     let W = g.W.Placed in
-    recorded_write W.tells W.keeps W.state made
+    recorded_write W made
     (λ x. one (g.S.Sample.container c.args.sample x.spec.bits_per_sample x.bytes_per_sample))
     (Ok tt) s file known _ _ (λ _. (refl, tt)) so_far (search rules)
 
 pub returns-in-Accepted-clause-marked : goal.returns-in-Accepted-clause-marked
 returns-in-Accepted-clause-marked g c s file known so_far =
     let W = g.W.Placed in
-    recorded_write W.tells W.keeps W.state (λ asked. marked asked (mark_of {T = Unit {0}} (Ok tt)))
+    recorded_write W (λ asked. marked asked (mark_of {T = Unit {0}} (Ok tt)))
     (λ x. one (g.S.Sample.container c.args.sample x.spec.bits_per_sample x.bytes_per_sample))
     (Ok tt) s file known _ _ (λ _. (refl, refl)) so_far (search rules)
 
 pub returns-clause-recorded : goal.returns-clause-recorded
 returns-clause-recorded g c s file known so_far =
     let W = g.W.Placed in
-    recorded_write W.tells W.keeps W.state made
+    recorded_write W made
     (λ x. one (g.S.Sample.container c.args.sample x.spec.bits_per_sample x.bytes_per_sample))
     (Err c.error_of_outcome.result) s file known _ _ (λ _. (refl, tt)) so_far (search rules)
 
 pub returns-clause-marked : goal.returns-clause-marked
 returns-clause-marked g c s file known so_far =
     let W = g.W.Placed in
-    recorded_write W.tells W.keeps W.state (λ asked. marked asked (mark_of {T = Unit {0}} (Err c.error_of_outcome.result)))
+    recorded_write W (λ asked. marked asked (mark_of {T = Unit {0}} (Err c.error_of_outcome.result)))
     (λ x. one (g.S.Sample.container c.args.sample x.spec.bits_per_sample x.bytes_per_sample))
     (Err c.error_of_outcome.result) s file known _ _ (λ _. (refl, refl)) so_far (search rules)
