@@ -84,19 +84,26 @@ def found(data):
     return (spec, info.data_start, info.frames * info.channels, samples), Cause(-n) if n else None
 
 
-def files():
-    """The bytes of each row that reads, and four files that are cut at each byte."""
-    seen = set()
-    with open(os.path.join(TOP, "crates", "hound_rows", "stdin")) as rows:
-        for line in rows:
+def rows():
+    """The words of each row, whose names are known then."""
+    with open(os.path.join(TOP, "crates", "hound_rows", "stdin")) as lines:
+        for line in lines:
             words = line.rstrip("\n").split(" ")
             if words[0] == "let":
                 model.answer(line.rstrip("\n"))
-            elif words[0] in ("read", "riff") and len(words) > 1:
-                data = model.bytes_of(words[1])
-                if data not in seen:
-                    seen.add(data)
-                    yield data
+            else:
+                yield words
+
+
+def files():
+    """The bytes of each row that reads, and four files that are cut at each byte."""
+    seen = set()
+    for words in rows():
+        if words[0] in ("read", "riff") and len(words) > 1:
+            data = model.bytes_of(words[1])
+            if data not in seen:
+                seen.add(data)
+                yield data
     for bits, width in ((8, 0), (16, 0), (24, 4), (32, 0)):
         data = bytes(hound.to_bytes(array.array("i", [1, -2, 100, -128]), 44100, 2, bits, width))
         for length in range(len(data) + 1):
@@ -191,22 +198,24 @@ def repaired(how, data):
     return [*words, "float" if spec.sample_format else "int", str(spec.bytes_per_sample)], bytes(memory[:n])
 
 
-def check_repairs():
-    """Repairs the files of the rows that do, and each beginning where a row asks for them."""
-    count = 0
-    with open(os.path.join(TOP, "crates", "hound_rows", "stdin")) as rows:
-        for line in rows:
-            words = line.rstrip("\n").split(" ")
-            if words[0] != "repair" or words[1] not in REPAIRS:
-                continue
+def repairs():
+    """The files of the rows that repair, and each beginning where a row requests them, for both repairs."""
+    for words in rows():
+        if words[0] == "repair" and words[1] in REPAIRS:
             data = model.bytes_of(words[2])
             for length in range(len(data) + 1) if "cuts" in words else [len(data)]:
                 for how in REPAIRS:
-                    (wanted, left), (got, memory) = repaired_by_model(how, data[:length]), repaired(how, data[:length])
-                    same = got <= wanted if isinstance(wanted, set) and isinstance(got, set) else got == wanted
-                    if not same or memory != left:
-                        sys.exit(f"rows: the repair {how} of {data[:length].hex()} gives {got} and not {wanted}")
-                    count += 1
+                    yield how, data[:length]
+
+
+def check_repairs():
+    """Repairs these files."""
+    count = 0
+    for count, (how, data) in enumerate(repairs(), 1):
+        (wanted, left), (got, memory) = repaired_by_model(how, data), repaired(how, data)
+        same = got <= wanted if isinstance(wanted, set) and isinstance(got, set) else got == wanted
+        if not same or memory != left:
+            sys.exit(f"rows: the repair {how} of {data.hex()} gives {got} and not {wanted}")
     return count
 
 

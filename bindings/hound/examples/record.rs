@@ -1,8 +1,9 @@
 //! Records the samples of standard input, little-endian, of 16 bits, one channel and 44100 Hz. After every so many a
 //! checkpoint makes the file's header count all, and prints how many they are. After an error the program continues, and
-//! prints how many samples were lost.
+//! prints how many samples were lost. It appends to the file, with `append`, and the checkpoints survive a loss of power,
+//! with `durable`.
 //!
-//!     arecord -t raw -f S16_LE -r 44100 | record FILE SAMPLES [durable|append]
+//!     arecord -t raw -f S16_LE -r 44100 | record FILE SAMPLES [append] [durable]
 use hound::{SampleFormat, WavSpec, WavWriter};
 use std::io::{self, Read};
 use std::{env, process};
@@ -11,10 +12,12 @@ fn main() -> hound::Result<()> {
     let words: Vec<String> = env::args().collect();
     let every: u64 = words[2].parse().expect("a number of samples");
     let spec = WavSpec { channels: 1, sample_rate: 44100, bits_per_sample: 16, sample_format: SampleFormat::Int };
-    let mut writer = match words.get(3).map(String::as_str) {
-        Some("durable") => WavWriter::create_durable(&words[1], spec)?,
-        Some("append") => WavWriter::append(&words[1])?,
-        _ => WavWriter::create(&words[1], spec)?,
+    let has = |word: &str| words[3..].iter().any(|other| other == word);
+    let mut writer = match (has("append"), has("durable")) {
+        (false, false) => WavWriter::create(&words[1], spec)?,
+        (false, true) => WavWriter::create_durable(&words[1], spec)?,
+        (true, false) => WavWriter::append(&words[1])?,
+        (true, true) => WavWriter::append_durable(&words[1])?,
     };
 
     let mut errors = 0;

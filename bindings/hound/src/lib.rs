@@ -35,8 +35,9 @@
 //! ```
 //!
 //! What hound doesn't have is marked "own": [`WavReader::read_samples`], [`WavWriter::write_samples`],
-//! [`WavWriter::create_durable`], [`repair_file`]. The crate `hound_bindings`, which can be used beside it, looks
-//! for damage and writes nothing (`find_damage`), and scales integers to floats and back (`to_f32`, `from_f32`).
+//! [`WavWriter::create_durable`], [`WavWriter::append_durable`], [`repair_file`]. The crate `hound_bindings`, which
+//! can be used beside it, looks for damage and writes nothing (`find_damage`), and scales integers to floats and back
+//! (`to_f32`, `from_f32`).
 //!
 //! # Differences from hound 3.5.1
 //!
@@ -53,7 +54,7 @@
 //! Writing:
 //!
 //! - A pad byte, which the RIFF size counts, follows odd data.
-//! - Up to 4096 samples are buffered, and 64 KiB more by [`WavWriter::create`], `append` and `create_durable`: a
+//! - Up to 4096 samples are buffered, and 64 KiB more where a writer opens its file, as [`WavWriter::create`] does: a
 //!   program that is killed loses what came after its last `flush`, as far as it was there. A fault is reported
 //!   by the call that meets it; the samples that were accepted stay in the buffer, and the next call writes
 //!   them at their place. Where a disk is full, repeat `flush` once there is room, before `finalize`.

@@ -279,18 +279,13 @@ impl<W: Read + Write + Seek> WavWriter<W> {
 impl WavWriter<io::BufWriter<fs::File>> {
     /// Creates a file, over one that there was, and writes its header.
     pub fn create<P: AsRef<path::Path>>(filename: P, spec: WavSpec) -> Result<WavWriter<io::BufWriter<fs::File>>> {
-        WavWriter::new(io::BufWriter::with_capacity(16 * BLOCK, fs::File::create(filename)?), spec)
+        WavWriter::over(fs::File::create(filename)?, spec)
     }
 
     /// Appends to a file as `new_append` does: call [`repair_file`](crate::repair_file) first if its recording
     /// was cut off.
     pub fn append<P: AsRef<path::Path>>(filename: P) -> Result<WavWriter<io::BufWriter<fs::File>>> {
-        let mut reader = io::BufReader::new(fs::OpenOptions::new().read(true).write(true).open(filename)?);
-        let info = Walk::over(&mut reader)??;
-        let recorder = Recorder::append(&info)?;
-        let (place, mut file) = (recorder.place(0)?, reader.into_inner());
-        file.seek(SeekFrom::Start(place))?;
-        Ok(WavWriter::at(io::BufWriter::with_capacity(16 * BLOCK, file), place, info.spec.into(), recorder))
+        WavWriter::after(fs::OpenOptions::new().read(true).write(true).open(filename)?)
     }
 
     /// Creates a file that survives a loss of power (own). When this returns, the empty file and its name
@@ -299,13 +294,48 @@ impl WavWriter<io::BufWriter<fs::File>> {
     ///
     /// After a sync that failed each later `flush` fails, since nobody knows what the disk has.
     pub fn create_durable<P: AsRef<path::Path>>(filename: P, spec: WavSpec) -> Result<WavWriter<io::BufWriter<fs::File>>> {
-        let file = fs::File::create(&filename)?;
-        file.sync_all()?;
-        fs::File::open(fs::canonicalize(filename)?.parent().unwrap_or(path::Path::new("/")))?.sync_all()?;
-        let mut writer = WavWriter::new(io::BufWriter::with_capacity(16 * BLOCK, file), spec)?;
-        writer.core.sync = |file| file.flush().and_then(|()| file.get_ref().sync_data());
-        Ok(writer)
+        let file = open_synced(fs::OpenOptions::new().write(true).create(true).truncate(true), filename.as_ref())?;
+        Ok(WavWriter::over(file, spec)?.durable())
     }
+
+    /// Appends to a file as [`append`](WavWriter::append) does, so that it survives a loss of power (own). When
+    /// this returns, the file as it was found and its name are on the disk, and `flush` syncs as that of
+    /// [`create_durable`](WavWriter::create_durable) does.
+    ///
+    /// Call [`repair_file`](crate::repair_file) first if the recording was cut off: the samples that the header
+    /// doesn't count are overwritten, without an error.
+    pub fn append_durable<P: AsRef<path::Path>>(filename: P) -> Result<WavWriter<io::BufWriter<fs::File>>> {
+        let file = open_synced(fs::OpenOptions::new().read(true).write(true), filename.as_ref())?;
+        Ok(WavWriter::after(file)?.durable())
+    }
+
+    // Writes the header of a new file.
+    fn over(file: fs::File, spec: WavSpec) -> Result<WavWriter<io::BufWriter<fs::File>>> {
+        WavWriter::new(io::BufWriter::with_capacity(16 * BLOCK, file), spec)
+    }
+
+    // Appends to a file.
+    fn after(file: fs::File) -> Result<WavWriter<io::BufWriter<fs::File>>> {
+        let mut reader = io::BufReader::new(file);
+        let info = Walk::over(&mut reader)??;
+        let recorder = Recorder::append(&info)?;
+        let (place, mut file) = (recorder.place(0)?, reader.into_inner());
+        file.seek(SeekFrom::Start(place))?;
+        Ok(WavWriter::at(io::BufWriter::with_capacity(16 * BLOCK, file), place, info.spec.into(), recorder))
+    }
+
+    fn durable(mut self) -> WavWriter<io::BufWriter<fs::File>> {
+        self.core.sync = |file| file.flush().and_then(|()| file.get_ref().sync_data());
+        self
+    }
+}
+
+// Opens a file, and syncs it and its folder, which has its name.
+fn open_synced(options: &fs::OpenOptions, filename: &path::Path) -> io::Result<fs::File> {
+    let file = options.open(filename)?;
+    file.sync_all()?;
+    fs::File::open(fs::canonicalize(filename)?.parent().unwrap_or(path::Path::new("/")))?.sync_all()?;
+    Ok(file)
 }
 
 /// A batch of samples of 16 bits, which `flush` writes.

@@ -240,6 +240,21 @@ fn a_file_that_was_cut_off_is_repaired() {
 }
 
 #[test]
+fn a_file_is_appended_to_durably() {
+    let path = Path::new("durable");
+    fs::write(&path, written(MONO, &[1i16, 2])).unwrap();
+    let mut writer = WavWriter::append_durable(&path).unwrap();
+    writer.write_sample(3i16).unwrap();
+    writer.flush().unwrap();
+    assert_eq!(fs::read(&path).unwrap(), written(MONO, &[1i16, 2, 3]));
+    writer.write_samples(&[4i16, 5]).unwrap();
+    writer.finalize().unwrap();
+    assert_eq!(fs::read(&path).unwrap(), written(MONO, &[1i16, 2, 3, 4, 5]));
+    // What can't be synced is an error before it is read.
+    assert!(matches!(WavWriter::append_durable("/dev/null"), Err(Error::IoError(error)) if error.kind() == io::ErrorKind::InvalidInput));
+}
+
+#[test]
 fn readers_and_writers_are_sent_shared_and_survive_panics() {
     fn can_be<T: Send + Sync + std::panic::UnwindSafe + std::panic::RefUnwindSafe>() {}
     can_be::<WavReader<io::BufReader<fs::File>>>();

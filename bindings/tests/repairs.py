@@ -1,0 +1,305 @@
+#!/usr/bin/env python3
+"""Repairs files by bindings/c/repair.c, beside the model of hound_rows and the Python package: those of the rows, and
+files that are cut off at each byte. Then each of its calls of the system is killed or fails, and from these calls the
+states are built that a loss of power may leave; each is repaired again. Wrong versions of repair.c have to be found.
+
+usage: repairs.py     (with the package hound_bindings on the path, cc and strace)"""
+import itertools
+import os
+import re
+import signal
+import struct
+import subprocess
+import sys
+import tempfile
+
+import hound_bindings as hound
+from python_faults import CASES, LIST, STREAM, Wrong, head, leave
+from rows import TOP, model, repaired_by_model, repairs
+
+HEADER = 44
+# A file of 8 bits and one channel that was cut off, with no pad byte after its 1,099 samples, of which 100 are counted.
+CUT_OFF = head(CASES[1], 100) + STREAM[:1099]
+WAYS = {"mend": [], "to_end": ["--to-end"]}
+STATES = {"whole": "whole", "cut_off": "cut off", "followed": "with chunks after the data"}
+TAG = b"TAG" + bytes(125)
+# Parts of repair.c.
+LENGTH, RIFF_SIZE = "!has_stored(bytes, (size_t)info.data_start - 4, 4)", "!has_stored(bytes, 4, 4)"
+PAD = "(length > used && !has_stored(bytes, used, length - used))"
+STEPS = f"{LENGTH}\n            || {PAD} || {RIFF_SIZE}"
+IS_CUT_OFF, LOOKS = "if (found.state == HOUND_CUT_OFF) {\n", "        checked(hound_info(bytes, length, &info));\n"
+# Wrong versions of it: a part, and what is in its place.
+WRONG = {
+    "the data length before the samples are synced": ("fsync(file) < 0 || ", ""),
+    "no sync after a step": ("return fsync(file) == 0;", "return 1;"),
+    "a sync that fails is ignored": ("return fsync(file) == 0;", "return fsync(file), 1;"),
+    "the pad byte before the data length": (STEPS, f"{PAD} || {LENGTH} || {RIFF_SIZE}"),
+    "the RIFF size before the pad byte": (STEPS, f"{LENGTH} || {RIFF_SIZE} || {PAD}"),
+    "no pad byte": (f"{PAD} || ", ""),
+    "no RIFF size": (f" || {RIFF_SIZE}", ""),
+    "a whole file is written": (IS_CUT_OFF, IS_CUT_OFF.replace("== HOUND_CUT_OFF", "!= HOUND_HAS_CHUNKS_AFTER_DATA")),
+    "a file with chunks after the data is written": (IS_CUT_OFF, IS_CUT_OFF.replace("== HOUND_CUT_OFF", "!= HOUND_WHOLE")),
+    "an error of a file that isn't written": (IS_CUT_OFF + LOOKS, LOOKS + IS_CUT_OFF),
+    "the memory is the file": ("MAP_PRIVATE", "MAP_SHARED"),
+    "--to-end without an effect": ("(is_to_end ? hound_repair_to_end : hound_repair)", "hound_repair"),
+    "a short write isn't continued": ("if (more > 0) place += (size_t)more;", "if (more > 0) break;"),
+    "no message where the disk can't be read": ("signal(SIGBUS, stop_at_fault)", "(void)stop_at_fault"),
+    "an error ends with status 0": ('why), 1)); }', 'why), 0)); }'),
+}
+
+
+def compiled(folder, text):
+    """The program of this text of repair.c, with the library that the packages take."""
+    program = os.path.join(folder, "repair")
+    with open(program + ".c", "w") as file:
+        file.write(text)
+    library = os.environ.get("HOUND_C_LIB") or os.path.join(TOP, "bindings", "lib", os.uname().machine + "-linux")
+    words = [os.environ.get("CC", "cc"), "-O1", "-I" + os.path.join(TOP, "bindings", "c"), program + ".c"]
+    subprocess.run([*words, os.path.join(library, "libhound_c.a"), "-o", program], check=True)
+    return program
+
+
+def contents_of(path):
+    with open(path, "rb") as file:
+        return file.read()
+
+
+def run(program, path, how="mend", **options):
+    return subprocess.run([program, path, *WAYS[how]], stdout=subprocess.PIPE, stderr=subprocess.PIPE, **options)
+
+
+def is_error(ran):
+    """Whether a run ended with the status of an error, and with a message alone."""
+    return (ran.returncode, ran.stdout) == (1, b"") and re.fullmatch(rb"repair: .+\n", ran.stderr)
+
+
+def check(program, path, how, data):
+    """Repairs a file, which has to be what the model says then, and what the Python package makes of it."""
+    leave(path, data)
+    os.utime(path, ns=(1, 1))
+    ran, time = run(program, path, how), os.stat(path).st_mtime_ns
+    words, wanted = repaired_by_model(how, data)
+    what = f"the repair {how} of {data[:80].hex()} .. ({len(data)} bytes)"
+    if isinstance(words, set):
+        is_right = is_error(ran)
+    else:
+        line = f"found {STATES[words[0]]}: {words[2]} frames, {words[4]} bytes left over\n"
+        is_right = (ran.returncode, ran.stdout.decode(), ran.stderr) == (0, line, b"")
+    if not is_right:
+        raise Wrong(f"{what} ends with {ran}, and not {words}")
+    if contents_of(path) != wanted or (time == 1) != (wanted == data):
+        raise Wrong(f"{what} leaves another file, or writes without need")
+    leave(path, data)
+    try:
+        hound.repair(path, to_end=how == "to_end")
+    except hound.HoundError as error:
+        if error.cause not in words:
+            raise
+    if contents_of(path) != wanted:
+        raise Wrong(f"{what}: the Python package leaves another file")
+
+
+def cut_files():
+    """Files that are cut off at each byte, whose header counts two frames, none, all, or a byte less; and with bytes
+    after them."""
+    pairs = [(8, 1, False), (16, 2, False), (24, 3, False), (24, 4, False), (32, 4, False), (32, 4, True)]
+    for (bits, width, is_float), channels in itertools.product(pairs, (1, 2, 3)):
+        spec = model.Spec(channels, 44100, bits, width, is_float)
+        data, start = STREAM[: 5 * channels * width], len(spec.header(0, 0))
+        for counted in 2 * channels * width, 0, len(data), len(data) - 1:
+            file = spec.header(start - 8 + counted + counted % 2, counted) + data
+            for length in range(len(file) + 1):
+                yield file[:length]
+            for after in bytes(1), LIST, bytes(1) + LIST, TAG, LIST + TAG, b"\0\0\0", LIST[:-1]:
+                yield file + after
+
+
+def check_files(program, path, files):
+    count = 0
+    for count, (how, data) in enumerate(files, 1):
+        check(program, path, how, data)
+    return count
+
+
+def check_long(program, path):
+    """A file of 3 GB, of which only a part is in memory, and one that is too long."""
+    length = 3 * 10**9 + 1
+    leave(path, head(CASES[1], 0))
+    os.truncate(path, HEADER + length)
+    with open(os.devnull, "wb") as output:
+        _, status, usage = os.wait4(subprocess.Popen([program, path], stdout=output).pid, 0)
+    with open(path, "rb") as file:
+        is_right = file.read(HEADER) == head(CASES[1], length) and os.path.getsize(path) == HEADER + length + 1
+    if status or not is_right or usage.ru_maxrss > 100_000:
+        raise Wrong(f"a file of 3 GB: {status}, {usage}")
+    os.truncate(path, 2**32 + 8)
+    if not is_error(run(program, path)):
+        raise Wrong("a file of more than 4 GiB is no error")
+    os.remove(path)
+
+
+def check_errors(program, path):
+    """What has no file that can be repaired. Each is an error with a message, and nothing is written."""
+    folder = os.path.dirname(path)
+    leave(path, CUT_OFF)
+    os.chmod(path, 0o444)
+    os.chmod(folder, 0o755)
+    user = {"user": 65534} if os.getuid() == 0 else {}
+    for what, words, options in [
+        ("no file", [path + ".none"], {}),
+        ("a folder", [folder], {}),
+        ("a file that may not be written", [path], user),
+        ("no words", [], {}),
+        ("another word", [path, "--end"], {}),
+        ("two files", [path, path], {}),
+    ]:
+        if not is_error(subprocess.run([program, *words], stdout=subprocess.PIPE, stderr=subprocess.PIPE, **options)):
+            raise Wrong(f"{what}: no error")
+    if contents_of(path) != CUT_OFF:
+        raise Wrong("a file that may not be written is another")
+    os.chmod(path, 0o644)
+    with open("/dev/full", "w") as full:
+        if subprocess.run([program, path], stdout=full, stderr=subprocess.PIPE).returncode != 1:
+            raise Wrong("an output that is full is no error")
+    return 7
+
+
+# What is killed, or whose calls fail: such a file, others with half frames or a pad byte that is missing, one with a head
+# of 6 pages, and one that ends as if with a chunk.
+CALLED = [
+    ("mend", CUT_OFF),
+    ("mend", head(CASES[2], 300) + STREAM[: 3 * 1099]),
+    ("mend", head(CASES[2], 300) + STREAM[: 3 * 1099 + 2]),
+    ("mend", head(CASES[3], 0) + STREAM[: 4 * 1099 + 3]),
+    ("mend", head(CASES[5], 100) + STREAM[:1099]),
+    ("to_end", head(CASES[1], 100) + STREAM[:101] + LIST),
+]
+
+
+def traced(program, path, before, how, *options):
+    """Repairs a file under strace: how that ended, its calls on the file, each with the place and the bytes that it
+    writes, and all that strace says."""
+    leave(path, before)
+    log = path + ".log"
+    words = ["strace", "-qq", "-xx", "-o", log, "-P", path, *options, program, path, *WAYS[how]]
+    ran = subprocess.run(words, stdout=subprocess.PIPE, stderr=subprocess.PIPE)
+    said = contents_of(log).decode()
+    calls = []
+    for name, data, place in re.findall(r'^(\w+)\((?:\d+, "([^"]*)", \d+, (\d+)\) )?', said, flags=re.M):
+        calls.append((name, int(place or 0), bytes.fromhex(data.replace("\\x", ""))))
+    return ran, calls, said
+
+
+def written(contents, calls):
+    """These contents after the writes among these calls."""
+    contents = bytearray(contents)
+    for name, place, data in calls:
+        if name == "pwrite64":
+            contents.extend(bytes(max(place - len(contents), 0)))
+            contents[place : place + len(data)] = data
+    return bytes(contents)
+
+
+def check_state(contents, how, before, what):
+    """Looks whether a file counts only samples that it holds, and becomes the wanted one when it is repaired again."""
+    start = before.index(b"data") + 8
+    (length,) = struct.unpack("<I", contents[start - 4 : start])
+    if len(contents) < start + length or contents[start : start + length] != before[start : start + length]:
+        raise Wrong(f"{what}: samples are counted that aren't there")
+    if len(contents) >= len(before) and repaired_by_model(how, contents)[1] != repaired_by_model(how, before)[1]:
+        raise Wrong(f"{what}: what is left doesn't become the wanted file")
+
+
+def check_calls(program, path, how, before):
+    """Lets each call be killed or fail, once and from there on, and repairs again what is left."""
+    done, runs = repaired_by_model(how, before)[1], 0
+    ran, calls, _ = traced(program, path, before, how)
+    if ran.returncode or contents_of(path) != done:
+        raise Wrong(f"{how} of {len(before)} bytes leaves another file: {ran}")
+    for at, (name, place, data) in enumerate(calls):
+        number = sum(call[0] == name for call in calls[: at + 1])
+        faults = ["signal=KILL:when={}", "error=EIO:when={}", "error=ENOSPC:when={}+"]
+        faults += ["signal=BUS:when={}"] * (name == "fsync") + ["error=EINTR:when={}", "retval=1:when={}"] * (name == "pwrite64")
+        for fault in (fault.format(number) for fault in faults):
+            what = f"{name} {fault} of a file of {len(before)} bytes"
+            ran, met, said = traced(program, path, before, how, "-e", f"inject={name}:{fault}")
+            left = contents_of(path)
+            runs += 1
+            if not re.search("INJECTED|SIG(KILL|BUS)", said):
+                raise Wrong(f"{what}: it isn't met")
+            if "retval" in fault:  # It says that one byte was written: the others have to follow.
+                is_right = ran.returncode == 0 and (len(data) == 1 or ("pwrite64", place + 1, data[1:]) in met)
+            elif "EINTR" in fault:
+                is_right = ran.returncode == 0 and left == done
+            else:
+                is_right = ran.returncode == -signal.SIGKILL if "KILL" in fault else is_error(ran)
+                is_right = is_right and left == written(before, calls[:at])
+            if not is_right:
+                raise Wrong(f"{what}: {ran}")
+            if "retval" in fault:
+                continue
+            check_state(left, how, before, what)
+            if run(program, path, how).returncode or contents_of(path) != done:
+                raise Wrong(f"{what}: what is left isn't repaired")
+    return runs
+
+
+def check_losses(program, path, how, before):
+    """Builds from the calls what a loss of power may leave: any of the writes since the last sync. Of the file as it was
+    found only what its header counts was synced."""
+    _, calls, _ = traced(program, path, before, how)
+    start = before.index(b"data") + 8
+    end = start + struct.unpack("<I", before[start - 4 : start])[0]
+    synced, waiting, states = before[:end], [("pwrite64", end, before[end:])], 0
+    for call in calls:
+        if call[0] == "fsync":
+            synced, waiting = written(synced, waiting), []
+        elif call[0] == "pwrite64":
+            waiting.append(call)
+        for some in itertools.product((False, True), repeat=len(waiting)):
+            check_state(written(synced, itertools.compress(waiting, some)), how, before, "a loss of power")
+            states += 1
+    if waiting:
+        raise Wrong("the last write isn't synced")
+    return states
+
+
+def all_checks(program, path, is_short):
+    """What was tried. The wrong versions need fewer files."""
+    calls = sum(check_calls(program, path, how, before) for how, before in CALLED)
+    losses = sum(check_losses(program, path, how, before) for how, before in CALLED)
+    errors = check_errors(program, path)
+    cut = list(cut_files())
+    files = check_files(program, path, (("mend", data) for data in (cut[:500] if is_short else cut)))
+    files += check_files(program, path, (("to_end", data) for data in cut[:: 9 if is_short else 3]))
+    if is_short:
+        return ""
+    check_long(program, path)
+    files += check_files(program, path, repairs())
+    return f"{files} files, {errors} errors, {calls} killed or failing calls, {losses} states of a loss of power"
+
+
+def main():
+    text = contents_of(os.path.join(TOP, "bindings", "c", "repair.c")).decode()
+    # A sync costs nothing there.
+    with tempfile.TemporaryDirectory(dir="/dev/shm" if os.path.isdir("/dev/shm") else None) as folder:
+        folder = os.path.realpath(folder)
+        path = os.path.join(folder, "a.wav")
+        print(f"repairs: {all_checks(compiled(folder, text), path, False)}", flush=True)
+        for what, (part, other) in WRONG.items():
+            if text.count(part) != 1:
+                sys.exit(f"repairs: repair.c has another part than {part}")
+            program = compiled(folder, text.replace(part, other))
+            try:
+                all_checks(program, path, True)
+            except Wrong as error:
+                print(f"repairs: wrong: {what}: found by {str(error)[:100]}", flush=True)
+            else:
+                sys.exit(f"repairs: this wrong version isn't found: {what}")
+
+
+if __name__ == "__main__":
+    try:
+        main()
+    except Wrong as error:
+        sys.exit(f"repairs: {error}")
