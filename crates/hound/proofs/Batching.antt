@@ -1,6 +1,6 @@
 -- What a batch accepts, and its values one by one.
 use Rattle.std.proofs.lemmas.Grind.{common_steps}
-use Rattle.std.proofs.Common.{◌≡◌, ℕ, ℤ, ◌/◌, Bool, true, List, [], ◌∷◌, ◌++◌, length, map, Result, Ok, Err, IsTrue, sym, ◌∙◌, ap, subst, refl, arith}
+use Rattle.std.proofs.Common.{◌≡◌, ℕ, ℤ, ◌/◌, true, List, [], ◌∷◌, ◌++◌, length, map, Result, Ok, Err, IsTrue, sym, ◌∙◌, ap, subst, refl, arith}
 use Rattle.std.proofs.lemmas.Bool.Decides.{nat_tests}
 use Rattle.std.proofs.lemmas.List.{append-nil}
 use Rattle.std.proofs.lemmas.List.Concat.{concat_is}
@@ -9,7 +9,6 @@ use Rattle.std.specs.List.{AllByRecursion, concat, flat_map}
 use Rattle.hound_sample.proofs.Joined.{containers-concat, length-concat}
 use Rattle.hound_number.specs.{signed_bytes_of}
 use Rattle.hound_sample.specs.{Refusal, containers, int_bytes, int_container, contained}
-use Rattle.hound_medium.specs.{MediumState}
 use Rattle.hound_writer.specs.{Ghosts, Accepts, AcceptAnswer, if_marked, one, AcceptsEach, i16_bytes, IsSameFile, write, WriterState, IsWhole, data_length, accepted_samples}
 use Rattle.hound_writer.proofs.Recording.{same_but_memory}
 use Rattle.hound.proofs.Calling.{Went, call_went, went_still, went_then}

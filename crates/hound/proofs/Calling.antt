@@ -1,12 +1,12 @@
 -- What calls lead to, in each state.
 use Rattle.std.proofs.lemmas.Grind.{common_steps}
-use Rattle.std.proofs.Common.{◌≡◌, ℕ, ◌+◌, ◌%◌, ◌<◌, ◌≤◌, max, Bool, List, [], ◌∷◌, ◌++◌, length, take, Result, IsTrue, refl, sym, ◌∙◌, ap, subst, arith, inl, inr, append_assoc, length-append}
+use Rattle.std.proofs.Common.{◌≡◌, ℕ, ◌+◌, ◌%◌, ◌<◌, ◌≤◌, max, List, [], ◌∷◌, ◌++◌, length, take, Result, IsTrue, refl, sym, ◌∙◌, ap, subst, arith, inl, inr, append_assoc, length-append}
 use Rattle.std.proofs.lemmas.Bool.{cases_lt}
 use Rattle.std.proofs.lemmas.List.{append-nil}
 use Rattle.std.specs.List.{AllByRecursion, concat}
 use Rattle.hound_spec.specs.declared.error.Error.{Error}
 use Rattle.hound_spec.specs.{data_start}
-use Rattle.hound_medium.specs.{moment, overlay, MediumState, Span}
+use Rattle.hound_medium.specs.{moment, overlay, Span}
 use Rattle.hound_medium.proofs.Spans.{moment_last}
 use Rattle.hound_writer.specs.{Ghosts, UnlessFailed, faults_told, mark_of, IsStored, StaysStored, Asked, Call, Does, Lead, publish, write, with_memory, Counts, ChangesSizesOnly, WriterState, HasHeader, IsBegun, IsCounted, IsWhole, accepted_samples, data_length, padded_end}
 use Rattle.hound_writer.proofs.Answers.{unless_failed, unless_then, where_marked}

@@ -2,7 +2,6 @@
 use Rattle.std.proofs.Common.{◌≡◌, ℕ, ◌+◌, ◌<◌, List, [], ◌∷◌, ◌++◌, length, get_or, set, take, map, Bool, Result, sym, ◌∙◌, ap, subst, drop, Ok, Err, refl}
 use Rattle.std.proofs.lemmas.List.{map-append, take_more, take_more_set, drop_more}
 use Rattle.hound_spec.specs.declared.error.Error.{Error}
-use Rattle.hound_medium.specs.{MediumState}
 use Rattle.hound_writer.specs.{Ghosts, mark_of, Call, Lead, asked_by_all, WriterState}
 use Rattle.hound_writer.proofs.Recording.{asked_more, call_at, lead_more, lead_spec}
 use Rattle.hound.specs.declared.session.Step.{Step}

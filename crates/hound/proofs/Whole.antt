@@ -6,7 +6,7 @@ use Rattle.hound_spec.specs.declared.error.Error.{Error}
 use Rattle.hound_spec.specs.declared.spec.WavSpecEx.{WavSpecEx}
 use Rattle.hound_spec.specs.{header, data_start, canonical}
 use Rattle.hound_spec.proofs.HeaderLemmas.{data_start_least, length-header}
-use Rattle.hound_medium.specs.{MediumState, WhereKeeps, placed, overlay}
+use Rattle.hound_medium.specs.{WhereKeeps, placed, overlay}
 use Rattle.hound_medium.proofs.Overlays.{length-placed}
 use Rattle.hound_writer.specs.{Ghosts, mark_of, Call, Lead, Left, Opens, Recorded, asked_by_all, made, new_file, publish, Finishes, WriterState, IsWhole}
 use Rattle.hound_writer.proofs.Accepting.{length_overlay_max}

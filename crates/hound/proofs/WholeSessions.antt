@@ -1,5 +1,5 @@
 -- Sessions one after the other: the file that they leave, and what they return.
-use Rattle.std.proofs.Common.{◌≡◌, ℕ, ◌≤◌, max, Bool, IsTrue, List, length, Result, Ok, refl, ap, subst, arith, ◌-◌, ◌/◌, ◌<◌, true, Bor, [], ◌∷◌, ◌⊎◌, ◌++◌, drop, Err, OnOk, IfErr, IsErrAnd, sym, ◌∙◌, inl, inr, length-take, append_assoc, not}
+use Rattle.std.proofs.Common.{◌≡◌, ℕ, ◌≤◌, max, IsTrue, List, length, Result, Ok, refl, ap, subst, arith, ◌-◌, ◌/◌, ◌<◌, true, Bor, [], ◌∷◌, ◌⊎◌, ◌++◌, drop, Err, OnOk, IfErr, IsErrAnd, sym, ◌∙◌, inl, inr, length-take, append_assoc, not}
 use Rattle.std.specs.List.{concat}
 use Rattle.std.proofs.lemmas.Grind.{flat_map-append, common_steps}
 use Rattle.std.proofs.lemmas.List.{append-nil, length-take-le, take_all}

@@ -4,8 +4,9 @@ ghost use Rattle.std.specs.List.{AllByRecursion, concat};
 ghost use Rattle.hound.specs.{Begun, Call, Error, HasPublished, IsUncut, ReadsAs, Keeps, accepted_by_all, begins_at, field, found_in, mix, moment, publish, start_of, AreContainers, GivesItems, IsIoError, IsWhole, IsWritable, ReaderState, WavSpecEx, WhereTells, accepted_samples, canonical, containers, data_fault, data_start, greatest_u32, header, one_more, over_bytes, riff_size, samples_before, samples_left};
 
 use hound::{
-    Error, Journal, Medium, Placed, Sample, Source, WavReader, WavWriter, a_block_is_its_items, a_checkpoint_holds,
-    a_reader_is_where_it_counts, one_append_answer, written_is_head, written_is_read,
+    Error, Journal, Medium, Placed, Sample, Source, WavReader, WavWriter, a_block_is_its_items,
+    a_checkpoint_holds, a_reader_is_where_it_counts, one_append_answer, written_is_head,
+    written_is_read,
 };
 use std::alloc::Global;
 use std::{io, result};

@@ -5,7 +5,7 @@ use Rattle.std.proofs.lemmas.List.{append-nil}
 use Rattle.std.proofs.Math.Nat.{mul-div_cancel_left, mul-le-mul_right, mul-mod_right}
 use Rattle.std.specs.List.{concat}
 use Rattle.std.specs.declared.io.Error.{Error as IoFault}
-use Rattle.hound_medium.specs.{overlay, MediumState, WhereKeeps, WhereTells}
+use Rattle.hound_medium.specs.{overlay, WhereKeeps, WhereTells}
 use Rattle.hound_sample.specs.{Refusal, too_wide, unsupported, containers}
 use Rattle.hound_spec.specs.declared.error.Error.{Error}
 use Rattle.hound_spec.specs.declared.error.Error.TheVariants.{TooLong}

@@ -1,9 +1,8 @@
 -- Batches of samples of sixteen bits.
-use Rattle.std.proofs.Common.{◌≡◌, ℕ, ℤ, pos, negsuc, ◌*◌, ◌^◌, ◌&&◌, ◌≤◌, Bool, cond, List, [], ◌∷◌, ◌++◌, length, Option, None, Some, unwrap_or, Result, Ok, Err, IsOk, is_ok, FitsSigned, w16, refl, ◌∙◌, ap, arith, length-append, lt-ltb}
+use Rattle.std.proofs.Common.{◌≡◌, ℕ, ℤ, pos, negsuc, ◌*◌, ◌^◌, ◌&&◌, ◌≤◌, cond, List, [], ◌∷◌, ◌++◌, length, Option, None, Some, unwrap_or, Result, Ok, Err, IsOk, is_ok, FitsSigned, w16, refl, ◌∙◌, ap, arith, length-append, lt-ltb}
 use Rattle.std.proofs.lemmas.List.{append-nil}
 use Rattle.hound_number.specs.{signed_bytes_of}
 use Rattle.hound_spec.specs.declared.error.Error.{Error}
-use Rattle.hound_medium.specs.{MediumState}
 use Rattle.hound_sample.specs.{Refusal, int_bytes, int_container, too_wide, all_containers, bytes_in, joined_containers, contained, int_container-in_width}
 use Rattle.hound_writer.specs.Accepting.{AcceptsBytes, Accepts, AreI16, containers_in, sample_bytes, i16_bytes}
 use Rattle.hound_writer.specs.Parts.{memory_bytes}

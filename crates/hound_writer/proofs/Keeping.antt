@@ -2,7 +2,7 @@
 use Rattle.std.proofs.lemmas.Grind.{common_steps}
 use Rattle.std.proofs.Common.{◌≡◌, ℕ, ◌+◌, ◌%◌, ◌≤◌, Bool, true, false, List, length, rules, arith}
 use Rattle.hound_spec.specs.{greatest_u32, riff_size}
-use Rattle.hound_medium.specs.{MediumState, WhereTells}
+use Rattle.hound_medium.specs.{WhereTells}
 use Rattle.hound_writer.specs.Parts.{IsConsistent, CountsAtMost}
 use Rattle.hound_writer.specs.Writer.{Ghosts, WriterState, IsSound}
 

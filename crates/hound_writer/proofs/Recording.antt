@@ -1,6 +1,6 @@
 -- A list of calls and one more.
 use Rattle.std.proofs.lemmas.Grind.{common_steps}
-use Rattle.std.proofs.Common.{ℕ, MatchResult, Ok, Err, Bool, List, [], ◌∷◌, ◌++◌, ◌≡◌, length, Result, refl, rules, subst, ◌∙◌, ap, arith}
+use Rattle.std.proofs.Common.{ℕ, MatchResult, Ok, Err, List, [], ◌∷◌, ◌++◌, ◌≡◌, length, Result, refl, rules, subst, ◌∙◌, ap, arith}
 use Rattle.std.specs.Prelude.{⊤}
 use Rattle.hound_spec.specs.declared.error.Error.{Error}
 use Rattle.hound_spec.specs.declared.spec.WavSpecEx.{WavSpecEx}

@@ -2,7 +2,7 @@
 use Rattle.std.proofs.lemmas.Grind.{common_steps}
 use Rattle.std.proofs.Common.{◌≡◌, ℕ, ◌+◌, ◌/◌, ◌%◌, nat_le, Bool, false, List, length, Result, Ok, Err, refl, ap, arith}
 use Rattle.std.specs.List.{concat}
-use Rattle.hound_medium.specs.{overlay, MediumState, WhereTells, WhereKeeps}
+use Rattle.hound_medium.specs.{overlay, WhereTells, WhereKeeps}
 use Rattle.hound_spec.specs.declared.error.Error.{Error}
 use Rattle.hound_spec.specs.declared.error.Error.TheVariants.{TooLong, TooWide, Unsupported}
 use Rattle.hound_spec.specs.{riff_size, greatest_u32}

@@ -1,5 +1,5 @@
 -- How a new file begins.
-use Rattle.std.specs.Prelude.{◌≡◌, ◌≤◌, ◌⊎◌, max, Bool, [], length, Result, Err, MatchResult}
+use Rattle.std.specs.Prelude.{◌≡◌, ◌≤◌, ◌⊎◌, max, [], length, Result, Err, MatchResult}
 use Rattle.hound_spec.specs.declared.error.Error.{Error}
 use Rattle.hound_spec.specs.declared.error.Error.TheVariants.{OutOfMemory, Unsupported}
 use Rattle.hound_spec.specs.declared.spec.WavSpecEx.{WavSpecEx}

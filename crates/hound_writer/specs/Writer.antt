@@ -1,5 +1,5 @@
 -- What contracts see of a writer: its value, the two sizes of its file, and what the data length counts.
-use Rattle.std.specs.Prelude.{◌≡◌, Bool, ℕ, ◌+◌, ◌-◌, List, ◌++◌, length, take, drop, ◌*◌, ◌/◌, ◌≤◌, Option, None, Some, ◌%◌}
+use Rattle.std.specs.Prelude.{◌≡◌, ℕ, ◌+◌, ◌-◌, List, ◌++◌, length, take, drop, ◌*◌, ◌/◌, ◌≤◌, Option, None, Some, ◌%◌}
 use Rattle.hound_number.specs.{bytes_of, number}
 use Rattle.std.specs.List.{concat}
 use Rattle.hound_spec.specs.declared.spec.WavSpecEx.{WavSpecEx}

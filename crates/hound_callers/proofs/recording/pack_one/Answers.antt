@@ -1,6 +1,6 @@
-use Rattle.std.proofs.Common.{◌≡◌, ℤ, Bool, [], ◌∷◌, true, Ok, arith, inr, length, of_z, refl, rules, subst, to_z, w32}
+use Rattle.std.proofs.Common.{◌≡◌, ℤ, [], ◌∷◌, true, Ok, arith, inr, length, of_z, refl, rules, subst, to_z, w32}
 use Rattle.std.proofs.Math.Facts.{to_z-of_z}
-use Rattle.hound.specs.{Ghosts, Begun, Call, Left, MediumState, WavSpecEx, canonical, Finishes, Ran, Takes, asked_by, containers_of, made, new_file, publish}
+use Rattle.hound.specs.{Ghosts, Begun, Call, Left, WavSpecEx, canonical, Finishes, Ran, Takes, asked_by, containers_of, made, new_file, publish}
 use Rattle.hound.specs.declared.session.Begin.TheVariants.{New}
 use Rattle.hound.specs.declared.session.End.TheVariants.{Finalize}
 use Rattle.hound.specs.declared.session.Step.TheVariants.{Whole}

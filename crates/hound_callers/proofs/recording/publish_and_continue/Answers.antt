@@ -1,5 +1,5 @@
-use Rattle.std.proofs.Common.{List, [], ◌∷◌, ◌++◌, true, Bool, refl, subst, append_assoc}
-use Rattle.hound.specs.{Ghosts, Begun, Known, Left, MediumState, Recorded, WavSpecEx, WriterState, containers_in, made, marked, publish, seen, write}
+use Rattle.std.proofs.Common.{List, [], ◌∷◌, ◌++◌, true, refl, subst, append_assoc}
+use Rattle.hound.specs.{Ghosts, Begun, Known, Left, Recorded, WavSpecEx, WriterState, containers_in, made, marked, publish, seen, write}
 use Rattle.hound_callers.proofs.recording.publish_and_continue.Goals as goal
 
 -- what calls led to so far is what they left there
