@@ -9,6 +9,8 @@ use Rattle.hound_walk.specs.{Readable, Unreadable, data_fault}
 use Rattle.std.specs.Io.{StartsWith}
 use Rattle.hound_spec.specs.{header, data_start, riff_size, padded, padding, IsPair, greatest_u32}
 use Rattle.hound_medium.specs.{MediumState, WhereTells}
+-- What contracts know of media of a type W, `W.Placed`: whether their bytes are known (`tells`), whether
+-- each byte written is recorded (`keeps`), and the state of each.
 pub use Rattle.hound_medium.specs.declared.medium.Placed.{Ghosts}
 use Rattle.hound_spec.specs.declared.spec.SampleFormat.TheVariants.{Int}
 
