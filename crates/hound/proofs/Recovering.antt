@@ -238,7 +238,7 @@ module _ (s : WavSpecEx) (h : ℕ) (found : List (List ℕ)) (calls : List Call)
   -- so a repair loses none of them
   pub none_lost : (looks : Bool) (cut mended : MediumState) (found : Repair)
       → IsLeftAfter h from end cut.contents → Repairs looks cut found mended
-      → (IsTrue looks → found.was ≡ HasChunksAfterData → ⊥)
+      → (IsTrue looks → found.state ≡ HasChunksAfterData → ⊥)
       → (found.spec_ex ≡ s) × ReadsFrames found h list mended.contents
   none_lost looks cut mended found left repairs alone =
       let l = published_is_left cut.contents left in

@@ -92,7 +92,7 @@ pub fn a_repair_loses_no_published_sample()
         → calls ≡ before ++ (flush ∷ after) → HasPublished flush
         → IsLeftAfter (start_of s file) (begins_at after left.past) left cut.contents
         → Repairs looks cut found mended
-        → (IsTrue looks → found.was ≡ HasChunksAfterData → ⊥) →
+        → (IsTrue looks → found.state ≡ HasChunksAfterData → ⊥) →
         (found.spec_ex ≡ s)
         × ReadsFrames found (start_of s file) (found_in file ++ accepted_by_all before) mended.contents }
 {}

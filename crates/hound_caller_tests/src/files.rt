@@ -314,14 +314,14 @@ fn repair(rt: &HostRuntime, path: Path<'_>, frames: u32, left_over: u32) -> houn
     let found = repair_file(rt, rt.alloc(), path)?;
     let again = repair_file(rt, rt.alloc(), path)?;
     let is_found = (found.frames, found.left_over) == (frames, left_over);
-    let is_same = looked.frames == frames && looked.was == found.was;
-    Ok(is_found && is_same && again.was == RepairState::Whole)
+    let is_same = looked.frames == frames && looked.state == found.state;
+    Ok(is_found && is_same && again.state == RepairState::Whole)
 }
 
 fn is_followed(rt: &HostRuntime, path: Path<'_>, frames: u32) -> hound::Result<bool> {
     let looked = find_damage_in_file(rt, rt.alloc(), path)?;
     let found = repair_file(rt, rt.alloc(), path)?;
-    let is_so = looked.was == RepairState::HasChunksAfterData && found.was == looked.was;
+    let is_so = looked.state == RepairState::HasChunksAfterData && found.state == looked.state;
     Ok(is_so && looked.frames == frames && found.frames == frames)
 }
 

@@ -29,8 +29,8 @@ fn run(rt: &HostRuntime, words: &[String]) -> hound::Result<ExitCode> {
         "{} frames, {} bytes left over",
         found.frames, found.left_over
     )?;
-    println!(rt; "{}", found.was)?;
-    if option.is_some() || found.was != RepairState::CutOff {
+    println!(rt; "{}", found.state)?;
+    if option.is_some() || found.state != RepairState::CutOff {
         println!(rt; "read {} frames", count_frames(rt, path)?)?;
     }
     Ok(ExitCode::SUCCESS)

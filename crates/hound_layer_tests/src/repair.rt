@@ -38,8 +38,8 @@ fn numbers(found: Repair) -> (u32, u32, bool, bool) {
     (
         found.frames,
         found.left_over,
-        found.was == RepairState::CutOff,
-        found.was == RepairState::Whole,
+        found.state == RepairState::CutOff,
+        found.state == RepairState::Whole,
     )
 }
 

@@ -45,7 +45,7 @@ held_mended start n c behind inside = grind (arith, common_steps, same_sizes, le
 
 -- and that they are the frames that were found
 pub frames_mended : (looks : Bool) (contents : List ℕ) (found : Repair) (len start : ℕ)
-    → IsFoundAt looks contents found len start → (found.was ≡ HasChunksAfterData → ⊥)
+    → IsFoundAt looks contents found len start → (found.state ≡ HasChunksAfterData → ⊥)
     → 1 ≤ frame_length found.spec_ex
     → frames_held found.spec_ex (found_length found)
     (held start (mended start (found_length found) contents)) ≡ found.frames
@@ -53,7 +53,7 @@ frames_mended looks contents found len start at apart some = grind (arith, commo
 
 module _ (looks again : Bool) (old mid next new : MediumState) (found other : Repair)
     (first : Repairs looks old found mid)
-    (alone : IsTrue looks → found.was ≡ HasChunksAfterData → ⊥)
+    (alone : IsTrue looks → found.state ≡ HasChunksAfterData → ⊥)
     (sound : 1 ≤ frame_length found.spec_ex) (same : next.contents ≡ mid.contents)
     (second : Repairs again next other new) where
   abbrev s : WavSpecEx
@@ -65,15 +65,15 @@ module _ (looks again : Bool) (old mid next new : MediumState) (found other : Re
   abbrev all : ℕ
   all = found_length found
 
-  apart : found.was ≡ HasChunksAfterData → ⊥
-  apart = not_followed looks _ _ found.was first.is.was alone
+  apart : found.state ≡ HasChunksAfterData → ⊥
+  apart = not_followed looks _ _ found.state first.is.state alone
 
   right : HasRightSizes found start mid.contents
-  right = sizes_of found.was found start mid.contents apart first.sizes
+  right = sizes_of found.state found start mid.contents apart first.sizes
 
   -- the same frames are held
-  frames_same : (was : RepairState) → LeavesFor was found start old mid
-      → (was ≡ HasChunksAfterData → ⊥)
+  frames_same : (state : RepairState) → LeavesFor state found start old mid
+      → (state ≡ HasChunksAfterData → ⊥)
       → frames_held s all (held start mid.contents) ≡ found.frames
   frames_same HasChunksAfterData leaves not = absurd (not refl)
   frames_same CutOff leaves not =
@@ -87,7 +87,7 @@ module _ (looks again : Bool) (old mid next new : MediumState) (found other : Re
       ∙ sym (frames_are looks old.contents found first.len start first.is apart)
 
   -- a second repair finds the same frames, and writes nothing
-  pub second_repair : (other.was ≡ Whole) × (other.spec_ex ≡ s) × (other.frames ≡ found.frames)
+  pub second_repair : (other.state ≡ Whole) × (other.spec_ex ≡ s) × (other.frames ≡ found.frames)
       × (new.contents ≡ next.contents)
   second_repair =
       let agree =
@@ -97,15 +97,15 @@ module _ (looks again : Bool) (old mid next new : MediumState) (found other : Re
       let len : second.len ≡ all = agree.1
       ∙ sym (head_field mid.contents s right.readable.len start right.readable.head)
       ∙ right.length_says in
-      let frames = frames_same found.was first.leaves apart in
+      let frames = frames_same found.state first.leaves apart in
       let is_right : are_right other.spec_ex second.start second.len (field 4 next.contents)
       (held second.start next.contents) ≡ true =
       let there = right_again s start all (field 4 mid.contents) (held start mid.contents)
       found.frames refl right.riff_says frames in cc (agree.0, agree.2, len, same, there) in
-      let was : other.was ≡ Whole =
-      second.is.was ∙ ap (λ b. state_of b (again && is_followed second.len (drop second.start next.contents))) is_right in (
-        was,
+      let state : other.state ≡ Whole =
+      second.is.state ∙ ap (λ b. state_of b (again && is_followed second.len (drop second.start next.contents))) is_right in (
+        state,
         agree.0,
-        cc (second.is.frames, was, agree.0, len, agree.2, same, frames),
-        (subst (λ w. LeavesFor w other second.start next new) was second.leaves).stays.contents,
+        cc (second.is.frames, state, agree.0, len, agree.2, same, frames),
+        (subst (λ w. LeavesFor w other second.start next new) state second.leaves).stays.contents,
       )

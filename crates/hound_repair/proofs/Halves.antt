@@ -57,7 +57,7 @@ pad_flushed keeps end result a b c kept flushed pads longer = grind (arith, comm
 
 -- so the file is half mended, after a look at it
 pub mends_at_each : (looks : Bool) (old mid new : MediumState) (d : Damage) → IsSoundDamage d
-    → FindsDamage looks old d mid → d.was ≡ CutOff → FlushesBeforePad mid new
+    → FindsDamage looks old d mid → d.state ≡ CutOff → FlushesBeforePad mid new
     → HalfMendedAtEach d.head.data_start d.sizes.data_length mid new → MendsAtEach looks old new
 mends_at_each looks old mid new d sound finds cut order half =
     let same = finds.puts.stays in

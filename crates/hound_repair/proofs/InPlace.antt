@@ -44,7 +44,7 @@ two_put p riff len c x y behind inside x_is y_is =
 -- a file that was cut off, with its sizes and the missing bytes
 pub repairs_in_place : (looks : Bool) (used n : ℕ) (old pad new : List ℕ) (d : Damage) (found : Repair)
     (looked : MediumState) → IsSoundDamage d → FindsDamage looks (as_medium (take used old)) d looked
-    → d.was ≡ CutOff → missing_pad d.sizes.data_length d.held ≡ pad
+    → d.state ≡ CutOff → missing_pad d.sizes.data_length d.held ≡ pad
     → take n new ≡ with_sizes (d.head.data_start - 4) d.sizes.riff_size d.sizes.data_length (take used old) ++ pad
     → drop n new ≡ drop n old → found ≡ repair_of d → RepairsBytes looks used n found old new
 repairs_in_place looks used n old pad new d found looked sound finds cut missing is rest found_is =

@@ -39,14 +39,14 @@ unfolding data_held ends_with_pad
 frames_kept f len n q some few no_pad = grind (arith, common_steps)
 
 -- the data stay
-data_stay : (was : RepairState) (found : Repair) (start m : ℕ) (old new : MediumState)
-    → (was ≡ HasChunksAfterData → ⊥) → LeavesFor was found start old new → 20 ≤ start
+data_stay : (state : RepairState) (found : Repair) (start m : ℕ) (old new : MediumState)
+    → (state ≡ HasChunksAfterData → ⊥) → LeavesFor state found start old new → 20 ≤ start
     → start ≤ length old.contents → m ≤ held start old.contents
     → take m (drop start new.contents) ≡ take m (drop start old.contents)
-data_stay was found start m old new alone leaves behind inside few = grind (arith, common_steps, same_sizes, drop-append-le, take-append-le)
+data_stay state found start m old new alone leaves behind inside few = grind (arith, common_steps, same_sizes, drop-append-le, take-append-le)
 
 module _ (looks : Bool) (old new : MediumState) (found : Repair)
-    (r : Repairs looks old found new) (alone : found.was ≡ HasChunksAfterData → ⊥)
+    (r : Repairs looks old found new) (alone : found.state ≡ HasChunksAfterData → ⊥)
     (list : List (List ℕ)) (sound : IsSoundSpec found.spec_ex)
     (wide : AreWide found.spec_ex.bytes_per_sample list)
     (stored : IsStored r.start (concat list) 0 (length (concat list)) old.contents)
@@ -109,7 +109,7 @@ module _ (looks : Bool) (old new : MediumState) (found : Repair)
       let within : n ≤ all = mul-le q channels found.frames channels frames (omega arith) in
       let after = drop r.start new.contents in
       record {
-        readable = (sizes_of found.was found r.start new.contents alone r.sizes).readable;
+        readable = (sizes_of found.state found r.start new.contents alone r.sizes).readable;
         among = omega (arith, taken, within);
         first =
             ap (λ k. take k (containers w all after)) taken
@@ -122,7 +122,7 @@ module _ (looks : Bool) (old new : MediumState) (found : Repair)
 -- samples that are stored are read first once a file is repaired
 pub stays_stored : (looks : Bool) (old new : MediumState) (found : Repair) (s : WavSpecEx)
     (len start : ℕ) (list : List (List ℕ)) → Repairs looks old found new
-    → (IsTrue looks → found.was ≡ HasChunksAfterData → ⊥) → Head old.contents s len start
+    → (IsTrue looks → found.state ≡ HasChunksAfterData → ⊥) → Head old.contents s len start
     → IsSoundSpec s → AllByRecursion (λ c. length c ≡ s.bytes_per_sample) list
     → IsStored start (concat list) 0 (length (concat list)) old.contents
     → IsNoPad s len (held start old.contents) list
@@ -133,7 +133,7 @@ stays_stored looks old new found s len start list r alone head sound wide stored
       agree.0,
       subst (λ h. ReadsFrames found h list new.contents) agree.2
           (reads_frames looks old new found r
-          (not_followed looks _ _ found.was r.is.was alone) list (subst IsSoundSpec (sym agree.0) sound)
+          (not_followed looks _ _ found.state r.is.state alone) list (subst IsSoundSpec (sym agree.0) sound)
           (subst (λ (x : WavSpecEx). AreWide x.bytes_per_sample list) (sym agree.0) wide)
           (subst (λ h. IsStored h bytes 0 (length bytes) old.contents) (sym agree.2) stored)
           (subst (λ (x : WavSpecEx × ℕ × ℕ). IsNoPad x.0 x.1 (held x.2 old.contents) list)

@@ -49,7 +49,7 @@ module _ (d : Damage) (sound : IsSoundDamage d) (a b : MediumState)
 -- a file that wasn't cut off is left as it is
 pub repairs_kept : (looks : Bool) (old new : MediumState) (found : Repair) (len start : ℕ)
     → IsFoundAt looks old.contents found len start → IsSoundSpec found.spec_ex
-    → (found.was ≡ CutOff → ⊥) → PutsNothing old new → new.faults ≡ old.faults
+    → (found.state ≡ CutOff → ⊥) → PutsNothing old new → new.faults ≡ old.faults
     → Repairs looks old found new
 repairs_kept looks old new found len start at sound other nothing faults = record {
   len = len;
@@ -63,7 +63,7 @@ repairs_kept looks old new found len start at sound other nothing faults = recor
 -- a file that was cut off is mended
 pub repairs_cut : (looks : Bool) (old new : MediumState) (found : Repair) (len start : ℕ)
     → IsFoundAt looks old.contents found len start → IsSoundSpec found.spec_ex
-    → found.was ≡ CutOff → new.contents ≡ mended start (found_length found) old.contents
+    → found.state ≡ CutOff → new.contents ≡ mended start (found_length found) old.contents
     → new.flushed ≡ length new.past → new.faults ≡ old.faults → Repairs looks old found new
 repairs_cut looks old new found len start at sound cut is flushed faults = record {
   len = len;
@@ -75,13 +75,13 @@ repairs_cut looks old new found len start at sound cut is flushed faults = recor
 }
 
 -- the right data length of a file that was cut off is that of the frames that are reported
-pub length_is : (d : Damage) → IsSoundDamage d → d.was ≡ CutOff
+pub length_is : (d : Damage) → IsSoundDamage d → d.state ≡ CutOff
     → d.sizes.data_length ≡ found_length (repair_of d)
 length_is d sound cut = grind (arith, common_steps)
 
 -- the same, after a look at the file
 module _ (looks : Bool) (old mid new : MediumState) (d : Damage) (sound : IsSoundDamage d)
-    (finds : FindsDamage looks old d mid) (cut : d.was ≡ CutOff) where
+    (finds : FindsDamage looks old d mid) (cut : d.state ≡ CutOff) where
   pub put_ok : new.contents ≡ mended d.head.data_start d.sizes.data_length mid.contents
       → new.flushed ≡ length new.past → new.faults ≡ mid.faults
       → Repairs looks old (repair_of d) new

@@ -40,10 +40,10 @@ frames_half f len n k some small = grind (arith, common_steps, held_cases, frame
 
 module _ (looks again : Bool) (old mid new : MediumState) (found other : Repair) (len start : ℕ)
     (at : IsFoundAt looks old.contents found len start)
-    (apart : found.was ≡ HasChunksAfterData → ⊥) (some : 1 ≤ frame_length found.spec_ex)
+    (apart : found.state ≡ HasChunksAfterData → ⊥) (some : 1 ≤ frame_length found.spec_ex)
     (half : HalfMended start (found_length found) old.contents mid.contents)
     (second : Repairs again mid other new)
-    (alone : IsTrue again → other.was ≡ HasChunksAfterData → ⊥) where
+    (alone : IsTrue again → other.state ≡ HasChunksAfterData → ⊥) where
   abbrev s : WavSpecEx
   s = found.spec_ex
 
@@ -95,7 +95,7 @@ module _ (looks again : Bool) (old mid new : MediumState) (found other : Repair)
       head_now in (
         agree.0,
         frames_are again mid.contents other second.len second.start second.is
-            (not_followed again _ _ other.was second.is.was alone)
+            (not_followed again _ _ other.state second.is.state alone)
             ∙ (λ i. frames_held (agree.0 i) (agree.1 i) (held (agree.2 i) mid.contents))
             ∙ elim (cases_lt 0 (length half.pad)) [
               | inl put ↦ frames_after put

@@ -82,21 +82,21 @@ frames_read s n start frames c channels width is head =
     }
 
 -- where no chunks follow the data, what is reported is what is held
-pub held_frames : (was : RepairState) (s : WavSpecEx) (len n : ℕ) → (was ≡ HasChunksAfterData → ⊥)
-    → frames_found was s len n ≡ frames_held s len n
-held_frames was s len n alone = grind (arith, common_steps)
+pub held_frames : (state : RepairState) (s : WavSpecEx) (len n : ℕ) → (state ≡ HasChunksAfterData → ⊥)
+    → frames_found state s len n ≡ frames_held s len n
+held_frames state s len n alone = grind (arith, common_steps)
 
 -- chunks that aren't looked for aren't found
-pub not_followed : (looks right followed : Bool) (was : RepairState)
-    → was ≡ state_of right (looks && followed)
-    → (IsTrue looks → was ≡ HasChunksAfterData → ⊥) → was ≡ HasChunksAfterData → ⊥
-not_followed looks right followed was is alone here = grind (arith, common_steps)
+pub not_followed : (looks right followed : Bool) (state : RepairState)
+    → state ≡ state_of right (looks && followed)
+    → (IsTrue looks → state ≡ HasChunksAfterData → ⊥) → state ≡ HasChunksAfterData → ⊥
+not_followed looks right followed state is alone here = grind (arith, common_steps)
 
 -- what the sizes of a file that isn't followed by chunks are
-pub sizes_of : (was : RepairState) (found : Repair) (start : ℕ) (contents : List ℕ)
-    → (was ≡ HasChunksAfterData → ⊥) → UnlessFollowed was (HasRightSizes found start contents)
+pub sizes_of : (state : RepairState) (found : Repair) (start : ℕ) (contents : List ℕ)
+    → (state ≡ HasChunksAfterData → ⊥) → UnlessFollowed state (HasRightSizes found start contents)
     → HasRightSizes found start contents
-sizes_of was found start contents alone right = grind (arith, common_steps)
+sizes_of state found start contents alone right = grind (arith, common_steps)
 
 -- a length that passes the check fits
 pub size_fits : (s : WavSpecEx) (len start n : ℕ) → size_fault s len start n ≡ None
@@ -112,12 +112,12 @@ check_fits s len start n none = grind (arith, common_steps, size_fits)
 -- the sizes of a file with these frames fit, and are right where its fields say them
 module _ (looks : Bool) (contents : List ℕ) (found : Repair) (len start : ℕ)
     (at : IsFoundAt looks contents found len start)
-    (apart : found.was ≡ HasChunksAfterData → ⊥) where
+    (apart : found.state ≡ HasChunksAfterData → ⊥) where
   abbrev all : ℕ
   all = found_length found
 
   pub frames_are : found.frames ≡ frames_held found.spec_ex len (held start contents)
-  frames_are = at.frames ∙ held_frames found.was found.spec_ex len (held start contents) apart
+  frames_are = at.frames ∙ held_frames found.state found.spec_ex len (held start contents) apart
 
   pub length_of : all ≡ right_length found.spec_ex len (held start contents)
   length_of = ap (λ k. k * frame_length found.spec_ex) frames_are

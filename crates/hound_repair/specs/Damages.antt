@@ -41,9 +41,9 @@ pub record IsSoundDamage (d : Damage) : Type 0 where
 abbrev pub repair_of : Damage → Repair
 repair_of d = record {
   spec_ex = d.head.spec_ex;
-  frames = frames_found d.was d.head.spec_ex d.head.data_length d.held;
-  left_over = torn_found d.was d.head.spec_ex d.head.data_length d.held;
-  was = d.was;
+  frames = frames_found d.state d.head.spec_ex d.head.data_length d.held;
+  left_over = torn_found d.state d.head.spec_ex d.head.data_length d.held;
+  state = d.state;
 }
 
 -- a file was looked at: what is reported of it, what it holds, and nothing is written
@@ -117,7 +117,7 @@ pub record LacksRoom (looks : Bool) (used : ℕ) (bytes : List ℕ) : Type 0 whe
   pub len : ℕ
   pub start : ℕ
   pub is : IsFoundAt looks (take used bytes) found len start
-  pub was : found.was ≡ CutOff
+  pub state : found.state ≡ CutOff
   pub pad : missing_pad (found_length found) (held start (take used bytes)) ≡ 0 ∷ []
   pub full : length bytes ≤ used
 

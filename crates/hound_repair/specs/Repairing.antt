@@ -58,13 +58,13 @@ pub record IsFoundAt (looks : Bool) (contents : List ℕ) (found : Repair) (len 
     pub head : Head contents found.spec_ex len start
     pub small : len ≤ greatest_u32
     pub check : repair_fault found.spec_ex len start (held start contents) ≡ None
-    pub was : found.was
+    pub state : found.state
         ≡ state_of (are_right found.spec_ex start len (field 4 contents) (held start contents))
         (looks && is_followed len (drop start contents))
     pub frames : found.frames
-        ≡ frames_found found.was found.spec_ex len (held start contents)
+        ≡ frames_found found.state found.spec_ex len (held start contents)
     pub left_over : found.left_over
-        ≡ torn_found found.was found.spec_ex len (held start contents)
+        ≡ torn_found found.state found.spec_ex len (held start contents)
 
 -- something looked at a medium: nothing was written, and a call that failed counts one fault
 pub record Looks {T E : Type 0} (result : Result T E) (old new : MediumState) : Type 0 where
@@ -120,8 +120,8 @@ pub record Repairs (looks : Bool) (old : MediumState) (found : Repair) (new : Me
     pub len : ℕ
     pub start : ℕ
     pub is : IsFoundAt looks old.contents found len start
-    pub leaves : LeavesFor found.was found start old new
-    pub sizes : UnlessFollowed found.was (HasRightSizes found start new.contents)
+    pub leaves : LeavesFor found.state found start old new
+    pub sizes : UnlessFollowed found.state (HasRightSizes found start new.contents)
     pub faults : new.faults ≡ old.faults
 
 -- The contents while a file is mended, for data of this length: the sizes are written, the RIFF size
@@ -153,14 +153,14 @@ abbrev pub MendsAtEach : Bool → MediumState → MediumState → Type 0
 MendsAtEach looks old new =
     (new.past ≡ old.past)
     ⊎ ((found : Repair) × (len : ℕ) × (start : ℕ) × IsFoundAt looks old.contents found len start
-    × (found.was ≡ CutOff) × FlushesBeforePad old new
+    × (found.state ≡ CutOff) × FlushesBeforePad old new
     × HalfMendedAtEach start (found_length found) old new)
 
 -- what is left where the medium failed: all, or a file that is half mended
 abbrev pub LeavesHalf : Bool → MediumState → MediumState → Type 0
 LeavesHalf looks old new = PutsNothing old new
     ⊎ ((found : Repair) × (len : ℕ) × (start : ℕ) × IsFoundAt looks old.contents found len start
-    × (found.was ≡ CutOff) × HalfMended start (found_length found) old.contents new.contents)
+    × (found.state ≡ CutOff) × HalfMended start (found_length found) old.contents new.contents)
 
 -- A file that isn't repaired, for a fault that its bytes have, and then nothing was written; or since
 -- the medium failed.

@@ -97,7 +97,7 @@ pub fn repair_bytes(
         Ok(damage) => damage,
         Err(why) => return Err(why),
     };
-    if damage.was != RepairState::CutOff {
+    if damage.state != RepairState::CutOff {
         return Ok((damage.repair(), used));
     }
     let lacks_pad = damage.lacks_pad();

@@ -21,7 +21,7 @@ ghost use Rattle.hound_repair.specs.declared.sizes.RepairState.TheVariants.{HasC
 pub fn a_repair_keeps_stored_samples()
     ensures read { (looks : Bool) (old new : MediumState) (found : Repair) (s : WavSpecEx)
         (len start : ℕ) (list : List (List ℕ)) → Repairs looks old found new
-        → (IsTrue looks → found.was ≡ HasChunksAfterData → ⊥) → Head old.contents s len start → IsSoundSpec s
+        → (IsTrue looks → found.state ≡ HasChunksAfterData → ⊥) → Head old.contents s len start → IsSoundSpec s
         → AllByRecursion (λ c. length c ≡ s.bytes_per_sample) list
         → IsStored start (concat list) 0 (length (concat list)) old.contents
         → IsNoPad s len (held start old.contents) list →
@@ -37,10 +37,10 @@ pub fn a_repair_keeps_stored_samples()
 /// It holds of contents as the first repair left them, unless that found chunks after the data.
 pub fn a_second_repair_writes_nothing()
     ensures { (looks again : Bool) (old mid next new : MediumState) (found other : Repair)
-        → Repairs looks old found mid → (IsTrue looks → found.was ≡ HasChunksAfterData → ⊥)
+        → Repairs looks old found mid → (IsTrue looks → found.state ≡ HasChunksAfterData → ⊥)
         → 1 ≤ frame_length found.spec_ex → next.contents ≡ mid.contents
         → Repairs again next other new →
-        (other.was ≡ Whole) × (other.spec_ex ≡ found.spec_ex) × (other.frames ≡ found.frames)
+        (other.state ≡ Whole) × (other.spec_ex ≡ found.spec_ex) × (other.frames ≡ found.frames)
         × (new.contents ≡ next.contents) }
 {}
 
@@ -53,8 +53,8 @@ pub fn a_second_repair_writes_nothing()
 pub fn a_half_mended_file_is_repaired()
     ensures { (looks again : Bool) (old mid new : MediumState) (found other : Repair) (len start : ℕ)
         → IsFoundAt looks old.contents found len start
-        → (found.was ≡ HasChunksAfterData → ⊥) → 1 ≤ frame_length found.spec_ex
+        → (found.state ≡ HasChunksAfterData → ⊥) → 1 ≤ frame_length found.spec_ex
         → HalfMended start (found_length found) old.contents mid.contents
-        → Repairs again mid other new → (IsTrue again → other.was ≡ HasChunksAfterData → ⊥) →
+        → Repairs again mid other new → (IsTrue again → other.state ≡ HasChunksAfterData → ⊥) →
         (other.spec_ex ≡ found.spec_ex) × (other.frames ≡ found.frames) }
 {}

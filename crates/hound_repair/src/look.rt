@@ -47,7 +47,7 @@ pub(crate) struct Damage {
     pub(crate) head: FileHead,
     pub(crate) held: u64,
     pub(crate) sizes: Sizes,
-    pub(crate) was: RepairState,
+    pub(crate) state: RepairState,
 }
 
 // Whether ASCII prints a byte.
@@ -195,12 +195,12 @@ pub(crate) fn measure<R: ReadAt>(source: &mut R, head: FileHead, rest: Rest) -> 
         Ok(sizes) => sizes,
         Err(error) => return Err(error),
     };
-    let was = state_of(source, head, held, sizes, rest)?;
+    let state = state_of(source, head, held, sizes, rest)?;
     Ok(Damage {
         head,
         held,
         sizes,
-        was,
+        state,
     })
 }
 
@@ -231,7 +231,7 @@ impl Damage {
     {
         let spec_ex = self.head.spec_ex;
         let frame = spec_ex.spec.channels as u32 * spec_ex.bytes_per_sample as u32;
-        let (frames, left_over) = match self.was {
+        let (frames, left_over) = match self.state {
             RepairState::HasChunksAfterData => (
                 self.head.data_length / frame,
                 self.head.data_length % frame,
@@ -242,7 +242,7 @@ impl Damage {
             spec_ex,
             frames,
             left_over,
-            was: self.was,
+            state: self.state,
         }
     }
 

@@ -50,7 +50,7 @@ fn repair_with<M: Source + Medium>(medium: M, rest: Rest) -> result::Result<(M, 
     ensures moments { WhereKeeps M.tells M.keeps (MendsMedium (may_be_chunks rest) M.state medium result) }
 {
     let (medium, damage) = look(medium, rest)?;
-    if damage.was != RepairState::CutOff {
+    if damage.state != RepairState::CutOff {
         return Ok((medium, damage.repair()));
     }
     let mut medium = medium;
@@ -79,7 +79,7 @@ fn repair_with<M: Source + Medium>(medium: M, rest: Rest) -> result::Result<(M, 
 /// match repair(tape) {
 ///     Ok((tape, found)) => {
 ///         let samples = WavReader::new(tape.bytes())?.len(); // As many as were found.
-///         Ok((found.was, samples))
+///         Ok((found.state, samples))
 ///     }
 ///     Err((_, error)) => Err(error.into()),
 /// }

@@ -51,7 +51,7 @@ pub struct Repair {
     pub left_over: u32,
 
     /// How the file was found.
-    pub was: RepairState,
+    pub state: RepairState,
 }
 
 /// The sizes that a file should have, in bytes, and what they count.

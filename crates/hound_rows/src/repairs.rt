@@ -57,7 +57,7 @@ fn repair_one(row: &mut Row, how: &str, bytes: Vec<u8>) -> bool {
 }
 
 fn show_found(row: &mut Row, found: Repair) {
-    row.line.word(match found.was {
+    row.line.word(match found.state {
         RepairState::Whole => "whole",
         RepairState::CutOff => "cut_off",
         RepairState::HasChunksAfterData => "followed",

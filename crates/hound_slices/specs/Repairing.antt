@@ -23,7 +23,7 @@ pub record IsReported (found : Repair) (c : HoundRepair) : Type 0 where
   pub explicit : IsExplicit c.spec
   pub frames : c.frames ≡ found.frames
   pub left_over : c.left_over ≡ found.left_over
-  pub state : c.state ≡ state_code found.was
+  pub state : c.state ≡ state_code found.state
 
 -- what was found in a file, looked at as a whole, as C has it
 abbrev pub FindsInFile : List ℕ → HoundRepair → Type 0

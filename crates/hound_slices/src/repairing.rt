@@ -28,7 +28,7 @@ pub fn repair_for_c(repair: Repair) -> HoundRepair
         spec: spec_for_c(repair.spec_ex),
         frames: repair.frames,
         left_over: repair.left_over,
-        state: state_code(repair.was),
+        state: state_code(repair.state),
     }
 }
 

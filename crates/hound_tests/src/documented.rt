@@ -153,7 +153,7 @@ fn mend(alloc: Global, bytes: &[u8]) -> Result<(RepairState, u32), Fail> {
     match repair(tape) {
         Ok((tape, found)) => {
             let samples = WavReader::new(tape.bytes())?.len(); // As many as were found.
-            Ok((found.was, samples))
+            Ok((found.state, samples))
         }
         Err((_, error)) => Err(error.into()),
     }
