@@ -1,12 +1,14 @@
 #!/usr/bin/env python3
-"""Repairs files by bindings/c/repair.c, beside the model of hound_rows and the Python package: those of the rows, and
-files that are cut off at each byte. Then each of its calls of the system is killed or fails, and from these calls the
-states are built that a loss of power may leave; each is repaired again. Wrong versions of repair.c have to be found.
+"""Repairs files by bindings/c/repair.c, or by `repair_file` of bindings/hound, beside the model of hound_rows and the
+Python package: those of the rows, and files that are cut off at each byte. Then each of its calls of the system is
+killed or fails, and from these calls the states are built that a loss of power may leave; each is repaired again. Wrong
+versions have to be found.
 
-usage: repairs.py     (with the package hound_bindings on the path, cc and strace)"""
+usage: repairs.py [cargo]     (with the package hound_bindings on the path, strace, and cc or cargo)"""
 import itertools
 import os
 import re
+import shutil
 import signal
 import struct
 import subprocess
@@ -18,10 +20,14 @@ from python_faults import CASES, LIST, STREAM, Wrong, head, leave
 from rows import TOP, model, repaired_by_model, repairs
 
 HEADER = 44
+IN_CARGO = sys.argv[1:] == ["cargo"]
+SOURCE = "hound/src/repair.rs" if IN_CARGO else "c/repair.c"
 # A file of 8 bits and one channel that was cut off, with no pad byte after its 1,099 samples, of which 100 are counted.
 CUT_OFF = head(CASES[1], 100) + STREAM[:1099]
-WAYS = {"mend": [], "to_end": ["--to-end"]}
-STATES = {"whole": "whole", "cut_off": "cut off", "followed": "with chunks after the data"}
+WAYS = {"mend": []} if IN_CARGO else {"mend": [], "to_end": ["--to-end"]}
+SAID = ("Whole", "CutOff", "HasChunksAfterData") if IN_CARGO else ("whole", "cut off", "with chunks after the data")
+STATES = dict(zip(("whole", "cut_off", "followed"), SAID))
+WRITES = ("write", "pwrite64")
 TAG = b"TAG" + bytes(125)
 # Parts of repair.c.
 LENGTH, RIFF_SIZE = "!has_stored(bytes, (size_t)info.data_start - 4, 4)", "!has_stored(bytes, 4, 4)"
@@ -46,10 +52,36 @@ WRONG = {
     "no message where the disk can't be read": ("signal(SIGBUS, stop_at_fault)", "(void)stop_at_fault"),
     "an error ends with status 0": ('why), 1)); }', 'why), 0)); }'),
 }
+if IN_CARGO:
+    LENGTH, PAD, RIFF_SIZE = "data_start - 4..data_start", "length..found.length", "4..8"
+    STEPS, SYNC = f"[{LENGTH}, {PAD}, {RIFF_SIZE}]", "                file.sync_all()?;\n"
+    WRONG = {
+        "the order of an earlier version": (STEPS, f"[{PAD}, {RIFF_SIZE}, {LENGTH}]"),
+        "the data length before the samples are synced": ("        file.sync_all()?;\n        for", "        for"),
+        "no sync after a step": (SYNC, ""),
+        "a sync that fails is ignored": (SYNC, SYNC.replace("?", ".unwrap_or(())")),
+        "the pad byte before the data length": (STEPS, f"[{PAD}, {LENGTH}, {RIFF_SIZE}]"),
+        "the RIFF size before the pad byte": (STEPS, f"[{LENGTH}, {RIFF_SIZE}, {PAD}]"),
+        "no pad byte": (STEPS, f"[{LENGTH}, {RIFF_SIZE}]"),
+        "no RIFF size": (STEPS, f"[{LENGTH}, {PAD}]"),
+        "a whole file is written": ("== RepairState::CutOff", "!= RepairState::HasChunksAfterData"),
+        "a file with chunks after the data is written": ("== RepairState::CutOff", "!= RepairState::Whole"),
+        "an interrupted or short write isn't continued": ("file.write_all(", "file.write("),
+    }
 
 
 def compiled(folder, text):
-    """The program of this text of repair.c, with the library that the packages take."""
+    """The program of this text, with the library that the packages take."""
+    if IN_CARGO:
+        copy = os.path.join(folder, "bindings")
+        for part in "hound", "rust", "lib":
+            ignored = shutil.ignore_patterns("target")
+            shutil.copytree(os.path.join(TOP, "bindings", part), os.path.join(copy, part), ignore=ignored, dirs_exist_ok=True)
+        with open(os.path.join(copy, SOURCE), "w") as file:
+            file.write(text)
+        words = ["cargo", "build", "-q", "--offline", "--example", "repair", "--target-dir", copy]
+        subprocess.run(words, cwd=os.path.join(copy, "hound"), check=True)
+        return os.path.join(copy, "debug", "examples", "repair")
     program = os.path.join(folder, "repair")
     with open(program + ".c", "w") as file:
         file.write(text)
@@ -70,7 +102,7 @@ def run(program, path, how="mend", **options):
 
 def is_error(ran):
     """Whether a run ended with the status of an error, and with a message alone."""
-    return (ran.returncode, ran.stdout) == (1, b"") and re.fullmatch(rb"repair: .+\n", ran.stderr)
+    return (ran.returncode, ran.stdout) == (1, b"") and re.fullmatch(rb"(repair|Error): .+\n", ran.stderr)
 
 
 def check(program, path, how, data):
@@ -127,7 +159,8 @@ def check_long(program, path):
     leave(path, head(CASES[1], 0))
     os.truncate(path, HEADER + length)
     with open(os.devnull, "wb") as output:
-        _, status, usage = os.wait4(subprocess.Popen([program, path], stdout=output).pid, 0)
+        process = subprocess.Popen([program, path], stdout=output)
+        _, status, usage = os.wait4(process.pid, 0)
     with open(path, "rb") as file:
         is_right = file.read(HEADER) == head(CASES[1], length) and os.path.getsize(path) == HEADER + length + 1
     if status or not is_right or usage.ru_maxrss > 100_000:
@@ -181,12 +214,17 @@ def traced(program, path, before, how, *options):
     writes, and all that strace says."""
     leave(path, before)
     log = path + ".log"
+    # Rust takes no notice of these where they fail: the sizes, the flags and the end of a file.
+    options = ["-e", "trace=!statx,fcntl,close", *options]
     words = ["strace", "-qq", "-xx", "-o", log, "-P", path, *options, program, path, *WAYS[how]]
     ran = subprocess.run(words, stdout=subprocess.PIPE, stderr=subprocess.PIPE)
     said = contents_of(log).decode()
-    calls = []
-    for name, data, place in re.findall(r'^(\w+)\((?:\d+, "([^"]*)", \d+, (\d+)\) )?', said, flags=re.M):
-        calls.append((name, int(place or 0), bytes.fromhex(data.replace("\\x", ""))))
+    calls, at = [], 0
+    pattern = r'^(\w+)\((?:\d+, "([^"]*)", \d+(?:, (\d+))?\))?.* = (-?\d+)'
+    for name, data, place, result in re.findall(pattern, said, flags=re.M):
+        at = int(place or (result if name == "lseek" else at))
+        calls.append((name, at, bytes.fromhex(data.replace("\\x", ""))))
+        at += int(result) if name == "write" else 0
     return ran, calls, said
 
 
@@ -194,7 +232,7 @@ def written(contents, calls):
     """These contents after the writes among these calls."""
     contents = bytearray(contents)
     for name, place, data in calls:
-        if name == "pwrite64":
+        if name in WRITES:
             contents.extend(bytes(max(place - len(contents), 0)))
             contents[place : place + len(data)] = data
     return bytes(contents)
@@ -219,7 +257,8 @@ def check_calls(program, path, how, before):
     for at, (name, place, data) in enumerate(calls):
         number = sum(call[0] == name for call in calls[: at + 1])
         faults = ["signal=KILL:when={}", "error=EIO:when={}", "error=ENOSPC:when={}+"]
-        faults += ["signal=BUS:when={}"] * (name == "fsync") + ["error=EINTR:when={}", "retval=1:when={}"] * (name == "pwrite64")
+        faults += ["error=EINTR:when={}", "retval=1:when={}"] * (name in WRITES)
+        faults += ["signal=BUS:when={}"] * (name == "fsync" and not IN_CARGO)
         for fault in (fault.format(number) for fault in faults):
             what = f"{name} {fault} of a file of {len(before)} bytes"
             ran, met, said = traced(program, path, before, how, "-e", f"inject={name}:{fault}")
@@ -228,7 +267,7 @@ def check_calls(program, path, how, before):
             if not re.search("INJECTED|SIG(KILL|BUS)", said):
                 raise Wrong(f"{what}: it isn't met")
             if "retval" in fault:  # It says that one byte was written: the others have to follow.
-                is_right = ran.returncode == 0 and (len(data) == 1 or ("pwrite64", place + 1, data[1:]) in met)
+                is_right = ran.returncode == 0 and (len(data) == 1 or (name, place + 1, data[1:]) in met)
             elif "EINTR" in fault:
                 is_right = ran.returncode == 0 and left == done
             else:
@@ -254,7 +293,7 @@ def check_losses(program, path, how, before):
     for call in calls:
         if call[0] == "fsync":
             synced, waiting = written(synced, waiting), []
-        elif call[0] == "pwrite64":
+        elif call[0] in WRITES:
             waiting.append(call)
         for some in itertools.product((False, True), repeat=len(waiting)):
             check_state(written(synced, itertools.compress(waiting, some)), how, before, "a loss of power")
@@ -266,21 +305,24 @@ def check_losses(program, path, how, before):
 
 def all_checks(program, path, is_short):
     """What was tried. The wrong versions need fewer files."""
-    calls = sum(check_calls(program, path, how, before) for how, before in CALLED)
-    losses = sum(check_losses(program, path, how, before) for how, before in CALLED)
-    errors = check_errors(program, path)
+    called = [(how, before) for how, before in CALLED if how in WAYS]
+    calls = sum(check_calls(program, path, how, before) for how, before in called)
+    losses = sum(check_losses(program, path, how, before) for how, before in called)
+    errors = 0 if IN_CARGO else check_errors(program, path)
     cut = list(cut_files())
     files = check_files(program, path, (("mend", data) for data in (cut[:500] if is_short else cut)))
-    files += check_files(program, path, (("to_end", data) for data in cut[:: 9 if is_short else 3]))
+    if "to_end" in WAYS:
+        files += check_files(program, path, (("to_end", data) for data in cut[:: 9 if is_short else 3]))
     if is_short:
         return ""
-    check_long(program, path)
-    files += check_files(program, path, repairs())
+    if not IN_CARGO:
+        check_long(program, path)
+    files += check_files(program, path, ((how, data) for how, data in repairs() if how in WAYS))
     return f"{files} files, {errors} errors, {calls} killed or failing calls, {losses} states of a loss of power"
 
 
 def main():
-    text = contents_of(os.path.join(TOP, "bindings", "c", "repair.c")).decode()
+    text = contents_of(os.path.join(TOP, "bindings", SOURCE)).decode()
     # A sync costs nothing there.
     with tempfile.TemporaryDirectory(dir="/dev/shm" if os.path.isdir("/dev/shm") else None) as folder:
         folder = os.path.realpath(folder)
@@ -288,7 +330,7 @@ def main():
         print(f"repairs: {all_checks(compiled(folder, text), path, False)}", flush=True)
         for what, (part, other) in WRONG.items():
             if text.count(part) != 1:
-                sys.exit(f"repairs: repair.c has another part than {part}")
+                sys.exit(f"repairs: {SOURCE} has another part than {part}")
             program = compiled(folder, text.replace(part, other))
             try:
                 all_checks(program, path, True)

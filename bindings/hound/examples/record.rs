@@ -1,7 +1,7 @@
 //! Records the samples of standard input, little-endian, of 16 bits, one channel and 44100 Hz. After every so many a
 //! checkpoint makes the file's header count all, and prints how many they are. After an error the program continues, and
-//! prints how many samples were lost. It appends to the file, with `append`, and the checkpoints survive a loss of power,
-//! with `durable`.
+//! prints how many samples were lost. With `append` it repairs the file, where a recording was cut off, and appends to it;
+//! with `durable` the checkpoints survive a loss of power.
 //!
 //!     arecord -t raw -f S16_LE -r 44100 | record FILE SAMPLES [append] [durable]
 use hound::{SampleFormat, WavSpec, WavWriter};
@@ -13,6 +13,9 @@ fn main() -> hound::Result<()> {
     let every: u64 = words[2].parse().expect("a number of samples");
     let spec = WavSpec { channels: 1, sample_rate: 44100, bits_per_sample: 16, sample_format: SampleFormat::Int };
     let has = |word: &str| words[3..].iter().any(|other| other == word);
+    if has("append") {
+        hound::repair_file(&words[1])?;
+    }
     let mut writer = match (has("append"), has("durable")) {
         (false, false) => WavWriter::create(&words[1], spec)?,
         (false, true) => WavWriter::create_durable(&words[1], spec)?,

@@ -20,7 +20,9 @@ pub struct Repair {
 /// Gives a file whose recording was cut off the sizes of the whole frames that it holds, and a pad byte
 /// where one is missing (own). A file that is whole, or in which chunks follow the data, stays as it is.
 ///
-/// The file is read into memory. What is written is synced, the pad byte before the sizes.
+/// The file is read into memory. It is synced as it was found; then the data length, the pad byte and the RIFF
+/// size are written in this order, each with a sync. So after a kill or an error a second call finds the same
+/// frames: the pad byte follows data that are already counted, and a wrong RIFF size marks the file as unrepaired.
 pub fn repair_file<P: AsRef<path::Path>>(filename: P) -> Result<Repair> {
     let mut file = fs::OpenOptions::new().read(true).write(true).open(&filename)?;
     let mut bytes = fs::read(&filename)?;
@@ -29,10 +31,13 @@ pub fn repair_file<P: AsRef<path::Path>>(filename: P) -> Result<Repair> {
     let found = proved::repair(&mut bytes, length)?;
     if found.state == RepairState::CutOff {
         let data_start = proved::info(&bytes)?.data_start as usize;
-        for part in [length..found.length, 4..8, data_start - 4..data_start] {
-            file.seek(SeekFrom::Start(part.start as u64))?;
-            file.write_all(&bytes[part])?;
-            file.sync_all()?;
+        file.sync_all()?;
+        for part in [data_start - 4..data_start, length..found.length, 4..8] {
+            if !part.is_empty() {
+                file.seek(SeekFrom::Start(part.start as u64))?;
+                file.write_all(&bytes[part])?;
+                file.sync_all()?;
+            }
         }
     }
     Ok(Repair { spec_ex: found.spec.into(), frames: found.frames, left_over: found.left_over, was: found.state })
