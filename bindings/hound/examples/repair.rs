@@ -7,6 +7,6 @@ use std::env;
 fn main() -> hound::Result<()> {
     let path = env::args_os().nth(1).expect("a file");
     let found = hound::repair_file(path)?;
-    println!("found {:?}: {} frames, {} bytes left over", found.was, found.frames, found.left_over);
+    println!("found {:?}: {} frames, {} bytes left over", found.state, found.frames, found.left_over);
     Ok(())
 }

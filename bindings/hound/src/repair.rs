@@ -14,7 +14,7 @@ pub struct Repair {
     /// How many bytes of a torn frame follow them.
     pub left_over: u32,
     /// How the file was found.
-    pub was: RepairState,
+    pub state: RepairState,
 }
 
 /// Gives a file whose recording was cut off the sizes of the whole frames that it holds, and a pad byte
@@ -40,5 +40,5 @@ pub fn repair_file<P: AsRef<path::Path>>(filename: P) -> Result<Repair> {
             }
         }
     }
-    Ok(Repair { spec_ex: found.spec.into(), frames: found.frames, left_over: found.left_over, was: found.state })
+    Ok(Repair { spec_ex: found.spec.into(), frames: found.frames, left_over: found.left_over, state: found.state })
 }

@@ -233,10 +233,10 @@ fn a_file_that_was_cut_off_is_repaired() {
     file[4..8].fill(0);
     fs::write(&path, &file).unwrap();
     let found = hound::repair_file(&path).unwrap();
-    assert_eq!((found.was, found.frames, found.left_over, found.spec_ex.bytes_per_sample), (hound::RepairState::CutOff, 3, 0, 1));
+    assert_eq!((found.state, found.frames, found.left_over, found.spec_ex.bytes_per_sample), (hound::RepairState::CutOff, 3, 0, 1));
     let samples = WavReader::open(&path).unwrap().into_samples::<i8>().collect::<Result<Vec<_>>>().unwrap();
     assert_eq!((samples, fs::metadata(&path).unwrap().len()), (vec![1, 2, 3], 48));
-    assert_eq!(hound::repair_file(&path).unwrap().was, hound::RepairState::Whole);
+    assert_eq!(hound::repair_file(&path).unwrap().state, hound::RepairState::Whole);
 }
 
 #[test]
