@@ -1,7 +1,7 @@
 use crate::proved;
 pub use crate::proved::State as RepairState;
 use crate::{Result, WavSpecEx};
-use std::io::{Seek, SeekFrom, Write};
+use std::io::{Read, Seek, SeekFrom, Write};
 use std::{fs, path};
 
 /// What a file holds (own).
@@ -24,8 +24,9 @@ pub struct Repair {
 /// size are written in this order, each with a sync. So after a kill or an error a second call finds the same
 /// frames: the pad byte follows data that are already counted, and a wrong RIFF size marks the file as unrepaired.
 pub fn repair_file<P: AsRef<path::Path>>(filename: P) -> Result<Repair> {
-    let mut file = fs::OpenOptions::new().read(true).write(true).open(&filename)?;
-    let mut bytes = fs::read(&filename)?;
+    let mut file = fs::OpenOptions::new().read(true).write(true).open(filename)?;
+    let mut bytes = Vec::new();
+    file.read_to_end(&mut bytes)?;
     let length = bytes.len();
     bytes.push(0);
     let found = proved::repair(&mut bytes, length)?;
