@@ -1,5 +1,5 @@
 // The page: it looks at a file that is dropped or chosen, draws it, plays it, and saves the repaired one.
-import { HoundError, info, read, repair, write } from "../hound.js";
+import { HoundError, findDamage, info, read, repair, write } from "../hound.js";
 
 const element = (id) => document.getElementById(id);
 const [drop, said, busy, stop, result, save, choice, end, wave, place, axis, zoom, player, facts] =
@@ -7,22 +7,32 @@ const [drop, said, busy, stop, result, save, choice, end, wave, place, axis, zoo
 const [input, audio, canvas, progress] = ["input", "audio", "canvas", "progress"].map((name) => document.querySelector(name));
 
 // What is said of a file that can't be read, where hound.h's sentence is too short for somebody who knows no format.
-const RAW = "an audio editor can import it as raw data, if you know its rate, channels and bits";
+const KNOWN = "if you know its rate, channels and bits";
+const RAW = `an audio editor can import it as raw data, ${KNOWN}`;
+const KEEP = `Keep the file: an audio editor may read it, or import it as raw data, ${KNOWN}.`;
 const LOST = `Where its sound begins wasn't found, but sound may be in it. Keep the file: ${RAW}.`;
-const READS = "This page reads integers of 8, 16, 24 and 32 bits, and floats of 32 bits.";
+const DAMAGED = `Its header is damaged, or of a kind that this page doesn't read. ${KEEP}`;
+const READS = `This page reads integers of 8, 16, 24 and 32 bits, and floats of 32 bits. ${KEEP}`;
 const HINTS = {
   ENDED: LOST,
   NO_DATA_CHUNK: LOST,
   NO_FMT_CHUNK: LOST,
   NO_RIFF_TAG: `It is no WAV file, or its beginning was lost: then ${RAW}.`,
-  NO_WAVE_TAG: "It is a RIFF file, but no WAV file.",
-  UNSUPPORTED: "Its sound is compressed; this page reads plain samples only.",
+  NO_WAVE_TAG: `It is another RIFF file, or its beginning was lost: then ${RAW}.`,
+  UNSUPPORTED: `Its sound is compressed, or its header is damaged; this page reads plain samples only. ${KEEP}`,
   NOT_WRITABLE: READS,
   BITS_NOT_32: READS,
 };
-// The same by the first four bytes of a file without a RIFF tag.
-const LARGE = "It is a WAV file for more than 4 GiB, which this page doesn't read.";
-const TAGS = { RF64: LARGE, BW64: LARGE, RIFX: "It is a WAV file with its bytes in the other order, which this page doesn't read." };
+// The same by the first four bytes of a file without a RIFF tag, or the first three.
+const OTHER = "which this page doesn't read: try an audio editor.";
+const TAGS = {
+  RF64: `It is RF64, for long recordings, ${OTHER}`,
+  BW64: `It is BW64, for long recordings, ${OTHER}`,
+  RIFX: `It is a WAV file with its bytes in the other order, ${OTHER}`,
+  ID3: `A tag (ID3) is in front of the sound, ${OTHER}`,
+  "\0\0\0\0": `It begins with zeros. If all its bytes are zeros, no sound is left in it; if not, ${RAW}.`,
+};
+const CARD = "Record nothing more on the card it came from: a recovery program may find the sound there.";
 // How many samples are read at once to be drawn, how many channels are drawn at most, how many frames are shown at least,
 // and how many samples a copy has at most.
 const AT_ONCE = 1 << 20, LANES = 32, LEAST = 64, COPIED = 1 << 28;
@@ -43,37 +53,54 @@ function say(text, kind = "") {
 
 /** Why a file can't be read; `tag` is its first four bytes, if they are known. */
 function failure(file, error, tag = "") {
-  const hint = error.code === "ENDED" && file.size < 64 ? "It ends before any sound." : TAGS[tag] ?? HINTS[error.code] ?? "";
-  if (error instanceof HoundError) return `${file.name} can't be read: ${error.message}.\n${hint}`;
+  if (error.code === "ENDED" && file.size < 64) return `${file.name} ${file.size ? "ends before any sound" : "is empty"}. ${CARD}`;
+  if (error instanceof HoundError) return `${file.name} can't be read: ${error.message}.\n${TAGS[tag] ?? TAGS[tag.slice(0, 3)] ?? HINTS[error.code] ?? DAMAGED}`;
   if (error instanceof RangeError) return `${file.name} is too large for this browser: it has ${number(file.size)} bytes.`;
   return `${file.name} could not be read: ${error.message}`;
 }
 
 const lengthOfTime = ({ frames, sampleRate }) => sampleRate ? frames / sampleRate : 0;
+const framesOf = (found) => counted(found.frames, "frame") + (found.sampleRate ? ` (${time(lengthOfTime(found))})` : "");
 
-/** What is said of a file that was looked at, and repaired to its end if that was asked for; `riff` is its length as it
-    says it at byte 4. */
-function verdict(found, toEnd, riff) {
+/** What a file says of itself: whether its length, at byte 4, is wrong, how many bytes follow the sound that its header
+    counts, and whether they may be sound, too: they are more, or something is between that and an ID3v1 tag at the end. */
+async function claims(file, { dataStart, channels, bytesPerSample }) {
+  const numberAt = async (place) => new DataView(await file.slice(place, place + 4).arrayBuffer()).getUint32(0, true);
+  const length = 8 + await numberAt(4), sound = await numberAt(dataStart - 4), end = dataStart + sound, rest = file.size - end;
+  const isTagged = rest > 128 && await file.slice(-128, -125).text() === "TAG";
+  const mayBeSound = rest > sound || isTagged && (await findDamage(file.slice(0, -128))).frames * channels * bytesPerSample > sound;
+  return { isWrong: length < end || length > file.size + 1, rest, mayBeSound };
+}
+
+/** What is said of a file that was looked at, and repaired to its end if that was requested. */
+function verdict(found, { isWrong, rest, mayBeSound }, toEnd) {
   const { state, frames, leftOver } = found;
-  if (state === "whole") return ["The file is whole: both of its sizes are right. There is nothing to repair.", "good"];
   if (state === "hasChunksAfterData") {
+    const counts = frames ? `only ${framesOf(found)}` : "no sound";
+    if (mayBeSound) return [`The header counts ${counts}, but ${counted(rest, "byte")} follow. They may be the recording: repair the file to its end, and listen.`, "cut"];
     const follow = "Other data follow the sound, as a title or markers (chunks or a tag).";
-    if (riff === 0 || riff === 0xffffffff) return [`${follow} The sound is whole, but the length at byte 4 is wrong: programs that reject the file for it need it exported anew.`, "cut"];
+    if (isWrong) return [`${follow} Only the file's length, at byte 4, is wrong: if a program rejects it, export it from an audio editor.`, "cut"];
     return [`${follow} There is nothing to repair.`, "good"];
   }
-  if (frames === 0) return ["The file has a header and no sound: nothing can be brought back from it.", "bad"];
+  if (frames === 0) return [`The file has a header and no sound: nothing can be brought back from it. ${CARD}`, "bad"];
+  if (state === "whole") return ["The file is whole: both of its sizes are right. There is nothing to repair.", "good"];
   const left = leftOver ? ` Of one more frame only ${counted(leftOver, "byte")} ${leftOver === 1 ? "is" : "are"} there.` : "";
   const cause = toEnd ? "All bytes up to the end are taken for sound." : "The recording was cut off.";
-  const back = `${counted(frames, "frame")} (${time(lengthOfTime(found))}) come${frames === 1 ? "s" : ""} back.${left}`;
-  return [`${cause} ${back}\nListen to its end: some recorders leave silence or older sound there.`, "cut"];
+  const back = `${framesOf(found)} come${frames === 1 ? "s" : ""} back.${left}`;
+  return [`${cause} ${back}\nListen to its end: if silence, noise, a click or older sound is there, cut it off in an audio editor.`, "cut"];
 }
 
 /** The second choice where chunks or a tag follow the sound: what it is, and its button. */
-function otherChoice(file, { frames, channels, bytesPerSample, dataStart }, toEnd) {
-  if (toEnd) return ["If it ends in noise now, chunks or a tag were there, and the file needs no repair.", "Back to the file as it was"];
-  const rest = file.size - dataStart - frames * channels * bytesPerSample;
-  return [`Only if you hear that its end is missing: then it was cut off, and its last ${number(rest)} bytes only look like chunks or a tag.`, "Repair to the end"];
+function otherChoice({ rest, mayBeSound }, toEnd) {
+  const back = "Back to the file as it was", repairs = "Repair to the end";
+  if (toEnd && mayBeSound) return ["If it ends in a click now, chunks or a tag were there.", back];
+  if (toEnd) return ["If it ends in noise now, chunks or a tag were there, and the file needs no repair.", back];
+  if (mayBeSound) return ["Chunks or a tag among them (a title, markers) become a click, which an audio editor can cut off.", repairs];
+  return [`Only if you hear that its end is missing: then it was cut off, and its last ${number(rest)} bytes only look like chunks or a tag.`, repairs];
 }
+
+/** The name of a file that is saved: `a repaired.wav` for `a.wav`, and `a repaired 2.wav` for that. */
+const repairedName = (name) => name.replace(/( repaired( \d+)?)?(\.wave?)?$/i, (_, again, count = 1) => ` repaired${again ? ` ${Number(count) + 1}` : ""}.wav`);
 
 /** The header's fields, with a hint for each that needs one. */
 function rows(file, head, found) {
@@ -81,13 +108,13 @@ function rows(file, head, found) {
   const width = bytesPerSample * 8 === bitsPerSample ? "" : ` in ${bytesPerSample} bytes`;
   return [
     ["File", `${file.name}, ${counted(file.size, "byte")}`],
-    ["Duration", `${time(lengthOfTime(found))}, ${counted(found.frames, "frame")}`, "A frame has one sample of each channel."],
-    ["Sample rate", `${number(sampleRate)} Hz`, "Frames a second."],
+    ["Duration", `${sampleRate ? `${time(lengthOfTime(found))}, ` : ""}${counted(found.frames, "frame")}`, "A frame has one sample of each channel."],
+    ["Sample rate", `${number(sampleRate)} Hz`, sampleRate ? "Frames a second." : "It is lost. An audio editor can import the file as raw data, if you know it."],
     ["Channels", number(channels), ...(channels > LANES ? [`The first ${LANES} are drawn.`] : [])],
     ["Samples", `${isFloat ? "floats" : "integers"} of ${bitsPerSample} bits${width}`],
     ["Sound begins", `at byte ${number(dataStart)}`],
     ...(found.state === "cutOff" ? [["Header", head ? `counts ${counted(head.frames, "frame")}` : "counts no whole frames", "The repaired file counts all whole frames that are there."]] : []),
-    ...(found.leftOver ? [["Left over", counted(found.leftOver, "byte"), "They stay in the file, after the last whole frame."]] : []),
+    ...(found.leftOver ? [["Left over", counted(found.leftOver, "byte"), `${found.leftOver === 1 ? "It stays" : "They stay"} in the file, after the last whole frame.`]] : []),
   ];
 }
 
@@ -247,7 +274,6 @@ function play(found, isCurrent) {
     if (!isCurrent()) return;
     player.hidden = false;
     const { frames, channels } = found, tell = (rest) => { player.textContent = `This browser doesn't play such samples${rest}.`; };
-    if (frames === 0) return tell("");
     if (frames * channels > COPIED) return tell(", and they are too many for a copy in 16 bits");
     tell(", so a copy in 16 bits is made");
     const copy = await copied(found, isCurrent).catch(() => null); // There is no memory for it, or the rate is 0.
@@ -266,22 +292,25 @@ async function open(file, toEnd = false) {
   clear();
   say(`Looking at ${file.name}.`);
   try {
-    const head = await info(file).catch(() => null), repaired = await repair(file, { toEnd });
-    const found = { ...repaired, dataStart: (await info(repaired.file)).dataStart };
+    const head = await info(file).catch(() => null), left = await repair(file, { toEnd });
+    // If the header counts half a frame, and chunks or a tag seem to follow, nothing is read of the file unless it is repaired.
+    const isTorn = !head && left.state === "hasChunksAfterData", repaired = isTorn ? await repair(file, { toEnd: true }) : left;
+    const { dataStart } = await info(repaired.file), found = { ...repaired, dataStart }, says = await claims(file, found);
     if (!isCurrent()) return;
     showRows(rows(file, head, found));
     result.hidden = false;
-    play(found, isCurrent);
+    for (const part of [wave, axis, audio]) part.hidden = found.frames === 0;
+    if (found.frames) play(found, isCurrent);
     if (found.state === "cutOff" && found.frames) {
-      const name = file.name.replace(/(\.wave?)?$/i, " repaired.wav");
+      const name = repairedName(file.name);
       Object.assign(save, { href: urls[0], hidden: false, download: name, textContent: `Save the repaired file as ${name}` });
     }
     if (toEnd || found.state === "hasChunksAfterData") {
-      [choice.firstChild.textContent, end.textContent] = otherChoice(file, found, toEnd);
+      [choice.firstChild.textContent, end.textContent] = otherChoice(says, toEnd);
       end.onclick = () => open(file, !toEnd);
       choice.hidden = false;
     }
-    say(...verdict(found, toEnd, new DataView(await file.slice(4, 8).arrayBuffer()).getUint32(0, true)));
+    say(...verdict(found, says, toEnd || isTorn));
     zoom.hidden = found.frames <= LEAST;
     shown = { file, found };
     await look(0, found.frames);
