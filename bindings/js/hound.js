@@ -2,7 +2,7 @@
 //
 // A file is a Uint8Array or a Blob, of which only what is needed is read. Samples are interleaved typed arrays. No call
 // changes its arguments, and nobody else may until its promise is settled.
-import { module } from "./module.js";
+import { module, wideModule } from "./module.js";
 
 // Each error, its code in hound.h without the sign, and its sentence there; from 101 on those of this package.
 const ERRORS = {
@@ -62,10 +62,10 @@ const [SPEC, WALK, PART, INFO, FOUND, HEADER, SIZES, FIRST, SECOND] = [0, 16, 64
 
 /** An instance of the module and so much memory of it: no two calls use it at once. */
 class Memory {
-  constructor({ exports }, size) {
+  constructor({ exports }, size, counted = Number) {
     const { memory } = exports;
     this.exports = exports;
-    this.start = PAGE * memory.grow(Math.ceil(size / PAGE));
+    this.start = PAGE * Number(memory.grow(counted(Math.ceil(size / PAGE)))); // A memory of 64 bits counts in BigInts.
     this.bytes = new Uint8Array(memory.buffer, this.start);
     this.view = new DataView(memory.buffer, this.start);
   }
@@ -259,14 +259,17 @@ const STATES = ["whole", "cutOff", "hasChunksAfterData"];
 const MENDED = ["DATA_LENGTH", "FRAME_LENGTH"].map((name) => -ERRORS[name][0]);
 const isPrintable = (byte) => byte >= 32 && byte <= 126;
 
-/** Makes memory for a file and a pad byte. Its pages cost nothing until something is put there. */
+/** Makes memory for a file and a pad byte, of 64 bits where 32 are too few. Its pages cost nothing until something is put
+    there. */
 async function memoryFor(size) {
-  const instance = await WebAssembly.instantiate(module);
-  try {
-    return new Memory(instance, FIRST + size + 1);
-  } catch {
-    throw new RangeError(`file has ${size} bytes, and WebAssembly gets no memory for so many`);
+  for (const [load, counted] of [[() => module, Number], [wideModule, BigInt]]) {
+    try {
+      return new Memory(await WebAssembly.instantiate(await load()), FIRST + size + 1, counted);
+    } catch {
+      // There isn't so much of it, or none of 64 bits.
+    }
   }
+  throw new RangeError(`file has ${size} bytes, and WebAssembly gets no memory for so many`);
 }
 
 /** Loads what a repair looks at after the data that the header counts: the place of an ID3v1 tag, and the headers of

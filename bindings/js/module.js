@@ -1,6 +1,5 @@
-// The library's WebAssembly module for a memory of 32 bits: beside this file in a package, and in bindings/lib in a clone.
-const NAME = "hound_c32.wasm";
-
+// The library's WebAssembly modules for memories of 32 and of 64 bits: beside this file in a package, and in bindings/lib in
+// a clone.
 async function load(url) {
   if (url.protocol === "file:") return (await import(/* webpackIgnore: true */ "node:fs/promises")).readFile(url);
   const response = await fetch(url);
@@ -8,6 +7,11 @@ async function load(url) {
   return response.arrayBuffer();
 }
 
-const bytes = await load(new URL("./hound_c32.wasm", import.meta.url)).catch(() => load(new URL("../lib/" + NAME, import.meta.url)));
+async function compile(url, name) {
+  return WebAssembly.compile(await load(url).catch(() => load(new URL("../lib/" + name, import.meta.url))));
+}
 
-export const module = await WebAssembly.compile(bytes);
+export const module = await compile(new URL("./hound_c32.wasm", import.meta.url), "hound_c32.wasm");
+
+/** Compiles the module for a memory of 64 bits, which not every browser has. */
+export const wideModule = () => compile(new URL("./hound_c.wasm", import.meta.url), "hound_c.wasm");

@@ -54,8 +54,10 @@ function say(text, kind = "") {
 /** Why a file can't be read; `tag` is its first four bytes, if they are known. */
 function failure(file, error, tag = "") {
   if (error.code === "ENDED" && file.size < 64) return `${file.name} ${file.size ? "ends before any sound" : "is empty"}. ${CARD}`;
+  const large = `it has ${number(file.size)} bytes. Keep it:`;
+  if (error.code === "TOO_LONG" || error instanceof RangeError && file.size > 0xffffffff + 8) return `${file.name} is too large for a WAV file: ${large} ${RAW}.`;
   if (error instanceof HoundError) return `${file.name} can't be read: ${error.message}.\n${TAGS[tag] ?? TAGS[tag.slice(0, 3)] ?? HINTS[error.code] ?? DAMAGED}`;
-  if (error instanceof RangeError) return `${file.name} is too large for this browser: it has ${number(file.size)} bytes.`;
+  if (error instanceof RangeError) return `${file.name} is too large for this browser: ${large} a newer one, or another one, may repair it.`;
   return `${file.name} could not be read: ${error.message}`;
 }
 

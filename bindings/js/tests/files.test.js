@@ -39,6 +39,15 @@ class Counted extends Blob {
   }
 }
 
+/** Whether there are such memories: they count their pages in BigInts. */
+function hasWideMemory() {
+  try {
+    return new WebAssembly.Memory({ initial: 0n, maximum: 65537n, address: "i64" }).grow(65537n) === 0n;
+  } catch {
+    return false;
+  }
+}
+
 test("integers of 16 bits are written in the canonical layout", async () => {
   const file = await write(Int16Array.of(2, -3, 5, -7), { sampleRate: 8000, channels: 2 });
   assert.deepEqual(file, byHand([2, 0, 253, 255, 5, 0, 249, 255], { channels: 2 }));
@@ -215,7 +224,6 @@ test("an argument out of range is named", async () => {
     [() => read(file, { frames: 0.5 }), RangeError, "frames"],
     [() => read(file, { type: "int24" }), TypeError, "type"],
     [() => read(file, { type: "toString" }), TypeError, "type"],
-    [() => repair(new Counted(byHand([1, 0], { counted: 0 }), 5e9)), RangeError, "file"],
   ]) {
     await assert.rejects(call(), (error) => error instanceof kind && error.message.startsWith(name + " "), `${call}`);
   }
@@ -229,6 +237,17 @@ test("calls that are made at once don't disturb each other", async () => {
     assert.deepEqual(await read(await append(file, samples)), Int16Array.of(...samples, ...samples));
     assert.deepEqual(await read((await repair(i % 2 ? cut : new Blob([cut]))).file), Int16Array.of(i, 1));
   }));
+});
+
+test("a file that fills a card of FAT32 is repaired where WebAssembly has memories of 64 bits that hold more than 4 GiB", async () => {
+  const cut = byHand([], { channels: 2, counted: 0, riff: 0 }), file = new Counted(cut, 2 ** 32 - 1);
+  if (!hasWideMemory()) return assert.rejects(repair(file), { name: "RangeError", message: /^file has 4294967295 bytes/ });
+  const { state, frames, leftOver, file: repaired } = await repair(file);
+  assert.deepEqual({ state, frames, leftOver }, { state: "cutOff", frames: (2 ** 32 - 48) / 4, leftOver: 3 });
+  assert.equal(repaired.size, 2 ** 32 - 1);
+  assert.deepEqual(await bytes(repaired.slice(0, 44)), byHand([], { channels: 2, counted: 2 ** 32 - 48, riff: 2 ** 32 - 12 }));
+  assert.ok(file.taken < 300000);
+  await fails(repair(new Counted(cut, 5e9)), "TOO_LONG");
 });
 
 test("a long file is repaired without being in memory, and the memory is given back", async () => {
