@@ -78,8 +78,8 @@ async function claims(file, { dataStart, channels, bytesPerSample }) {
 function verdict(found, { isWrong, rest, mayBeSound }, toEnd) {
   const { state, frames, leftOver } = found;
   if (state === "hasChunksAfterData") {
-    const counts = frames ? `only ${framesOf(found)}` : "no sound";
-    if (mayBeSound) return [`The header counts ${counts}, but ${counted(rest, "byte")} follow. They may be the recording: repair the file to its end, and listen.`, "cut"];
+    const [counts, what] = frames ? [`only ${framesOf(found)}`, "the rest of the recording"] : ["no sound", "the recording"];
+    if (mayBeSound) return [`The header counts ${counts}, but ${counted(rest, "byte")} follow. They may be ${what}: repair the file to its end, and listen.`, "cut"];
     const follow = "Other data follow the sound, as a title or markers (chunks or a tag).";
     if (isWrong) return [`${follow} Only the file's length, at byte 4, is wrong: if a program rejects it, export it from an audio editor.`, "cut"];
     return [`${follow} There is nothing to repair.`, "good"];
@@ -278,7 +278,7 @@ function play(found, isCurrent) {
     const { frames, channels } = found, tell = (rest) => { player.textContent = `This browser doesn't play such samples${rest}.`; };
     if (frames * channels > COPIED) return tell(", and they are too many for a copy in 16 bits");
     tell(", so a copy in 16 bits is made");
-    const copy = await copied(found, isCurrent).catch(() => null); // There is no memory for it, or the rate is 0.
+    const copy = await copied(found, isCurrent).catch(() => null); // There is no memory for it.
     if (!isCurrent()) return;
     if (!copy) return tell(", and a copy in 16 bits can't be made");
     tell(", so the player has a copy in 16 bits");
@@ -301,11 +301,12 @@ async function open(file, toEnd = false) {
     if (!isCurrent()) return;
     showRows(rows(file, head, found));
     result.hidden = false;
-    for (const part of [wave, axis, audio]) part.hidden = found.frames === 0;
-    if (found.frames) play(found, isCurrent);
+    for (const part of [wave, axis]) part.hidden = found.frames === 0;
+    audio.hidden = lengthOfTime(found) === 0;
+    if (!audio.hidden) play(found, isCurrent);
     if (found.state === "cutOff" && found.frames) {
       const name = repairedName(file.name);
-      Object.assign(save, { href: urls[0], hidden: false, download: name, textContent: `Save the repaired file as ${name}` });
+      Object.assign(save, { href: urlOf(found.file), hidden: false, download: name, textContent: `Save the repaired file as ${name}` });
     }
     if (toEnd || found.state === "hasChunksAfterData") {
       [choice.firstChild.textContent, end.textContent] = otherChoice(says, toEnd);
