@@ -39,7 +39,7 @@ pub fn repair_file_to_end<P: AsRef<path::Path>>(filename: P) -> Result<Repair> {
 fn repair_by(repair: fn(&mut [u8], usize) -> proved::Result<proved::Repair>, filename: &path::Path) -> Result<Repair> {
     let mut file = fs::OpenOptions::new().read(true).write(true).open(filename)?;
     let mut bytes = Vec::new();
-    file.read_to_end(&mut bytes)?;
+    (&file).take(u64::MAX).read_to_end(&mut bytes)?; // without the `seek` of a file, whose error is ignored
     let length = bytes.len();
     bytes.push(0);
     let found = repair(&mut bytes, length)?;
