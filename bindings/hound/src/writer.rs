@@ -302,8 +302,9 @@ impl WavWriter<io::BufWriter<fs::File>> {
     /// name are on the disk, and after a `flush` all samples are: it syncs them before the sizes that count them,
     /// and then these.
     ///
-    /// After a write that failed, as on a full disk, the writer continues. After a sync that failed each later
-    /// `flush` fails, since nobody knows what the disk has.
+    /// Only single samples are buffered, up to 4096: each [`write_samples`](WavWriter::write_samples) is a write of
+    /// the system. After a write that failed, as on a full disk, the writer continues. After a sync that failed each
+    /// later `flush` fails, since nobody knows what the disk has.
     pub fn create_durable<P: AsRef<path::Path>>(filename: P, spec: WavSpec) -> Result<WavWriter<io::BufWriter<fs::File>>> {
         let open = || open_synced(fs::OpenOptions::new().write(true).create(true).truncate(true), filename.as_ref());
         WavWriter::over(open, spec, true)
