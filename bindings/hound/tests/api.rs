@@ -89,6 +89,43 @@ fn each_type_is_read_and_refused() {
 }
 
 #[test]
+fn a_sample_of_the_other_format_is_taken_by_its_bits_or_unsupported() {
+    for (bits, sample_format) in [(8, SampleFormat::Int), (16, SampleFormat::Int), (24, SampleFormat::Int), (32, SampleFormat::Int), (32, SampleFormat::Float)] {
+        let mut file = Cursor::new(Vec::new());
+        let mut writer = WavWriter::new(&mut file, WavSpec { bits_per_sample: bits, sample_format, ..MONO }).unwrap();
+        let result = writer.write_sample(0.5f32);
+        assert!(if bits == 32 { result.is_ok() } else { matches!(result, Err(Error::Unsupported)) });
+        if bits == 32 {
+            writer.write_sample(-2i16).unwrap();
+            writer.finalize().unwrap();
+            assert!(file.get_ref().ends_with(&[0, 0, 0, 63, 254, 255, 255, 255]));
+        }
+    }
+}
+
+#[test]
+fn a_new_file_has_its_header_at_once() {
+    let path = Path::new("header");
+    std::mem::forget(WavWriter::create(&path, MONO).unwrap());
+    assert_eq!(fs::read(&path).unwrap(), written::<i16>(MONO, &[]));
+    fs::write(&path, "longer than a header, which is emptied before the new one is written").unwrap();
+    std::mem::forget(WavWriter::create_durable(&path, FLOATS).unwrap());
+    assert_eq!(fs::read(&path).unwrap(), written::<f32>(FLOATS, &[]));
+    assert_eq!(hound::repair_file(&path).unwrap().state, hound::RepairState::Whole);
+}
+
+#[test]
+fn a_file_stays_as_it_is_where_the_spec_can_not_be_written() {
+    let path = Path::new("kept");
+    fs::write(&path, "before").unwrap();
+    let wrong = WavSpec { bits_per_sample: 12, ..MONO };
+    assert!(matches!(WavWriter::create(&path, wrong), Err(Error::Unsupported)));
+    assert!(matches!(WavWriter::create_durable(&path, wrong), Err(Error::Unsupported)));
+    assert_eq!(fs::read(&path).unwrap(), b"before");
+    assert!(WavWriter::create(Path::new("none"), wrong).is_err() && !Path::new("none").0.exists());
+}
+
+#[test]
 fn containers_are_written_and_read_by_the_trait() {
     let mut bytes = Vec::new();
     Sample::write(-2i16, &mut bytes, 16).unwrap();
@@ -237,6 +274,22 @@ fn a_file_that_was_cut_off_is_repaired() {
     let samples = WavReader::open(&path).unwrap().into_samples::<i8>().collect::<Result<Vec<_>>>().unwrap();
     assert_eq!((samples, fs::metadata(&path).unwrap().len()), (vec![1, 2, 3], 48));
     assert_eq!(hound::repair_file(&path).unwrap().state, hound::RepairState::Whole);
+}
+
+#[test]
+fn a_tag_after_the_data_is_taken_for_samples_only_on_demand() {
+    let path = Path::new("tag");
+    let mut file = written(MONO, &[1i16, 2, 3]);
+    file[40..44].fill(0);
+    file.extend(b"TAG");
+    file.extend([0; 125]);
+    fs::write(&path, &file).unwrap();
+    assert_eq!(hound::repair_file(&path).unwrap().state, hound::RepairState::HasChunksAfterData);
+    assert_eq!(fs::read(&path).unwrap(), file);
+    let found = hound::repair_file_to_end(&path).unwrap();
+    assert_eq!((found.state, found.frames, found.left_over), (hound::RepairState::CutOff, 3 + 64, 0));
+    let samples = WavReader::open(&path).unwrap().into_samples::<i16>().collect::<Result<Vec<_>>>().unwrap();
+    assert_eq!((samples.len(), &samples[..3]), (67, &[1, 2, 3][..]));
 }
 
 #[test]
