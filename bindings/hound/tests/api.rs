@@ -266,6 +266,9 @@ fn samples_that_no_type_reads_are_errors_by_each_call() {
     let mut file = written(WavSpec { bits_per_sample: 24, ..MONO }, &[1, 2, 3, 4]);
     file[38] = 12; // of 24
     let open = || WavReader::new(&file[..]).unwrap();
+    let mut reader = open();
+    assert!(matches!(reader.samples::<i32>().next(), Some(Err(Error::Unsupported))));
+    assert_eq!(reader.samples::<i32>().len(), 3);
     open().samples::<i32>().for_each(|sample| assert!(matches!(sample, Err(Error::Unsupported))));
     assert_eq!(open().into_samples::<i32>().filter(Result::is_err).count(), 4);
     assert!(matches!(open().read_samples(&mut [0i32; 20]), (0, Err(Error::Unsupported))));
