@@ -6,7 +6,7 @@ use crate::{Error, Result, Sample, SampleFormat, WavSpec, WavSpecEx, BLOCK};
 use std::io::{self, BufRead, Read};
 use std::{fs, marker, mem, panic, path};
 
-// How many samples have to be asked for, so that they are decoded as a block.
+// How many samples `read_samples` decodes at once, at least. Fewer are faster one by one.
 const SHORTEST_BLOCK: usize = 16;
 
 /// Reads on from byte `count` of these, until they or the reader end.
@@ -56,7 +56,7 @@ pub struct WavReader<R> {
     ahead: Vec<i32>,
     first_ahead: u64,
     fault: Option<io::Error>,
-    // Up to which number integers, and floats, are read one by one: to the end, or none while some are ahead.
+    // Up to which number integers, and floats, are read one by one: to the end, or none after a block was decoded.
     single_until: [u64; 2],
     buffer: Option<Buffer<R>>,
 }
@@ -294,7 +294,7 @@ impl<R: Read> WavReader<R> {
         Some(coding)
     }
 
-    // Decodes the next samples into the front of these, and returns how many.
+    // Decodes the next samples into the front of these. Returns how many: 0 where they are read one by one.
     fn read_block<S: Sample>(&mut self, samples: &mut [S]) -> usize {
         let Some(coding) = self.begin_block::<S>() else { return 0 };
         let count = self.decode_next(coding.decode, &self.containers(), samples);
@@ -305,6 +305,7 @@ impl<R: Read> WavReader<R> {
         count
     }
 
+    // Decodes the next samples before they are asked for.
     fn read_ahead<S: Sample>(&mut self) {
         if self.begin_block::<S>().is_some() {
             let mut ahead = mem::take(&mut self.ahead);

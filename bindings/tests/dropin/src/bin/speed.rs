@@ -1,5 +1,6 @@
-//! How long both crates take, in nanoseconds a sample: the least of some rounds in turn. Each case is compiled at two places
-//! in memory, since some processors take longer for a loop that has a jump at the end of 32 bytes.   speed ROUNDS
+//! How long both crates take, in nanoseconds a sample: the least of some rounds in turn. Blocks are `read_samples`, and the
+//! original's iterator. Each case is compiled at two places in memory, since some processors take longer for a loop that has
+//! a jump at the end of 32 bytes.   speed ROUNDS
 use dropin::{both, Blocks};
 use std::arch::asm;
 use std::fs::File;
