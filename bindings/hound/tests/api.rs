@@ -244,6 +244,73 @@ fn nothing_is_taken_after_the_samples_that_were_asked_for() {
     assert_eq!(rest, b"more");
 }
 
+fn in_blocks<R: Read>(reader: &mut WavReader<R>, length: usize) -> Vec<i32> {
+    let (mut samples, mut block) = (Vec::new(), vec![0; length]);
+    loop {
+        let (count, result) = reader.read_samples(&mut block);
+        result.unwrap();
+        samples.extend(&block[..count]);
+        if count < length {
+            return samples;
+        }
+    }
+}
+
+#[test]
+fn blocks_have_the_samples_of_an_iterator() {
+    let path = Path::new("blocks");
+    for bits in [8, 16, 24, 32] {
+        let samples: Vec<i32> = (0..30001i32).map(|i| i.wrapping_mul(0x1234_5677) >> (32 - bits)).collect();
+        let mut file = written(WavSpec { bits_per_sample: bits, ..MONO }, &samples);
+        let end = file.len() as u64 - u64::from(bits % 16 != 0); // before the pad byte
+        file.extend(b"more");
+        fs::write(&path, &file).unwrap();
+        for length in [1, 2, 15, 16, 17, 1000, 4096, 4097, 40000] {
+            let mut reader = WavReader::new(Cursor::new(&file)).unwrap();
+            assert_eq!(in_blocks(&mut reader, length), samples);
+            assert_eq!(reader.into_inner().position(), end);
+            let mut opened = WavReader::open(&path).unwrap();
+            assert_eq!(opened.samples::<i32>().next().unwrap().unwrap(), samples[0]);
+            assert_eq!(in_blocks(&mut opened, length), samples[1..]);
+            opened.seek(7).unwrap();
+            assert!(matches!(opened.read_samples(&mut vec![0; length]), (count, Ok(())) if count == length.min(29994)));
+            assert_eq!(opened.samples::<i32>().len(), 29994usize.saturating_sub(length));
+            assert_eq!(opened.into_inner().stream_position().unwrap(), end - 29994usize.saturating_sub(length) as u64 * u64::from(bits / 8));
+        }
+    }
+}
+
+#[test]
+fn a_missing_or_rejected_sample_is_one_error() {
+    let file = written(MONO, &(0..100).collect::<Vec<i16>>());
+    let path = Path::new("missing");
+    fs::write(&path, &file[..44 + 2 * 60 + 1]).unwrap();
+    let mut reader = WavReader::open(&path).unwrap();
+    let mut block = [9i16; 80];
+    assert!(matches!(reader.read_samples(&mut block), (60, Err(Error::IoError(_)))));
+    assert!(block[..60].iter().copied().eq(0..60) && block[60..] == [9; 20]);
+    assert_eq!(reader.samples::<i16>().filter(|sample| matches!(sample, Err(Error::IoError(_)))).count(), 39);
+    assert!(matches!(reader.read_samples(&mut block), (0, Ok(()))));
+    reader.seek(3).unwrap();
+    assert!(matches!(reader.read_samples(&mut [0i8; 20]), (0, Err(Error::TooWide))));
+    assert_eq!(reader.samples::<i16>().len(), 96);
+    assert!(matches!(reader.read_samples(&mut block[..20]), (20, Ok(()))));
+    assert_eq!((reader.len(), reader.duration(), block[0]), (100, 100, 3));
+}
+
+#[test]
+fn samples_that_no_type_reads_are_errors_by_each_call() {
+    let mut file = written(WavSpec { bits_per_sample: 24, ..MONO }, &[1, 2, 3, 4]);
+    file[38] = 12; // of 24
+    let open = || WavReader::new(&file[..]).unwrap();
+    let mut reader = open();
+    assert!(matches!(reader.samples::<i32>().next(), Some(Err(Error::Unsupported))));
+    assert_eq!(reader.samples::<i32>().len(), 3);
+    open().samples::<i32>().for_each(|sample| assert!(matches!(sample, Err(Error::Unsupported))));
+    assert_eq!(open().into_samples::<i32>().filter(Result::is_err).count(), 4);
+    assert!(matches!(open().read_samples(&mut [0i32; 20]), (0, Err(Error::Unsupported))));
+}
+
 #[test]
 fn reading_goes_on_after_a_closure_that_panicked() {
     let file = written(MONO, &(0..9000).collect::<Vec<i16>>());
