@@ -1,8 +1,9 @@
 /* Records PCM from standard input: little-endian, with 8 bits (unsigned), 16, 24 in three bytes, or 32, as from arecord.
    After every so many frames a checkpoint makes the header count all samples, and prints how many they are. If the
-   program is killed, the file has those, and --append continues after all that it holds. With --durable a sync is an
-   fsync: then the file has them after a loss of power, too. Without it a sync does nothing, since what was written is
-   with the system. After an error the program continues, and prints how many samples were lost.
+   program is killed, the file has those. --append continues after all that it holds; without it the file is emptied.
+   With --durable a sync is an fsync: then the file has them after a loss of power, too. Without it a sync does nothing,
+   since what was written is with the system. After an error the program continues, and prints how many samples were
+   lost.
      cc -Ibindings/c bindings/c/record.c bindings/lib/x86_64-linux/libhound_c.a -o record
      arecord -t raw -f S16_LE -r 48000 -c 2 | ./record take.wav 48000 2 16 240000 --durable */
 #define _XOPEN_SOURCE 700

@@ -1,5 +1,5 @@
 #!/usr/bin/env python3
-"""Repairs files by bindings/c/repair.c, or by `repair_file` of bindings/hound, beside the model of hound_rows and the
+"""Repairs files by bindings/c/repair.c, or by the example `repair` of bindings/hound, beside the model of hound_rows and the
 Python package: those of the rows, and files that are cut off at each byte. Then each of its calls of the system is
 killed or fails, and from these calls the states are built that a loss of power may leave; each is repaired again. Wrong
 versions have to be found.
@@ -24,7 +24,7 @@ IN_CARGO = sys.argv[1:] == ["cargo"]
 SOURCE = "hound/src/repair.rs" if IN_CARGO else "c/repair.c"
 # A file of 8 bits and one channel that was cut off, with no pad byte after its 1,099 samples, of which 100 are counted.
 CUT_OFF = head(CASES[1], 100) + STREAM[:1099]
-WAYS = {"mend": []} if IN_CARGO else {"mend": [], "to_end": ["--to-end"]}
+WAYS = {"mend": [], "to_end": ["to_end" if IN_CARGO else "--to-end"]}
 SAID = ("Whole", "CutOff", "HasChunksAfterData") if IN_CARGO else ("whole", "cut off", "with chunks after the data")
 STATES = dict(zip(("whole", "cut_off", "followed"), SAID))
 WRITES = ("write", "pwrite64")
@@ -66,6 +66,7 @@ if IN_CARGO:
         "no RIFF size": (STEPS, f"[{LENGTH}, {PAD}]"),
         "a whole file is written": ("== RepairState::CutOff", "!= RepairState::HasChunksAfterData"),
         "a file with chunks after the data is written": ("== RepairState::CutOff", "!= RepairState::Whole"),
+        "repair_file_to_end without an effect": ("proved::repair_to_end, filename", "proved::repair, filename"),
         "an interrupted or short write isn't continued": ("file.write_all(", "file.write("),
     }
 
@@ -305,19 +306,17 @@ def check_losses(program, path, how, before):
 
 def all_checks(program, path, is_short):
     """What was tried. The wrong versions need fewer files."""
-    called = [(how, before) for how, before in CALLED if how in WAYS]
-    calls = sum(check_calls(program, path, how, before) for how, before in called)
-    losses = sum(check_losses(program, path, how, before) for how, before in called)
-    errors = 0 if IN_CARGO else check_errors(program, path)
+    calls = sum(check_calls(program, path, how, before) for how, before in CALLED)
+    losses = sum(check_losses(program, path, how, before) for how, before in CALLED)
+    errors = check_errors(program, path)
     cut = list(cut_files())
     files = check_files(program, path, (("mend", data) for data in (cut[:500] if is_short else cut)))
-    if "to_end" in WAYS:
-        files += check_files(program, path, (("to_end", data) for data in cut[:: 9 if is_short else 3]))
+    files += check_files(program, path, (("to_end", data) for data in cut[:: 9 if is_short else 3]))
     if is_short:
         return ""
     if not IN_CARGO:
         check_long(program, path)
-    files += check_files(program, path, ((how, data) for how, data in repairs() if how in WAYS))
+    files += check_files(program, path, repairs())
     return f"{files} files, {errors} errors, {calls} killed or failing calls, {losses} states of a loss of power"
 
 

@@ -13,9 +13,10 @@ pub enum Error {
     TooWide,
     /// The samples that were written are no whole frames.
     UnfinishedSample,
-    /// The format isn't supported.
+    /// The format isn't supported, or floats are written to a file of integers of fewer than 32 bits.
     Unsupported,
-    /// The type is an integer and the samples are floats, or vice versa.
+    /// Samples that are floats are read as a type of integers, or vice versa. No writer reports it: see
+    /// [`write_sample`](crate::WavWriter::write_sample).
     InvalidSampleFormat,
 }
 

@@ -35,9 +35,9 @@
 //! ```
 //!
 //! What hound doesn't have is marked "own": [`WavReader::read_samples`], [`WavWriter::write_samples`],
-//! [`WavWriter::create_durable`], [`WavWriter::append_durable`], [`repair_file`]. The crate `hound_bindings`, which
-//! can be used beside it, looks for damage and writes nothing (`find_damage`), and scales integers to floats and back
-//! (`to_f32`, `from_f32`).
+//! [`WavWriter::create_durable`], [`WavWriter::append_durable`], [`repair_file`], [`repair_file_to_end`]. The crate
+//! `hound_bindings`, which can be used beside it, looks for damage and writes nothing (`find_damage`), and scales
+//! integers to floats and back (`to_f32`, `from_f32`).
 //!
 //! # Differences from hound 3.5.1
 //!
@@ -54,17 +54,19 @@
 //! Writing:
 //!
 //! - A pad byte, which the RIFF size counts, follows odd data.
-//! - Up to 4096 samples are buffered, and 64 KiB more where a writer opens its file, as [`WavWriter::create`] does: a
-//!   program that is killed loses what came after its last `flush`, as far as it was there. A fault is reported
-//!   by the call that meets it; the samples that were accepted stay in the buffer, and the next call writes
-//!   them at their place. Where a disk is full, repeat `flush` once there is room, before `finalize`.
+//! - Up to 4096 samples are buffered, and 64 KiB more by [`WavWriter::create`] and [`WavWriter::append`]: a
+//!   program that is killed loses what came after its last `flush`, as far as it was there. The header is in the
+//!   file when `create` returns. A fault is reported by the call that meets it; the samples that were accepted stay
+//!   in the buffer, and the next call writes them at their place. Where a disk is full, repeat `flush` once there is
+//!   room, before `finalize`. A limit of the file's size (`ulimit -f`) ends the program by `SIGXFSZ`; it is an error,
+//!   as a full disk is, only if the program ignores that signal.
 //! - After a write that failed, a part of the samples that were rejected with it may stay after the data. Readers
 //!   don't count them, as with hound, but [`repair_file`] takes them for samples.
 //! - `flush` in an unfinished frame stores all samples, then it returns `UnfinishedSample`. Readers reject the
 //!   file until the frame is finished and flushed, or [`repair_file`] ran, also after a writer is dropped there.
 //! - A file that its sizes can't count, which hound makes with wrong sizes, is an `IoError`.
-//! - A spec that can't be written is `Unsupported`, and nothing is written: hound panics, or writes wrong
-//!   headers.
+//! - A spec that can't be written is `Unsupported`; nothing is written, and an existing file stays as it is. hound
+//!   empties it, and then panics, or writes a wrong header.
 //! - Files of 24 bits in four bytes are appended to.
 //! - `write_sample_unchecked` is checked, and safe: rustc warns of an `unsafe` around it.
 #![forbid(unsafe_code)]
@@ -81,7 +83,7 @@ mod writer;
 
 pub use error::{Error, Result};
 pub use reader::{read_wave_header, WavIntoSamples, WavReader, WavSamples};
-pub use repair::{repair_file, Repair, RepairState};
+pub use repair::{repair_file, repair_file_to_end, Repair, RepairState};
 pub use sample::Sample;
 pub use spec::{SampleFormat, WavSpec, WavSpecEx};
 pub use writer::{SampleWriter16, WavWriter};

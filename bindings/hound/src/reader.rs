@@ -1,10 +1,13 @@
 use crate::error::early_end;
 use crate::proved::{self, Container};
-use crate::sample::{check, Coding};
+use crate::sample::{check, Coding, Decode};
 use crate::spec::containers;
 use crate::{Error, Result, Sample, SampleFormat, WavSpec, WavSpecEx, BLOCK};
 use std::io::{self, BufRead, Read};
 use std::{fs, marker, mem, panic, path};
+
+// How many samples `read_samples` decodes at once, at least. Fewer are faster one by one.
+const SHORTEST_BLOCK: usize = 16;
 
 /// Reads on from byte `count` of these, until they or the reader end.
 pub(crate) fn read_on<R: Read>(reader: &mut R, bytes: &mut [u8], count: &mut usize) -> io::Result<()> {
@@ -53,7 +56,7 @@ pub struct WavReader<R> {
     ahead: Vec<i32>,
     first_ahead: u64,
     fault: Option<io::Error>,
-    // Up to which number integers, and floats, are read one by one: to the end, or none while some are ahead.
+    // Up to which number integers, and floats, are read one by one: to the end, or none after a block was decoded.
     single_until: [u64; 2],
     buffer: Option<Buffer<R>>,
 }
@@ -96,7 +99,8 @@ impl<R: Read> WavReader<R> {
     /// continues where the last one stopped.
     ///
     /// The type has to have the format of the samples, and at least their bits; else each item is an
-    /// error. An `i32` holds all integers.
+    /// error. An `i32` holds all integers. A rejected item counts as read, but its bytes come next: `seek`
+    /// before you read on. Stop at an `IoError`: a file that was cut off has one for each missing sample.
     pub fn samples<'wr, S: Sample>(&'wr mut self) -> WavSamples<'wr, R, S> {
         WavSamples { reader: self, phantom_sample: marker::PhantomData }
     }
@@ -106,12 +110,12 @@ impl<R: Read> WavReader<R> {
         WavIntoSamples { reader: self, phantom_sample: marker::PhantomData }
     }
 
-    /// How many frames the file has, whatever was read; a frame has a sample of each channel.
+    /// How many frames the header counts, whatever was read; a frame has a sample of each channel.
     pub fn duration(&self) -> u32 {
         self.len() / u32::from(self.spec.channels)
     }
 
-    /// How many samples the file has, of all channels together, whatever was read.
+    /// How many samples the header counts, of all channels together, whatever was read.
     pub fn len(&self) -> u32 {
         self.num_samples as u32
     }
@@ -136,18 +140,23 @@ impl<R: Read> WavReader<R> {
     }
 
     /// Reads samples into the front of a slice (own). Returns how many came, and why no more if the slice
-    /// isn't full: the item that an iterator would give next, or Ok at the end of the file.
+    /// isn't full: the item that an iterator would give next, which then counts as read, or Ok at the end of
+    /// the file.
     pub fn read_samples<S: Sample>(&mut self, samples: &mut [S]) -> (usize, Result<()>) {
-        let wanted = samples.len();
-        for (count, slot) in samples.iter_mut().enumerate() {
-            self.read_ahead::<S>(wanted - count);
-            match self.next_sample() {
-                Some(Ok(sample)) => *slot = sample,
-                Some(Err(error)) => return (count, Err(error)),
-                None => return (count, Ok(())),
+        let (mut count, in_blocks) = (0, samples.len() >= SHORTEST_BLOCK);
+        while count < samples.len() {
+            let decoded = if in_blocks { self.read_block(&mut samples[count..]) } else { 0 };
+            count += decoded;
+            if decoded == 0 {
+                match self.next_sample() {
+                    Some(Ok(sample)) => samples[count] = sample,
+                    Some(Err(error)) => return (count, Err(error)),
+                    None => return (count, Ok(())),
+                }
+                count += 1;
             }
         }
-        (wanted, Ok(()))
+        (count, Ok(()))
     }
 
     fn containers(&self) -> proved::Spec {
@@ -233,7 +242,7 @@ impl<R: Read> WavReader<R> {
     fn next_slowly<S: Sample>(&mut self) -> Option<Result<S>> {
         let checked = check::<S>(&self.containers());
         if checked.is_ok() && self.buffer.is_some() {
-            self.read_ahead::<S>(BLOCK);
+            self.read_ahead::<S>();
             if let Some(sample) = self.next_ahead() {
                 return Some(Ok(sample));
             }
@@ -275,15 +284,42 @@ impl<R: Read> WavReader<R> {
         (self.first_ahead, self.fault) = (self.samples_read, None);
     }
 
-    // Decodes the next samples, at most so many, if none is ahead and the type is read in blocks: those that
-    // the buffer of `open` holds, or those that one read gives.
-    fn read_ahead<S: Sample>(&mut self, most: usize) {
-        let (spec, width) = (self.containers(), usize::from(self.bytes_per_sample));
-        let most = most.min(BLOCK).min(self.left());
-        if most == 0 || self.given() < self.ahead.len() || self.fault.is_some() || self.coding::<S>().is_none() {
-            return;
+    // How this type is decoded in blocks, if it is, none is ahead and one is left.
+    fn begin_block<S: Sample>(&mut self) -> Option<Coding<S>> {
+        if self.container.is_none() || self.left() == 0 || self.given() < self.ahead.len() || self.fault.is_some() {
+            return None;
         }
+        let coding = self.coding()?;
         self.put_back();
+        Some(coding)
+    }
+
+    // Decodes the next samples into the front of these. Returns how many: 0 where they are read one by one.
+    fn read_block<S: Sample>(&mut self, samples: &mut [S]) -> usize {
+        let Some(coding) = self.begin_block::<S>() else { return 0 };
+        let count = self.decode_next(coding.decode, &self.containers(), samples);
+        if let Some((_, take)) = self.buffer {
+            take(&mut self.reader, count * usize::from(self.bytes_per_sample));
+        }
+        self.samples_read += count as u64;
+        count
+    }
+
+    // Decodes the next samples before they are asked for.
+    fn read_ahead<S: Sample>(&mut self) {
+        if self.begin_block::<S>().is_some() {
+            let mut ahead = mem::take(&mut self.ahead);
+            ahead.resize(BLOCK.min(self.left()), 0);
+            let count = self.decode_next(proved::decode, &proved::Spec { format: SampleFormat::Int, ..self.containers() }, &mut ahead);
+            ahead.truncate(count);
+            self.ahead = ahead;
+        }
+    }
+
+    // Decodes samples that the buffer of `open` holds, or that one read gives. Returns how many, and keeps the
+    // fault after them.
+    fn decode_next<T>(&mut self, decode: Decode<T>, spec: &proved::Spec, out: &mut [T]) -> usize {
+        let (most, width) = (out.len().min(BLOCK).min(self.left()), usize::from(self.bytes_per_sample));
         let mut scratch;
         let (bytes, fault) = match self.buffer {
             Some((look, _)) => look(&mut self.reader).map_or_else(|fault| (&[][..], Some(fault)), |bytes| (bytes, None)),
@@ -295,16 +331,15 @@ impl<R: Read> WavReader<R> {
             }
         };
         let count = most.min(bytes.len() / width);
-        self.ahead.resize(count, 0);
-        let decoded = proved::decode(&proved::Spec { format: SampleFormat::Int, ..spec }, bytes, &mut self.ahead);
-        debug_assert_eq!(decoded, Ok(count));
+        assert_eq!(decode(spec, bytes, &mut out[..count]), Ok(count));
         self.not_taken += if fault.is_some() { (width - bytes.len() % width) as i64 } else { 0 };
         (self.fault, self.single_until) = (fault, [0; 2]);
+        count
     }
 
     fn fold_samples<S: Sample, B, F: FnMut(B, Result<S>) -> B>(&mut self, mut value: B, mut f: F) -> B {
         loop {
-            self.read_ahead::<S>(BLOCK);
+            self.read_ahead::<S>();
             if let Some(coding) = self.coding::<S>() {
                 let given = self.given();
                 for sample in &self.ahead[given..] {

@@ -18,18 +18,31 @@ pub struct Repair {
 }
 
 /// Gives a file whose recording was cut off the sizes of the whole frames that it holds, and a pad byte
-/// where one is missing (own). A file that is whole, or in which chunks follow the data, stays as it is.
+/// where one is missing (own). A file that is whole stays as it is. So does one in which chunks or a tag follow the
+/// data, also where its header counts too few samples: of that one [`repair_file_to_end`] is the repair.
 ///
 /// The file is read into memory. It is synced as it was found; then the data length, the pad byte and the RIFF
-/// size are written in this order, each with a sync. So after a kill or an error a second call finds the same
-/// frames: the pad byte follows data that are already counted, and a wrong RIFF size marks the file as unrepaired.
+/// size are written in this order, each with a sync. So after a kill or an error, also an `IoError` between these
+/// steps, the header counts only samples that are there, and a second call finishes the repair: the pad byte follows
+/// data that are already counted, and a wrong RIFF size marks the file as unrepaired.
 pub fn repair_file<P: AsRef<path::Path>>(filename: P) -> Result<Repair> {
+    repair_by(proved::repair, filename.as_ref())
+}
+
+/// The same, but all that follows the header of the data is taken for samples, also what looks like chunks or a
+/// tag (own): for a file that [`repair_file`] reports as `HasChunksAfterData`, and whose header counts too few. The
+/// chunks are samples then, and sound at the end as a click, so copy the file first.
+pub fn repair_file_to_end<P: AsRef<path::Path>>(filename: P) -> Result<Repair> {
+    repair_by(proved::repair_to_end, filename.as_ref())
+}
+
+fn repair_by(repair: fn(&mut [u8], usize) -> proved::Result<proved::Repair>, filename: &path::Path) -> Result<Repair> {
     let mut file = fs::OpenOptions::new().read(true).write(true).open(filename)?;
     let mut bytes = Vec::new();
-    file.read_to_end(&mut bytes)?;
+    (&file).take(u64::MAX).read_to_end(&mut bytes)?; // without the `seek` of a file, whose error is ignored
     let length = bytes.len();
     bytes.push(0);
-    let found = proved::repair(&mut bytes, length)?;
+    let found = repair(&mut bytes, length)?;
     if found.state == RepairState::CutOff {
         let data_start = proved::info(&bytes)?.data_start as usize;
         file.sync_all()?;

@@ -30,9 +30,10 @@ pub struct Coding<S> {
     pub format: SampleFormat,
     pub from: fn(i32) -> S,
     pub to: fn(S) -> i32,
-    pub decode: fn(&proved::Spec, &[u8], &mut [S]) -> proved::Result<usize>,
+    pub decode: Decode<S>,
     pub encode: Encode<S>,
 }
+pub(crate) type Decode<S> = fn(&proved::Spec, &[u8], &mut [S]) -> proved::Result<usize>;
 pub(crate) type Encode<S> = fn(&proved::Spec, &[S], &mut [u8]) -> proved::Result<usize>;
 
 /// The error of reading these containers as this type.

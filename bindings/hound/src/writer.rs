@@ -172,7 +172,7 @@ impl<W: Write + Seek> WavWriter<W> {
 
     /// The same, with containers of another width.
     pub fn new_with_spec_ex(mut writer: W, spec_ex: WavSpecEx) -> Result<WavWriter<W>> {
-        let (header, recorder) = (proved::header(&spec_ex.into(), 0)?, Recorder::begin(&spec_ex.into())?);
+        let (header, recorder) = beginning(spec_ex)?;
         writer.write_all(&header)?;
         Ok(WavWriter::at(writer, header.len() as u64, spec_ex, recorder))
     }
@@ -196,7 +196,13 @@ impl<W: Write + Seek> WavWriter<W> {
         }
     }
 
-    /// Writes a sample. One that has more bits than the file, or another format, is an error.
+    /// Writes a sample, which is buffered.
+    ///
+    /// One that has more bits than the file is `TooWide`, and a float for integers of fewer than 32 bits is
+    /// `Unsupported`. Nothing is converted: an integer for floats is taken as their bits, as by hound, and so is a
+    /// float for integers of 32 bits.
+    ///
+    /// An error, as that of a full disk, rejects this sample alone: those that were accepted stay in the buffer.
     #[inline(always)]
     pub fn write_sample<S: Sample>(&mut self, sample: S) -> Result<()> {
         match S::CODING {
@@ -231,7 +237,8 @@ impl<W: Write + Seek> WavWriter<W> {
         self.core.publish(true)
     }
 
-    /// Ends the file: a `flush` that is the last.
+    /// Ends the file: a `flush` that is the last. If it fails, the samples in the buffer are lost, up to 4096. To be
+    /// able to repeat it, call `flush` until that is Ok, and then this.
     pub fn finalize(mut self) -> Result<()> {
         self.finalized = true;
         self.core.publish(true)
@@ -265,8 +272,10 @@ impl<W: Read + Write + Seek> WavWriter<W> {
     /// Appends to a file, of which the writer has to be at the beginning: the next sample follows those
     /// that its header counts. A fact chunk stays as it is.
     ///
-    /// Of a recording that was cut off, the samples that the header doesn't count are overwritten, without an
-    /// error: call [`repair_file`](crate::repair_file) first.
+    /// What follows these is overwritten, without an error, also the samples of a recording that was cut off. So
+    /// repair it first, always, as [`repair_file`](crate::repair_file) does a file. Append only if that reports
+    /// `Whole` or `CutOff`: where it reports `HasChunksAfterData` it repaired nothing, and what would be overwritten
+    /// may be samples ([`repair_file_to_end`](crate::repair_file_to_end)).
     pub fn new_append(mut writer: W) -> Result<WavWriter<W>> {
         let info = Walk::over(&mut writer)??;
         let recorder = Recorder::append(&info)?;
@@ -277,57 +286,76 @@ impl<W: Read + Write + Seek> WavWriter<W> {
 }
 
 impl WavWriter<io::BufWriter<fs::File>> {
-    /// Creates a file, over one that there was, and writes its header.
+    /// Creates a file, over one that there was, and writes its header: when this returns, the file is a WAV file
+    /// without samples. A file that there was stays as it is where the spec can't be written.
     pub fn create<P: AsRef<path::Path>>(filename: P, spec: WavSpec) -> Result<WavWriter<io::BufWriter<fs::File>>> {
-        WavWriter::over(fs::File::create(filename)?, spec)
+        WavWriter::over(|| fs::File::create(filename), spec, false)
     }
 
-    /// Appends to a file as `new_append` does: call [`repair_file`](crate::repair_file) first if its recording
-    /// was cut off.
+    /// Appends to a file as `new_append` does: call [`repair_file`](crate::repair_file) first, always, and append
+    /// only if it reports `Whole` or `CutOff`.
     pub fn append<P: AsRef<path::Path>>(filename: P) -> Result<WavWriter<io::BufWriter<fs::File>>> {
-        WavWriter::after(fs::OpenOptions::new().read(true).write(true).open(filename)?)
+        WavWriter::after(fs::OpenOptions::new().read(true).write(true).open(filename)?, false)
     }
 
-    /// Creates a file that survives a loss of power (own). When this returns, the empty file and its name
-    /// are on the disk, and after a `flush` all samples are: it syncs them before the sizes that count them,
+    /// Creates a file that survives a loss of power (own). When this returns, a WAV file without samples and its
+    /// name are on the disk, and after a `flush` all samples are: it syncs them before the sizes that count them,
     /// and then these.
     ///
-    /// After a sync that failed each later `flush` fails, since nobody knows what the disk has.
+    /// Only single samples are buffered, up to 4096: each [`write_samples`](WavWriter::write_samples) is a write of
+    /// the system. After a write that failed, as on a full disk, the writer continues. After a sync that failed each
+    /// later `flush` fails, since nobody knows what the disk has.
     pub fn create_durable<P: AsRef<path::Path>>(filename: P, spec: WavSpec) -> Result<WavWriter<io::BufWriter<fs::File>>> {
-        let file = open_synced(fs::OpenOptions::new().write(true).create(true).truncate(true), filename.as_ref())?;
-        Ok(WavWriter::over(file, spec)?.durable())
+        let open = || open_synced(fs::OpenOptions::new().write(true).create(true).truncate(true), filename.as_ref());
+        WavWriter::over(open, spec, true)
     }
 
     /// Appends to a file as [`append`](WavWriter::append) does, so that it survives a loss of power (own). When
     /// this returns, the file as it was found and its name are on the disk, and `flush` syncs as that of
     /// [`create_durable`](WavWriter::create_durable) does.
     ///
-    /// Call [`repair_file`](crate::repair_file) first if the recording was cut off: the samples that the header
-    /// doesn't count are overwritten, without an error.
+    /// Call [`repair_file`](crate::repair_file) first, always, and append only if it reports `Whole` or `CutOff`.
     pub fn append_durable<P: AsRef<path::Path>>(filename: P) -> Result<WavWriter<io::BufWriter<fs::File>>> {
-        let file = open_synced(fs::OpenOptions::new().read(true).write(true), filename.as_ref())?;
-        Ok(WavWriter::after(file)?.durable())
+        WavWriter::after(open_synced(fs::OpenOptions::new().read(true).write(true), filename.as_ref())?, true)
     }
 
-    // Writes the header of a new file.
-    fn over(file: fs::File, spec: WavSpec) -> Result<WavWriter<io::BufWriter<fs::File>>> {
-        WavWriter::new(io::BufWriter::with_capacity(16 * BLOCK, file), spec)
+    // Writes the header of a new file, which isn't opened if the spec can't be written.
+    fn over(open: impl FnOnce() -> io::Result<fs::File>, spec: WavSpec, is_durable: bool) -> Result<WavWriter<io::BufWriter<fs::File>>> {
+        let spec_ex = spec.with_default_width();
+        let (header, recorder) = beginning(spec_ex)?;
+        let mut file = open()?;
+        file.write_all(&header)?;
+        if is_durable {
+            file.sync_data()?;
+        }
+        Ok(WavWriter::of_file(file, header.len() as u64, spec_ex, recorder, is_durable))
     }
 
     // Appends to a file.
-    fn after(file: fs::File) -> Result<WavWriter<io::BufWriter<fs::File>>> {
+    fn after(file: fs::File, is_durable: bool) -> Result<WavWriter<io::BufWriter<fs::File>>> {
         let mut reader = io::BufReader::new(file);
         let info = Walk::over(&mut reader)??;
         let recorder = Recorder::append(&info)?;
         let (place, mut file) = (recorder.place(0)?, reader.into_inner());
         file.seek(SeekFrom::Start(place))?;
-        Ok(WavWriter::at(io::BufWriter::with_capacity(16 * BLOCK, file), place, info.spec.into(), recorder))
+        Ok(WavWriter::of_file(file, place, info.spec.into(), recorder, is_durable))
     }
 
-    fn durable(mut self) -> WavWriter<io::BufWriter<fs::File>> {
-        self.core.sync = |file| file.flush().and_then(|()| file.get_ref().sync_data());
-        self
+    // A durable writer has no bytes in its `BufWriter`: what the recorder takes for written is with the system, a write
+    // that fails isn't one of a sync, and a sync has only to sync.
+    fn of_file(file: fs::File, place: u64, spec_ex: WavSpecEx, recorder: Recorder, is_durable: bool) -> WavWriter<io::BufWriter<fs::File>> {
+        let capacity = if is_durable { 0 } else { 16 * BLOCK };
+        let mut writer = WavWriter::at(io::BufWriter::with_capacity(capacity, file), place, spec_ex, recorder);
+        if is_durable {
+            writer.core.sync = |file| file.get_ref().sync_data();
+        }
+        writer
     }
+}
+
+// The header of a new file, and its recorder, if the spec can be written.
+fn beginning(spec_ex: WavSpecEx) -> Result<(Vec<u8>, Recorder)> {
+    Ok((proved::header(&spec_ex.into(), 0)?, Recorder::begin(&spec_ex.into())?))
 }
 
 // Opens a file, and syncs it and its folder, which has its name.

@@ -89,6 +89,43 @@ fn each_type_is_read_and_refused() {
 }
 
 #[test]
+fn a_sample_of_the_other_format_is_taken_by_its_bits_or_unsupported() {
+    for (bits, sample_format) in [(8, SampleFormat::Int), (16, SampleFormat::Int), (24, SampleFormat::Int), (32, SampleFormat::Int), (32, SampleFormat::Float)] {
+        let mut file = Cursor::new(Vec::new());
+        let mut writer = WavWriter::new(&mut file, WavSpec { bits_per_sample: bits, sample_format, ..MONO }).unwrap();
+        let result = writer.write_sample(0.5f32);
+        assert!(if bits == 32 { result.is_ok() } else { matches!(result, Err(Error::Unsupported)) });
+        if bits == 32 {
+            writer.write_sample(-2i16).unwrap();
+            writer.finalize().unwrap();
+            assert!(file.get_ref().ends_with(&[0, 0, 0, 63, 254, 255, 255, 255]));
+        }
+    }
+}
+
+#[test]
+fn a_new_file_has_its_header_at_once() {
+    let path = Path::new("header");
+    std::mem::forget(WavWriter::create(&path, MONO).unwrap());
+    assert_eq!(fs::read(&path).unwrap(), written::<i16>(MONO, &[]));
+    fs::write(&path, "longer than a header, which is emptied before the new one is written").unwrap();
+    std::mem::forget(WavWriter::create_durable(&path, FLOATS).unwrap());
+    assert_eq!(fs::read(&path).unwrap(), written::<f32>(FLOATS, &[]));
+    assert_eq!(hound::repair_file(&path).unwrap().state, hound::RepairState::Whole);
+}
+
+#[test]
+fn a_file_stays_as_it_is_where_the_spec_can_not_be_written() {
+    let path = Path::new("kept");
+    fs::write(&path, "before").unwrap();
+    let wrong = WavSpec { bits_per_sample: 12, ..MONO };
+    assert!(matches!(WavWriter::create(&path, wrong), Err(Error::Unsupported)));
+    assert!(matches!(WavWriter::create_durable(&path, wrong), Err(Error::Unsupported)));
+    assert_eq!(fs::read(&path).unwrap(), b"before");
+    assert!(WavWriter::create(Path::new("none"), wrong).is_err() && !Path::new("none").0.exists());
+}
+
+#[test]
 fn containers_are_written_and_read_by_the_trait() {
     let mut bytes = Vec::new();
     Sample::write(-2i16, &mut bytes, 16).unwrap();
@@ -207,6 +244,73 @@ fn nothing_is_taken_after_the_samples_that_were_asked_for() {
     assert_eq!(rest, b"more");
 }
 
+fn in_blocks<R: Read>(reader: &mut WavReader<R>, length: usize) -> Vec<i32> {
+    let (mut samples, mut block) = (Vec::new(), vec![0; length]);
+    loop {
+        let (count, result) = reader.read_samples(&mut block);
+        result.unwrap();
+        samples.extend(&block[..count]);
+        if count < length {
+            return samples;
+        }
+    }
+}
+
+#[test]
+fn blocks_have_the_samples_of_an_iterator() {
+    let path = Path::new("blocks");
+    for bits in [8, 16, 24, 32] {
+        let samples: Vec<i32> = (0..30001i32).map(|i| i.wrapping_mul(0x1234_5677) >> (32 - bits)).collect();
+        let mut file = written(WavSpec { bits_per_sample: bits, ..MONO }, &samples);
+        let end = file.len() as u64 - u64::from(bits % 16 != 0); // before the pad byte
+        file.extend(b"more");
+        fs::write(&path, &file).unwrap();
+        for length in [1, 2, 15, 16, 17, 1000, 4096, 4097, 40000] {
+            let mut reader = WavReader::new(Cursor::new(&file)).unwrap();
+            assert_eq!(in_blocks(&mut reader, length), samples);
+            assert_eq!(reader.into_inner().position(), end);
+            let mut opened = WavReader::open(&path).unwrap();
+            assert_eq!(opened.samples::<i32>().next().unwrap().unwrap(), samples[0]);
+            assert_eq!(in_blocks(&mut opened, length), samples[1..]);
+            opened.seek(7).unwrap();
+            assert!(matches!(opened.read_samples(&mut vec![0; length]), (count, Ok(())) if count == length.min(29994)));
+            assert_eq!(opened.samples::<i32>().len(), 29994usize.saturating_sub(length));
+            assert_eq!(opened.into_inner().stream_position().unwrap(), end - 29994usize.saturating_sub(length) as u64 * u64::from(bits / 8));
+        }
+    }
+}
+
+#[test]
+fn a_missing_or_rejected_sample_is_one_error() {
+    let file = written(MONO, &(0..100).collect::<Vec<i16>>());
+    let path = Path::new("missing");
+    fs::write(&path, &file[..44 + 2 * 60 + 1]).unwrap();
+    let mut reader = WavReader::open(&path).unwrap();
+    let mut block = [9i16; 80];
+    assert!(matches!(reader.read_samples(&mut block), (60, Err(Error::IoError(_)))));
+    assert!(block[..60].iter().copied().eq(0..60) && block[60..] == [9; 20]);
+    assert_eq!(reader.samples::<i16>().filter(|sample| matches!(sample, Err(Error::IoError(_)))).count(), 39);
+    assert!(matches!(reader.read_samples(&mut block), (0, Ok(()))));
+    reader.seek(3).unwrap();
+    assert!(matches!(reader.read_samples(&mut [0i8; 20]), (0, Err(Error::TooWide))));
+    assert_eq!(reader.samples::<i16>().len(), 96);
+    assert!(matches!(reader.read_samples(&mut block[..20]), (20, Ok(()))));
+    assert_eq!((reader.len(), reader.duration(), block[0]), (100, 100, 3));
+}
+
+#[test]
+fn samples_that_no_type_reads_are_errors_by_each_call() {
+    let mut file = written(WavSpec { bits_per_sample: 24, ..MONO }, &[1, 2, 3, 4]);
+    file[38] = 12; // of 24
+    let open = || WavReader::new(&file[..]).unwrap();
+    let mut reader = open();
+    assert!(matches!(reader.samples::<i32>().next(), Some(Err(Error::Unsupported))));
+    assert_eq!(reader.samples::<i32>().len(), 3);
+    open().samples::<i32>().for_each(|sample| assert!(matches!(sample, Err(Error::Unsupported))));
+    assert_eq!(open().into_samples::<i32>().filter(Result::is_err).count(), 4);
+    assert!(matches!(open().read_samples(&mut [0i32; 20]), (0, Err(Error::Unsupported))));
+}
+
 #[test]
 fn reading_goes_on_after_a_closure_that_panicked() {
     let file = written(MONO, &(0..9000).collect::<Vec<i16>>());
@@ -237,6 +341,22 @@ fn a_file_that_was_cut_off_is_repaired() {
     let samples = WavReader::open(&path).unwrap().into_samples::<i8>().collect::<Result<Vec<_>>>().unwrap();
     assert_eq!((samples, fs::metadata(&path).unwrap().len()), (vec![1, 2, 3], 48));
     assert_eq!(hound::repair_file(&path).unwrap().state, hound::RepairState::Whole);
+}
+
+#[test]
+fn a_tag_after_the_data_is_taken_for_samples_only_on_demand() {
+    let path = Path::new("tag");
+    let mut file = written(MONO, &[1i16, 2, 3]);
+    file[40..44].fill(0);
+    file.extend(b"TAG");
+    file.extend([0; 125]);
+    fs::write(&path, &file).unwrap();
+    assert_eq!(hound::repair_file(&path).unwrap().state, hound::RepairState::HasChunksAfterData);
+    assert_eq!(fs::read(&path).unwrap(), file);
+    let found = hound::repair_file_to_end(&path).unwrap();
+    assert_eq!((found.state, found.frames, found.left_over), (hound::RepairState::CutOff, 3 + 64, 0));
+    let samples = WavReader::open(&path).unwrap().into_samples::<i16>().collect::<Result<Vec<_>>>().unwrap();
+    assert_eq!((samples.len(), &samples[..3]), (67, &[1, 2, 3][..]));
 }
 
 #[test]

@@ -2,6 +2,9 @@
 //!
 //! A file is a slice of bytes. Samples are interleaved. After an error the slices that were passed
 //! are as they were before.
+//!
+//! The page of a function names its own errors. What is wrong with a file, a spec or the type of samples is an
+//! error of each function that takes one; `bindings/c/hound.h` has the conditions.
 #![warn(missing_docs)]
 
 use std::{error, fmt, io};
@@ -392,7 +395,8 @@ impl Walk {
         Walk(c::Walk { length: 12, ..c::Walk::default() })
     }
 
-    /// Reads up to the data, and not a byte of them. A read that is interrupted is an error, as any other.
+    /// Reads up to the data, and not a byte of them. The outer result is the reader's: its first error, also
+    /// where a read was interrupted. The inner one is that of `info` over the bytes.
     pub fn over<R: io::Read>(reader: &mut R) -> io::Result<Result<Info>> {
         let (mut walk, mut place, mut bytes) = (Walk::new(), 0, [0; 1024]);
         loop {
@@ -428,6 +432,7 @@ impl Walk {
 
     /// Takes the requested bytes, fewer only where the file ends, and returns what is before the data,
     /// which begin after these bytes, or nothing if other bytes are requested, which come after these.
+    /// The errors are those of `info`.
     pub fn take(&mut self, bytes: &[u8]) -> Result<Option<Info>> {
         let mut found = c::Info::default();
         // SAFETY: as above.
@@ -479,7 +484,9 @@ impl Recorder {
         Ok(Recorder(recorder))
     }
 
-    /// A recorder that appends to a file, of which a walk or `info` found this.
+    /// A recorder that appends to a file, of which a walk or `info` found this. It continues after the samples
+    /// that the header counts, which the file has to hold, and overwrites what follows them: repair a file that
+    /// may have been cut off before.
     pub fn append(info: &Info) -> Result<Recorder> {
         let mut recorder = c::Recorder::default();
         checked(unsafe { c::hound_recorder_append(&info.to_c(), &mut recorder) } as i64)?;
@@ -491,13 +498,16 @@ impl Recorder {
         u64::from(self.0.data_length) / u64::from(self.0.bytes_per_sample)
     }
 
-    /// Where the next so many samples are written.
+    /// Where the next so many samples are written; blocks are whole frames. `TooLong` is returned where the
+    /// sizes wouldn't count them, `NeedsCheckpoint` after a write that failed and within a checkpoint, and
+    /// `SyncFailed` after a sync that failed.
     pub fn place(&self, samples: u64) -> Result<u64> {
         checked(unsafe { c::hound_recorder_place(&self.0, samples) }).map(|place| place as u64)
     }
 
     /// Reports whether the write of so many samples at their place succeeded: then they count. If it
-    /// failed a checkpoint has to come next.
+    /// failed a checkpoint has to come next. A part of them may be in the file, which a repair would take for
+    /// samples: cut the file off at their place. The errors are those of `place`.
     pub fn wrote(&mut self, samples: u64, ok: bool) -> Result<()> {
         checked(unsafe { c::hound_recorder_wrote(&mut self.0, samples, ok.into()) } as i64).map(drop)
     }
@@ -534,12 +544,14 @@ impl Effect {
 }
 
 /// Reads samples from number `first` on into the front of `out`, and returns how many: as many as
-/// fit, as the header counts and as the bytes hold.
+/// fit, as the header counts and as the bytes hold. `Ok(0)` means the end, or that `out` is empty. Where
+/// the header counts sample `first` and the bytes don't hold it, the error is `Truncated`.
 pub fn read_into<S: Sample>(file: &[u8], first: u64, out: &mut [S]) -> Result<usize> {
     checked(S::read(file, first, out))
 }
 
-/// Reads all samples of a file that are there.
+/// Reads all samples of a file that are there: of one that was cut off fewer than `info` counts. Where the
+/// header counts some and none is there, the error is `Truncated`.
 pub fn read<S: Sample + Clone + Default>(file: &[u8]) -> Result<Vec<S>> {
     let info = info(file)?;
     let held = (file.len() as u64 - info.data_start) / u64::from(info.spec.bytes_per_sample);
@@ -549,7 +561,7 @@ pub fn read<S: Sample + Clone + Default>(file: &[u8]) -> Result<Vec<S>> {
     Ok(samples)
 }
 
-/// How many bytes the file of so many samples has.
+/// How many bytes the file of so many samples has. `TooLong` is returned where its sizes wouldn't count them.
 pub fn size(spec: &Spec, samples: u64) -> Result<usize> {
     // SAFETY: as above.
     checked(unsafe { c::hound_size(&spec.to_c(), samples) })
@@ -573,7 +585,8 @@ pub fn sizes(spec: &Spec, data_start: u64, samples: u64) -> Result<([u8; 4], [u8
     Ok((both[0], both[1]))
 }
 
-/// Writes the file of these samples to the front of `out`, and returns its length.
+/// Writes the file of these samples to the front of `out`, and returns its length. `NoRoom` is returned where
+/// `out` is shorter, `UnfinishedFrame` for a part of a frame, and `TooWide` for a value that the bits don't hold.
 pub fn write_to<S: Sample>(spec: &Spec, samples: &[S], out: &mut [u8]) -> Result<usize> {
     checked(S::write(&spec.to_c(), samples, out))
 }
@@ -585,12 +598,20 @@ pub fn write<S: Sample>(spec: &Spec, samples: &[S]) -> Result<Vec<u8>> {
     Ok(file)
 }
 
-/// Appends whole frames to the file in the first `used` bytes, and returns its new length.
+/// Appends whole frames to the file in the first `used` bytes, and returns its new length. It overwrites what
+/// follows the samples that the header counts: chunks, and also the samples of a recording that was cut off
+/// before its header counted them. Where a file may have been cut off, call [`repair`] before.
+///
+/// `NoRoom` is returned where `file` is shorter than that length, which counts a pad byte after odd data, or than
+/// `used`; `Truncated` where the first `used` bytes don't hold what the header counts; `TooLong`,
+/// `UnfinishedFrame` and `TooWide` as by [`size`] and [`write_to`].
 pub fn append_to<S: Sample>(file: &mut [u8], used: usize, samples: &[S]) -> Result<usize> {
     checked(S::append(file, used, samples))
 }
 
-/// Repairs the file in the first `used` bytes, whose recording was cut off.
+/// Repairs the file in the first `used` bytes, whose recording was cut off: both sizes become those of the whole
+/// frames that it holds. Where that needs a pad byte, `file` has to be one byte longer than `used`. Where it
+/// isn't, or is shorter than `used`, the error is `NoRoom`.
 pub fn repair(file: &mut [u8], used: usize) -> Result<Repair> {
     let mut found = c::Repair::default();
     // SAFETY: as above.
@@ -599,7 +620,7 @@ pub fn repair(file: &mut [u8], used: usize) -> Result<Repair> {
 }
 
 /// Repairs the file in the first `used` bytes, and takes all that follows the header of its data for samples,
-/// also what looks like chunks.
+/// also what looks like chunks. The errors are those of [`repair`].
 pub fn repair_to_end(file: &mut [u8], used: usize) -> Result<Repair> {
     let mut found = c::Repair::default();
     // SAFETY: as above.
@@ -607,7 +628,7 @@ pub fn repair_to_end(file: &mut [u8], used: usize) -> Result<Repair> {
     Ok(Repair::from_c(found, length))
 }
 
-/// Looks at a file as `repair` does, and changes nothing.
+/// Looks at a file as `repair` does, and changes nothing. It needs no room: the error is never `NoRoom`.
 pub fn find_damage(file: &[u8]) -> Result<Repair> {
     let mut found = c::Repair::default();
     // SAFETY: as above.
@@ -620,7 +641,8 @@ pub fn decode<S: Coded>(spec: &Spec, bytes: &[u8], out: &mut [S]) -> Result<usiz
     checked(S::decode(&spec.to_c(), bytes, out))
 }
 
-/// Encodes samples without a file around them, and returns how many bytes they take.
+/// Encodes samples without a file around them, and returns how many bytes they take. `NoRoom` is returned where
+/// `out` is shorter, and `TooWide` for a value that the bits don't hold.
 pub fn encode<S: Coded>(spec: &Spec, samples: &[S], out: &mut [u8]) -> Result<usize> {
     checked(S::encode(&spec.to_c(), samples, out))
 }
@@ -683,14 +705,15 @@ pub fn value_32(container: u32) -> i32 {
     unsafe { c::hound_value_32(container) }
 }
 
-/// Scales integers of so many bits, from 1 to 32, to floats whose full scale is 1, and returns how many.
+/// Scales integers of so many bits, from 1 to 32, to floats whose full scale is 1, and returns how many. Other
+/// bits are `NotWritable`, and where `out` is shorter the error is `NoRoom`.
 pub fn to_f32(samples: &[i32], bits: u16, out: &mut [f32]) -> Result<usize> {
     // SAFETY: as above.
     checked(unsafe { c::hound_to_f32(samples.as_ptr(), samples.len(), bits, out.as_mut_ptr(), out.len()) })
 }
 
 /// Scales floats whose full scale is 1 to integers of so many bits, each to the nearest one, and returns
-/// how many were clipped.
+/// how many were clipped. The errors are those of [`to_f32`].
 pub fn from_f32(samples: &[f32], bits: u16, out: &mut [i32]) -> Result<u64> {
     let mut clipped = 0;
     // SAFETY: as above.

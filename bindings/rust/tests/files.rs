@@ -142,6 +142,84 @@ fn eight_bits_and_scales() {
 }
 
 #[test]
+fn what_is_shorter_has_no_room() {
+    let stereo = Spec { channels: 2, ..SPEC };
+    let mut file = write(&stereo, &[1i16, 2, 3, 4]).unwrap();
+    let (used, more) = (file.len(), file.len() + 1);
+    assert_eq!(append_to(&mut file, used, &[5i16, 6]), Err(Error::NoRoom));
+    assert_eq!(append_to::<i16>(&mut file, more, &[]), Err(Error::NoRoom));
+    assert_eq!(append_to(&mut file, used, &[5i16]), Err(Error::UnfinishedFrame));
+    assert_eq!(append_to(&mut file, used - 1, &[5i16, 6]), Err(Error::Truncated));
+    assert_eq!((repair(&mut file, more), repair_to_end(&mut file, more)), (Err(Error::NoRoom), Err(Error::NoRoom)));
+    assert_eq!(write_to(&stereo, &[1i16, 2, 3, 4], &mut vec![0; used - 1]), Err(Error::NoRoom));
+    assert_eq!(write(&stereo, &[1i16]), Err(Error::UnfinishedFrame));
+    assert_eq!((size(&SPEC, 1 << 31), encode(&SPEC, &[1i16], &mut [0])), (Err(Error::TooLong), Err(Error::NoRoom)));
+}
+
+#[test]
+fn a_pad_byte_needs_room() {
+    let bytes = Spec { bits_per_sample: 8, ..SPEC };
+    let mut file = write::<i16>(&bytes, &[]).unwrap();
+    file.push(7);
+    assert_eq!(append_to(&mut file, 44, &[1i16]), Err(Error::NoRoom));
+    for repair in [repair, repair_to_end] {
+        let mut cut = write(&bytes, &[1i16, 2, 3]).unwrap()[..45].to_vec();
+        assert_eq!(repair(&mut cut, 45), Err(Error::NoRoom));
+        assert_eq!(find_damage(&cut).unwrap().frames, 1);
+        cut.push(9);
+        assert_eq!((repair(&mut cut, 45).unwrap().length, cut[45]), (46, 0));
+    }
+}
+
+#[test]
+fn the_end_is_none_and_a_missing_sample_an_error() {
+    let file = write(&SPEC, &[1i16, 2, 3]).unwrap();
+    let mut out = [0i16; 2];
+    assert_eq!((read_into(&file, 3, &mut out), read_into(&file, 9, &mut out)), (Ok(0), Ok(0)));
+    assert_eq!((read_into(&file[..49], 1, &mut out), read_into(&file[..49], 2, &mut out)), (Ok(1), Err(Error::Truncated)));
+    assert_eq!(read_into::<i16>(&file[..49], 2, &mut []), Ok(0));
+    assert_eq!((read::<i16>(&file[..49]), read::<i16>(&file[..44])), (Ok(vec![1, 2]), Err(Error::Truncated)));
+}
+
+#[test]
+fn what_the_header_does_not_count_is_overwritten() {
+    let mut file = write(&SPEC, &[1i16]).unwrap();
+    file.extend([2, 0, 3, 0]); // as of a recording that was cut off
+    let mut repaired = file.clone();
+    assert_eq!(append_to(&mut file, 50, &[9i16]), Ok(48));
+    assert_eq!(read::<i16>(&file[..48]).unwrap(), [1, 9]);
+    assert_eq!(Recorder::append(&info(&repaired).unwrap()).unwrap().place(1), Ok(46));
+    assert_eq!(repair(&mut repaired, 50).unwrap().frames, 3);
+    repaired.extend([0; 2]);
+    assert_eq!(append_to(&mut repaired, 50, &[9i16]), Ok(52));
+    assert_eq!(read::<i16>(&repaired).unwrap(), [1, 2, 3, 9]);
+}
+
+#[test]
+fn a_part_of_a_failed_write_is_taken_for_samples() {
+    let mut file = header(&SPEC, 0).unwrap();
+    let mut recorder = Recorder::begin(&SPEC).unwrap();
+    file.extend([1, 0]); // of a write of two samples
+    recorder.wrote(2, false).unwrap();
+    while let Some(effect) = recorder.next_effect(true).unwrap() {
+        file[effect.place() as usize..][..effect.bytes().len()].copy_from_slice(effect.bytes());
+    }
+    assert_eq!((info(&file).unwrap().samples, find_damage(&file).unwrap().frames), (0, 1));
+    file.truncate(recorder.place(2).unwrap() as usize);
+    assert_eq!(find_damage(&file).unwrap().frames, 0);
+}
+
+#[test]
+fn scales_have_1_to_32_bits() {
+    for bits in [0, 33] {
+        assert_eq!(to_f32(&[1], bits, &mut [0.0]), Err(Error::NotWritable));
+        assert_eq!(from_f32(&[1.0], bits, &mut [0]), Err(Error::NotWritable));
+    }
+    assert_eq!((to_f32(&[1], 1, &mut [0.0]), to_f32(&[1], 32, &mut [0.0])), (Ok(1), Ok(1)));
+    assert_eq!((to_f32(&[1], 8, &mut []), from_f32(&[1.0], 8, &mut [])), (Err(Error::NoRoom), Err(Error::NoRoom)));
+}
+
+#[test]
 fn single_containers() {
     assert_eq!((value_8(0), value_8(255), value_8(0x180)), (-128, 127, 0));
     assert_eq!((value_16(0x8000), value_16(0x17fff)), (-32768, 32767));
@@ -172,6 +250,13 @@ fn a_walk_over_a_reader_takes_no_byte_of_the_data() {
     assert_eq!((found.samples, found.data_start, rest), (2, 56, &[2, 0, 3, 0][..]));
     assert_eq!(Walk::over(&mut &file[..20]).unwrap(), Err(Error::Ended));
     assert_eq!(Walk::over(&mut &b"RIFX"[..]).unwrap(), Err(Error::NoRiffTag));
+    struct Failing;
+    impl std::io::Read for Failing {
+        fn read(&mut self, _: &mut [u8]) -> std::io::Result<usize> {
+            Err(std::io::ErrorKind::Interrupted.into())
+        }
+    }
+    assert_eq!(Walk::over(&mut Failing).unwrap_err().kind(), std::io::ErrorKind::Interrupted);
 }
 
 #[test]
@@ -179,7 +264,7 @@ fn a_recorder_goes_on_after_a_failed_write() {
     let mut recorder = Recorder::append(&info(&write(&SPEC, &[2i16]).unwrap()).unwrap()).unwrap();
     assert_eq!((recorder.samples(), recorder.place(1)), (1, Ok(46)));
     assert_eq!(recorder.wrote(1, false), Ok(()));
-    assert_eq!(recorder.place(1), Err(Error::NeedsCheckpoint));
+    assert_eq!((recorder.samples(), recorder.place(1), recorder.wrote(1, true)), (1, Err(Error::NeedsCheckpoint), Err(Error::NeedsCheckpoint)));
     assert!(recorder.next_effect(true).unwrap().unwrap().is_sync());
     let mut places = Vec::new();
     while let Some(effect) = recorder.next_effect(true).unwrap() {
@@ -188,5 +273,7 @@ fn a_recorder_goes_on_after_a_failed_write() {
     assert_eq!(places, [(0, vec![]), (4, vec![38, 0, 0, 0]), (40, vec![2, 0, 0, 0]), (0, vec![])]);
     assert_eq!(recorder.place(2_147_483_629), Err(Error::TooLong));
     recorder.next_effect(true).unwrap();
+    assert_eq!(recorder.place(1), Err(Error::NeedsCheckpoint));
     assert_eq!(recorder.next_effect(false).err(), Some(Error::SyncFailed));
+    assert_eq!((recorder.place(1), recorder.wrote(1, true)), (Err(Error::SyncFailed), Err(Error::SyncFailed)));
 }

@@ -15,7 +15,7 @@ use Rattle.hound_medium.proofs.Overlays.{front_part}
 use Rattle.hound_medium.proofs.Spans.{moment_last}
 use Rattle.hound_durable.specs.{Ascends, SurvivesLoss}
 use Rattle.hound_walk.specs.{Head, IsSoundSpec}
-use Rattle.hound_writer.specs.{Ghosts, Begun, Call, Does, Known, Lead, Left, Opens, appended, found_in, handed_in, new_file, publish, start_of, with_memory, Counts, ChangesSizesOnly, field, WriterState, HasHeader, IsBegun, IsCounted, IsSound, IsWhole, accepted_bytes, accepted_samples, data_length}
+use Rattle.hound_writer.specs.{Ghosts, Begun, Call, Does, Known, Lead, Left, Opens, Recorded, appended, found_in, handed_in, new_file, publish, start_of, with_memory, Counts, ChangesSizesOnly, field, WriterState, HasHeader, IsBegun, IsCounted, IsSound, IsWhole, accepted_bytes, accepted_samples, data_length}
 use Rattle.hound_writer.proofs.Containers.{none_whole, zero_div}
 use Rattle.hound_writer.proofs.Fresh.{none_accepted}
 use Rattle.hound_writer.proofs.Publishing.{reads_all}
@@ -357,6 +357,11 @@ module _ {W : Type 0} (kind : Ghosts W) where
         at_end = subst (λ m. HoldsAtEnd s file r.calls (kind.state m))
             (sym left.is) (holds_at_end s file r.calls r.first left.last (first_of s file r.first r.opens) r.lead told);
       }
+
+  pub left_so_far : (s : WavSpecEx) (file : Begun) (known : List Known) (w : WriterState W)
+      → Recorded kind s file known w → Left kind s file known w.medium
+  unfolding Recorded Left
+  left_so_far s file known w recorded = record { last = w; recorded = recorded; is = refl }
 
   pub left_kept : ((m : W)
       → WhereKeeps kind.tells kind.keeps ((kind.state m).contents ≡ overlay (kind.state m).start (kind.state m).past))

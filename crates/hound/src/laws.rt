@@ -7,8 +7,8 @@ ghost use Rattle.hound_spec.specs.declared.spec.WavSpecEx.{WavSpecEx};
 ghost use Rattle.hound_spec.specs.{canonical, data_start, riff_size};
 ghost use Rattle.hound_medium.specs.{MediumState, WhereKeeps, WhereTells, moment};
 ghost use Rattle.hound_durable.specs.{Ascends, place_of, within};
-ghost use Rattle.hound_sample.specs.{Refusal, containers, int_container};
-ghost use Rattle.hound_writer.specs.{mark_of, AcceptAnswer, Accepts, ChangesSizesOnly, appended, AcceptsEach, i16_bytes, AreKnown, Asked, Begun, Call, IsKnown, Known, Lead, Left, asked_by_all, found_in, made, marked, new_file, publish, start_of, IsSameFile, Finishes, WriterState, IsWhole, accepted_samples, data_length, AreFrames, IsPublishResult, IsSound, CountsAtMost, LeavesWriter, PutsAt, ReadsAs, field, Log, Performed, checkpoint, handed_in, log_kind, Directed, IsSynced};
+ghost use Rattle.hound_sample.specs.{Refusal, int_container};
+ghost use Rattle.hound_writer.specs.{mark_of, AcceptAnswer, AcceptsBytes, ChangesSizesOnly, appended, AcceptsEach, i16_bytes, AreKnown, Asked, Begun, Call, IsKnown, Known, Lead, Left, Recorded, asked_by_all, found_in, made, marked, new_file, publish, start_of, IsSameFile, Finishes, WriterState, IsWhole, accepted_samples, data_length, AreFrames, IsPublishResult, IsSound, CountsAtMost, LeavesWriter, PutsAt, ReadsAs, field, Log, Performed, checkpoint, handed_in, log_kind, Directed, IsSynced};
 ghost use Rattle.hound_writer.specs.declared.recorder.Recorder.{Recorder};
 ghost use Rattle.hound_writer.specs.declared.effects.Effect.TheVariants.{Size, Sync};
 ghost use Rattle.hound_repair.specs.{ReadsFrames, Repairs};
@@ -35,8 +35,7 @@ pub fn a_batch_is_its_values<M: Medium>(values: &[i16])
     ensures { WhereTells M.tells ((first a b c : WriterState M) → IsWhole M.state first →
         first.spec_ex.spec.bits_per_sample ≡ 16 → first.spec_ex.bytes_per_sample ≡ 2 →
         IsSameFile first a →
-        Accepts M.Placed (Ok (containers a.spec_ex.bytes_per_sample
-        (length (i16_bytes values.now) / a.spec_ex.bytes_per_sample) (i16_bytes values.now))) (Ok tt) a b
+        AcceptsBytes M.Placed (i16_bytes values.now) (Ok tt) a b
         → AcceptsEach M.Placed int_container values.now first c →
         (accepted_samples M.state b ≡ accepted_samples M.state c) × (data_length b ≡ data_length c)) }
 {}
@@ -99,7 +98,7 @@ pub fn a_repair_loses_no_published_sample()
 
 /// What a writer leaves at its end counts what its calls accepted, and over a medium that records
 /// every byte written each of its states holds all that they promise: whoever made the calls, with
-/// whatever results.
+/// whatever results. So does the medium of a writer that is still in use (`so_far`).
 pub fn what_is_kept<M: Medium>()
     ensures at_end { WhereTells M.tells ((s : WavSpecEx) (file : Begun) (known : List Known)
         (medium : M) → Left M.Placed s file known medium
@@ -107,6 +106,8 @@ pub fn what_is_kept<M: Medium>()
     ensures kept { WhereKeeps M.tells M.keeps ((s : WavSpecEx) (file : Begun) (known : List Known)
         (medium : M) → Left M.Placed s file known medium
         → Kept M.Placed s file known medium) }
+    ensures so_far { (s : WavSpecEx) (file : Begun) (known : List Known) (w : WriterState M)
+        → Recorded M.Placed s file known w → Left M.Placed s file known w.medium }
 {}
 
 /// What a caller knows of calls holds of them, one by one (`among`). Calls whose marks are all known

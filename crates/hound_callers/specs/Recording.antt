@@ -1,8 +1,8 @@
 -- What a recorder asks of its writer, and what it sees; the checkpoints of a session.
-use Rattle.std.specs.Prelude.{◌≡◌, ◌⊎◌, ℕ, suc, ◌*◌, ◌%◌, ◌==◌, Bool, true, false, List, [], ◌∷◌, ◌++◌, Result, Ok, Err, IsOk, ◌<◌, length}
+use Rattle.std.specs.Prelude.{◌≡◌, ◌⊎◌, ℕ, suc, ◌*◌, ◌%◌, ◌==◌, Bool, true, false, List, [], ◌∷◌, ◌++◌, Result, Ok, Err, IsOk, ◌<◌, drop, length, take}
 use Rattle.std.specs.Borrow.{Bor}
 use Rattle.std.specs.List.{All, flat_map}
-use Rattle.hound.specs.{Ghosts, Accepts, Asked, Checkpoints, Error, HasRoom, IsWhole, Known, MediumState, ReadsAs, Refusal, WavSpecEx, WriterState, accepted_samples, containers_in, if_marked, made, marked, publish, write}
+use Rattle.hound.specs.{Ghosts, Accepts, Asked, Begun, Call, Checkpoints, Error, HasPublished, HasRoom, IsWhole, KeptWithin, Known, MediumState, ReadsAs, Refusal, WavSpecEx, WriterState, accepted_samples, containers_in, accepted_by_all, if_marked, made, marked, publish, seen, write}
 use Rattle.hound.specs.declared.Error.TheVariants.{OutOfMemory, TooLong}
 
 -- a block is written, and if it is to be published a flush follows
@@ -34,10 +34,10 @@ published_calls containers blocks =
     flat_map (λ block. (write (containers block), true) ∷ (publish, true) ∷ []) blocks
 
 -- The calls of a block at which a recorder stops: a write that accepted nothing, or a write that
--- accepted the block and a flush.
+-- accepted the block and a flush that didn't publish it.
 abbrev pub IsStopped : Result (List (List ℕ)) Refusal → List Known → Type 0
 IsStopped containers calls = (calls ≡ marked (write containers) false ∷ [])
-    ⊎ ((mark : Bool) × (calls ≡ marked (write containers) true ∷ marked publish mark ∷ []))
+    ⊎ (calls ≡ marked (write containers) true ∷ marked publish false ∷ [])
 
 -- the calls with which a recorder stops where these blocks are left: none if there are no blocks, or
 -- else those of the next one
@@ -52,6 +52,19 @@ abbrev pub HaveContainers : {V : Type 0} → (V → Result (List (List ℕ)) Ref
 HaveContainers containers blocks list =
     All (λ block. IsOk (containers block)) blocks
     × (list ≡ flat_map (λ block. if_marked true (containers block)) blocks)
+
+-- So many of these blocks were published over a durable medium, each by a write and a flush; and then
+-- the calls stopped at the next block, if there is one, and ended. A flush has published exactly the samples
+-- of these blocks, if there are some; and all is kept that the calls promise, through a loss of power too.
+abbrev pub PublishesBlocks : {V W : Type 0} → Ghosts W → (V → Result (List (List ℕ)) Refusal) →
+    WavSpecEx → Begun → List V → ℕ → W → MediumState → Type 0
+PublishesBlocks kind containers s file blocks n durable medium = (more : List Known)
+    × StopsAt containers (drop n blocks) more
+    × (kept : KeptWithin kind s file
+    ((seen (published_calls containers (take n blocks)) ++ more) ++ made publish ∷ []) durable medium)
+    × (0 < n → (before after : List Call) × (flush : Call)
+    × (kept.left.recorded.calls ≡ before ++ (flush ∷ after)) × HasPublished flush
+    × HaveContainers containers (take n blocks) (accepted_by_all before))
 
 -- a call for samples that failed, or one that was Ok and a flush with this result
 abbrev pub WritesAndFlushes : {M : Type 0} → Ghosts M →

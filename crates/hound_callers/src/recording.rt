@@ -5,7 +5,7 @@ ghost use Rattle.hound.specs.{Accepts, Asked, Checkpoints, Error, Finishes, acce
 ghost use Rattle.hound.specs.declared.session.Begin.TheVariants.{New};
 ghost use Rattle.hound.specs.declared.session.End.TheVariants.{Drop, Finalize};
 ghost use Rattle.hound.specs.declared.session.Step.TheVariants.{Whole};
-ghost use Rattle.hound_callers.specs.Recording.{HaveContainers, IsNoBatch, IsPublished, IsStopped, StopsAt, WritesAndFlushes, all_asked, block_asks, containers_by, published_calls, recorder_asks};
+ghost use Rattle.hound_callers.specs.Recording.{HaveContainers, IsNoBatch, IsPublished, IsStopped, PublishesBlocks, StopsAt, WritesAndFlushes, all_asked, block_asks, containers_by, published_calls, recorder_asks};
 
 use hound::{
     Begin, Durable, End, Error, Medium, Placed, Repair, Sample, SampleWriter16, Source, Step,
@@ -114,7 +114,8 @@ pub fn record_twelve_through_a_loss<M: Source + Medium>(
     Ok(durable.into_inner())
 }
 
-// Writes a block and publishes it, and stops at an error.
+// Writes a block and publishes it, also where it ends within a frame, of which the next block has the
+// rest. Any other error stops it.
 fn publish_block<S: Sample + Copy, M: Medium>(
     writer: &mut WavWriter<M>,
     block: &[S],
@@ -131,7 +132,10 @@ fn publish_block<S: Sample + Copy, M: Medium>(
         × Recorded M.Placed s file (known ++ more) writer.new) }
 {
     writer.write_samples(block)?;
-    writer.flush()
+    match writer.flush() {
+        Err(Error::UnfinishedSample) => Ok(()),
+        result => result,
+    }
 }
 
 // Writes and publishes blocks until a call fails, and returns how many were published.
@@ -155,8 +159,8 @@ fn publish_blocks<S: Sample + Copy, M: Medium>(writer: &mut WavWriter<M>, blocks
 /// Records blocks of twelve-bit samples over a medium that may lose its power, with a checkpoint
 /// after each, until a call fails, and returns how many blocks were published.
 ///
-/// Its calls are the write and the flush of each of these blocks, all with an Ok, then those of the
-/// next block, if there is one, and the end. One of these flushes has published exactly the samples
+/// Its calls are the write and the flush of each of these blocks, all of which published it, then those
+/// of the next block, if there is one, which didn't, and the end. One of these flushes has published exactly the samples
 /// of the blocks, if there are some; and whatever sectors keep what was written since the medium was
 /// flushed, what is left counts, and has lost no sample that a flush has published. The medium must
 /// be new: its place is 0, and nothing has been written to it yet.
@@ -170,16 +174,9 @@ pub fn record_checkpoints<M: Source + Medium>(
     requires flushed { WhereKeeps M.tells M.keeps ((M.state medium).flushed ≡ 0) }
     ensures { let durable = ⟦<Durable<M> as Placed>⟧ in
         MatchResult result (λ done. (done.1 ≤ length blocks.now)
-        × WhereKeeps M.tells M.keeps (
-        Around (M.state medium) (M.state done.0) (λ first last. (more : List Known)
-        × StopsAt (containers_by ⟦<Twelve as Sample>⟧.container spec_ex) (drop done.1 blocks.now) more
-        × (kept : KeptWithin durable spec_ex (new_file (durable.state first))
-        ((seen (published_calls (containers_by ⟦<Twelve as Sample>⟧.container spec_ex)
-        (take done.1 blocks.now)) ++ more) ++ made publish ∷ []) last (within last))
-        × (0 < done.1 → (before after : List Call) × (flush : Call)
-        × (kept.left.recorded.calls ≡ before ++ (flush ∷ after)) × HasPublished flush
-        × HaveContainers (containers_by ⟦<Twelve as Sample>⟧.container spec_ex) (take done.1 blocks.now)
-        (accepted_by_all before)))))
+        × WhereKeeps M.tells M.keeps (Around (M.state medium) (M.state done.0) (λ first last.
+        PublishesBlocks durable (containers_by ⟦<Twelve as Sample>⟧.container spec_ex) spec_ex
+        (new_file (durable.state first)) blocks.now done.1 last (within last))))
         (λ refused. Around (M.state medium) (M.state refused.0) (λ first last.
         IsNotBegun durable spec_ex first last refused.1)) }
 {
@@ -194,9 +191,9 @@ pub fn record_checkpoints<M: Source + Medium>(
     Ok((durable.into_inner(), published))
 }
 
-/// Records as [`record_checkpoints`] does, and returns how many blocks are safe: whatever a loss of
-/// power leaves of them, once that is repaired the samples of these blocks are read first, as many as
-/// whole frames have.
+/// Records as [`record_checkpoints`] does (`published`), and returns how many blocks are safe: whatever
+/// a loss of power leaves of them, once that is repaired the samples of these blocks are read first, as
+/// many as whole frames have.
 pub fn record_safely<M: Source + Medium>(
     medium: M,
     spec_ex: WavSpecEx,
@@ -206,6 +203,10 @@ pub fn record_safely<M: Source + Medium>(
     requires past { WhereKeeps M.tells M.keeps ((M.state medium).past ≡ []) }
     requires flushed { WhereKeeps M.tells M.keeps ((M.state medium).flushed ≡ 0) }
     ensures within { IfOk result (λ done. done.1 ≤ length blocks.now) }
+    ensures published { let durable = ⟦<Durable<M> as Placed>⟧ in
+        IfOk result (λ done. WhereKeeps M.tells M.keeps (Around (M.state medium) (M.state done.0) (λ first last.
+        PublishesBlocks durable (containers_by ⟦<Twelve as Sample>⟧.container spec_ex) spec_ex
+        (new_file (durable.state first)) blocks.now done.1 last (within last)))) }
     ensures safe { MatchResult result (λ done. WhereKeeps M.tells M.keeps (0 < done.1 → (list : List (List ℕ))
         × HaveContainers (containers_by ⟦<Twelve as Sample>⟧.container spec_ex) (take done.1 blocks.now) list
         × ((sector : ℕ) (cut mended : MediumState) (found : Repair) → 1 ≤ sector

@@ -1,5 +1,5 @@
 // Appending to existing files.
-ghost use Rattle.std.specs.Prelude.{◌≡◌, [], ⊤, MatchResult};
+ghost use Rattle.std.specs.Prelude.{◌≡◌, [], IfOk, MatchResult};
 ghost use Rattle.hound_medium.specs.{WhereTells};
 ghost use Rattle.hound_walk.specs.{IsSoundSpec, Head, IsDataPlace};
 ghost use Rattle.hound_writer.specs.{Recorded, appended, IsWhole, accepted_samples, Appends, IsNotAppended, FailsCheck, head_fault};
@@ -71,9 +71,9 @@ impl<W: Source + Medium> WavWriter<W> {
         requires { WhereTells W.tells ((W.state writer).place ≡ 0) }
         ensures appends { MatchResult result (Appends W.Placed (W.state writer))
             (λ e. (back : W) × WhereTells W.tells (IsNotAppended (W.state writer) (W.state back) e)) }
-        ensures recorded { MatchResult result (λ w. WhereTells W.tells (IsWhole W.state w) →
+        ensures recorded { IfOk result (λ w. WhereTells W.tells (IsWhole W.state w) →
             Recorded W.Placed w.spec_ex (appended (W.state writer) w.data_start
-            (accepted_samples W.state w)) [] w) (λ _. ⊤) }
+            (accepted_samples W.state w)) [] w) }
     {
         WavWriter::try_append(writer).map_err(|(_, error)| error)
     }
@@ -94,9 +94,9 @@ impl<W: Source + Medium> WavWriter<W> {
         requires { WhereTells W.tells ((W.state writer).place ≡ 0) }
         ensures appends { MatchResult result (Appends W.Placed (W.state writer))
             (λ refused. WhereTells W.tells (IsNotAppended (W.state writer) (W.state refused.0) refused.1)) }
-        ensures recorded { MatchResult result (λ w. WhereTells W.tells (IsWhole W.state w) →
+        ensures recorded { IfOk result (λ w. WhereTells W.tells (IsWhole W.state w) →
             Recorded W.Placed w.spec_ex (appended (W.state writer) w.data_start
-            (accepted_samples W.state w)) [] w) (λ _. ⊤) }
+            (accepted_samples W.state w)) [] w) }
     {
         let (writer, head) = find_data(writer);
         match head {

@@ -73,7 +73,7 @@ fn begin<W: Medium>(writer: &mut W, spec_ex: WavSpecEx) -> Result<u64>
 }
 
 impl<W: Medium> WavWriter<W> {
-    ghost use Rattle.std.specs.Prelude.{◌≡◌, ◌+◌, ◌-◌, ◌/◌, ⊤, [], Ok, Err, Result, MatchResult};
+    ghost use Rattle.std.specs.Prelude.{◌≡◌, ◌+◌, ◌-◌, ◌/◌, ⊤, [], Ok, Err, Result, IfOk, MatchResult};
     ghost use Rattle.hound_spec.specs.declared.error.Error.{Error};
     ghost use Rattle.hound_spec.specs.{with_default_width};
     ghost use Rattle.hound_medium.specs.{WhereTells};
@@ -94,8 +94,8 @@ impl<W: Medium> WavWriter<W> {
         ensures begins { MatchResult result (Begins W.Placed (with_default_width spec)
             (W.state writer))
             (λ e. (back : W) × IsNotBegun W.Placed (with_default_width spec) writer back e) }
-        ensures recorded { MatchResult result
-            (Recorded W.Placed (with_default_width spec) (new_file (W.state writer)) []) (λ _. ⊤) }
+        ensures recorded { IfOk result
+            (Recorded W.Placed (with_default_width spec) (new_file (W.state writer)) []) }
     {
         WavWriter::new_with_spec_ex(writer, WavSpecEx::from(spec))
     }
@@ -106,8 +106,8 @@ impl<W: Medium> WavWriter<W> {
         requires { WhereTells W.tells ((W.state writer).place ≡ 0) }
         ensures begins { MatchResult result (Begins W.Placed spec_ex (W.state writer))
             (λ e. (back : W) × IsNotBegun W.Placed spec_ex writer back e) }
-        ensures recorded { MatchResult result
-            (Recorded W.Placed spec_ex (new_file (W.state writer)) []) (λ _. ⊤) }
+        ensures recorded { IfOk result
+            (Recorded W.Placed spec_ex (new_file (W.state writer)) []) }
     {
         let mut writer = writer;
         let data_start = begin(&mut writer, spec_ex)?;
@@ -127,8 +127,8 @@ impl<W: Medium> WavWriter<W> {
         requires { WhereTells W.tells ((W.state writer).place ≡ 0) }
         ensures begins { MatchResult result (Begins W.Placed spec_ex (W.state writer))
             (λ refused. IsNotBegun W.Placed spec_ex writer refused.0 refused.1) }
-        ensures recorded { MatchResult result
-            (Recorded W.Placed spec_ex (new_file (W.state writer)) []) (λ _. ⊤) }
+        ensures recorded { IfOk result
+            (Recorded W.Placed spec_ex (new_file (W.state writer)) []) }
     {
         let mut writer = writer;
         match begin(&mut writer, spec_ex) {

@@ -1,5 +1,6 @@
-//! What the programs share: chosen bytes, and a count of what is the same and what differs.
+//! What the programs share: chosen bytes, blocks of samples, and a count of what is the same and what differs.
 use std::collections::BTreeMap;
+use std::io::Read;
 
 /// Numbers that look random, by xorshift.
 #[derive(Clone)]
@@ -23,6 +24,34 @@ impl Chooser {
 
     pub fn one_of<T: Copy>(&mut self, some: &[T]) -> T {
         some[self.below(some.len() as u64) as usize]
+    }
+}
+
+/// A block of samples: as the package reads one, and by an iterator.
+pub trait Blocks {
+    type Error;
+    fn block<S: original::Sample + package::Sample>(&mut self, samples: &mut [S]) -> (usize, Result<(), Self::Error>);
+}
+
+impl<R: Read> Blocks for original::WavReader<R> {
+    type Error = original::Error;
+    fn block<S: original::Sample + package::Sample>(&mut self, samples: &mut [S]) -> (usize, Result<(), original::Error>) {
+        let wanted = samples.len();
+        for (count, slot) in samples.iter_mut().enumerate() {
+            match self.samples().next() {
+                Some(Ok(sample)) => *slot = sample,
+                Some(Err(error)) => return (count, Err(error)),
+                None => return (count, Ok(())),
+            }
+        }
+        (wanted, Ok(()))
+    }
+}
+
+impl<R: Read> Blocks for package::WavReader<R> {
+    type Error = package::Error;
+    fn block<S: original::Sample + package::Sample>(&mut self, samples: &mut [S]) -> (usize, Result<(), package::Error>) {
+        self.read_samples(samples)
     }
 }
 

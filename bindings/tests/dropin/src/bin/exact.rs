@@ -1,6 +1,6 @@
 //! Readers that give few bytes, fail, are interrupted or end, read by both crates: each call has the same answer and
 //! takes the same bytes.   exact COUNT
-use dropin::{both, Chooser, Tally};
+use dropin::{both, Blocks, Chooser, Tally};
 use std::cell::Cell;
 use std::io::{self, BufReader, Cursor, Read};
 use std::rc::Rc;
@@ -32,34 +32,6 @@ impl Read for Unsteady {
     }
 }
 
-/// A block of samples: as the package reads one, and by an iterator.
-trait Blocks {
-    type Error;
-    fn block<S: original::Sample + package::Sample>(&mut self, samples: &mut [S]) -> (usize, Result<(), Self::Error>);
-}
-
-impl<R: Read> Blocks for original::WavReader<R> {
-    type Error = original::Error;
-    fn block<S: original::Sample + package::Sample>(&mut self, samples: &mut [S]) -> (usize, Result<(), original::Error>) {
-        let wanted = samples.len();
-        for (count, slot) in samples.iter_mut().enumerate() {
-            match self.samples().next() {
-                Some(Ok(sample)) => *slot = sample,
-                Some(Err(error)) => return (count, Err(error)),
-                None => return (count, Ok(())),
-            }
-        }
-        (wanted, Ok(()))
-    }
-}
-
-impl<R: Read> Blocks for package::WavReader<R> {
-    type Error = package::Error;
-    fn block<S: original::Sample + package::Sample>(&mut self, samples: &mut [S]) -> (usize, Result<(), package::Error>) {
-        self.read_samples(samples)
-    }
-}
-
 const READERS: [&str; 9] = [
     "few bytes", "faults", "Cursor<Vec>", "&mut Cursor", "BufReader of few bytes", "BufReader of faults", "BufReader<File>", "open", "&mut &[u8]",
 ];
@@ -75,8 +47,8 @@ both! {
     fn call<R: Read, S: original::Sample + package::Sample + Copy + Default + ToString>(reader: &mut WavReader<R>, chooser: &mut Chooser) -> String {
         let some = chooser.below(9) as usize;
         if chooser.below(7) == 0 {
-            let mut block = [S::default(); 9];
-            let (count, result) = reader.block(&mut block[..some]);
+            let mut block = vec![S::default(); chooser.one_of(&[some, 15 + some, 5000])];
+            let (count, result) = reader.block(&mut block);
             return block[..count].iter().map(S::to_string).collect::<String>() + &result.map_or_else(|error| error.to_string(), |()| " ".into());
         }
         let mut samples = reader.samples::<S>();
@@ -143,7 +115,7 @@ both! {
 }
 
 fn file(chooser: &mut Chooser, is_long: bool) -> Vec<u8> {
-    let (bits, width, is_float) = chooser.one_of(&[(8u16, 1u16, 0u8), (16, 2, 0), (24, 3, 0), (24, 4, 0), (32, 4, 0), (32, 4, 1)]);
+    let (bits, width, is_float) = chooser.one_of(&[(8u16, 1u16, 0u8), (16, 2, 0), (24, 3, 0), (24, 4, 0), (32, 4, 0), (32, 4, 1), (12, 2, 0)]);
     let channels = 1 + chooser.below(2) as u16;
     let mut file = b"RIFF\0\0\0\0WAVEfmt \x28\0\0\0\xfe\xff".to_vec();
     file.extend(channels.to_le_bytes());

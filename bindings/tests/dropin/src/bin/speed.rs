@@ -1,6 +1,7 @@
-//! How long both crates take, in nanoseconds a sample: the least of some rounds in turn. Each case is compiled at two places
-//! in memory, since some processors take longer for a loop that has a jump at the end of 32 bytes.   speed ROUNDS
-use dropin::both;
+//! How long both crates take, in nanoseconds a sample: the least of some rounds in turn. Blocks are `read_samples`, and the
+//! original's iterator. Each case is compiled at two places in memory, since some processors take longer for a loop that has
+//! a jump at the end of 32 bytes.   speed ROUNDS
+use dropin::{both, Blocks};
 use std::arch::asm;
 use std::fs::File;
 use std::hint::black_box;
@@ -35,8 +36,12 @@ impl Read for Unknown {
     }
 }
 
+/// What is a sample of both.
+trait Sample: original::Sample + package::Sample {}
+impl<S: original::Sample + package::Sample> Sample for S {}
+
 both! {
-    use hound::{Sample, SampleFormat, WavReader, WavSpec, WavWriter};
+    use hound::{SampleFormat, WavReader, WavSpec, WavWriter};
 
     type Cases = Vec<(String, f64)>;
 
@@ -61,7 +66,15 @@ both! {
         black_box(reader.samples::<S>().map(|sample| sample.unwrap().into()).sum::<f64>());
     }
 
-    fn cases_of<S: Sample + Into<f64> + Copy, const SKIP: usize>(cases: &mut Cases, name: &str, spec: WavSpec, path: &str, make: impl Fn(usize) -> S) {
+    #[inline(always)]
+    fn blocks<R: Read, S: Sample>(mut reader: WavReader<R>, mut block: impl AsMut<[S]>)
+    where
+        WavReader<R>: Blocks,
+    {
+        while black_box(&mut reader).block(black_box(block.as_mut())).0 > 0 {}
+    }
+
+    fn cases_of<S: Sample + Into<f64> + Copy + Default, const SKIP: usize>(cases: &mut Cases, name: &str, spec: WavSpec, path: &str, make: impl Fn(usize) -> S) {
         time::<SKIP>(cases, format!("{name} write_sample, create"), || {
             let mut writer = WavWriter::create(path, spec).unwrap();
             (0..COUNT).for_each(|i| writer.write_sample(black_box(make(i))).unwrap());
@@ -83,6 +96,12 @@ both! {
         time::<SKIP>(cases, format!("{name} fold, BufReader<File>"), || sum::<_, S>(WavReader::new(BufReader::new(open())).unwrap()));
         time::<SKIP>(cases, format!("{name} fold, BufReader<unknown>"), || sum::<_, S>(WavReader::new(BufReader::new(Unknown(open()))).unwrap()));
         time::<SKIP>(cases, format!("{name} fold, open"), || sum::<_, S>(WavReader::open(path).unwrap()));
+        let block = [S::default(); 4096];
+        time::<SKIP>(cases, format!("{name} blocks of 4096, Cursor<&Vec>"), || blocks(WavReader::new(Cursor::new(&file)).unwrap(), block));
+        time::<SKIP>(cases, format!("{name} blocks of 4096, BufReader<File>"), || blocks(WavReader::new(BufReader::new(open())).unwrap(), block));
+        time::<SKIP>(cases, format!("{name} blocks of 4096, open"), || blocks(WavReader::open(path).unwrap(), block));
+        time::<SKIP>(cases, format!("{name} blocks of 64, open"), || blocks(WavReader::open(path).unwrap(), [S::default(); 64]));
+        time::<SKIP>(cases, format!("{name} blocks of 2, open"), || blocks(WavReader::open(path).unwrap(), [S::default(); 2]));
         time::<SKIP>(cases, format!("{name} collect, open"), || {
             black_box(WavReader::open(path).unwrap().into_samples::<S>().map(|sample| sample.unwrap()).collect::<Vec<_>>());
         });

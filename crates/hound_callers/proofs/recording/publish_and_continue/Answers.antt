@@ -2,14 +2,6 @@ use Rattle.std.proofs.Common.{List, [], ◌∷◌, ◌++◌, true, refl, subst, 
 use Rattle.hound.specs.{Ghosts, Begun, Known, Left, Recorded, WavSpecEx, WriterState, containers_in, made, marked, publish, seen, write}
 use Rattle.hound_callers.proofs.recording.publish_and_continue.Goals as goal
 
--- what calls led to so far is what they left there
-left_so_far : {W : Type 0} (kind : Ghosts W) (s : WavSpecEx) (file : Begun)
-    (known : List Known) (w : WriterState W) → Recorded kind s file known w
-    → Left kind s file known w.medium
-unfolding Recorded Left
-left_so_far kind s file known w recorded =
-    record { last = w; recorded = recorded; is = refl }
-
 pub returns-clause-lasts : goal.returns-clause-lasts
 returns-clause-lasts g c told s file before recorded =
     let M = g.M.Placed in
@@ -21,7 +13,7 @@ returns-clause-lasts g c told s file before recorded =
     (append_assoc (seen before) (marked publish true ∷ []) (call ∷ []))
     (c.write_samples.ensures.recorded s file _ (c.in_ok-flush.ensures.marked s file _ recorded)) in
     let holds = c.what_is_kept.ensures.at_end told s file known w.medium
-    (left_so_far M s file known w all) in
+    (c.what_is_kept.ensures.so_far s file known w all) in
     c.what_is_known.ensures.lasts s file before (call ∷ []) holds.left.recorded.calls (M.state w.medium)
     holds.at_end holds.left.recorded.are_known ((λ same. cc), tt)
 

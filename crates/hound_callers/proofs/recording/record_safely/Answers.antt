@@ -4,6 +4,11 @@ use Rattle.std.proofs.lemmas.Result.{MatchResult-weaker}
 use Rattle.hound.specs.{MediumState, SurvivesLoss, accepted_by_all}
 use Rattle.hound_callers.proofs.recording.record_safely.Goals as goal
 
+pub returns-clause-published : goal.returns-clause-published
+returns-clause-published g c =
+    MatchResult-weaker c.record_checkpoints.result c.record_checkpoints.ensures
+    (λ done (within, here). here) (λ refused not. tt)
+
 pub returns-clause-safe : goal.returns-clause-safe
 returns-clause-safe g c =
     let s = c.args.spec_ex in
