@@ -4,7 +4,7 @@ use std::{env, fs, process};
 fn main() {
     let variable = |name| env::var(name).unwrap();
     let carried = PathBuf::from(variable("CARGO_MANIFEST_DIR")).join(format!(
-        "lib/{}-{}",
+        "../lib/{}-{}",
         variable("CARGO_CFG_TARGET_ARCH"),
         variable("CARGO_CFG_TARGET_OS")
     ));
