@@ -24,7 +24,8 @@ pub struct Repair {
 /// The file is read into memory. It is synced as it was found; then the data length, the pad byte and the RIFF
 /// size are written in this order, each with a sync. So after a kill or an error, also an `IoError` between these
 /// steps, the header counts only samples that are there, and a second call finishes the repair: the pad byte follows
-/// data that are already counted, and a wrong RIFF size marks the file as unrepaired.
+/// data that are already counted, and a wrong RIFF size marks the file as unrepaired. Where that size was right before,
+/// the second call takes a file without its pad byte for whole; its samples are all there.
 pub fn repair_file<P: AsRef<path::Path>>(filename: P) -> Result<Repair> {
     repair_by(proved::repair, filename.as_ref())
 }
