@@ -6,7 +6,7 @@ ghost use Rattle.hound_walk.specs.{Head, IsSoundSpec};
 ghost use Rattle.hound_spec.specs.declared.error.Error.{Error};
 ghost use Rattle.hound_spec.specs.declared.spec.WavSpecEx.{WavSpecEx};
 ghost use Rattle.hound_writer.specs.{IsIoError, IsStored};
-ghost use Rattle.hound_repair.specs.Held.{frame_length, held};
+ghost use Rattle.hound_repair.specs.Held.{frame_length, held, shown_length};
 ghost use Rattle.hound_repair.specs.Repairing.{HalfMended, IsFoundAt, IsNoPad, IsNotRepaired, ReadsFrames, Repairs, found_length, repair_fault};
 ghost use Rattle.hound_repair.specs.declared.sizes.Repair.{Repair};
 ghost use Rattle.hound_repair.specs.declared.sizes.RepairState.TheVariants.{HasChunksAfterData, Whole};
@@ -17,18 +17,18 @@ ghost use Rattle.hound_repair.specs.declared.sizes.RepairState.TheVariants.{HasC
 /// Where this head has samples that are written and sizes that fit, the only error is `IoError`.
 ///
 /// Where a frame has one byte (8 bits, mono) and the odd data length is one less than what is held,
-/// the last byte is taken for a pad byte. Where chunks follow the data, `repair` writes nothing.
+/// a last byte of 0 is taken for a pad byte. Where chunks follow the data, `repair` writes nothing.
 pub fn a_repair_keeps_stored_samples()
     ensures read { (looks : Bool) (old new : MediumState) (found : Repair) (s : WavSpecEx)
         (len start : ℕ) (list : List (List ℕ)) → Repairs looks old found new
         → (IsTrue looks → found.state ≡ HasChunksAfterData → ⊥) → Head old.contents s len start → IsSoundSpec s
         → AllByRecursion (λ c. length c ≡ s.bytes_per_sample) list
         → IsStored start (concat list) 0 (length (concat list)) old.contents
-        → IsNoPad s len (held start old.contents) list →
+        → IsNoPad s (shown_length start len old.contents) (held start old.contents) list →
         (found.spec_ex ≡ s) × ReadsFrames found start list new.contents }
     ensures error { (looks : Bool) (old new : MediumState) (e : Error) (s : WavSpecEx)
         (len start : ℕ) → Head old.contents s len start
-        → repair_fault s len start (held start old.contents) ≡ None
+        → repair_fault s (shown_length start len old.contents) start (held start old.contents) ≡ None
         → IsNotRepaired looks old new e → IsIoError e }
 {}
 
