@@ -26,7 +26,7 @@ unfolding data_held ends_with_pad
 held_cases f len n = grind (arith, common_steps)
 
 -- a byte that isn't counted is a single one
-uncounted_cases : (bytes : List ℕ) → (uncounted bytes ≡ 0) ⊎ ((uncounted bytes ≡ 1) × (length bytes ≡ 1))
+pub uncounted_cases : (bytes : List ℕ) → (uncounted bytes ≡ 0) ⊎ ((uncounted bytes ≡ 1) × (length bytes ≡ 1))
 unfolding uncounted
 uncounted_cases bytes = grind (arith, common_steps)
 

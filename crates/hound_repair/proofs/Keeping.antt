@@ -1,6 +1,6 @@
 -- What is stored is read again once a file is repaired.
 use Rattle.std.proofs.lemmas.Grind.{common_steps}
-use Rattle.std.proofs.Common.{None, ◌≡◌, ◌⊎◌, ℕ, zero, suc, ◌+◌, ◌*◌, ◌/◌, ◌≤◌, Bool, IsTrue, List, ◌∷◌, length, take, drop, inl, inr, refl, sym, ap, ◌∙◌, subst, arith, length-take}
+use Rattle.std.proofs.Common.{None, ◌≡◌, ◌⊎◌, ℕ, zero, suc, ◌+◌, ◌*◌, ◌/◌, ◌≤◌, Bool, IsTrue, List, ◌∷◌, length, take, drop, inl, inr, refl, sym, ap, ◌∙◌, subst, arith, length-drop, length-take}
 use Rattle.std.specs.List.{concat, AllByRecursion}
 use Rattle.std.proofs.lemmas.List.{take-take, take-append-le, drop-append-le, length-take-le}
 use Rattle.std.proofs.lemmas.Nat.{mul-le}
@@ -20,6 +20,7 @@ use Rattle.hound_repair.specs.Repairing.{IsNoPad, IsNotRepaired, IsRepairFault, 
 use Rattle.hound_repair.specs.declared.sizes.Repair.{Repair}
 use Rattle.hound_repair.specs.declared.sizes.RepairState.{RepairState}
 use Rattle.hound_repair.specs.declared.sizes.RepairState.TheVariants.{HasChunksAfterData}
+use Rattle.hound_repair.proofs.Again.{uncounted_cases}
 use Rattle.hound_repair.proofs.Joining.{AreWide, concat_front, wide_take}
 use Rattle.hound_repair.proofs.RightSizes.{held_frames, not_followed, same_sizes, sizes_of}
 
@@ -37,6 +38,12 @@ pub frames_kept : (f len n q : ℕ) → 1 ≤ f → q * f ≤ n → (f ≡ 1 →
     → q ≤ data_held f len n / f
 unfolding data_held ends_with_pad
 frames_kept f len n q some few no_pad = grind (arith, common_steps)
+
+-- nor is one of them taken for a pad byte by the data length that is shown
+pub no_pad_shown : (s : WavSpecEx) (len start : ℕ) (c : List ℕ) (list : List (List ℕ))
+    → IsNoPad s len (held start c) list
+    → IsNoPad s (shown_length start len c) (held start c) list
+no_pad_shown s len start c list none = grind (arith, common_steps, uncounted_cases, length-drop)
 
 -- the data stay
 data_stay : (state : RepairState) (found : Repair) (start m : ℕ) (old new : MediumState)

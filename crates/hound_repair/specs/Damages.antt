@@ -1,7 +1,7 @@
 -- What the private parts of a repair find and do, and what a repair of a file in memory leaves.
 use Rattle.std.specs.Prelude.{◌≡◌, ℕ, ◌≤◌, ◌^◌, ◌⊎◌, Bool, IsTrue, false, [], ◌∷◌, ◌++◌, length, take, Some, Result, OnOk, MatchResult, true, List, drop, Option, None}
 use Rattle.hound_spec.specs.declared.error.Error.{Error}
-use Rattle.hound_spec.specs.{riff_size}
+use Rattle.hound_spec.specs.{IsPair, riff_size}
 use Rattle.hound_medium.specs.{placed, overlay, MediumState, faults_after, one_more, unknown}
 use Rattle.hound_walk.specs.declared.chunks.FileHead.{FileHead}
 use Rattle.hound_walk.specs.{IsDataPlace, IsSoundSpec}
@@ -55,14 +55,17 @@ pub record FindsDamage (looks : Bool) (old : MediumState) (d : Damage) (new : Me
     pub puts : PutsNothing old new
     pub faults : new.faults ≡ old.faults
 
--- a head that isn't gone by, for a check that it fails, or since the medium failed
+-- A head that isn't gone by, for a check that it fails, or since the medium failed, which is called only
+-- if the samples are written.
 pub record IsNotMeasured (head : FileHead) (old new : MediumState) (e : Error) : Type 0 where
   pub puts : PutsNothing old new
   pub why : ((fault : AppendFault)
       × (repair_fault head.spec_ex (shown_length head.data_start head.data_length old.contents)
       head.data_start (held head.data_start old.contents) ≡ Some fault) × NamesFault e fault
       × (new.faults ≡ old.faults))
-      ⊎ (IsIoError e × (new.faults ≡ one_more old.faults))
+      ⊎ (IsIoError e × (new.faults ≡ one_more old.faults)
+      × IsPair head.spec_ex.spec.sample_format head.spec_ex.spec.bits_per_sample
+      head.spec_ex.bytes_per_sample)
 
 -- A pad byte was written at the end, or a fault came before it or after it.
 pub record PutsPad {T E : Type 0} (keeps : Bool) (end : ℕ) (result : Result T E)

@@ -28,12 +28,15 @@ repair_fault s len start n =
     then Some (by_bytes Unsupported)
     else size_fault s len start n
 
+-- the bytes have a head, whose first check that fails has this fault
+abbrev pub HasUnfitHead : List ℕ → AppendFault → Type 0
+HasUnfitHead bytes fault = (s : WavSpecEx) × (len : ℕ) × (start : ℕ) × Head bytes s len start
+    × (repair_fault s (shown_length start len bytes) start (held start bytes) ≡ Some fault)
+
 -- the bytes have this fault: they have no head for this cause, or their head fails a check
 abbrev pub IsRepairFault : List ℕ → AppendFault → Type 0
 IsRepairFault bytes fault =
-    ((cause : Cause) × (fault ≡ by_bytes cause) × Refused bytes cause)
-    ⊎ ((s : WavSpecEx) × (len : ℕ) × (start : ℕ) × Head bytes s len start
-    × (repair_fault s (shown_length start len bytes) start (held start bytes) ≡ Some fault))
+    ((cause : Cause) × (fault ≡ by_bytes cause) × Refused bytes cause) ⊎ HasUnfitHead bytes fault
 
 -- how a file is found, by whether both sizes are right and whether chunks follow the data
 abbrev pub state_of : Bool → Bool → RepairState

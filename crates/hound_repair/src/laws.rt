@@ -7,7 +7,7 @@ ghost use Rattle.hound_spec.specs.declared.error.Error.{Error};
 ghost use Rattle.hound_spec.specs.declared.spec.WavSpecEx.{WavSpecEx};
 ghost use Rattle.hound_writer.specs.{IsIoError, IsStored};
 ghost use Rattle.hound_repair.specs.Held.{frame_length, held, shown_length};
-ghost use Rattle.hound_repair.specs.Repairing.{HalfMended, IsFoundAt, IsNoPad, IsNotRepaired, ReadsFrames, Repairs, found_length, repair_fault};
+ghost use Rattle.hound_repair.specs.Repairing.{Finds, HalfMended, IsFoundAt, IsNoPad, IsNotRepaired, ReadsFrames, Repairs, found_length, repair_fault};
 ghost use Rattle.hound_repair.specs.declared.sizes.Repair.{Repair};
 ghost use Rattle.hound_repair.specs.declared.sizes.RepairState.TheVariants.{HasChunksAfterData, Whole};
 
@@ -42,6 +42,17 @@ pub fn a_second_repair_writes_nothing()
         → Repairs again next other new →
         (other.state ≡ Whole) × (other.spec_ex ≡ found.spec_ex) × (other.frames ≡ found.frames)
         × (new.contents ≡ next.contents) }
+{}
+
+/// A look reports what a repair of the same bytes would (`found`), and once it has found something, a repair
+/// fails only where its medium does (`error`).
+pub fn a_look_finds_what_a_repair_does()
+    ensures found { (looks : Bool) (old seen next new : MediumState) (found other : Repair)
+        → Finds looks old found seen → next.contents ≡ old.contents → Repairs looks next other new →
+        other ≡ found }
+    ensures error { (looks : Bool) (old seen next new : MediumState) (found : Repair) (e : Error)
+        → Finds looks old found seen → next.contents ≡ old.contents → IsNotRepaired looks next new e →
+        IsIoError e }
 {}
 
 /// A repair that was cut off can be done again: an Ok repair of a file that is half mended finds the

@@ -1,10 +1,10 @@
 // What a file holds, looked at without writing.
-ghost use Rattle.std.specs.Prelude.{◌≡◌, ◌+◌, ◌<◌, ◌≤◌, ◌^◌, ◌↔◌, ◌&&◌, ◌==◌, true, false, IsTrue, None, Some, Ok, length, take, drop, min, nat_le, nat_lt, ◌∷◌, [], IfOk, IfSome, OnOk, MatchResult, if◌then◌else◌};
+ghost use Rattle.std.specs.Prelude.{◌≡◌, ◌+◌, ◌<◌, ◌≤◌, ◌^◌, ◌↔◌, ◌&&◌, ◌==◌, true, false, IsTrue, None, Some, Ok, length, take, drop, min, nat_le, nat_lt, ◌∷◌, [], IfErr, IfOk, IfSome, OnOk, MatchResult, if◌then◌else◌};
 ghost use Rattle.hound_number.specs.{number};
 ghost use Rattle.hound_spec.specs.{padded, is_pair};
 ghost use Rattle.hound_medium.specs.{WhereTells};
 ghost use Rattle.hound_walk.specs.{Head, IsDataPlace, IsSoundSpec};
-ghost use Rattle.hound_writer.specs.{field};
+ghost use Rattle.hound_writer.specs.{IsMediumError, field};
 ghost use Rattle.hound_repair.specs.Damages.{may_be_chunks, FindsDamage, IsNotMeasured, IsSoundDamage, repair_of};
 ghost use Rattle.hound_repair.specs.Held.{are_chunks, begins_chunk, chunk_content, ends_with_id3, has_known_tag, has_tag, is_followed, is_printable, said_length, are_right, held, missing_pad, shown_length};
 ghost use Rattle.hound_repair.specs.Repairing.{Finds, IsNotFound, Looks, state_of};
@@ -208,6 +208,7 @@ pub(crate) fn measure<R: ReadAt>(source: &mut R, head: FileHead, rest: Rest) -> 
     requires head { WhereTells R.tells
         (Head (R.state source.old).contents head.spec_ex head.data_length head.data_start) }
     ensures sound { IfOk result IsSoundDamage }
+    ensures told { IfErr result IsMediumError }
     ensures finds { WhereTells R.tells (MatchResult result
         (λ damage. FindsDamage (may_be_chunks rest) (R.state source.old) damage (R.state source.new))
         (λ error. IsNotMeasured head (R.state source.old) (R.state source.new) error)) }
@@ -237,6 +238,7 @@ pub(crate) fn measure<R: ReadAt>(source: &mut R, head: FileHead, rest: Rest) -> 
 pub(crate) fn look<S: Source>(source: S, rest: Rest) -> result::Result<(S, Damage), (S, Error)>
     requires { WhereTells S.tells ((S.state source).place ≡ 0) }
     ensures sound { IfOk result (λ found. IsSoundDamage found.1) }
+    ensures told { IfErr result (λ refused. IsMediumError refused.1) }
     ensures finds { WhereTells S.tells (MatchResult result
         (λ found. FindsDamage (may_be_chunks rest) (S.state source) found.1 (S.state found.0))
         (λ refused. IsNotFound (S.state source) (S.state refused.0) refused.1)) }
@@ -294,6 +296,7 @@ impl Damage {
 pub fn find_damage<S: Source>(medium: S) -> result::Result<(S, Repair), (S, Error)>
     requires { WhereTells S.tells ((S.state medium).place ≡ 0) }
     ensures sound { IfOk result (λ found. IsSoundSpec found.1.spec_ex) }
+    ensures told { IfErr result (λ refused. IsMediumError refused.1) }
     ensures found { WhereTells S.tells (MatchResult result
         (λ found. Finds true (S.state medium) found.1 (S.state found.0))
         (λ refused. IsNotFound (S.state medium) (S.state refused.0) refused.1)) }
