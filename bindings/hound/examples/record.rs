@@ -4,6 +4,7 @@
 //! after all that it holds; without it an existing file is emptied. With `durable` the checkpoints survive a loss of power.
 //!
 //!     arecord -t raw -f S16_LE -r 44100 | record FILE SAMPLES [append] [durable]
+use hound::blocks::WriteSamples;
 use hound::{RepairState, SampleFormat, WavSpec, WavWriter};
 use std::io::{self, Read};
 use std::{env, process};

@@ -74,7 +74,9 @@
 
 extern crate hound_bindings as proved;
 
+pub mod blocks;
 mod error;
+mod medium;
 mod reader;
 mod repair;
 mod sample;

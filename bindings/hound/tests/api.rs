@@ -1,9 +1,12 @@
 //! Each public item, as programs of hound use it.
+use hound::blocks::{ReadSamples, WriteSamples};
 use hound::{Error, Result, Sample, SampleFormat, WavReader, WavSpec, WavSpecEx, WavWriter};
+use std::cell::{RefCell, RefMut};
 use std::io::{self, Cursor, Read, Seek, SeekFrom, Write};
 use std::panic::{catch_unwind, AssertUnwindSafe};
 use std::path::PathBuf;
-use std::{env, fs, process};
+use std::rc::Rc;
+use std::{env, fs, mem, process};
 
 const MONO: WavSpec = WavSpec { channels: 1, sample_rate: 44100, bits_per_sample: 16, sample_format: SampleFormat::Int };
 const FLOATS: WavSpec = WavSpec { bits_per_sample: 32, sample_format: SampleFormat::Float, ..MONO };
@@ -26,6 +29,68 @@ impl AsRef<std::path::Path> for Path {
 impl Drop for Path {
     fn drop(&mut self) {
         let _ = fs::remove_file(&self.0);
+    }
+}
+
+/// A medium in memory that others see, too. One of its calls fails, or panics, and it may be full.
+#[derive(Clone, Default)]
+struct Disk(Rc<RefCell<DiskState>>);
+
+#[derive(Default)]
+struct DiskState {
+    file: Cursor<Vec<u8>>,
+    room: Option<usize>,
+    calls: u32,
+    fails: u32,
+    panics: bool,
+}
+
+impl Disk {
+    fn call(&self) -> io::Result<RefMut<'_, DiskState>> {
+        let mut state = self.0.borrow_mut();
+        state.calls += 1;
+        if state.calls != state.fails {
+            return Ok(state);
+        }
+        let panics = state.panics;
+        drop(state);
+        assert!(!panics, "the medium panics");
+        Err(io::Error::new(io::ErrorKind::Other, "the medium fails"))
+    }
+
+    fn contents(&self) -> Vec<u8> {
+        self.0.borrow().file.get_ref().clone()
+    }
+
+    /// What a reader finds.
+    fn samples(&self) -> Vec<i16> {
+        WavReader::new(Cursor::new(self.contents())).unwrap().into_samples().collect::<Result<_>>().unwrap()
+    }
+}
+
+impl Read for Disk {
+    fn read(&mut self, bytes: &mut [u8]) -> io::Result<usize> {
+        self.call()?.file.read(bytes)
+    }
+}
+
+impl Write for Disk {
+    fn write(&mut self, bytes: &[u8]) -> io::Result<usize> {
+        let mut state = self.call()?;
+        let room = state.room.map_or(bytes.len(), |room| room.saturating_sub(state.file.position() as usize));
+        match room.min(bytes.len()) {
+            0 => Err(io::Error::new(io::ErrorKind::Other, "the medium is full")),
+            count => state.file.write(&bytes[..count]),
+        }
+    }
+    fn flush(&mut self) -> io::Result<()> {
+        self.call().map(drop)
+    }
+}
+
+impl Seek for Disk {
+    fn seek(&mut self, to: SeekFrom) -> io::Result<u64> {
+        self.call()?.file.seek(to)
     }
 }
 
@@ -106,11 +171,12 @@ fn a_sample_of_the_other_format_is_taken_by_its_bits_or_unsupported() {
 #[test]
 fn a_new_file_has_its_header_at_once() {
     let path = Path::new("header");
-    std::mem::forget(WavWriter::create(&path, MONO).unwrap());
+    mem::forget(WavWriter::create(&path, MONO).unwrap());
     assert_eq!(fs::read(&path).unwrap(), written::<i16>(MONO, &[]));
     fs::write(&path, "longer than a header, which is emptied before the new one is written").unwrap();
-    std::mem::forget(WavWriter::create_durable(&path, FLOATS).unwrap());
+    let writer = WavWriter::create_durable(&path, FLOATS).unwrap();
     assert_eq!(fs::read(&path).unwrap(), written::<f32>(FLOATS, &[]));
+    drop(writer);
     assert_eq!(hound::repair_file(&path).unwrap().state, hound::RepairState::Whole);
 }
 
@@ -179,15 +245,177 @@ fn a_file_is_appended_to_after_batches_and_flushes() {
     assert!(catch_unwind(|| WavWriter::new(Cursor::new(Vec::new()), FLOATS).unwrap().get_i16_writer(1).flush()).is_err());
 }
 
+/// Writes so many samples, from a number on: one by one, as a block, a batch, or those of a user's own type.
+fn write_by<W: Write + Seek>(way: usize, writer: &mut WavWriter<W>, first: usize, count: usize) -> Result<()> {
+    let samples: Vec<i16> = numbers(first + count)[first..].to_vec();
+    match way {
+        0 => samples.iter().try_for_each(|&sample| writer.write_sample(sample)),
+        1 => writer.write_samples(&samples),
+        2 => writer.write_samples(&samples.iter().map(|sample| Inverse(!sample)).collect::<Vec<_>>()),
+        3 => samples.iter().try_for_each(|&sample| writer.write_sample(Inverse(!sample))),
+        _ => {
+            let mut batch = writer.get_i16_writer(count as u32);
+            samples.iter().for_each(|&sample| batch.write_sample(sample));
+            batch.flush()
+        }
+    }
+}
+const WAYS: usize = 5;
+
+/// Samples that count up.
+fn numbers(count: usize) -> Vec<i16> {
+    (0..count).map(|number| number as i16).collect()
+}
+
 #[test]
-fn a_frame_that_is_not_finished_is_stored_and_reported() {
-    let mut file = Cursor::new(Vec::new());
-    let mut writer = WavWriter::new(&mut file, WavSpec { channels: 2, ..MONO }).unwrap();
-    writer.write_samples(&[1i16, 2, 3]).unwrap();
-    assert!(matches!(writer.flush(), Err(Error::UnfinishedSample)));
-    writer.write_sample(4i16).unwrap();
-    writer.finalize().unwrap();
-    assert_eq!(file.get_ref()[40..], [8, 0, 0, 0, 1, 0, 2, 0, 3, 0, 4, 0]);
+fn a_frame_that_is_not_finished_waits_and_is_reported() {
+    for (way, frame) in (0..WAYS).flat_map(|way| [2, 3, 5, 6, 5000, 16383].map(|frame| (way, frame))) {
+        let disk = Disk::default();
+        let spec = WavSpec { channels: frame as u16, sample_rate: 8000, ..MONO };
+        let mut writer = WavWriter::new(disk.clone(), spec).unwrap();
+        write_by(way, &mut writer, 0, frame + 1).unwrap();
+        assert!(matches!(writer.flush(), Err(Error::UnfinishedSample)));
+        assert!((disk.samples(), writer.len() as usize, writer.duration()) == (numbers(frame), frame + 1, 1));
+        write_by(way, &mut writer, frame + 1, 2 * frame - 2).unwrap();
+        assert!(matches!(writer.flush(), Err(Error::UnfinishedSample)));
+        assert!((disk.samples(), writer.len() as usize, writer.duration()) == (numbers(2 * frame), 3 * frame - 1, 2));
+        write_by((way + 1) % WAYS, &mut writer, 3 * frame - 1, 1).unwrap();
+        writer.flush().unwrap();
+        write_by(way, &mut writer, 0, frame - 1).unwrap();
+        assert!(matches!(writer.finalize(), Err(Error::UnfinishedSample)));
+        assert!(disk.samples() == numbers(3 * frame));
+    }
+}
+
+#[test]
+fn a_writer_that_is_dropped_within_a_frame_leaves_the_frames_before_it() {
+    let path = Path::new("torn");
+    for bits in [8, 16, 24] {
+        let broken = || {
+            let mut writer = WavWriter::create_durable(&path, WavSpec { channels: 2, bits_per_sample: bits, ..MONO }).unwrap();
+            (0..9000).for_each(|i| writer.write_sample(i % 100).unwrap());
+            writer.flush().unwrap();
+            (0..301).for_each(|i| writer.write_sample(i % 100).unwrap());
+            panic!("a mistake of the program");
+        };
+        assert!(catch_unwind(AssertUnwindSafe(broken)).is_err());
+        let found = WavReader::open(&path).unwrap().into_samples::<i32>().map(|sample| sample.unwrap());
+        assert!(found.eq((0..9000).chain(0..300).map(|i| i % 100)));
+    }
+}
+
+#[test]
+fn the_checkpoint_that_a_fault_forces_holds_whole_frames() {
+    for (channels, bits) in [1, 2, 3, 5, 6].into_iter().flat_map(|channels| [8, 16].map(|bits| (channels, bits))) {
+        let disk = Disk::default();
+        let mut writer = WavWriter::new(disk.clone(), WavSpec { channels, bits_per_sample: bits, ..MONO }).unwrap();
+        let write = |writer: &mut WavWriter<Disk>, first: i32, last: i32| (first..last).take_while(|i| writer.write_sample(i % 100).is_ok()).count();
+        assert_eq!((write(&mut writer, 0, 6000), writer.flush().is_ok()), (6000, true));
+        let length = disk.contents().len();
+        disk.0.borrow_mut().room = Some(length + 4097 * usize::from(bits / 8));
+        let accepted = 6000 + write(&mut writer, 6000, 18000);
+        assert!(accepted < 18000);
+        // This writes the sizes first, and then, without success, samples.
+        assert!(writer.write_sample(1).is_err());
+        let right = |count: usize| (0..count).map(|i| i as i16 % 100).collect::<Vec<_>>();
+        let (held, frame) = (4097, usize::from(channels));
+        let stored = held - held % frame;
+        let has_room_for_pad_byte = bits == 16 || stored % 2 == 0;
+        assert!(disk.samples() == right(6000 + stored - if has_room_for_pad_byte { 0 } else { frame }));
+        disk.0.borrow_mut().room = None;
+        assert_eq!(accepted + write(&mut writer, accepted as i32, 18000), 18000);
+        writer.finalize().unwrap();
+        assert!(disk.samples() == right(18000));
+    }
+}
+
+#[test]
+fn what_a_full_medium_holds_is_counted() {
+    let sizes = [0, 1, 100, 4095, 4096, 4097, 9000];
+    for (channels, held) in [1, 2, 6].into_iter().flat_map(|channels| sizes.map(|held| (channels, held))) {
+        for end in ["finalize", "flush", "drop"] {
+            let disk = Disk::default();
+            let mut writer = WavWriter::new(disk.clone(), WavSpec { channels, ..MONO }).unwrap();
+            let length = disk.contents().len();
+            disk.0.borrow_mut().room = Some(length + 2 * held + 1);
+            assert!((0..12000).take_while(|&i| writer.write_sample(i as i16).is_ok()).count() >= held);
+            match end {
+                "finalize" => assert!(writer.finalize().is_err()),
+                "flush" => assert!(writer.flush().is_err()),
+                _ => drop(writer),
+            }
+            assert!(disk.samples() == numbers(held - held % usize::from(channels)));
+        }
+    }
+}
+
+/// Each call of the medium fails, or panics, in turn, and some samples are written by each way: what a writer accepted
+/// is there after that, in whole frames.
+fn try_each_call(panics: bool) {
+    for (way, channels) in (0..WAYS).flat_map(|way| [1, 2, 3].map(|channels| (way, channels))) {
+        let counts = if way == 3 { [1, 20, 7, 21] } else { [1, 5000, 7, 4501] };
+        for fails in 2.. {
+            let (disk, mut accepted) = (Disk::default(), 0);
+            let run = AssertUnwindSafe(|| {
+                let mut writer = WavWriter::new(disk.clone(), WavSpec { channels, ..MONO }).unwrap();
+                (disk.0.borrow_mut().fails, disk.0.borrow_mut().panics) = (fails, panics);
+                for count in counts {
+                    let result = write_by(way, &mut writer, accepted, count);
+                    accepted = writer.len() as usize;
+                    if result.is_err() {
+                        break;
+                    }
+                    let _ = writer.flush();
+                }
+                let _ = writer.finalize();
+            });
+            let has_panicked = catch_unwind(run).is_err();
+            let is_met = disk.0.borrow().calls >= fails;
+            assert_eq!(has_panicked, is_met && panics);
+            // What a call accepted before it panicked may be there, too.
+            let whole = if panics { disk.samples().len() } else { accepted } / usize::from(channels) * usize::from(channels);
+            assert!(disk.samples() == numbers(whole), "call {fails}, way {way}");
+            assert!(whole + usize::from(channels) > accepted);
+            if !is_met {
+                break;
+            }
+        }
+    }
+}
+
+#[test]
+fn a_call_that_fails_once_loses_nothing_that_was_accepted() {
+    try_each_call(false);
+}
+
+#[test]
+fn a_medium_that_panics_once_ends_no_program_and_loses_nothing_that_was_accepted() {
+    try_each_call(true);
+}
+
+#[test]
+fn a_medium_that_panics_always_ends_no_program() {
+    struct Locked;
+    impl Write for Locked {
+        fn write(&mut self, bytes: &[u8]) -> io::Result<usize> {
+            assert!(bytes.len() == 44, "a medium that is used by others");
+            Ok(44)
+        }
+        fn flush(&mut self) -> io::Result<()> {
+            panic!("a medium that is used by others")
+        }
+    }
+    impl Seek for Locked {
+        fn seek(&mut self, _: SeekFrom) -> io::Result<u64> {
+            panic!("a medium that is used by others")
+        }
+    }
+    for way in 0..WAYS {
+        let run = || write_by(way, &mut WavWriter::new(Locked, MONO).unwrap(), 0, 5000);
+        assert!(catch_unwind(run).is_err());
+    }
+    assert!(catch_unwind(|| WavWriter::new(Locked, MONO).unwrap().finalize()).is_err());
+    drop(WavWriter::new(Locked, MONO).unwrap());
 }
 
 /// A type of a user's own: integers of 16 bits, upside down.
@@ -331,8 +559,8 @@ fn a_file_that_was_cut_off_is_repaired() {
     writer.write_samples(&[1i8, 2, 3]).unwrap();
     writer.flush().unwrap();
     writer.write_samples(&[4i8, 5]).unwrap();
-    std::mem::forget(writer);
-    let mut file = fs::read(&path).unwrap();
+    let mut file = fs::read(&path).unwrap(); // as after a kill
+    drop(writer);
     file.truncate(47);
     file[4..8].fill(0);
     fs::write(&path, &file).unwrap();
@@ -400,7 +628,7 @@ impl Read for Long {
 impl Write for Long {
     fn write(&mut self, bytes: &[u8]) -> io::Result<usize> {
         self.header.set_position(self.place);
-        if self.place < 44 {
+        if self.place < self.header.get_ref().len() as u64 {
             self.header.write_all(bytes)?;
         }
         self.place += bytes.len() as u64;
@@ -413,8 +641,10 @@ impl Write for Long {
 
 impl Seek for Long {
     fn seek(&mut self, to: SeekFrom) -> io::Result<u64> {
-        let by = if let SeekFrom::Start(place) = to { place as i64 - self.place as i64 } else { unreachable!() };
-        self.place = self.place.wrapping_add(by as u64);
+        self.place = match to {
+            SeekFrom::Start(place) => place,
+            _ => return Err(io::ErrorKind::Unsupported.into()),
+        };
         Ok(self.place)
     }
 }
@@ -434,4 +664,26 @@ fn a_file_gets_no_longer_than_its_sizes_count() {
     writer.finalize().unwrap();
     let header = file.header.into_inner();
     assert_eq!((&header[4..8], &header[40..]), (&(4_294_967_294u32).to_le_bytes()[..], &(4_294_967_258u32).to_le_bytes()[..]));
+}
+
+#[test]
+fn the_longest_file_has_room_for_what_is_buffered_and_for_whole_frames() {
+    for channels in [2, 3, 7] {
+        let frame = 2 * u32::from(channels);
+        let longest = (u32::MAX - 60 - 1) / frame * frame;
+        let mut header = written::<i16>(WavSpec { channels, ..MONO }, &[]);
+        let start = header.len();
+        let most = if start == 44 { (u32::MAX - 36) / frame * frame } else { longest };
+        header[start - 4..].copy_from_slice(&(most - 1000 * frame).to_le_bytes());
+        let mut file = Long { header: Cursor::new(header), place: 0 };
+        let mut writer = WavWriter::new_append(&mut file).unwrap();
+        let mut count = 0;
+        for i in 0..4000 {
+            count += (0..100).filter(|_| writer.write_sample(3i16).is_ok()).count();
+            assert!(i % 3 > 0 || matches!(writer.flush(), Ok(()) | Err(Error::UnfinishedSample)));
+        }
+        assert_eq!(count, 1000 * usize::from(channels));
+        writer.finalize().unwrap();
+        assert_eq!(file.header.into_inner()[start - 4..], most.to_le_bytes());
+    }
 }

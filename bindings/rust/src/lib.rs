@@ -7,7 +7,7 @@
 //! error of each function that takes one; `bindings/c/hound.h` has the conditions.
 #![warn(missing_docs)]
 
-use std::{error, fmt, io};
+use std::{error, fmt, fs, io};
 
 // Each error, its code, and the sentence of hound.h for it, which scripts/check_errors compares.
 macro_rules! errors {
@@ -74,14 +74,14 @@ impl error::Error for Error {}
 /// The result of a call.
 pub type Result<T> = std::result::Result<T, Error>;
 
-/// The format of samples.
+/// The format of samples, in the order of the crate hound.
 #[derive(Clone, Copy, Debug, Default, PartialEq, Eq)]
 pub enum Format {
+    /// Floats.
+    Float,
     /// Integers.
     #[default]
     Int,
-    /// Floats.
-    Float,
 }
 
 /// What a file says of its samples.
@@ -174,6 +174,7 @@ mod c {
         pub taken: u32,
         pub part: u32,
         pub fmt_length: u32,
+        pub unused: u32,
     }
 
     #[repr(C)]
@@ -184,6 +185,7 @@ mod c {
         pub number: u32,
         pub bytes_per_sample: u16,
         pub condition: u16,
+        pub unused: u32,
     }
 
     #[repr(C)]
@@ -541,6 +543,38 @@ impl Effect {
     pub fn bytes(&self) -> &[u8] {
         &self.0.bytes[..self.0.length as usize]
     }
+}
+
+/// Locks a file that is open until it is closed, without waiting: where another program has locked it, or this one has
+/// opened and locked it before, the error is `WouldBlock`. A file system without locks is no error, and neither is
+/// another system than Unix.
+pub fn lock(file: &fs::File) -> io::Result<()> {
+    match lock_by_system(file) {
+        Err(error) if error.kind() == io::ErrorKind::WouldBlock => {
+            Err(io::Error::new(error.kind(), "another program records to, appends to or repairs this file"))
+        }
+        _ => Ok(()),
+    }
+}
+
+#[cfg(unix)]
+fn lock_by_system(file: &fs::File) -> io::Result<()> {
+    use std::os::{raw::c_int, unix::io::AsRawFd};
+    extern "C" {
+        fn flock(file: c_int, operation: c_int) -> c_int;
+    }
+    const EXCLUSIVE: c_int = 2;
+    const WITHOUT_WAITING: c_int = 4;
+    // SAFETY: the file is open, and no pointer is passed.
+    match unsafe { flock(file.as_raw_fd(), EXCLUSIVE | WITHOUT_WAITING) } {
+        0 => Ok(()),
+        _ => Err(io::Error::last_os_error()),
+    }
+}
+
+#[cfg(not(unix))]
+fn lock_by_system(_: &fs::File) -> io::Result<()> {
+    Ok(())
 }
 
 /// Reads samples from number `first` on into the front of `out`, and returns how many: as many as

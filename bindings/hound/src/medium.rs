@@ -1,0 +1,95 @@
+use crate::proved::{self, Recorder};
+use crate::{Error, Result, WavSpecEx};
+use std::io::{self, Seek, SeekFrom, Write};
+
+// A medium with a file on it, and what is remembered of the file. A call of the medium counts as failed until it
+// has returned, since it may panic.
+pub(crate) struct Medium<W> {
+    pub(crate) writer: W,
+    pub(crate) place: Option<u64>, // where the writer is, if that is known
+    pub(crate) recorder: Recorder,
+    pub(crate) sync: fn(&mut W) -> io::Result<()>,
+    pub(crate) cut: fn(&mut W, u64),
+    pub(crate) width: usize, // the bytes of a sample, and of a frame
+    pub(crate) frame: usize,
+}
+
+impl<W: Write + Seek> Medium<W> {
+    pub(crate) fn new(writer: W, place: Option<u64>, recorder: Recorder, spec_ex: WavSpecEx) -> Medium<W> {
+        let width = usize::from(spec_ex.bytes_per_sample);
+        let frame = width * usize::from(spec_ex.spec.channels);
+        Medium { writer, place, recorder, sync: |_| Ok(()), cut: |_, _| (), width, frame }
+    }
+
+    // Where so many samples go, after the checkpoint that a fault makes necessary.
+    pub(crate) fn next_place(&mut self, samples: usize) -> Result<u64> {
+        if let Err(proved::Error::NeedsCheckpoint) = self.recorder.place(0) {
+            self.checkpoint()?;
+        }
+        Ok(self.recorder.place(samples as u64)?)
+    }
+
+    // Writes whole frames. `count` becomes how many of their bytes count: all, or after a fault those of the frames
+    // before it, and none of a block, which is cut off.
+    pub(crate) fn write_frames(&mut self, bytes: &[u8], is_block: bool, count: &mut usize) -> Result<()> {
+        let place = self.next_place(bytes.len() / self.width)?;
+        let mut recorder = self.recorder;
+        self.recorder.wrote(0, false)?;
+        let result = self.write_at(place, bytes, count);
+        if result.is_err() && is_block && *count > 0 {
+            (self.cut)(&mut self.writer, place);
+        }
+        if result.is_err() {
+            *count = if is_block { 0 } else { self.counting(*count) };
+        }
+        recorder.wrote((*count / self.width) as u64, true)?;
+        recorder.wrote(0, result.is_ok())?;
+        self.recorder = recorder;
+        Ok(result?)
+    }
+
+    // How many of so many bytes count after a fault: whole frames, and no odd data, since a full medium has no room
+    // for a pad byte.
+    fn counting(&self, bytes: usize) -> usize {
+        let whole = bytes - bytes % self.frame;
+        let is_odd = (self.recorder.samples() as usize * self.width + whole) % 2 == 1;
+        if is_odd && whole > 0 { whole - self.frame } else { whole }
+    }
+
+    // Writes the sizes that count all samples that are written.
+    pub(crate) fn checkpoint(&mut self) -> Result<()> {
+        let (mut recorder, mut result) = (self.recorder, Ok(()));
+        loop {
+            let next = recorder.next_effect(result.is_ok());
+            self.recorder = recorder;
+            match next {
+                Ok(None) => return Ok(()),
+                Ok(Some(effect)) => {
+                    let _ = self.recorder.next_effect(false);
+                    result = match effect.is_sync() {
+                        true => (self.sync)(&mut self.writer),
+                        false => self.write_at(effect.place(), effect.bytes(), &mut 0),
+                    };
+                }
+                Err(error) => return Err(result.err().map_or(error.into(), Error::IoError)),
+            }
+        }
+    }
+
+    // Writes bytes, and counts how many of them the medium has taken.
+    fn write_at(&mut self, place: u64, bytes: &[u8], count: &mut usize) -> io::Result<()> {
+        if self.place.take() != Some(place) {
+            self.writer.seek(SeekFrom::Start(place))?;
+        }
+        while *count < bytes.len() {
+            match self.writer.write(&bytes[*count..]) {
+                Ok(0) => return Err(io::ErrorKind::WriteZero.into()),
+                Ok(more) => *count += more,
+                Err(error) if error.kind() == io::ErrorKind::Interrupted => {}
+                Err(error) => return Err(error),
+            }
+        }
+        self.place = Some(place + bytes.len() as u64);
+        Ok(())
+    }
+}
