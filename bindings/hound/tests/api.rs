@@ -603,6 +603,167 @@ fn a_file_is_appended_to_durably() {
 }
 
 #[test]
+fn only_a_whole_file_without_chunks_is_appended_to_durably() {
+    let path = Path::new("whole");
+    let append = |file: &[u8]| {
+        fs::write(&path, file).unwrap();
+        let result = WavWriter::append_durable(&path).map(drop);
+        assert!(result.is_ok() || fs::read(&path).unwrap() == file);
+        result.map_err(|error| matches!(error, Error::IoError(error) if error.kind() == io::ErrorKind::InvalidData))
+    };
+    let file = written(MONO, &[1i16, 2, 3]);
+    assert_eq!(append(&file), Ok(()));
+    assert_eq!(append(&[&file[..], &[4]].concat()), Err(true));
+    assert_eq!(append(&[&file[..], b"LIST\x04\0\0\0INFO"].concat()), Err(true));
+    assert_eq!(append(&file[..file.len() - 1]), Err(false));
+    // A byte that isn't 0 is no pad byte after samples of one byte, and a sample is missing in front of one that is.
+    let bytes = written(WavSpec { bits_per_sample: 8, ..MONO }, &[1i8, 2, 3]);
+    assert_eq!((append(&bytes), append(&bytes[..47])), (Ok(()), Ok(())));
+    assert_eq!(append(&[&bytes[..47], &[130]].concat()), Err(true));
+    assert_eq!(append(&[&bytes[..], &[0]].concat()), Err(true));
+    let wide = written(WavSpec { bits_per_sample: 24, ..MONO }, &[1, 2, 3]);
+    let end = wide.len() - 1;
+    assert_eq!((append(&wide), append(&wide[..end]), append(&[&wide[..end], &[7]].concat())), (Ok(()), Ok(()), Ok(())));
+}
+
+#[test]
+fn nothing_is_appended_to_a_file_that_lacks_samples_which_it_counts() {
+    let path = Path::new("lacking");
+    let file = written(MONO, &[1i16; 4000]);
+    fs::write(&path, &file[..2044]).unwrap();
+    let lacks = |result: Result<()>| matches!(result, Err(Error::IoError(error)) if error.kind() == io::ErrorKind::UnexpectedEof);
+    assert!(lacks(WavWriter::append(&path).map(drop)) && lacks(WavWriter::append_durable(&path).map(drop)));
+    assert_eq!(fs::read(&path).unwrap(), file[..2044]);
+    let mut medium = Cursor::new(file[..2044].to_vec());
+    assert!(lacks(WavWriter::new_append(&mut medium).map(drop)));
+    assert_eq!(medium.into_inner(), file[..2044]);
+    assert_eq!(hound::repair_file(&path).unwrap().frames, 1000);
+    WavWriter::append(&path).unwrap().write_sample(2i16).unwrap();
+    assert_eq!(WavReader::open(&path).unwrap().len(), 1001);
+}
+
+#[test]
+#[cfg(unix)]
+fn a_file_is_cut_off_after_a_block_that_failed() {
+    if env::var_os("FILES_ARE_SHORT").is_none() {
+        // Again, as a program whose files have at most 32 or 64 KiB.
+        let limited = "trap '' XFSZ; ulimit -f 64; FILES_ARE_SHORT=1 exec \"$0\" --exact a_file_is_cut_off_after_a_block_that_failed";
+        assert!(process::Command::new("sh").arg("-c").arg(limited).arg(env::current_exe().unwrap()).status().unwrap().success());
+        return;
+    }
+    let path = Path::new("short");
+    for (form, channels) in (0..4).flat_map(|form| [1, 2].map(|channels| (form, channels))) {
+        let spec = WavSpec { channels, ..MONO };
+        fs::write(&path, written(spec, &[1i16, 2])).unwrap();
+        let mut writer = match form {
+            0 => WavWriter::create(&path, spec).unwrap(),
+            1 => WavWriter::create_durable(&path, spec).unwrap(),
+            2 => WavWriter::append(&path).unwrap(),
+            _ => WavWriter::append_durable(&path).unwrap(),
+        };
+        writer.write_samples(&[3i16, 4]).unwrap();
+        writer.flush().unwrap();
+        let before = fs::read(&path).unwrap();
+        assert!(writer.write_samples(&[5i16; 100_000]).is_err());
+        assert_eq!(fs::read(&path).unwrap(), before);
+        assert!(writer.write_samples(&[6i16; 3]).is_ok() && writer.write_samples(&[7i16; 100_000]).is_err());
+        assert!(writer.write_samples(&[8i16]).is_ok() && writer.finalize().is_ok());
+        let samples: &[i16] = if form > 1 { &[1, 2, 3, 4, 6, 6, 6, 8] } else { &[3, 4, 6, 6, 6, 8] };
+        assert_eq!(fs::read(&path).unwrap(), written(spec, samples));
+    }
+}
+
+#[test]
+#[cfg(target_os = "linux")]
+fn a_file_is_emptied_only_once_its_folder_is_synced() {
+    use std::os::unix::io::AsRawFd;
+    let path = Path::new("unlinked");
+    fs::write(&path, [9; 40000]).unwrap();
+    let file = fs::File::open(&path).unwrap();
+    fs::remove_file(&path).unwrap();
+    // The name of an open file that is in no folder.
+    let name = format!("/proc/self/fd/{}", file.as_raw_fd());
+    assert!(matches!(WavWriter::create_durable(&name, MONO), Err(Error::IoError(_))));
+    assert_eq!(fs::read(&name).unwrap(), [9; 40000]);
+}
+
+#[test]
+fn two_of_this_crate_do_not_change_one_file() {
+    fn is_locked<T>(result: Result<T>) -> bool {
+        let text = "another program records to, appends to or repairs this file";
+        matches!(result, Err(Error::IoError(error)) if error.kind() == io::ErrorKind::WouldBlock && error.to_string() == text)
+    }
+    let path = Path::new("locked");
+    let mut writer = WavWriter::create_durable(&path, MONO).unwrap();
+    writer.write_sample(1i16).unwrap();
+    for _ in 0..2 {
+        assert!(is_locked(WavWriter::create_durable(&path, MONO)) && is_locked(WavWriter::append_durable(&path)));
+        assert!(is_locked(hound::repair_file(&path)) && is_locked(hound::repair_file_to_end(&path)));
+        writer.finalize().unwrap();
+        writer = WavWriter::append_durable(&path).unwrap();
+    }
+    // As hound's, these look at no lock.
+    drop((WavReader::open(&path).unwrap(), WavWriter::append(&path).unwrap()));
+    assert_eq!(fs::read(&path).unwrap(), written(MONO, &[1i16]));
+}
+
+#[test]
+#[cfg(target_os = "linux")]
+fn a_file_without_an_end_is_not_repaired() {
+    assert!(matches!(hound::repair_file("/dev/zero"), Err(Error::FormatError("no RIFF tag found"))));
+    assert!(matches!(hound::repair_file_to_end("/dev/null"), Err(Error::IoError(_))));
+}
+
+mod of_a_user {
+    use hound::*;
+    use std::io::{Cursor, Read, Seek, Write};
+
+    /// Floats in files of integers of 16 bits, by the names of the blocks that hound doesn't have.
+    trait Floats {
+        fn write_samples(&mut self, samples: &[f32]) -> Result<()>;
+    }
+
+    impl<W: Write + Seek> Floats for WavWriter<W> {
+        fn write_samples(&mut self, samples: &[f32]) -> Result<()> {
+            samples.iter().try_for_each(|sample| self.write_sample((sample * 32767.0) as i16))
+        }
+    }
+
+    trait ToFloats {
+        fn read_samples(&mut self, samples: &mut [f32]) -> usize;
+    }
+
+    impl<R: Read> ToFloats for WavReader<R> {
+        fn read_samples(&mut self, samples: &mut [f32]) -> usize {
+            let read = self.samples::<i16>().map(|sample| f32::from(sample.unwrap()) / 32767.0);
+            samples.iter_mut().zip(read).map(|(slot, sample)| *slot = sample).count()
+        }
+    }
+
+    #[test]
+    fn a_trait_of_a_user_means_the_same() {
+        let (mut file, mut samples) = (Cursor::new(Vec::new()), [0.0; 3]);
+        let mut writer = WavWriter::new(&mut file, super::MONO).unwrap();
+        writer.write_samples(&[1.0, -1.0, 0.5]).unwrap();
+        writer.finalize().unwrap();
+        assert_eq!(file.get_ref()[44..], [0xff, 0x7f, 1, 0x80, 0xff, 0x3f]);
+        file.set_position(0);
+        assert_eq!((WavReader::new(file).unwrap().read_samples(&mut samples), samples[..2].to_vec()), (3, vec![1.0, -1.0]));
+    }
+}
+
+#[test]
+#[allow(deprecated)]
+fn errors_and_formats_are_as_those_of_hound() {
+    use std::error::Error as _;
+    let error = Error::IoError(io::Error::new(io::ErrorKind::Other, "full"));
+    assert!(error.source().is_none() && error.cause().unwrap().to_string() == "full");
+    assert!(Error::TooWide.source().is_none() && Error::TooWide.cause().is_none());
+    assert_eq!(Error::TooWide.description(), "the sample has more bits than the destination type");
+    assert_eq!((SampleFormat::Float as u8, SampleFormat::Int as u8), (0, 1));
+}
+
+#[test]
 fn readers_and_writers_are_sent_shared_and_survive_panics() {
     fn can_be<T: Send + Sync + std::panic::UnwindSafe + std::panic::RefUnwindSafe>() {}
     can_be::<WavReader<io::BufReader<fs::File>>>();
