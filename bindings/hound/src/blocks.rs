@@ -4,8 +4,9 @@
 //! ```
 //! use hound::blocks::{ReadSamples, WriteSamples};
 //! # use std::io::Cursor;
-//! # let spec = hound::WavSpec { channels: 1, sample_rate: 48000, bits_per_sample: 16, sample_format: hound::SampleFormat::Int };
 //! # let mut file = Cursor::new(Vec::new());
+//! # let sample_format = hound::SampleFormat::Int;
+//! # let spec = hound::WavSpec { channels: 1, sample_rate: 48000, bits_per_sample: 16, sample_format };
 //! let mut writer = hound::WavWriter::new(&mut file, spec)?;
 //! writer.write_samples(&[2i16, -3, 5])?; // all of them, or none
 //! writer.finalize()?;
@@ -14,7 +15,8 @@
 //! let (mut reader, mut block) = (hound::WavReader::new(file)?, [0i16; 4096]);
 //! let (count, result) = reader.read_samples(&mut block);
 //! assert_eq!(block[..count], [2, -3, 5]);
-//! # result
+//! # result?;
+//! # Ok::<(), hound::Error>(())
 //! ```
 use crate::{Result, Sample, WavReader, WavWriter};
 use std::io::{Read, Seek, Write};

@@ -2,8 +2,7 @@ use crate::proved::{self, Recorder};
 use crate::{Error, Result, WavSpecEx};
 use std::io::{self, Seek, SeekFrom, Write};
 
-// A medium with a file on it, and what is remembered of the file. A call of the medium counts as failed until it
-// has returned, since it may panic.
+// A medium with a file on it, and what is remembered of the file.
 pub(crate) struct Medium<W> {
     pub(crate) writer: W,
     pub(crate) place: Option<u64>, // where the writer is, if that is known
@@ -33,8 +32,6 @@ impl<W: Write + Seek> Medium<W> {
     // before it, and none of a block, which is cut off.
     pub(crate) fn write_frames(&mut self, bytes: &[u8], is_block: bool, count: &mut usize) -> Result<()> {
         let place = self.next_place(bytes.len() / self.width)?;
-        let mut recorder = self.recorder;
-        self.recorder.wrote(0, false)?;
         let result = self.write_at(place, bytes, count);
         if result.is_err() && is_block && *count > 0 {
             (self.cut)(&mut self.writer, place);
@@ -42,9 +39,8 @@ impl<W: Write + Seek> Medium<W> {
         if result.is_err() {
             *count = if is_block { 0 } else { self.counting(*count) };
         }
-        recorder.wrote((*count / self.width) as u64, true)?;
-        recorder.wrote(0, result.is_ok())?;
-        self.recorder = recorder;
+        self.recorder.wrote((*count / self.width) as u64, true)?;
+        self.recorder.wrote(0, result.is_ok())?;
         Ok(result?)
     }
 
@@ -65,7 +61,7 @@ impl<W: Write + Seek> Medium<W> {
             match next {
                 Ok(None) => return Ok(()),
                 Ok(Some(effect)) => {
-                    let _ = self.recorder.next_effect(false);
+                    let _ = self.recorder.next_effect(false); // If the medium panics the effect has failed.
                     result = match effect.is_sync() {
                         true => (self.sync)(&mut self.writer),
                         false => self.write_at(effect.place(), effect.bytes(), &mut 0),

@@ -21,8 +21,8 @@ pub struct Repair {
 /// where one is missing (own). A file that is whole stays as it is. So does one in which chunks or a tag follow the
 /// data, also where its header counts too few samples: of that one [`repair_file_to_end`] is the repair.
 ///
-/// The file, of which another program that repairs it or records to it durably is an error, is read into memory, at most
-/// 4 GiB and 8 bytes. It is synced as it was found; then the data length, the pad byte and the RIFF
+/// The file is read into memory, at most 4 GiB and 8 bytes. Where another program repairs it, or records to it durably,
+/// the error is `WouldBlock`. It is synced as it was found; then the data length, the pad byte and the RIFF
 /// size are written in this order, each with a sync. So after a kill or an error, also an `IoError` between these
 /// steps, the header counts only samples that are there, and a second call finishes the repair: the pad byte follows
 /// data that are already counted, and a wrong RIFF size marks the file as unrepaired. Where that size was right before,

@@ -10,7 +10,7 @@ use std::{fs, iter, panic, path};
 ///
 /// The channels of a frame follow one another, and a file holds whole frames. Samples are buffered:
 /// `flush` writes them and the sizes, `finalize` does so and ends the file. A drop does it too, but its
-/// errors aren't seen.
+/// errors aren't seen, and neither are its panics.
 pub struct WavWriter<W: Write + Seek> {
     pub(crate) core: Core<W>,
     batch: Vec<i16>,
@@ -150,7 +150,13 @@ impl<W: Write + Seek> Core<W> {
 }
 
 // Encodes samples after the containers that wait, and returns where they end.
-fn encode_after<S>(waiting: usize, bytes: &mut Vec<u8>, spec: &proved::Spec, samples: &[S], encode: Encode<S>) -> Result<usize> {
+fn encode_after<S>(
+    waiting: usize,
+    bytes: &mut Vec<u8>,
+    spec: &proved::Spec,
+    samples: &[S],
+    encode: Encode<S>,
+) -> Result<usize> {
     bytes.resize(bytes.len().max(waiting + samples.len() * usize::from(spec.bytes_per_sample)), 0);
     Ok(waiting + encode(spec, samples, &mut bytes[waiting..])?)
 }
@@ -263,13 +269,14 @@ impl<W: Read + Write + Seek> WavWriter<W> {
     /// Appends to a file, of which the writer has to be at the beginning: the next sample follows those
     /// that its header counts. A fact chunk stays as it is.
     ///
-    /// What follows these is overwritten, without an error, also the samples of a recording that was cut off. So
+    /// A file that lacks samples which its header counts is an `IoError`, if a `seek` to its end succeeds. What follows
+    /// these samples is overwritten, without an error, also the samples of a recording that was cut off. So
     /// repair it first, always, as [`repair_file`](crate::repair_file) does a file. Append only if that reports
     /// `Whole` or `CutOff`: where it reports `HasChunksAfterData` it repaired nothing, and what would be overwritten
     /// may be samples ([`repair_file_to_end`](crate::repair_file_to_end)).
     pub fn new_append(mut writer: W) -> Result<WavWriter<W>> {
         let info = Walk::over(&mut writer)??;
-        let recorder = continuing(&mut writer, &info)?;
+        let recorder = continuing(&info, writer.seek(SeekFrom::End(0)).ok())?;
         Ok(WavWriter::at(writer, None, info.spec.into(), recorder))
     }
 }
@@ -291,9 +298,13 @@ impl WavWriter<io::BufWriter<fs::File>> {
     /// name are on the disk, and after a `flush` all samples are: it syncs them before the sizes that count them,
     /// and then these.
     ///
-    /// Only single samples are buffered, up to 4096: each [`write_samples`](WavWriter::write_samples) is a write of
-    /// the system. After a write that failed, as on a full disk, the writer continues. After a sync that failed each
-    /// later `flush` fails, since nobody knows what the disk has.
+    /// A file that there was is emptied once its folder is synced. Until the writer is dropped, another one that is
+    /// durable, or a repair of the file, is an error (`WouldBlock`), if the file system has locks.
+    ///
+    /// Only single samples are buffered, up to 4096, and those of an unfinished frame: each
+    /// [`write_samples`](crate::blocks::WriteSamples::write_samples) is a write of the system. After a write that
+    /// failed, as on a full disk, the writer continues. After a sync that failed each later `flush` fails, since nobody
+    /// knows what the disk has.
     pub fn create_durable<P: AsRef<path::Path>>(filename: P, spec: WavSpec) -> Result<WavWriter<io::BufWriter<fs::File>>> {
         let open = || {
             let file = open_alone(fs::OpenOptions::new().write(true).create(true).truncate(false), filename.as_ref())?;
@@ -307,7 +318,9 @@ impl WavWriter<io::BufWriter<fs::File>> {
     /// this returns, the file as it was found and its name are on the disk, and `flush` syncs as that of
     /// [`create_durable`](WavWriter::create_durable) does.
     ///
-    /// Call [`repair_file`](crate::repair_file) first, always, and append only if it reports `Whole` or `CutOff`.
+    /// What follows the samples is an error (`InvalidData`), if it isn't a pad byte, and so are samples that the header
+    /// counts and the file lacks (`UnexpectedEof`). Call [`repair_file`](crate::repair_file) first: after `Whole` and
+    /// `CutOff` the file can be appended to.
     pub fn append_durable<P: AsRef<path::Path>>(filename: P) -> Result<WavWriter<io::BufWriter<fs::File>>> {
         let file = open_alone(fs::OpenOptions::new().read(true).write(true), filename.as_ref())?;
         file.sync_all()?;
@@ -330,7 +343,7 @@ impl WavWriter<io::BufWriter<fs::File>> {
     fn after(file: fs::File, is_durable: bool) -> Result<WavWriter<io::BufWriter<fs::File>>> {
         let mut reader = io::BufReader::new(file);
         let (info, mut file) = (Walk::over(&mut reader)??, reader.into_inner());
-        let recorder = continuing(&mut file, &info)?;
+        let recorder = continuing(&info, Some(file.seek(SeekFrom::End(0))?))?;
         if is_durable {
             check_end(&mut file, &info, recorder.place(0)?)?;
         }
@@ -339,7 +352,13 @@ impl WavWriter<io::BufWriter<fs::File>> {
 
     // A durable writer has no bytes in its `BufWriter`: what the recorder takes for written is with the system, a write
     // that fails isn't one of a sync, and a sync has only to sync.
-    fn of_file(file: fs::File, place: Option<u64>, spec_ex: WavSpecEx, recorder: Recorder, is_durable: bool) -> WavWriter<io::BufWriter<fs::File>> {
+    fn of_file(
+        file: fs::File,
+        place: Option<u64>,
+        spec_ex: WavSpecEx,
+        recorder: Recorder,
+        is_durable: bool,
+    ) -> WavWriter<io::BufWriter<fs::File>> {
         let capacity = if is_durable { 0 } else { 16 * BLOCK };
         let mut writer = WavWriter::at(io::BufWriter::with_capacity(capacity, file), place, spec_ex, recorder);
         writer.core.medium.cut = |file, place| cut(file.get_ref(), place);
@@ -355,15 +374,15 @@ fn beginning(spec_ex: WavSpecEx) -> Result<(Vec<u8>, Recorder)> {
     Ok((proved::header(&spec_ex.into(), 0)?, Recorder::begin(&spec_ex.into())?))
 }
 
-// The recorder of a file that is appended to. Where the header counts samples that the file doesn't hold, as far as
-// its length is known, zeros would be counted that nobody wrote.
-fn continuing<W: Seek>(file: &mut W, info: &Info) -> Result<Recorder> {
+// The recorder of a file that is appended to. After one that lacks samples which its header counts, others would make
+// zeros count that nobody wrote.
+fn continuing(info: &Info, length: Option<u64>) -> Result<Recorder> {
     let recorder = Recorder::append(info)?;
     let end = recorder.place(0)?;
-    match file.seek(SeekFrom::End(0)) {
-        Ok(length) if length < end => Err(io::Error::new(io::ErrorKind::UnexpectedEof, proved::Error::Truncated).into()),
-        _ => Ok(recorder),
+    if length.map_or(false, |length| length < end) {
+        return Err(io::Error::new(io::ErrorKind::UnexpectedEof, proved::Error::Truncated).into());
     }
+    Ok(recorder)
 }
 
 // An error where more than a pad byte follows the samples that the header counts.
@@ -371,10 +390,11 @@ fn check_end(file: &mut fs::File, info: &Info, end: u64) -> io::Result<()> {
     let (is_odd, mut rest) = ((end - info.data_start) % 2 == 1, Vec::new());
     file.seek(SeekFrom::Start(end))?;
     file.take(2).read_to_end(&mut rest)?;
+    let could_be_frame = (info.spec.bytes_per_sample, info.spec.channels) == (1, 1);
     match rest[..] {
         [] => Ok(()),
-        [byte] if is_odd && (byte == 0 || info.spec.bytes_per_sample * info.spec.channels > 1) => Ok(()),
-        _ => Err(io::Error::new(io::ErrorKind::InvalidData, "what the header doesn't count follows the samples: repair_file looks at it")),
+        [byte] if is_odd && (byte == 0 || !could_be_frame) => Ok(()),
+        _ => Err(io::Error::new(io::ErrorKind::InvalidData, "bytes that the header doesn't count follow the samples")),
     }
 }
 

@@ -292,7 +292,8 @@ fn a_writer_that_is_dropped_within_a_frame_leaves_the_frames_before_it() {
     let path = Path::new("torn");
     for bits in [8, 16, 24] {
         let broken = || {
-            let mut writer = WavWriter::create_durable(&path, WavSpec { channels: 2, bits_per_sample: bits, ..MONO }).unwrap();
+            let spec = WavSpec { channels: 2, bits_per_sample: bits, ..MONO };
+            let mut writer = WavWriter::create_durable(&path, spec).unwrap();
             (0..9000).for_each(|i| writer.write_sample(i % 100).unwrap());
             writer.flush().unwrap();
             (0..301).for_each(|i| writer.write_sample(i % 100).unwrap());
@@ -306,10 +307,12 @@ fn a_writer_that_is_dropped_within_a_frame_leaves_the_frames_before_it() {
 
 #[test]
 fn the_checkpoint_that_a_fault_forces_holds_whole_frames() {
-    for (channels, bits) in [1, 2, 3, 5, 6].into_iter().flat_map(|channels| [8, 16].map(|bits| (channels, bits))) {
+    for (channels, bits) in [1, 2, 3, 5, 6].iter().flat_map(|&channels| [8, 16].map(|bits| (channels, bits))) {
         let disk = Disk::default();
         let mut writer = WavWriter::new(disk.clone(), WavSpec { channels, bits_per_sample: bits, ..MONO }).unwrap();
-        let write = |writer: &mut WavWriter<Disk>, first: i32, last: i32| (first..last).take_while(|i| writer.write_sample(i % 100).is_ok()).count();
+        let write = |writer: &mut WavWriter<Disk>, first: i32, last: i32| {
+            (first..last).take_while(|i| writer.write_sample(i % 100).is_ok()).count()
+        };
         assert_eq!((write(&mut writer, 0, 6000), writer.flush().is_ok()), (6000, true));
         let length = disk.contents().len();
         disk.0.borrow_mut().room = Some(length + 4097 * usize::from(bits / 8));
@@ -373,9 +376,9 @@ fn try_each_call(panics: bool) {
             let is_met = disk.0.borrow().calls >= fails;
             assert_eq!(has_panicked, is_met && panics);
             // What a call accepted before it panicked may be there, too.
-            let whole = if panics { disk.samples().len() } else { accepted } / usize::from(channels) * usize::from(channels);
-            assert!(disk.samples() == numbers(whole), "call {fails}, way {way}");
-            assert!(whole + usize::from(channels) > accepted);
+            let (found, frame) = (disk.samples(), usize::from(channels));
+            let whole = if panics { found.len() } else { accepted } / frame * frame;
+            assert!(found == numbers(whole) && whole + frame > accepted, "call {fails}, way {way}");
             if !is_met {
                 break;
             }
@@ -631,7 +634,8 @@ fn nothing_is_appended_to_a_file_that_lacks_samples_which_it_counts() {
     let path = Path::new("lacking");
     let file = written(MONO, &[1i16; 4000]);
     fs::write(&path, &file[..2044]).unwrap();
-    let lacks = |result: Result<()>| matches!(result, Err(Error::IoError(error)) if error.kind() == io::ErrorKind::UnexpectedEof);
+    let eof = io::ErrorKind::UnexpectedEof;
+    let lacks = |result: Result<()>| matches!(result, Err(Error::IoError(error)) if error.kind() == eof);
     assert!(lacks(WavWriter::append(&path).map(drop)) && lacks(WavWriter::append_durable(&path).map(drop)));
     assert_eq!(fs::read(&path).unwrap(), file[..2044]);
     let mut medium = Cursor::new(file[..2044].to_vec());
@@ -647,8 +651,10 @@ fn nothing_is_appended_to_a_file_that_lacks_samples_which_it_counts() {
 fn a_file_is_cut_off_after_a_block_that_failed() {
     if env::var_os("FILES_ARE_SHORT").is_none() {
         // Again, as a program whose files have at most 32 or 64 KiB.
-        let limited = "trap '' XFSZ; ulimit -f 64; FILES_ARE_SHORT=1 exec \"$0\" --exact a_file_is_cut_off_after_a_block_that_failed";
-        assert!(process::Command::new("sh").arg("-c").arg(limited).arg(env::current_exe().unwrap()).status().unwrap().success());
+        let limited = "trap '' XFSZ; ulimit -f 64; FILES_ARE_SHORT=1 exec \"$0\" --exact \"$1\"";
+        let mut shell = process::Command::new("sh");
+        shell.arg("-c").arg(limited).arg(env::current_exe().unwrap());
+        assert!(shell.arg("a_file_is_cut_off_after_a_block_that_failed").status().unwrap().success());
         return;
     }
     let path = Path::new("short");
@@ -691,7 +697,8 @@ fn a_file_is_emptied_only_once_its_folder_is_synced() {
 fn two_of_this_crate_do_not_change_one_file() {
     fn is_locked<T>(result: Result<T>) -> bool {
         let text = "another program records to, appends to or repairs this file";
-        matches!(result, Err(Error::IoError(error)) if error.kind() == io::ErrorKind::WouldBlock && error.to_string() == text)
+        let is = |error: &io::Error| error.kind() == io::ErrorKind::WouldBlock && error.to_string() == text;
+        result.map_or_else(|error| matches!(error, Error::IoError(error) if is(&error)), |_| false)
     }
     let path = Path::new("locked");
     let mut writer = WavWriter::create_durable(&path, MONO).unwrap();
@@ -748,7 +755,8 @@ mod of_a_user {
         writer.finalize().unwrap();
         assert_eq!(file.get_ref()[44..], [0xff, 0x7f, 1, 0x80, 0xff, 0x3f]);
         file.set_position(0);
-        assert_eq!((WavReader::new(file).unwrap().read_samples(&mut samples), samples[..2].to_vec()), (3, vec![1.0, -1.0]));
+        assert_eq!(WavReader::new(file).unwrap().read_samples(&mut samples), 3);
+        assert_eq!(samples[..2], [1.0, -1.0]);
     }
 }
 

@@ -138,6 +138,8 @@ pub struct Repair {
 
 // The C interface, as hound.h has it.
 mod c {
+    use std::mem::size_of;
+
     #[repr(C)]
     #[derive(Clone, Copy, Default)]
     pub struct Spec {
@@ -195,6 +197,9 @@ mod c {
         pub length: u32,
         pub bytes: [u8; 4],
     }
+
+    // What the calls write through a pointer, also where 64 bits are aligned as 32 are.
+    const _: () = assert!(size_of::<Walk>() == 40 && size_of::<Recorder>() == 24);
 
     extern "C" {
         pub fn hound_info(file: *const u8, length: usize, info: *mut Info) -> i32;

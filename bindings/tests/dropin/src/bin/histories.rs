@@ -50,8 +50,7 @@ both! {
         match result {
             None => "None ".into(),
             Some(Ok(sample)) => show(sample) + " ",
-            Some(Err(Error::IoError(error))) => format!("IoError({error}) "),
-            Some(Err(error)) => format!("[{error}] "),
+            Some(Err(error)) => format!("[{error:?}] "),
         }
     }
 
@@ -66,7 +65,7 @@ both! {
     pub fn read(bytes: &[u8], seed: u64, seeks: bool) -> String {
         let mut reader = match WavReader::new(Cursor::new(bytes)) {
             Ok(reader) => reader,
-            Err(error) => return format!("Err {error}"),
+            Err(error) => return format!("Err {error:?}"),
         };
         let (spec, mut chooser) = (reader.spec(), Chooser::new(seed));
         let mut answers = format!("{spec:?} {} {}: ", reader.len(), reader.duration());
