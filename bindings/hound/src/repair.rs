@@ -44,13 +44,7 @@ const LONGEST: u64 = 8 + u32::MAX as u64;
 fn repair_by(repair: fn(&mut [u8], usize) -> proved::Result<proved::Repair>, filename: &path::Path) -> Result<Repair> {
     let mut file = fs::OpenOptions::new().read(true).write(true).open(filename)?;
     proved::lock(&file)?;
-    let (mut bytes, mut walk) = (Vec::new(), proved::Walk::new());
-    (&file).take(walk.length() as u64).read_to_end(&mut bytes)?; // without the `seek` of a file, whose error is ignored
-    walk.take(&bytes)?; // What isn't a WAV file may have no end.
-    (&file).take(LONGEST).read_to_end(&mut bytes)?;
-    if bytes.len() as u64 > LONGEST {
-        return Err(proved::Error::TooLong.into());
-    }
+    let mut bytes = contents(&file)?;
     let length = bytes.len();
     bytes.push(0);
     let found = repair(&mut bytes, length)?;
@@ -66,4 +60,16 @@ fn repair_by(repair: fn(&mut [u8], usize) -> proved::Result<proved::Repair>, fil
         }
     }
     Ok(Repair { spec_ex: found.spec.into(), frames: found.frames, left_over: found.left_over, state: found.state })
+}
+
+/// All bytes from here on of a file that may be a WAV file.
+pub(crate) fn contents(file: &fs::File) -> Result<Vec<u8>> {
+    let (mut bytes, mut walk) = (Vec::new(), proved::Walk::new());
+    file.take(walk.length() as u64).read_to_end(&mut bytes)?; // without the `seek` of a file, whose error is ignored
+    walk.take(&bytes)?; // What isn't a WAV file may have no end.
+    file.take(LONGEST).read_to_end(&mut bytes)?;
+    if bytes.len() as u64 > LONGEST {
+        return Err(proved::Error::TooLong.into());
+    }
+    Ok(bytes)
 }

@@ -1,8 +1,9 @@
 use crate::medium::Medium;
 use crate::proved::{self, Info, Recorder, Walk};
+use crate::repair::contents;
 use crate::sample::Encode;
 use crate::spec::containers;
-use crate::{Error, Result, Sample, SampleFormat, WavSpec, WavSpecEx, BLOCK};
+use crate::{Error, RepairState, Result, Sample, SampleFormat, WavSpec, WavSpecEx, BLOCK};
 use std::io::{self, Read, Seek, SeekFrom, Write};
 use std::{fs, iter, panic, path};
 
@@ -52,10 +53,14 @@ impl<W: Write + Seek> Core<W> {
         S::CODING.map_or(Ok(()), |coding| {
             (coding.encode)(&self.containers(coding.format), &[(coding.from)(sample)], &mut [0; 4])?;
             self.spill()?;
-            // At the end of the longest file samples are buffered one by one; where none has room the buffer is empty.
-            let room = if self.find_room(BLOCK).is_ok() { BLOCK } else { 1 };
-            self.buffer.truncate(room - 1);
-            self.find_room(room)?;
+            // The buffer grows, since most of it is of no use for a short file. At the end of the longest file samples
+            // are buffered one by one; where none has room the buffer is empty.
+            let mut room = (2 * self.buffer.capacity()).max(BLOCK / 32).min(BLOCK);
+            if self.find_room(room).is_err() {
+                self.buffer.clear();
+                self.find_room(1)?;
+                room = 1;
+            }
             self.buffer.resize(room, 0);
             self.format = coding.format;
             self.buffer::<S>(sample, coding.format)
@@ -78,9 +83,11 @@ impl<W: Write + Seek> Core<W> {
 
     // Writes the whole frames of the buffered samples; the rest waits.
     fn spill(&mut self) -> Result<()> {
-        let spec = self.containers(SampleFormat::Int);
-        self.waiting = encode_after(self.waiting, &mut self.bytes, &spec, &self.buffer[..self.count], proved::encode)?;
-        self.count = 0;
+        if self.count > 0 {
+            let (spec, samples) = (self.containers(SampleFormat::Int), &self.buffer[..self.count]);
+            self.waiting = encode_after(self.waiting, &mut self.bytes, &spec, samples, proved::encode)?;
+            self.count = 0;
+        }
         let result = self.write_waiting(self.waiting, false);
         if result.is_err() {
             self.buffer.clear(); // The next sample has to come here first.
@@ -318,9 +325,9 @@ impl WavWriter<io::BufWriter<fs::File>> {
     /// this returns, the file as it was found and its name are on the disk, and `flush` syncs as that of
     /// [`create_durable`](WavWriter::create_durable) does.
     ///
-    /// What follows the samples is an error (`InvalidData`), if it isn't a pad byte, and so are samples that the header
-    /// counts and the file lacks (`UnexpectedEof`). Call [`repair_file`](crate::repair_file) first: after `Whole` and
-    /// `CutOff` the file can be appended to.
+    /// A recording that was cut off is an error, and so are chunks after the data (`InvalidData`), and samples that the
+    /// header counts and the file lacks (`UnexpectedEof`). Call [`repair_file`](crate::repair_file) first: after `Whole`
+    /// and `CutOff` the file can be appended to.
     pub fn append_durable<P: AsRef<path::Path>>(filename: P) -> Result<WavWriter<io::BufWriter<fs::File>>> {
         let file = open_alone(fs::OpenOptions::new().read(true).write(true), filename.as_ref())?;
         file.sync_all()?;
@@ -385,17 +392,28 @@ fn continuing(info: &Info, length: Option<u64>) -> Result<Recorder> {
     Ok(recorder)
 }
 
-// An error where more than a pad byte follows the samples that the header counts.
-fn check_end(file: &mut fs::File, info: &Info, end: u64) -> io::Result<()> {
+// An error where samples or chunks follow the samples that the header counts. Those of a pad byte and of the torn
+// frame that a repair leaves may be overwritten.
+fn check_end(file: &mut fs::File, info: &Info, end: u64) -> Result<()> {
     let (is_odd, mut rest) = ((end - info.data_start) % 2 == 1, Vec::new());
     file.seek(SeekFrom::Start(end))?;
     file.take(2).read_to_end(&mut rest)?;
     let could_be_frame = (info.spec.bytes_per_sample, info.spec.channels) == (1, 1);
-    match rest[..] {
-        [] => Ok(()),
-        [byte] if is_odd && (byte == 0 || !could_be_frame) => Ok(()),
-        _ => Err(io::Error::new(io::ErrorKind::InvalidData, "bytes that the header doesn't count follow the samples")),
-    }
+    let state = match rest[..] {
+        [] => RepairState::Whole,
+        [byte] if is_odd && could_be_frame && byte != 0 => RepairState::CutOff,
+        [_] if is_odd => RepairState::Whole,
+        _ => {
+            file.seek(SeekFrom::Start(0))?;
+            proved::find_damage(&contents(file)?)?.state
+        }
+    };
+    let why = match state {
+        RepairState::Whole => return Ok(()),
+        RepairState::CutOff => "the recording was cut off: repair it first",
+        RepairState::HasChunksAfterData => "chunks or a tag follow the data",
+    };
+    Err(io::Error::new(io::ErrorKind::InvalidData, why).into())
 }
 
 // Opens a file that no other program records to, and syncs the folder, which has its name.

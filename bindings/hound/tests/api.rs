@@ -356,7 +356,7 @@ fn what_a_full_medium_holds_is_counted() {
 /// is there after that, in whole frames.
 fn try_each_call(panics: bool) {
     for (way, channels) in (0..WAYS).flat_map(|way| [1, 2, 3].map(|channels| (way, channels))) {
-        let counts = if way == 3 { [1, 20, 7, 21] } else { [1, 5000, 7, 4501] };
+        let counts = if way == 3 { [1, 20, 7, 21] } else { [1, 5000, 4500, 8] };
         for fails in 2.. {
             let (disk, mut accepted) = (Disk::default(), 0);
             let run = AssertUnwindSafe(|| {
@@ -368,7 +368,7 @@ fn try_each_call(panics: bool) {
                     if result.is_err() {
                         break;
                     }
-                    let _ = writer.flush();
+                    let _ = if count == 8 || count == 21 { Ok(()) } else { writer.flush() };
                 }
                 let _ = writer.finalize();
             });
@@ -616,7 +616,8 @@ fn only_a_whole_file_without_chunks_is_appended_to_durably() {
     };
     let file = written(MONO, &[1i16, 2, 3]);
     assert_eq!(append(&file), Ok(()));
-    assert_eq!(append(&[&file[..], &[4]].concat()), Err(true));
+    assert_eq!(append(&[&file[..], &[4, 0]].concat()), Err(true));
+    assert_eq!(append(&[&file[..], &[4]].concat()), Ok(())); // as a repair leaves a torn frame
     assert_eq!(append(&[&file[..], b"LIST\x04\0\0\0INFO"].concat()), Err(true));
     assert_eq!(append(&file[..file.len() - 1]), Err(false));
     // A byte that isn't 0 is no pad byte after samples of one byte, and a sample is missing in front of one that is.
