@@ -1,6 +1,7 @@
 use crate::proved::{self, Recorder};
 use crate::{Error, Result, WavSpecEx};
 use std::io::{self, Seek, SeekFrom, Write};
+use std::mem;
 
 // A medium with a file on it, and what is remembered of the file.
 pub(crate) struct Medium<W> {
@@ -11,21 +12,24 @@ pub(crate) struct Medium<W> {
     pub(crate) cut: fn(&mut W, u64),
     pub(crate) width: usize, // the bytes of a sample, and of a frame
     pub(crate) frame: usize,
+    has_panicked: bool, // in an effect of a checkpoint
 }
 
 impl<W: Write + Seek> Medium<W> {
     pub(crate) fn new(writer: W, place: Option<u64>, recorder: Recorder, spec_ex: WavSpecEx) -> Medium<W> {
         let width = usize::from(spec_ex.bytes_per_sample);
         let frame = width * usize::from(spec_ex.spec.channels);
-        Medium { writer, place, recorder, sync: |_| Ok(()), cut: |_, _| (), width, frame }
+        Medium { writer, place, recorder, sync: |_| Ok(()), cut: |_, _| (), width, frame, has_panicked: false }
     }
 
     // Where so many samples go, after the checkpoint that a fault makes necessary.
     pub(crate) fn next_place(&mut self, samples: usize) -> Result<u64> {
-        if let Err(proved::Error::NeedsCheckpoint) = self.recorder.place(0) {
+        let mut place = self.recorder.place(samples as u64);
+        if let Err(proved::Error::NeedsCheckpoint) = place {
             self.checkpoint()?;
+            place = self.recorder.place(samples as u64);
         }
-        Ok(self.recorder.place(samples as u64)?)
+        Ok(place?)
     }
 
     // Writes whole frames. `count` becomes how many of their bytes count: all, or after a fault those of the frames
@@ -40,7 +44,9 @@ impl<W: Write + Seek> Medium<W> {
             *count = if is_block { 0 } else { self.counting(*count) };
         }
         self.recorder.wrote((*count / self.width) as u64, true)?;
-        self.recorder.wrote(0, result.is_ok())?;
+        if result.is_err() {
+            self.recorder.wrote(0, false)?;
+        }
         Ok(result?)
     }
 
@@ -54,18 +60,20 @@ impl<W: Write + Seek> Medium<W> {
 
     // Writes the sizes that count all samples that are written.
     pub(crate) fn checkpoint(&mut self) -> Result<()> {
-        let (mut recorder, mut result) = (self.recorder, Ok(()));
+        if mem::take(&mut self.has_panicked) {
+            let _ = self.recorder.next_effect(false);
+        }
+        let mut result = Ok(());
         loop {
-            let next = recorder.next_effect(result.is_ok());
-            self.recorder = recorder;
-            match next {
+            match self.recorder.next_effect(result.is_ok()) {
                 Ok(None) => return Ok(()),
                 Ok(Some(effect)) => {
-                    let _ = self.recorder.next_effect(false); // If the medium panics the effect has failed.
+                    self.has_panicked = true; // unless it returns
                     result = match effect.is_sync() {
                         true => (self.sync)(&mut self.writer),
                         false => self.write_at(effect.place(), effect.bytes(), &mut 0),
                     };
+                    self.has_panicked = false;
                 }
                 Err(error) => return Err(result.err().map_or(error.into(), Error::IoError)),
             }

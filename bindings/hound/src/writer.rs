@@ -177,9 +177,10 @@ impl<W: Write + Seek> WavWriter<W> {
 
     /// The same, with containers of another width.
     pub fn new_with_spec_ex(mut writer: W, spec_ex: WavSpecEx) -> Result<WavWriter<W>> {
-        let (header, recorder) = beginning(spec_ex)?;
-        writer.write_all(&header)?;
-        Ok(WavWriter::at(writer, Some(header.len() as u64), spec_ex, recorder))
+        let (mut header, recorder) = ([0; 68], Recorder::begin(&spec_ex.into())?);
+        let length = proved::header_to(&spec_ex.into(), 0, &mut header)?;
+        writer.write_all(&header[..length])?;
+        Ok(WavWriter::at(writer, Some(length as u64), spec_ex, recorder))
     }
 
     fn at(writer: W, place: Option<u64>, spec_ex: WavSpecEx, recorder: Recorder) -> WavWriter<W> {
@@ -337,7 +338,7 @@ impl WavWriter<io::BufWriter<fs::File>> {
     // Writes the header of a new file, which isn't opened if the spec can't be written.
     fn over(open: impl FnOnce() -> io::Result<fs::File>, spec: WavSpec, is_durable: bool) -> Result<WavWriter<io::BufWriter<fs::File>>> {
         let spec_ex = spec.with_default_width();
-        let (header, recorder) = beginning(spec_ex)?;
+        let (header, recorder) = (proved::header(&spec_ex.into(), 0)?, Recorder::begin(&spec_ex.into())?);
         let mut file = open()?;
         file.write_all(&header)?;
         if is_durable {
@@ -374,11 +375,6 @@ impl WavWriter<io::BufWriter<fs::File>> {
         }
         writer
     }
-}
-
-// The header of a new file, and its recorder, if the spec can be written.
-fn beginning(spec_ex: WavSpecEx) -> Result<(Vec<u8>, Recorder)> {
-    Ok((proved::header(&spec_ex.into(), 0)?, Recorder::begin(&spec_ex.into())?))
 }
 
 // The recorder of a file that is appended to. After one that lacks samples which its header counts, others would make

@@ -609,10 +609,16 @@ pub fn size(spec: &Spec, samples: u64) -> Result<usize> {
 /// The header of the file of so many samples: 44 or 68 bytes.
 pub fn header(spec: &Spec, samples: u64) -> Result<Vec<u8>> {
     let mut header = vec![0; 68];
-    // SAFETY: as above.
-    let length = checked(unsafe { c::hound_header(&spec.to_c(), samples, header.as_mut_ptr(), header.len()) })?;
+    let length = header_to(spec, samples, &mut header)?;
     header.truncate(length);
     Ok(header)
+}
+
+/// Writes the header of the file of so many samples to the front of `out`, and returns its length. `NoRoom` is returned
+/// where `out` is shorter.
+pub fn header_to(spec: &Spec, samples: u64, out: &mut [u8]) -> Result<usize> {
+    // SAFETY: as above.
+    checked(unsafe { c::hound_header(&spec.to_c(), samples, out.as_mut_ptr(), out.len()) })
 }
 
 /// The RIFF size, which is at byte 4 of a file, and the data length, which is in the four bytes before
