@@ -55,7 +55,7 @@ impl<W: Write + Seek> Core<W> {
             self.spill()?;
             // The buffer grows, since most of it is of no use for a short file. At the end of the longest file samples
             // are buffered one by one; where none has room the buffer is empty.
-            let mut room = (2 * self.buffer.capacity()).max(BLOCK / 32).min(BLOCK);
+            let mut room = (2 * self.buffer.capacity()).clamp(BLOCK / 32, BLOCK);
             if self.find_room(room).is_err() {
                 self.buffer.clear();
                 self.find_room(1)?;
