@@ -85,13 +85,15 @@ impl<W: Write + Seek> Medium<W> {
         if self.place.take() != Some(place) {
             self.writer.seek(SeekFrom::Start(place))?;
         }
-        while *count < bytes.len() {
-            match self.writer.write(&bytes[*count..]) {
+        let mut rest = bytes;
+        while !rest.is_empty() {
+            match self.writer.write(rest) {
                 Ok(0) => return Err(io::ErrorKind::WriteZero.into()),
-                Ok(more) => *count += more,
+                Ok(more) => rest = &rest[more..],
                 Err(error) if error.kind() == io::ErrorKind::Interrupted => {}
                 Err(error) => return Err(error),
             }
+            *count = bytes.len() - rest.len();
         }
         self.place = Some(place + bytes.len() as u64);
         Ok(())
