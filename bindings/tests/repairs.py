@@ -216,7 +216,7 @@ def traced(program, path, before, how, *options):
     leave(path, before)
     log = path + ".log"
     # Rust takes no notice of these where they fail: the sizes, the flags and the end of a file.
-    options = ["-e", "trace=!statx,fcntl,close", *options]
+    options = ["-e", "trace=!statx,fcntl,close,flock", *options]
     words = ["strace", "-qq", "-xx", "-o", log, "-P", path, *options, program, path, *WAYS[how]]
     ran = subprocess.run(words, stdout=subprocess.PIPE, stderr=subprocess.PIPE)
     said = contents_of(log).decode()
