@@ -131,11 +131,11 @@ typedef struct {
     uint64_t place;  /* where in the file the bytes begin that are asked for */
     hound_spec spec;
     uint32_t length; /* how many they are: at most HOUND_WALK_BYTES */
-    uint32_t taken, part, fmt_length;
+    uint32_t taken, part, fmt_length, unused;
 } hound_walk;
 
 enum { HOUND_WALK_BYTES = 40 };
-#define HOUND_WALK_BEGIN {0, {0, 0, 0, 0, 0}, 12, 0, 0, 0}
+#define HOUND_WALK_BEGIN {0, {0, 0, 0, 0, 0}, 12, 0, 0, 0, 0}
 
 /* Takes the bytes that the walk asks for, fewer only where the file ends; bytes past `walk->length` are
    ignored. Returns 1 if the walk asks for other bytes, which come after these; 0 if the data begin after
@@ -233,6 +233,7 @@ typedef struct {
     uint32_t data_length; /* how many bytes of samples are written */
     uint32_t number;      /* the rest is for the calls */
     uint16_t bytes_per_sample, condition;
+    uint32_t unused;
 } hound_recorder;
 
 /* What a program does to its file: it writes `length` of `bytes` at `place`, or, if `length` is 0, syncs it.
@@ -302,11 +303,18 @@ static inline const char *hound_error_text(int64_t code) {
 
 #ifdef __cplusplus
 }
+#endif
+/* The layout that the library has: where a compiler has another one, a line below is its error. C99 and C++98 have no
+   static assertion: there an array of -1 elements is one. */
+#if defined(__cplusplus) && __cplusplus >= 201103L
 #define HOUND_ASSERT(condition) static_assert(condition, #condition)
 #elif defined(__STDC_VERSION__) && __STDC_VERSION__ >= 201112L
 #define HOUND_ASSERT(condition) _Static_assert(condition, #condition)
+#else
+#define HOUND_NAMED(line) hound_assertion_##line
+#define HOUND_ASSERT_AT(line, condition) typedef char HOUND_NAMED(line)[(condition) ? 1 : -1]
+#define HOUND_ASSERT(condition) HOUND_ASSERT_AT(__LINE__, condition)
 #endif
-#if defined(HOUND_ASSERT) && (!defined(__cplusplus) || __cplusplus >= 201103L)
 HOUND_ASSERT(sizeof(float) == 4);
 HOUND_ASSERT(sizeof(hound_spec) == 12 && offsetof(hound_spec, channels) == 4
              && offsetof(hound_spec, bits_per_sample) == 6
@@ -315,13 +323,14 @@ HOUND_ASSERT(sizeof(hound_info_t) == 24 && offsetof(hound_info_t, samples) == 12
              && offsetof(hound_info_t, data_start) == 16);
 HOUND_ASSERT(sizeof(hound_walk) == 40 && offsetof(hound_walk, spec) == 8 && offsetof(hound_walk, length) == 20
              && offsetof(hound_walk, taken) == 24 && offsetof(hound_walk, part) == 28
-             && offsetof(hound_walk, fmt_length) == 32);
+             && offsetof(hound_walk, fmt_length) == 32 && offsetof(hound_walk, unused) == 36);
 HOUND_ASSERT(sizeof(hound_repair_t) == 24 && offsetof(hound_repair_t, frames) == 12
              && offsetof(hound_repair_t, left_over) == 16 && offsetof(hound_repair_t, state) == 20);
 HOUND_ASSERT(sizeof(hound_recorder) == 24 && offsetof(hound_recorder, data_length) == 8
              && offsetof(hound_recorder, number) == 12 && offsetof(hound_recorder, bytes_per_sample) == 16
-             && offsetof(hound_recorder, condition) == 18);
+             && offsetof(hound_recorder, condition) == 18 && offsetof(hound_recorder, unused) == 20);
 HOUND_ASSERT(sizeof(hound_effect) == 16 && offsetof(hound_effect, length) == 8 && offsetof(hound_effect, bytes) == 12);
-#endif
 #undef HOUND_ASSERT
+#undef HOUND_ASSERT_AT
+#undef HOUND_NAMED
 #endif

@@ -2,9 +2,10 @@
    and a missing pad byte is added. It prints how the file was found. A file that is whole, or in which chunks follow
    the data, is only read; with --to-end these chunks are taken for samples, too. Copy the file first if it is the only
    one: some recorders leave older sound at the end, which then counts. Each step is synced: the file as it was found,
-   the data length, the pad byte, and last the RIFF size. After a kill or an error the file can be repaired again.
+   the data length, the pad byte, and last the RIFF size. After a kill or an error the file can be repaired again. A file
+   that a recorder has locked (flock), as record.c does, is rejected.
      cc -Ibindings/c bindings/c/repair.c bindings/lib/x86_64-linux/libhound_c.a -o repair && ./repair take.wav */
-#define _DEFAULT_SOURCE
+#define _GNU_SOURCE
 #define _FILE_OFFSET_BITS 64
 #include "hound.h"
 #include <errno.h>
@@ -13,6 +14,7 @@
 #include <stdio.h>
 #include <stdlib.h>
 #include <string.h>
+#include <sys/file.h>
 #include <sys/mman.h>
 #include <sys/stat.h>
 #include <unistd.h>
@@ -41,6 +43,7 @@ int main(int argc, char **argv) {
     if (argc != 2 + is_to_end) stop("usage: repair FILE [--to-end]");
     struct stat about = {0};
     if ((file = open(argv[1], O_RDWR)) < 0 || fstat(file, &about) < 0) stop(strerror(errno));
+    if (flock(file, LOCK_EX | LOCK_NB) < 0 && errno == EWOULDBLOCK) stop("another program records to this file or repairs it");
 
     /* The file doesn't change with this memory. One that lacks a pad byte has an odd length, so its last page has room. */
     size_t used = (size_t)about.st_size;

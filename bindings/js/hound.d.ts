@@ -1,4 +1,4 @@
-/** A file; of a Blob only what is needed is read. */
+/** A file, which must not change before a call over it has ended. Of a Blob only what is needed is read, when it is. */
 export type WavFile = Uint8Array | Blob;
 
 /** The arrays of samples, by the names of their types. Integers are signed at every width, also at 8 bits. */
@@ -76,7 +76,8 @@ export function write(samples: Samples, format: Format): Promise<Uint8Array>;
 
 /**
  * Returns the file with whole frames appended after the samples that its header counts. A recording that was cut off is
- * an error, and so are chunks or a tag after the data, unless they may be overwritten.
+ * an error, and so are chunks or a tag after the data, unless they may be overwritten. The samples are those of the call.
+ * A Uint8Array is copied by each call: append many blocks to a Blob, of which no byte is copied.
  */
 export function append(file: Uint8Array, samples: Samples, options?: { overwrite?: boolean }): Promise<Uint8Array>;
 export function append(file: Blob, samples: Samples, options?: { overwrite?: boolean }): Promise<Blob>;
@@ -88,6 +89,15 @@ export function findDamage(file: WavFile): Promise<Damage>;
  * Repairs a file whose recording was cut off, and returns how it was found and the repaired file, in which only the two
  * sizes and a missing pad byte differ. A file that is whole, or that chunks or a tag follow, is returned as it is; with
  * `toEnd` all that follows the header of the data is taken for samples, also what looks like chunks.
+ *
+ * A Blob of Node's `openAsBlob` is read when the result is: don't write that to the same path. `repairFile` does it.
  */
 export function repair(file: Uint8Array, options?: { toEnd?: boolean }): Promise<Damage & { file: Uint8Array }>;
 export function repair(file: Blob, options?: { toEnd?: boolean }): Promise<Damage & { file: Blob }>;
+
+/**
+ * Repairs a file at a path in place, in Node, and returns how it was found. Each step is synced: the file as it was found,
+ * the data length, a missing pad byte, and last the RIFF size, so it can be repaired again after an error. Node has no
+ * locks: no other program may write the file meanwhile.
+ */
+export function repairFile(path: string | URL, options?: { toEnd?: boolean }): Promise<Damage>;

@@ -1,7 +1,7 @@
 // WAV files, read, written, appended to and repaired by proved code: the exports of crates/hound_c in WebAssembly.
 //
 // A file is a Uint8Array or a Blob, of which only what is needed is read. Samples are interleaved typed arrays. No call
-// changes its arguments, and nobody else may until its promise is settled.
+// changes its arguments. A file must not change before the promise of a call over it is settled; samples may.
 import { module, wideModule } from "./module.js";
 
 // Each error, its code in hound.h without the sign, and its sentence there; from 101 on those of this package.
@@ -129,12 +129,15 @@ const partOf = (file, from, to) => file instanceof Blob ? file.slice(from, to) :
 
 async function bytesOf(file, from, to) {
   const part = partOf(file, from, to);
-  return part instanceof Blob ? new Uint8Array(await part.arrayBuffer()) : part;
+  return file instanceof Blob ? new Uint8Array(await part.arrayBuffer()) : part;
 }
+
+/** A Blob of these parts. */
+const blobOf = (parts) => new Blob(parts, { type: "audio/wav" });
 
 /** A file of these parts, of the kind that a file is. */
 function joined(file, parts) {
-  if (file instanceof Blob) return new Blob(parts, { type: "audio/wav" });
+  if (file instanceof Blob) return blobOf(parts);
   const whole = new Uint8Array(parts.reduce((sum, part) => sum + part.length, 0));
   let place = 0;
   for (const part of parts) {
@@ -259,6 +262,9 @@ const STATES = ["whole", "cutOff", "hasChunksAfterData"];
 const MENDED = ["DATA_LENGTH", "FRAME_LENGTH"].map((name) => -ERRORS[name][0]);
 const isPrintable = (byte) => byte >= 32 && byte <= 126;
 
+/** What `repair` writes into a file whose recording was cut off: bytes at places, in their order. */
+const repairs = (sizes, pad, dataStart, size) => [[sizes.slice(4), dataStart - 4], [pad, size], [sizes.slice(0, 4), 4]];
+
 /** Makes memory for a file and a pad byte, of 64 bits where 32 are too few. Its pages cost nothing until something is put
     there. */
 async function memoryFor(size) {
@@ -330,15 +336,95 @@ export function findDamage(file) {
  * `toEnd` all that follows the header of the data is taken for samples, also what looks like chunks.
  */
 export function repair(file, { toEnd = false } = {}) {
+  return repairBy(file, toEnd, (found, { sizes, pad, dataStart, size }) => {
+    return { ...found, file: found.state === "cutOff" ? withSizes(file, dataStart, sizes, size, pad) : file };
+  });
+}
+
+/** Repairs a file in memory, and calls `use` with what was found, and with the sizes and the pad byte that mend it. */
+function repairBy(file, toEnd, use) {
   return lookAt(file, (memory, size, dataStart) => {
     const call = toEnd ? "repair_to_end" : "repair";
     const length = checked(memory.call(call, memory.at(FIRST), size + 1, size, memory.at(FOUND)));
-    const found = foundIn(memory);
-    if (found.state !== "cutOff") return { ...found, file };
     const sizes = [4, dataStart - 4].flatMap((place) => [...memory.bytes.subarray(FIRST + place, FIRST + place + 4)]);
     const pad = memory.bytes.slice(FIRST + size, FIRST + length);
-    return { ...found, file: withSizes(file, dataStart, Uint8Array.from(sizes), size, pad) };
+    return use(foundIn(memory), { sizes: Uint8Array.from(sizes), pad, dataStart, size });
   });
+}
+
+/** A file that is open in Node, as a Blob of which parts are read. */
+class OpenFile extends Blob {
+  #handle;
+  #size;
+
+  constructor(handle, size) {
+    super([]);
+    this.#handle = handle;
+    this.#size = size;
+  }
+
+  get size() {
+    return this.#size;
+  }
+
+  slice(from, to) {
+    return { arrayBuffer: () => this.#read(Math.min(from, this.#size), Math.min(to, this.#size)) };
+  }
+
+  async #read(from, to) {
+    const bytes = new Uint8Array(to - from);
+    for (let count = 0; count < bytes.length;) {
+      const { bytesRead } = await this.#handle.read(bytes, count, bytes.length - count, from + count);
+      if (bytesRead === 0) throw new Error("the file has become shorter");
+      count += bytesRead;
+    }
+    return bytes.buffer;
+  }
+}
+
+async function writeAt(handle, bytes, place) {
+  for (let count = 0; count < bytes.length;) {
+    const { bytesWritten } = await handle.write(bytes, count, bytes.length - count, place + count);
+    if (bytesWritten === 0) throw new Error("nothing could be written");
+    count += bytesWritten;
+  }
+}
+
+/**
+ * Repairs a file at a path in place, in Node, and returns how it was found. Each step is synced: the file as it was found,
+ * the data length, a missing pad byte, and last the RIFF size.
+ */
+export async function repairFile(path, { toEnd = false } = {}) {
+  const { open } = await import(/* webpackIgnore: true */ "node:fs/promises");
+  const handle = await open(path, "r+");
+  try {
+    const { size } = await handle.stat();
+    return await repairBy(new OpenFile(handle, size), toEnd, async (found, { sizes, pad, dataStart }) => {
+      if (found.state !== "cutOff") return found;
+      await handle.sync();
+      for (const [bytes, place] of repairs(sizes, pad, dataStart, size)) {
+        await writeAt(handle, bytes, place);
+        await handle.sync();
+      }
+      return found;
+    });
+  } finally {
+    await handle.close();
+  }
+}
+
+// The files that `append` has made: their parts, which an append to one of them takes over. A Blob of a Blob of a Blob ..
+// can't be read at some depth, so parts of about one length are joined, and a file of many blocks has few of them.
+const made = new WeakMap();
+
+/** The Blob of a file with these data appended at a place, with these sizes. */
+function longerBlob(file, dataStart, sizes, end, data, pad) {
+  const before = made.get(file)?.before ?? [partOf(file, 0, 4), partOf(file, 8, dataStart - 4)];
+  const parts = [...made.get(file)?.parts ?? [partOf(file, dataStart, end)], new Blob([data])];
+  while (parts.length > 1 && parts.at(-2).size < 2 * parts.at(-1).size) parts.push(new Blob(parts.splice(-2)));
+  const longer = blobOf([before[0], sizes.slice(0, 4), before[1], sizes.slice(4), ...parts, pad]);
+  made.set(longer, { before, parts });
+  return longer;
 }
 
 /**
@@ -347,16 +433,17 @@ export function repair(file, { toEnd = false } = {}) {
  * A recording that was cut off is an error, and so are chunks or a tag after the data, unless they may be overwritten.
  */
 export async function append(file, samples, { overwrite = false } = {}) {
-  const type = typeOf(samples), length = lengthOf(file);
+  const type = typeOf(samples), length = lengthOf(file), given = samples.slice();
   const { code, spec, samples: counted, dataStart } = await walkOver(file);
   const dataLength = code === 0 ? counted * spec.bytesPerSample : 0, end = dataStart + dataLength;
-  if (code !== 0 || length < end || length > end + dataLength % 2) {
+  if (code !== 0 || length < end || length > end + dataLength % 2 || (await bytesOf(file, end, length)).some(Boolean)) {
     const { state } = await findDamage(file);
     if (state === "cutOff") throw new HoundError("CUT_OFF");
     checked(code);
     if (state === "hasChunksAfterData" && !overwrite) throw new HoundError("CHUNKS_AFTER_DATA");
   }
-  const data = encoded(type, samples, spec);
-  const size = checked(shared.call("sizes", shared.at(SPEC), dataStart, counted + samples.length, shared.at(SIZES), 8));
-  return withSizes(file, dataStart, shared.bytes.slice(SIZES, SIZES + 8), end, data, new Uint8Array(size - end - data.length));
+  const data = encoded(type, given, spec);
+  const size = checked(shared.call("sizes", shared.at(SPEC), dataStart, counted + given.length, shared.at(SIZES), 8));
+  const sizes = shared.bytes.slice(SIZES, SIZES + 8), pad = new Uint8Array(size - end - data.length);
+  return file instanceof Blob ? longerBlob(file, dataStart, sizes, end, data, pad) : withSizes(file, dataStart, sizes, end, data, pad);
 }

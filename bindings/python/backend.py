@@ -1,6 +1,7 @@
 """Builds the wheel of this folder with Python and a C compiler alone, so that `pip install` needs no
 network: the static library that ../lib has for this processor, or that the folder HOUND_C_LIB has,
-becomes the shared library of the package."""
+becomes the shared library of the package. Where ../lib has none, or with HOUND_C_SOURCE in the
+environment, ../lib/hound_c.c is compiled."""
 import base64
 import hashlib
 import os
@@ -16,12 +17,19 @@ CARRIED = os.path.join(HERE, "..", "lib", f"{platform.machine()}-{platform.syste
 
 def shared_library(folder):
     """Makes the shared library in a folder, and returns its path."""
-    archive = os.path.join(os.environ.get("HOUND_C_LIB") or CARRIED, "libhound_c.a")
-    if not os.path.exists(archive):
-        raise SystemExit(f"{archive} isn't there: bindings/lib has the library for Linux on x86_64 and aarch64")
-    library = os.path.join(folder, "libhound_c.so")
-    parts = ["-shared", "-Wl,--whole-archive", archive, "-Wl,--no-whole-archive", "-o", library]
-    subprocess.run([os.environ.get("CC", "cc"), *parts], check=True)
+    named, library = os.environ.get("HOUND_C_LIB"), os.path.join(folder, "libhound_c.so")
+    archive = os.path.join(named or CARRIED, "libhound_c.a")
+    if not named and (os.environ.get("HOUND_C_SOURCE") or not os.path.exists(archive)):
+        parts = ["-std=c99", "-O3", "-fPIC", "-I", os.path.join(HERE, "..", "c"), os.path.join(HERE, "..", "lib", "hound_c.c")]
+    elif os.path.exists(archive):
+        parts = ["-Wl,--whole-archive", archive, "-Wl,--no-whole-archive"]
+    else:
+        raise SystemExit(f"{archive} isn't there: HOUND_C_LIB has to name the folder that holds it")
+    compiler = os.environ.get("CC", "cc")
+    try:
+        subprocess.run([*compiler.split(), "-shared", *parts, "-o", library], check=True)
+    except FileNotFoundError:
+        raise SystemExit(f"no C compiler is there ({compiler}): set CC to one") from None
     return library
 
 

@@ -1,24 +1,90 @@
-use std::path::PathBuf;
-use std::{env, fs, process};
+//! Links the library that bindings/lib has for the target, or that the folder HOUND_C_LIB has. Where there is none, or with
+//! HOUND_C_SOURCE in the environment, it compiles hound_c.c.
+use std::path::{Path, PathBuf};
+use std::process::{self, Command};
+use std::{env, fs, io};
+
+fn variable(name: &str) -> String {
+    println!("cargo:rerun-if-env-changed={name}");
+    env::var(name).unwrap_or_default()
+}
+
+fn fail(why: String) -> ! {
+    eprintln!("{why}");
+    process::exit(1)
+}
+
+fn run(command: &mut Command) -> io::Result<()> {
+    match command.status()? {
+        status if status.success() => Ok(()),
+        status => fail(format!("{command:?} failed: {status}")),
+    }
+}
+
+// The C compilers for the target, in the order in which they are tried: what the environment names, as the crate cc has it,
+// and what is usual.
+fn compilers(target: &str) -> Vec<String> {
+    let names = [format!("CC_{}", target.replace('-', "_")), format!("CC_{target}"), "TARGET_CC".to_string(), "CC".to_string()];
+    if let Some(named) = names.iter().map(|name| variable(name)).find(|named| !named.is_empty()) {
+        return vec![named];
+    }
+    let parts: Vec<_> = target.split('-').collect();
+    let usual = match variable("HOST") {
+        host if host == target => vec!["cc", "gcc", "clang", "cl"],
+        host if parts[0] == "i686" && host.replacen("x86_64", "i686", 1) == target => vec!["cc -m32"],
+        _ if target.ends_with("windows-gnu") => return vec![format!("{}-w64-mingw32-gcc", parts[0])],
+        _ => return vec![format!("{}-linux-{}-gcc", parts[0].replace("gc", ""), parts[parts.len() - 1])],
+    };
+    usual.into_iter().map(str::to_string).collect()
+}
+
+// Compiles hound_c.c to a static library in a folder. An error is that of a program that isn't there.
+fn compile(compiler: &str, bindings: &Path, folder: &Path) -> io::Result<()> {
+    let (source, include) = (bindings.join("lib/hound_c.c"), bindings.join("c"));
+    let mut words = compiler.split_whitespace();
+    let program = words.next().unwrap_or_default();
+    let mut command = Command::new(program);
+    command.args(words).arg("-I").arg(include).arg(&source).current_dir(folder);
+    if program.ends_with("cl") || program.ends_with("cl.exe") {
+        run(command.args(["/nologo", "/O2", "/c"]))?;
+        return run(Command::new("lib").args(["/nologo", "/OUT:hound_c.lib", "hound_c.obj"]).current_dir(folder));
+    }
+    if variable("CARGO_CFG_TARGET_ARCH") == "x86" {
+        command.args(["-msse2", "-mfpmath=sse"]);
+    }
+    if variable("CARGO_CFG_TARGET_OS") != "windows" {
+        command.arg("-fPIC");
+    }
+    run(command.args(["-std=c99", "-O3", "-c", "-o", "hound_c.o"]))?;
+    let archiver = program.strip_suffix("-gcc").map_or("ar".to_string(), |prefix| format!("{prefix}-ar"));
+    run(Command::new(archiver).args(["crs", "libhound_c.a", "hound_c.o"]).current_dir(folder))
+}
+
+fn compiled(bindings: &Path) -> PathBuf {
+    for part in ["lib/hound_c.c", "c/hound.h"] {
+        println!("cargo:rerun-if-changed={}", bindings.join(part).display());
+    }
+    let (target, folder) = (variable("TARGET"), PathBuf::from(variable("OUT_DIR")));
+    let tried = compilers(&target);
+    if !tried.iter().any(|compiler| compile(compiler, bindings, &folder).is_ok()) {
+        fail(format!("bindings/lib has no library for {target}, and no C compiler for it is there ({}): set CC to one", tried.join(", ")));
+    }
+    folder
+}
 
 fn main() {
-    let variable = |name| env::var(name).unwrap();
-    let carried = PathBuf::from(variable("CARGO_MANIFEST_DIR")).join(format!(
-        "../lib/{}-{}",
-        variable("CARGO_CFG_TARGET_ARCH"),
-        variable("CARGO_CFG_TARGET_OS")
-    ));
-    let archive = env::var_os("HOUND_C_LIB").filter(|folder| !folder.is_empty()).map_or(carried, PathBuf::from).join("libhound_c.a");
-    let archive = fs::canonicalize(&archive).unwrap_or_else(|_| {
-        eprintln!(
-            "{} isn't there: bindings/lib has the library for Linux on x86_64 and aarch64; \
-             set HOUND_C_LIB to the absolute path of the folder that holds it",
-            archive.display()
-        );
-        process::exit(1)
-    });
-    println!("cargo:rerun-if-env-changed=HOUND_C_LIB");
-    println!("cargo:rerun-if-changed={}", archive.display());
-    println!("cargo:rustc-link-search=native={}", archive.parent().unwrap().display());
+    let bindings = Path::new(&variable("CARGO_MANIFEST_DIR")).join("..");
+    let carried = bindings.join(format!("lib/{}-{}", variable("CARGO_CFG_TARGET_ARCH"), variable("CARGO_CFG_TARGET_OS")));
+    let (named, from_source) = (variable("HOUND_C_LIB"), variable("HOUND_C_SOURCE"));
+    let folder = if named.is_empty() && (!from_source.is_empty() || !carried.join("libhound_c.a").exists()) {
+        compiled(&bindings)
+    } else {
+        let archive = if named.is_empty() { carried } else { PathBuf::from(named) }.join("libhound_c.a");
+        let archive = fs::canonicalize(&archive)
+            .unwrap_or_else(|_| fail(format!("{} isn't there: set HOUND_C_LIB to the absolute path of the folder that holds it", archive.display())));
+        println!("cargo:rerun-if-changed={}", archive.display());
+        archive.parent().unwrap_or(Path::new("/")).to_path_buf()
+    };
+    println!("cargo:rustc-link-search=native={}", folder.display());
     println!("cargo:rustc-link-lib=static=hound_c");
 }

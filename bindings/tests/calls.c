@@ -511,6 +511,7 @@ static void repairs_to_the_end(void) {
     whole(file, 56, 44, 11, "odd data that were repaired to the end");
 }
 
+#if SIZE_MAX > 0xffffffff
 /* The RIFF size counts all bytes but the first 8, in 32 bits: files of the most samples, of one more, and of two more
    than there are. */
 static void sizes_of_32_bits(char type, int kind, uint8_t *file, const void *silence, size_t room) {
@@ -533,10 +534,12 @@ static void sizes_of_32_bits(char type, int kind, uint8_t *file, const void *sil
     memset(file, 0, start);
     memset(file + length - width, 0, width);
 }
+#endif
 
 static void long_files(void) {
     hound_spec bytes = spec_of(0, 1); /* of one byte, and a pad byte after an odd number of them */
     must(hound_size(&bytes, 4294967258) == 4294967302 && hound_size(&bytes, 4294967259) == HOUND_TOO_LONG, "the longest file of 8 bits");
+#if SIZE_MAX > 0xffffffff
     size_t room = ((size_t)1 << 32) + 4096;
     uint8_t *file = mmap(NULL, room, PROT_READ | PROT_WRITE, MAP_PRIVATE | MAP_ANONYMOUS | MAP_NORESERVE, -1, 0);
     void *silence = mmap(NULL, room, PROT_READ, MAP_PRIVATE | MAP_ANONYMOUS | MAP_NORESERVE, -1, 0);
@@ -553,6 +556,7 @@ static void long_files(void) {
     must(hound_repair_to_end(file, room, 4294967303, &found) == HOUND_TOO_LONG && hound_repair_to_end(file, room, 4294967302, &found) == 4294967302, "the longest file that is repaired");
     munmap(file, room);
     munmap(silence, room);
+#endif
 }
 
 static void texts(void) {

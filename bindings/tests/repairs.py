@@ -5,6 +5,7 @@ killed or fails, and from these calls the states are built that a loss of power 
 versions have to be found.
 
 usage: repairs.py [cargo]     (with the package hound_bindings on the path, strace, and cc or cargo)"""
+import fcntl
 import itertools
 import os
 import re
@@ -51,6 +52,7 @@ WRONG = {
     "a short write isn't continued": ("if (more > 0) place += (size_t)more;", "if (more > 0) break;"),
     "no message where the disk can't be read": ("signal(SIGBUS, stop_at_fault)", "(void)stop_at_fault"),
     "an error ends with status 0": ('why), 1)); }', 'why), 0)); }'),
+    "no lock": ("flock(file, LOCK_EX | LOCK_NB) < 0", "0"),
 }
 if IN_CARGO:
     LENGTH, PAD, RIFF_SIZE = "data_start - 4..data_start", "length..found.length", "4..8"
@@ -215,7 +217,8 @@ def traced(program, path, before, how, *options):
     writes, and all that strace says."""
     leave(path, before)
     log = path + ".log"
-    # Rust takes no notice of these where they fail: the sizes, the flags and the end of a file.
+    # Rust takes no notice of these where they fail: the sizes, the flags and the end of a file. A lock that can't be had
+    # since there are none is no error, either.
     options = ["-e", "trace=!statx,fcntl,close,flock", *options]
     words = ["strace", "-qq", "-xx", "-o", log, "-P", path, *options, program, path, *WAYS[how]]
     ran = subprocess.run(words, stdout=subprocess.PIPE, stderr=subprocess.PIPE)
@@ -304,11 +307,21 @@ def check_losses(program, path, how, before):
     return states
 
 
+def check_lock(program, path):
+    """A file that a recorder has locked is rejected, and stays as it is."""
+    leave(path, CUT_OFF)
+    with open(path, "rb") as file:
+        fcntl.flock(file, fcntl.LOCK_EX)
+        if not is_error(run(program, path)) or contents_of(path) != CUT_OFF:
+            raise Wrong("a locked file is repaired")
+
+
 def all_checks(program, path, is_short):
     """What was tried. The wrong versions need fewer files."""
     calls = sum(check_calls(program, path, how, before) for how, before in CALLED)
     losses = sum(check_losses(program, path, how, before) for how, before in CALLED)
     errors = check_errors(program, path)
+    check_lock(program, path)
     cut = list(cut_files())
     files = check_files(program, path, (("mend", data) for data in (cut[:500] if is_short else cut)))
     files += check_files(program, path, (("to_end", data) for data in cut[:: 9 if is_short else 3]))

@@ -142,7 +142,7 @@ def file_by_model(spec, data):
 
 def check_record(program):
     """Records PCM with checkpoints, and continues it after its header was set back, as by a kill: each file, and what is
-    printed. Half a frame at the end of the input isn't recorded."""
+    printed. A torn frame at the end of the input isn't recorded, and is an error."""
     some, count = random.Random(3), 0
     for bits, channels, every in [(bits, channels, every) for bits in (8, 16, 24, 32) for channels in (1, 2, 3) for every in (1, 7, 30000)]:
         spec = model.Spec(channels, 44100, bits, bits // 8, False)
@@ -152,12 +152,12 @@ def check_record(program):
         with tempfile.TemporaryDirectory() as folder:
             path, held = os.path.join(folder, "a.wav"), 0
             for piece, words in zip(pieces, ([], ["--append", "--durable"])):
-                run = subprocess.run([program, path, "44100", str(channels), str(bits), str(every), *words], input=piece + bytes(frame - 1), stdout=subprocess.PIPE)
+                run = subprocess.run([program, path, "44100", str(channels), str(bits), str(every), *words], input=piece + bytes(frame - 1), stdout=subprocess.PIPE, stderr=subprocess.PIPE)
                 said = [held + n for n in range(every, len(piece) // frame + 1, every)]
                 held += len(piece) // frame
                 lines = [b"%d" % (n * channels) for n in said] + [b"recorded %d samples" % (held * channels), b""]
                 with open(path, "r+b") as file:
-                    if file.read() != file_by_model(spec, data[: held * frame]) or run.returncode or run.stdout.split(b"\n") != lines:
+                    if file.read() != file_by_model(spec, data[: held * frame]) or run.returncode != (frame > 1) or run.stdout.split(b"\n") != lines:
                         sys.exit(f"rows: {program} records another file of {held} frames: {spec}, a checkpoint each {every}, {run}"[:600])
                     file.truncate(len(spec.header(0, 0)) + held * frame)  # no pad byte is there
                     file.seek(0)

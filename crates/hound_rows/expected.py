@@ -1127,8 +1127,8 @@ class Damage:
             raise Refused("Unsupported")
         self.start, frame = source.took, self.spec.channels * self.spec.width
         self.held = len(data) - self.start
-        # Whole frames of an odd length, as the length says, have a pad byte.
-        has_pad = length % 2 == 1 and length % frame == 0 and self.held == length + 1
+        # Whole frames of an odd length, as the length says, have a pad byte, which is 0.
+        has_pad = length % 2 == 1 and length % frame == 0 and self.held == length + 1 and data[-1] == 0
         self.frames, self.left = divmod(length if has_pad else self.held, frame)
         self.length = self.frames * frame
         self.size = self.start - 8 + self.length + self.length % 2

@@ -1,7 +1,10 @@
 // Files written, read, appended to and repaired, beside bytes that were made by hand from the format.
 import assert from "node:assert/strict";
 import { test } from "node:test";
-import { HoundError, append, findDamage, info, read, repair, write } from "../hound.js";
+import fs from "node:fs/promises";
+import os from "node:os";
+import path from "node:path";
+import { HoundError, append, findDamage, info, read, repair, repairFile, write } from "../hound.js";
 
 const text = (characters) => [...Buffer.from(characters, "latin1")];
 const u16 = (n) => [n & 255, n >> 8 & 255];
@@ -177,6 +180,47 @@ test("an append overwrites only what it may", async () => {
   for (const cut of [byHand([1, 0, 2, 0], { counted: 0 }), byHand([1, 0], { counted: 4 }), byHand([1, 0, 2, 0], { counted: 3 })]) {
     for (const overwrite of [false, true]) await fails(append(cut, one, { overwrite }), "CUT_OFF");
   }
+});
+
+test("a byte after odd data that isn't 0 is a sample, and nothing is appended over it", async () => {
+  for (const file of kinds(byHand([1, 2, 3], { bits: 8, after: [4] }))) await fails(append(file, Int8Array.of(5)), "CUT_OFF");
+});
+
+test("the samples that are appended are those of the call", async () => {
+  for (const file of kinds(byHand([1, 0]))) {
+    const samples = Int16Array.of(7, 8), longer = append(file, samples);
+    samples.fill(9);
+    assert.deepEqual(await read(await longer), Int16Array.of(1, 7, 8));
+  }
+});
+
+test("a Blob takes many appends, of which each copy can be read", async () => {
+  let file = new Blob([byHand([1], { bits: 8, after: [0] })]), middle;
+  for (let i = 0; i < 10000; i++) {
+    file = await append(file, Int8Array.of(i % 100, -(i % 100), 3));
+    if (i === 4999) middle = file;
+  }
+  const wanted = Int8Array.from([-127, ...Array.from({ length: 10000 }, (_, i) => [i % 100, -(i % 100), 3]).flat()]);
+  assert.deepEqual(await read(file, { type: "int8" }), wanted);
+  assert.equal((await repair(file)).state, "whole");
+  assert.deepEqual(await read(await append(middle, Int8Array.of(5)), { type: "int8" }), Int8Array.of(...wanted.subarray(0, 15001), 5));
+});
+
+test("a file at a path is repaired in place", async () => {
+  const folder = await fs.mkdtemp(path.join(os.tmpdir(), "hound-")), name = path.join(folder, "a.wav");
+  const whole = byHand([1, 2, 3], { bits: 8, after: [0] }), followed = byHand([1, 0], { after: LIST });
+  const odd = [[byHand([1, 2, 3], { bits: 8, counted: 0, riff: 36 }), "cutOff", whole], [whole, "whole", whole]];
+  const long = byHand(Array(3e6).fill(5), { channels: 2, counted: 0 }), chunks = [followed, "hasChunksAfterData", followed];
+  for (const [before, state, after] of [...odd, [long, "cutOff", byHand(Array(3e6).fill(5), { channels: 2 })], chunks]) {
+    await fs.writeFile(name, before);
+    assert.equal((await repairFile(name)).state, state);
+    assert.ok((await fs.readFile(name)).equals(after));
+  }
+  assert.equal((await repairFile(name, { toEnd: true })).frames, 1 + LIST.length / 2);
+  await fs.writeFile(name, "RIFX");
+  await fails(repairFile(name), "NO_RIFF_TAG");
+  await assert.rejects(repairFile(path.join(folder, "none.wav")), { code: "ENOENT" });
+  await fs.rm(folder, { recursive: true });
 });
 
 test("a header that counts more than there is", async () => {

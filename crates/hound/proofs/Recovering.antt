@@ -12,7 +12,7 @@ use Rattle.hound_medium.proofs.Overlays.{front_part}
 use Rattle.hound_walk.specs.{Head, IsSoundSpec}
 use Rattle.hound_sample.proofs.Joined.{length-concat}
 use Rattle.hound_repair.proofs.Joining.{AreWide, wide_front}
-use Rattle.hound_repair.proofs.Keeping.{stays_stored}
+use Rattle.hound_repair.proofs.Keeping.{no_pad_shown, stays_stored}
 use Rattle.hound_repair.specs.{held, IsNoPad, ReadsFrames, Repairs}
 use Rattle.hound_repair.specs.declared.sizes.Repair.{Repair}
 use Rattle.hound_repair.specs.declared.sizes.RepairState.TheVariants.{HasChunksAfterData}
@@ -243,4 +243,5 @@ module _ (s : WavSpecEx) (h : ℕ) (found : List (List ℕ)) (calls : List Call)
   none_lost looks cut mended found left repairs alone =
       let l = published_is_left cut.contents left in
       stays_stored looks cut mended found s (field (h - 4) cut.contents) h list repairs alone l.head
-      sound wide_list l.stored (no_pad cut.contents l.counts)
+      sound wide_list l.stored
+      (no_pad_shown s (field (h - 4) cut.contents) h cut.contents list (no_pad cut.contents l.counts))

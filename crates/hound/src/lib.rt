@@ -87,9 +87,9 @@ pub use hound_reader::{
     written_is_read,
 };
 pub use hound_repair::{
-    Repair, RepairState, a_half_mended_file_is_repaired, a_repair_keeps_stored_samples,
-    a_second_repair_writes_nothing, find_damage, find_damage_in_file, repair, repair_file,
-    repair_file_to_end, repair_to_end,
+    Repair, RepairState, a_half_mended_file_is_repaired, a_look_finds_what_a_repair_does,
+    a_repair_keeps_stored_samples, a_second_repair_writes_nothing, find_damage,
+    find_damage_in_file, repair, repair_file, repair_file_to_end, repair_to_end,
 };
 pub use hound_sample::{
     FloatBits, Sample, change_bits, float_to_int, i16s_are_kept, int_to_float, integers_come_back,

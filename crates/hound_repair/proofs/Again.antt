@@ -1,6 +1,7 @@
 -- A file that was repaired is whole.
 use Rattle.std.proofs.lemmas.Grind.{common_steps}
-use Rattle.std.proofs.Common.{◌≡◌, ◌⊎◌, ℕ, ◌+◌, ◌-◌, ◌*◌, ◌/◌, ◌%◌, ◌≤◌, Bool, true, IsTrue, ◌&&◌, List, length, drop, refl, sym, ap, ◌∙◌, subst, arith, length-append, length-drop}
+use Rattle.std.proofs.Common.{◌≡◌, ◌⊎◌, ℕ, ◌+◌, ◌-◌, ◌*◌, ◌/◌, ◌%◌, ◌≤◌, Bool, true, IsTrue, ◌&&◌, List, [], ◌∷◌, ◌++◌, inl, inr, length, drop, refl, sym, ap, ◌∙◌, subst, arith, length-append, length-drop}
+use Rattle.std.proofs.lemmas.List.{append-nil, drop-append-le}
 use Rattle.std.proofs.Math.Nat.{mul-div_cancel, mul-mod_left}
 use Rattle.std.proofs.lemmas.Nat.{div-add-mod'}
 use Rattle.hound_spec.specs.declared.spec.WavSpecEx.{WavSpecEx}
@@ -10,7 +11,7 @@ use Rattle.hound_walk.specs.{Head}
 use Rattle.hound_walk.proofs.Unique.{heads_agree}
 use Rattle.hound_writer.proofs.Heads.{head_behind, head_field, head_inside}
 use Rattle.hound_writer.specs.{field}
-use Rattle.hound_repair.specs.Held.{is_followed, are_right, data_held, ends_with_pad, frame_length, frames_held, held, mended, missing_pad}
+use Rattle.hound_repair.specs.Held.{is_followed, are_right, data_held, ends_with_pad, frame_length, frames_held, held, mended, missing_pad, shown_length, uncounted}
 use Rattle.hound_repair.specs.Repairing.{HasRightSizes, IsFoundAt, LeavesFor, Repairs, found_length, state_of}
 use Rattle.hound_repair.specs.declared.sizes.Repair.{Repair}
 use Rattle.hound_repair.specs.declared.sizes.RepairState.{RepairState}
@@ -24,6 +25,28 @@ pub held_cases : (f len n : ℕ)
 unfolding data_held ends_with_pad
 held_cases f len n = grind (arith, common_steps)
 
+-- a byte that isn't counted is a single one
+pub uncounted_cases : (bytes : List ℕ) → (uncounted bytes ≡ 0) ⊎ ((uncounted bytes ≡ 1) × (length bytes ≡ 1))
+unfolding uncounted
+uncounted_cases bytes = grind (arith, common_steps)
+
+-- a last byte of 0 is a pad byte
+counted_pad : (x : ℕ) (bytes : List ℕ) → uncounted (drop x (bytes ++ (0 ∷ []))) ≡ 0
+unfolding uncounted
+counted_pad x bytes = grind (arith, common_steps, length-drop, length-append)
+
+-- whatever the data length is, its last byte may be a pad byte, or all that is held is data
+pub by_last : (start : ℕ) (c : List ℕ)
+    → ((x : ℕ) → shown_length start x c ≡ x)
+    ⊎ ((f x : ℕ) → data_held f (shown_length start x c) (held start c) ≡ held start c)
+by_last start c =
+    let rest = drop start c in
+    let n = length rest in
+    elim (uncounted_cases (drop (n - 1) rest)) [
+      | inl zero ↦ inl (λ x. grind (arith, common_steps, uncounted_cases, length-drop, zero))
+      | inr one ↦ inr (λ f x. grind (arith, common_steps, uncounted_cases, length-drop, held_cases, one))
+    ]
+
 -- of mended contents the same frames are held
 pub frames_again : (f len n : ℕ) → 1 ≤ f
     → data_held f (data_held f len n / f * f)
@@ -33,23 +56,65 @@ unfolding data_held ends_with_pad
 frames_again f len n some = grind (arith, common_steps, mul-div_cancel, mul-mod_left, div-add-mod')
 
 -- the sizes that were put are right
-right_again : (s : WavSpecEx) (start len riff n frames : ℕ)
-    → len ≡ frames * frame_length s → riff ≡ riff_size start len → frames_held s len n ≡ frames
-    → are_right s start len riff n ≡ true
-right_again s start len riff n frames len_is riff_is held_is = grind (arith, common_steps)
+right_again : (s : WavSpecEx) (start len riff shown n frames : ℕ)
+    → len ≡ frames * frame_length s → riff ≡ riff_size start len → frames_held s shown n ≡ frames
+    → are_right s start len riff shown n ≡ true
+right_again s start len riff shown n frames len_is riff_is held_is = grind (arith, common_steps)
 
 -- how many bytes a mended file holds
 held_mended : (start n : ℕ) (c : List ℕ) → 20 ≤ start → start ≤ length c
     → held start (mended start n c) ≡ held start c + length (missing_pad n (held start c))
 held_mended start n c behind inside = grind (arith, common_steps, same_sizes, length-drop, length-append)
 
+-- a pad byte is 0, where one is missing
+pad_cases : (k n : ℕ) → (missing_pad k n ≡ []) ⊎ (missing_pad k n ≡ 0 ∷ [])
+pad_cases k n = grind (arith, common_steps)
+
+-- the data of a mended file, and a pad byte after them where it was missing
+rest_mended : (start n : ℕ) (c : List ℕ) → 20 ≤ start → start ≤ length c
+    → drop start (mended start n c) ≡ drop start c ++ missing_pad n (held start c)
+rest_mended start n c behind inside = grind (arith, common_steps, same_sizes, drop-append-le)
+
+-- of the same data the same frames are held, whatever the right length is written over
+frames_same_data : (f start len all : ℕ) (c : List ℕ) → 1 ≤ f
+    → all ≡ data_held f (shown_length start len c) (held start c) / f * f
+    → missing_pad all (held start c) ≡ []
+    → data_held f (shown_length start all c) (held start c) / f
+    ≡ data_held f (shown_length start len c) (held start c) / f
+frames_same_data f start len all c some all_is none =
+    let again = frames_again f (shown_length start len c) (held start c) some in
+    elim (by_last start c) [
+      | inl shown ↦ let same = shown all in grind (arith, common_steps, again, same, all_is, none)
+      | inr every ↦ ap (λ k. k / f) (every f all ∙ sym (every f len))
+    ]
+
 -- and that they are the frames that were found
 pub frames_mended : (looks : Bool) (contents : List ℕ) (found : Repair) (len start : ℕ)
     → IsFoundAt looks contents found len start → (found.state ≡ HasChunksAfterData → ⊥)
     → 1 ≤ frame_length found.spec_ex
-    → frames_held found.spec_ex (found_length found)
+    → frames_held found.spec_ex
+    (shown_length start (found_length found) (mended start (found_length found) contents))
     (held start (mended start (found_length found) contents)) ≡ found.frames
-frames_mended looks contents found len start at apart some = grind (arith, common_steps, length_of, held_mended, head_behind, head_inside, frames_again, frames_are)
+frames_mended looks contents found len start at apart some =
+    let s = found.spec_ex in
+    let f = frame_length s in
+    let all = found_length found in
+    let n = held start contents in
+    let all_is = length_of looks contents found len start at apart in
+    let frames = frames_are looks contents found len start at apart in
+    let rest = rest_mended start all contents (head_behind contents s len start at.head) (head_inside contents s len start at.head) in
+    let again = frames_again f (shown_length start len contents) n some in
+    elim (pad_cases all n) [
+      | inl none ↦
+          let same = rest ∙ ap (λ p. drop start contents ++ p) none ∙ append-nil (drop start contents) in
+          (λ i. data_held f (all + uncounted (drop all (same i))) (length (same i)) / f)
+          ∙ frames_same_data f start len all contents some all_is none ∙ sym frames
+      | inr pad ↦
+          let ends = rest ∙ ap (λ p. drop start contents ++ p) pad in
+          let shown = ap (λ l. uncounted (drop all l)) ends ∙ counted_pad all (drop start contents) in
+          let long = ap length ends ∙ length-append (drop start contents) (0 ∷ []) in
+          grind (arith, common_steps, again, shown, long, pad, all_is, frames)
+    ]
 
 module _ (looks again : Bool) (old mid next new : MediumState) (found other : Repair)
     (first : Repairs looks old found mid)
@@ -74,16 +139,16 @@ module _ (looks again : Bool) (old mid next new : MediumState) (found other : Re
   -- the same frames are held
   frames_same : (state : RepairState) → LeavesFor state found start old mid
       → (state ≡ HasChunksAfterData → ⊥)
-      → frames_held s all (held start mid.contents) ≡ found.frames
+      → frames_held s (shown_length start all mid.contents) (held start mid.contents) ≡ found.frames
   frames_same HasChunksAfterData leaves not = absurd (not refl)
   frames_same CutOff leaves not =
-      ap (λ c. frames_held s all (held start c)) leaves.0
+      ap (λ c. frames_held s (shown_length start all c) (held start c)) leaves.0
       ∙ frames_mended looks old.contents found first.len start first.is apart sound
   frames_same Whole leaves not =
       let says : all ≡ first.len =
       sym right.length_says ∙ ap (field (start - 4)) leaves.stays.contents
       ∙ head_field old.contents s first.len start first.is.head in
-      (λ i. frames_held s (says i) (held start (leaves.stays.contents i)))
+      (λ i. frames_held s (shown_length start (says i) (leaves.stays.contents i)) (held start (leaves.stays.contents i)))
       ∙ sym (frames_are looks old.contents found first.len start first.is apart)
 
   -- a second repair finds the same frames, and writes nothing
@@ -99,9 +164,10 @@ module _ (looks again : Bool) (old mid next new : MediumState) (found other : Re
       ∙ right.length_says in
       let frames = frames_same found.state first.leaves apart in
       let is_right : are_right other.spec_ex second.start second.len (field 4 next.contents)
-      (held second.start next.contents) ≡ true =
-      let there = right_again s start all (field 4 mid.contents) (held start mid.contents)
-      found.frames refl right.riff_says frames in cc (agree.0, agree.2, len, same, there) in
+      (shown_length second.start second.len next.contents) (held second.start next.contents) ≡ true =
+      let there = right_again s start all (field 4 mid.contents) (shown_length start all mid.contents)
+      (held start mid.contents) found.frames refl right.riff_says frames in
+      cc (agree.0, agree.2, len, same, there) in
       let state : other.state ≡ Whole =
       second.is.state ∙ ap (λ b. state_of b (again && is_followed second.len (drop second.start next.contents))) is_right in (
         state,

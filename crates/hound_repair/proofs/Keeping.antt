@@ -1,6 +1,6 @@
 -- What is stored is read again once a file is repaired.
 use Rattle.std.proofs.lemmas.Grind.{common_steps}
-use Rattle.std.proofs.Common.{None, ◌≡◌, ◌⊎◌, ℕ, zero, suc, ◌+◌, ◌*◌, ◌/◌, ◌≤◌, Bool, IsTrue, List, ◌∷◌, length, take, drop, inl, inr, refl, sym, ap, ◌∙◌, subst, arith, length-take}
+use Rattle.std.proofs.Common.{None, ◌≡◌, ◌⊎◌, ℕ, zero, suc, ◌+◌, ◌*◌, ◌/◌, ◌≤◌, Bool, IsTrue, List, ◌∷◌, length, take, drop, inl, inr, refl, sym, ap, ◌∙◌, subst, arith, length-drop, length-take}
 use Rattle.std.specs.List.{concat, AllByRecursion}
 use Rattle.std.proofs.lemmas.List.{take-take, take-append-le, drop-append-le, length-take-le}
 use Rattle.std.proofs.lemmas.Nat.{mul-le}
@@ -14,12 +14,13 @@ use Rattle.hound_sample.proofs.Joined.{length-concat, containers-concat}
 use Rattle.hound_sample.proofs.Containers.{containers_front}
 use Rattle.hound_writer.proofs.Heads.{head_behind, head_inside}
 use Rattle.hound_writer.specs.{IsStored, IsIoError, AppendFault, NamesFault, PutsNothing}
-use Rattle.hound_repair.specs.Held.{data_held, ends_with_pad, frame_length, held}
+use Rattle.hound_repair.specs.Held.{data_held, ends_with_pad, frame_length, held, shown_length}
 use Rattle.hound_spec.specs.declared.error.Error.{Error}
 use Rattle.hound_repair.specs.Repairing.{IsNoPad, IsNotRepaired, IsRepairFault, LeavesFor, LeavesHalf, ReadsFrames, Repairs, repair_fault}
 use Rattle.hound_repair.specs.declared.sizes.Repair.{Repair}
 use Rattle.hound_repair.specs.declared.sizes.RepairState.{RepairState}
 use Rattle.hound_repair.specs.declared.sizes.RepairState.TheVariants.{HasChunksAfterData}
+use Rattle.hound_repair.proofs.Again.{uncounted_cases}
 use Rattle.hound_repair.proofs.Joining.{AreWide, concat_front, wide_take}
 use Rattle.hound_repair.proofs.RightSizes.{held_frames, not_followed, same_sizes, sizes_of}
 
@@ -38,6 +39,12 @@ pub frames_kept : (f len n q : ℕ) → 1 ≤ f → q * f ≤ n → (f ≡ 1 →
 unfolding data_held ends_with_pad
 frames_kept f len n q some few no_pad = grind (arith, common_steps)
 
+-- nor is one of them taken for a pad byte by the data length that is shown
+pub no_pad_shown : (s : WavSpecEx) (len start : ℕ) (c : List ℕ) (list : List (List ℕ))
+    → IsNoPad s len (held start c) list
+    → IsNoPad s (shown_length start len c) (held start c) list
+no_pad_shown s len start c list none = grind (arith, common_steps, uncounted_cases, length-drop)
+
 -- the data stay
 data_stay : (state : RepairState) (found : Repair) (start m : ℕ) (old new : MediumState)
     → (state ≡ HasChunksAfterData → ⊥) → LeavesFor state found start old new → 20 ≤ start
@@ -50,7 +57,8 @@ module _ (looks : Bool) (old new : MediumState) (found : Repair)
     (list : List (List ℕ)) (sound : IsSoundSpec found.spec_ex)
     (wide : AreWide found.spec_ex.bytes_per_sample list)
     (stored : IsStored r.start (concat list) 0 (length (concat list)) old.contents)
-    (no_pad : IsNoPad found.spec_ex r.len (held r.start old.contents) list) where
+    (no_pad : IsNoPad found.spec_ex (shown_length r.start r.len old.contents)
+    (held r.start old.contents) list) where
   abbrev s : WavSpecEx
   s = found.spec_ex
 
@@ -91,7 +99,8 @@ module _ (looks : Bool) (old new : MediumState) (found : Repair)
   frame : 1 ≤ frame_length s
   frame = mul-le 1 1 channels w sound.0 sound.1
 
-  not_pad : frame_length s ≡ 1 → length rest ≡ r.len + 1 → q * frame_length s ≤ r.len
+  not_pad : frame_length s ≡ 1 → length rest ≡ shown_length r.start r.len old.contents + 1
+      → q * frame_length s ≤ shown_length r.start r.len old.contents
   not_pad one more = grind (arith, common_steps)
 
   frames : q ≤ found.frames
@@ -125,7 +134,7 @@ pub stays_stored : (looks : Bool) (old new : MediumState) (found : Repair) (s : 
     → (IsTrue looks → found.state ≡ HasChunksAfterData → ⊥) → Head old.contents s len start
     → IsSoundSpec s → AllByRecursion (λ c. length c ≡ s.bytes_per_sample) list
     → IsStored start (concat list) 0 (length (concat list)) old.contents
-    → IsNoPad s len (held start old.contents) list
+    → IsNoPad s (shown_length start len old.contents) (held start old.contents) list
     → (found.spec_ex ≡ s) × ReadsFrames found start list new.contents
 stays_stored looks old new found s len start list r alone head sound wide stored no_pad =
     let agree = heads_agree old.contents found.spec_ex s r.len len r.start start r.is.head head in
@@ -136,13 +145,14 @@ stays_stored looks old new found s len start list r alone head sound wide stored
           (not_followed looks _ _ found.state r.is.state alone) list (subst IsSoundSpec (sym agree.0) sound)
           (subst (λ (x : WavSpecEx). AreWide x.bytes_per_sample list) (sym agree.0) wide)
           (subst (λ h. IsStored h bytes 0 (length bytes) old.contents) (sym agree.2) stored)
-          (subst (λ (x : WavSpecEx × ℕ × ℕ). IsNoPad x.0 x.1 (held x.2 old.contents) list)
+          (subst (λ (x : WavSpecEx × ℕ × ℕ). IsNoPad x.0 (shown_length x.2 x.1 old.contents) (held x.2 old.contents) list)
           (λ i. (sym agree.0 i, sym agree.1 i, sym agree.2 i)) no_pad)),
     )
 
 -- a head that fails no check isn't repaired only if the medium failed
 pub only_io : (looks : Bool) (old new : MediumState) (e : Error) (s : WavSpecEx) (len start : ℕ)
-    → Head old.contents s len start → repair_fault s len start (held start old.contents) ≡ None
+    → Head old.contents s len start
+    → repair_fault s (shown_length start len old.contents) start (held start old.contents) ≡ None
     → IsNotRepaired looks old new e → IsIoError e
 only_io looks old new e s len start head none not = by not.why
   where

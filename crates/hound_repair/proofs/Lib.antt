@@ -10,3 +10,4 @@ pub mod Halves
 pub mod Keeping
 pub mod Again
 pub mod InPlace
+mod Found

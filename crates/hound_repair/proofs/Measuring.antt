@@ -25,17 +25,17 @@ unfolding data_held ends_with_pad
 no_pad f len n more = grind (arith, nat_tests)
 
 -- more than 2^33 bytes are too many
-too_many : (s : WavSpecEx) (len start n : ℕ) → IsSoundSpec s → len < 2 ^ 32 → 20 ≤ start
+too_many : (s : WavSpecEx) (len start n : ℕ) → IsSoundSpec s → len ≤ 2 ^ 32 → 20 ≤ start
     → 2 ^ 33 ≤ n → greatest_u32 < riff_size start (right_length s len n)
 too_many s len start n sound small after many = grind (arith, common_steps, no_pad, lt-div-mul-add, le-mul_of_pos_right)
 
 -- so what is counted up to there is all, where the RIFF size fits
-pub is_all : (s : WavSpecEx) (len start n m : ℕ) → IsSoundSpec s → len < 2 ^ 32 → 20 ≤ start
+pub is_all : (s : WavSpecEx) (len start n m : ℕ) → IsSoundSpec s → len ≤ 2 ^ 32 → 20 ≤ start
     → m ≡ min n (2 ^ 33) → riff_size start (right_length s len m) ≤ greatest_u32 → m ≡ n
 is_all s len start n m sound small after is fits = grind (arith, common_steps, cases_lt, too_many)
 
 -- and the check fails for both or for none
-pub same_fault : (s : WavSpecEx) (len start n m : ℕ) → IsSoundSpec s → len < 2 ^ 32 → 20 ≤ start
+pub same_fault : (s : WavSpecEx) (len start n m : ℕ) → IsSoundSpec s → len ≤ 2 ^ 32 → 20 ≤ start
     → m ≡ min n (2 ^ 33) → size_fault s len start m ≡ size_fault s len start n
 unfolding size_fault
 same_fault s len start n m sound small after is = grind (arith, common_steps, cases_lt, too_many, nat_tests)

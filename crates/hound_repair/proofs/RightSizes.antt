@@ -12,7 +12,7 @@ use Rattle.hound_writer.specs.{SameButSizes, field, with_sizes}
 use Rattle.hound_writer.proofs.Heads.{head_behind, head_field, head_inside, head_with}
 use Rattle.hound_writer.proofs.Patching.{data_length_of_sizes, riff_size_of_sizes, sizes_put}
 use Rattle.hound_writer.proofs.Sizes.{same_length, same_riff, same_transitive}
-use Rattle.hound_repair.specs.Held.{frame_length, frames_held, held, mended, missing_pad, right_length}
+use Rattle.hound_repair.specs.Held.{frame_length, frames_held, held, mended, missing_pad, right_length, shown_length}
 use Rattle.hound_repair.specs.Repairing.{HasRightSizes, IsFoundAt, UnlessFollowed, found_length, frames_found, repair_fault, size_fault, state_of}
 use Rattle.hound_repair.specs.declared.sizes.Repair.{Repair}
 use Rattle.hound_repair.specs.declared.sizes.RepairState.{RepairState}
@@ -82,9 +82,9 @@ frames_read s n start frames c channels width is head =
     }
 
 -- where no chunks follow the data, what is reported is what is held
-pub held_frames : (state : RepairState) (s : WavSpecEx) (len n : ℕ) → (state ≡ HasChunksAfterData → ⊥)
-    → frames_found state s len n ≡ frames_held s len n
-held_frames state s len n alone = grind (arith, common_steps)
+pub held_frames : (state : RepairState) (s : WavSpecEx) (len shown n : ℕ)
+    → (state ≡ HasChunksAfterData → ⊥) → frames_found state s len shown n ≡ frames_held s shown n
+held_frames state s len shown n alone = grind (arith, common_steps)
 
 -- chunks that aren't looked for aren't found
 pub not_followed : (looks right followed : Bool) (state : RepairState)
@@ -116,10 +116,13 @@ module _ (looks : Bool) (contents : List ℕ) (found : Repair) (len start : ℕ)
   abbrev all : ℕ
   all = found_length found
 
-  pub frames_are : found.frames ≡ frames_held found.spec_ex len (held start contents)
-  frames_are = at.frames ∙ held_frames found.state found.spec_ex len (held start contents) apart
+  abbrev shown : ℕ
+  shown = shown_length start len contents
 
-  pub length_of : all ≡ right_length found.spec_ex len (held start contents)
+  pub frames_are : found.frames ≡ frames_held found.spec_ex shown (held start contents)
+  frames_are = at.frames ∙ held_frames found.state found.spec_ex len shown (held start contents) apart
+
+  pub length_of : all ≡ right_length found.spec_ex shown (held start contents)
   length_of = ap (λ k. k * frame_length found.spec_ex) frames_are
 
   pub riff_fits : riff_size start all < 2 ^ 32
@@ -147,8 +150,8 @@ module _ (looks : Bool) (contents : List ℕ) (found : Repair) (len start : ℕ)
       (riff_put s len start contents at.head riff all length_fits riff_fits pad)
 
   pub right_sizes_there : IsSoundSpec found.spec_ex
-      → field 4 contents ≡ riff_size start (right_length found.spec_ex len (held start contents))
-      → len ≡ right_length found.spec_ex len (held start contents)
+      → field 4 contents ≡ riff_size start (right_length found.spec_ex shown (held start contents))
+      → len ≡ right_length found.spec_ex shown (held start contents)
       → HasRightSizes found start contents
   right_sizes_there sound riff same =
       right_sizes_of sound contents

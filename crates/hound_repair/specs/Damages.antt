@@ -1,12 +1,12 @@
 -- What the private parts of a repair find and do, and what a repair of a file in memory leaves.
 use Rattle.std.specs.Prelude.{◌≡◌, ℕ, ◌≤◌, ◌^◌, ◌⊎◌, Bool, IsTrue, false, [], ◌∷◌, ◌++◌, length, take, Some, Result, OnOk, MatchResult, true, List, drop, Option, None}
 use Rattle.hound_spec.specs.declared.error.Error.{Error}
-use Rattle.hound_spec.specs.{riff_size}
+use Rattle.hound_spec.specs.{IsPair, riff_size}
 use Rattle.hound_medium.specs.{placed, overlay, MediumState, faults_after, one_more, unknown}
 use Rattle.hound_walk.specs.declared.chunks.FileHead.{FileHead}
 use Rattle.hound_walk.specs.{IsDataPlace, IsSoundSpec}
 use Rattle.hound_writer.specs.{IsIoError, AppendFault, NamesFault, PutsNothing, by_bytes, too_long}
-use Rattle.hound_repair.specs.Held.{frames_held, held, mended, right_length, torn_bytes, missing_pad}
+use Rattle.hound_repair.specs.Held.{frames_held, held, mended, right_length, shown_length, torn_bytes, missing_pad}
 use Rattle.hound_repair.specs.Repairing.{HalfMended, IsFoundAt, frames_found, repair_fault, torn_found, Repairs, found_length}
 use Rattle.hound_repair.specs.declared.look.Damage.{Damage}
 use Rattle.hound_repair.specs.declared.look.Rest.{Rest}
@@ -23,26 +23,27 @@ abbrev pub may_be_chunks : Rest → Bool
 may_be_chunks MayBeChunks = true
 may_be_chunks IsSamples = false
 
--- the sizes are those of a file with this head that holds so many bytes from the data on
-pub record AreRightSizes (head : FileHead) (n : ℕ) (sizes : Sizes) : Type 0 where
+-- the sizes are those of a file with this head that shows this data length, and holds so many bytes
+-- from the data on
+pub record AreRightSizes (head : FileHead) (shown n : ℕ) (sizes : Sizes) : Type 0 where
   pub riff : sizes.riff_size ≡ riff_size head.data_start sizes.data_length
-  pub length_is : sizes.data_length ≡ right_length head.spec_ex head.data_length n
-  pub frames : sizes.frames ≡ frames_held head.spec_ex head.data_length n
-  pub torn : sizes.left_over ≡ torn_bytes head.spec_ex head.data_length n
+  pub length_is : sizes.data_length ≡ right_length head.spec_ex shown n
+  pub frames : sizes.frames ≡ frames_held head.spec_ex shown n
+  pub torn : sizes.left_over ≡ torn_bytes head.spec_ex shown n
 
 -- over every medium: the sizes are right for what is held, and made of small numbers
 pub record IsSoundDamage (d : Damage) : Type 0 where
   pub spec : IsSoundSpec d.head.spec_ex
   pub place : IsDataPlace d.head.data_start
   pub few : d.held ≤ 2 ^ 33
-  pub sizes : AreRightSizes d.head d.held d.sizes
+  pub sizes : AreRightSizes d.head d.shown d.held d.sizes
 
 -- what is reported of a file as it was found
 abbrev pub repair_of : Damage → Repair
 repair_of d = record {
   spec_ex = d.head.spec_ex;
-  frames = frames_found d.state d.head.spec_ex d.head.data_length d.held;
-  left_over = torn_found d.state d.head.spec_ex d.head.data_length d.held;
+  frames = frames_found d.state d.head.spec_ex d.head.data_length d.shown d.held;
+  left_over = torn_found d.state d.head.spec_ex d.head.data_length d.shown d.held;
   state = d.state;
 }
 
@@ -54,14 +55,17 @@ pub record FindsDamage (looks : Bool) (old : MediumState) (d : Damage) (new : Me
     pub puts : PutsNothing old new
     pub faults : new.faults ≡ old.faults
 
--- a head that isn't gone by, for a check that it fails, or since the medium failed
+-- A head that isn't gone by, for a check that it fails, or since the medium failed, which is called only
+-- if the samples are written.
 pub record IsNotMeasured (head : FileHead) (old new : MediumState) (e : Error) : Type 0 where
   pub puts : PutsNothing old new
   pub why : ((fault : AppendFault)
-      × (repair_fault head.spec_ex head.data_length head.data_start
-      (held head.data_start old.contents) ≡ Some fault) × NamesFault e fault
+      × (repair_fault head.spec_ex (shown_length head.data_start head.data_length old.contents)
+      head.data_start (held head.data_start old.contents) ≡ Some fault) × NamesFault e fault
       × (new.faults ≡ old.faults))
-      ⊎ (IsIoError e × (new.faults ≡ one_more old.faults))
+      ⊎ (IsIoError e × (new.faults ≡ one_more old.faults)
+      × IsPair head.spec_ex.spec.sample_format head.spec_ex.spec.bits_per_sample
+      head.spec_ex.bytes_per_sample)
 
 -- A pad byte was written at the end, or a fault came before it or after it.
 pub record PutsPad {T E : Type 0} (keeps : Bool) (end : ℕ) (result : Result T E)
@@ -109,7 +113,8 @@ bytes_fault NoRoom = None
 -- why a file of these bytes with this head isn't looked at
 abbrev pub IsUnmeasured : FileHead → List ℕ → Unrepaired → Type 0
 IsUnmeasured head bytes why = (fault : AppendFault) × (bytes_fault why ≡ Some fault)
-    × (repair_fault head.spec_ex head.data_length head.data_start (held head.data_start bytes) ≡ Some fault)
+    × (repair_fault head.spec_ex (shown_length head.data_start head.data_length bytes) head.data_start
+    (held head.data_start bytes) ≡ Some fault)
 
 -- a pad byte is missing from a file that was cut off and takes all of the memory
 pub record LacksRoom (looks : Bool) (used : ℕ) (bytes : List ℕ) : Type 0 where
@@ -125,5 +130,5 @@ pub record LacksRoom (looks : Bool) (used : ℕ) (bytes : List ℕ) : Type 0 whe
 abbrev pub IsUnrepaired : Bool → FileHead → ℕ → List ℕ → Unrepaired → Type 0
 IsUnrepaired looks head used bytes NoRoom = LacksRoom looks used bytes
 IsUnrepaired looks head used bytes why =
-    repair_fault head.spec_ex head.data_length head.data_start
-    (held head.data_start (take used bytes)) ≡ bytes_fault why
+    repair_fault head.spec_ex (shown_length head.data_start head.data_length (take used bytes))
+    head.data_start (held head.data_start (take used bytes)) ≡ bytes_fault why

@@ -15,8 +15,17 @@ frame_length s = s.spec.channels * s.bytes_per_sample
 abbrev pub held : ℕ → List ℕ → ℕ
 held start contents = length (drop start contents)
 
+-- how many bytes of samples the bytes after the data are that the header counts: a single one that
+-- isn't 0 is no pad byte (RIFF, "Chunks")
+unfoldable pub uncounted : List ℕ → ℕ
+uncounted bytes = if (length bytes == 1) && nat_lt 0 (slice_index bytes 0) then 1 else 0
+
+-- the data length that a file shows whose header says this one, by the byte after it
+abbrev pub shown_length : ℕ → ℕ → List ℕ → ℕ
+shown_length start len contents = len + uncounted (drop len (drop start contents))
+
 -- Whether the last byte held is the pad byte of the data: these are whole frames of an odd length,
--- as the data length says, and one byte follows them (RIFF, "Chunks").
+-- as the data length shows, and one byte follows them (RIFF, "Chunks").
 unfoldable pub ends_with_pad : ℕ → ℕ → ℕ → Bool
 ends_with_pad frame len n = (n == len + 1) && ((len % 2 == 1) && (len % frame == 0))
 
@@ -36,10 +45,10 @@ torn_bytes s len n = data_held (frame_length s) len n % frame_length s
 abbrev pub right_length : WavSpecEx → ℕ → ℕ → ℕ
 right_length s len n = frames_held s len n * frame_length s
 
--- both sizes are right: the data length, and the RIFF size with it
-abbrev pub are_right : WavSpecEx → ℕ → ℕ → ℕ → ℕ → Bool
-are_right s start len riff n =
-    (riff == riff_size start (right_length s len n)) && (len == right_length s len n)
+-- both sizes are right, where a file shows this data length: the data length, and the RIFF size with it
+abbrev pub are_right : WavSpecEx → ℕ → ℕ → ℕ → ℕ → ℕ → Bool
+are_right s start len riff shown n =
+    (riff == riff_size start (right_length s shown n)) && (len == right_length s shown n)
 
 -- the pad byte that is missing, where data of an odd length end with the file
 abbrev pub missing_pad : ℕ → ℕ → List ℕ

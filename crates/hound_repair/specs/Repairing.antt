@@ -9,7 +9,7 @@ use Rattle.hound_walk.specs.declared.cause.Cause.{Cause}
 use Rattle.hound_walk.specs.declared.cause.Cause.TheVariants.{Unsupported}
 use Rattle.hound_walk.specs.{Head, Readable, Refused}
 use Rattle.hound_writer.specs.{IsIoError, AppendFault, by_bytes, too_long, NamesFault, PutsNothing, IsPatched, field}
-use Rattle.hound_repair.specs.Held.{is_followed, are_right, frame_length, frames_held, held, mended, right_length, torn_bytes}
+use Rattle.hound_repair.specs.Held.{is_followed, are_right, frame_length, frames_held, held, mended, right_length, shown_length, torn_bytes}
 use Rattle.hound_repair.specs.declared.sizes.Repair.{Repair}
 use Rattle.hound_repair.specs.declared.sizes.RepairState.{RepairState}
 use Rattle.hound_repair.specs.declared.sizes.RepairState.TheVariants.{Whole, CutOff, HasChunksAfterData}
@@ -28,12 +28,15 @@ repair_fault s len start n =
     then Some (by_bytes Unsupported)
     else size_fault s len start n
 
+-- the bytes have a head, whose first check that fails has this fault
+abbrev pub HasUnfitHead : List ℕ → AppendFault → Type 0
+HasUnfitHead bytes fault = (s : WavSpecEx) × (len : ℕ) × (start : ℕ) × Head bytes s len start
+    × (repair_fault s (shown_length start len bytes) start (held start bytes) ≡ Some fault)
+
 -- the bytes have this fault: they have no head for this cause, or their head fails a check
 abbrev pub IsRepairFault : List ℕ → AppendFault → Type 0
 IsRepairFault bytes fault =
-    ((cause : Cause) × (fault ≡ by_bytes cause) × Refused bytes cause)
-    ⊎ ((s : WavSpecEx) × (len : ℕ) × (start : ℕ) × Head bytes s len start
-    × (repair_fault s len start (held start bytes) ≡ Some fault))
+    ((cause : Cause) × (fault ≡ by_bytes cause) × Refused bytes cause) ⊎ HasUnfitHead bytes fault
 
 -- how a file is found, by whether both sizes are right and whether chunks follow the data
 abbrev pub state_of : Bool → Bool → RepairState
@@ -43,13 +46,13 @@ state_of false false = CutOff
 
 -- the frames, and the bytes of a torn one, that are reported: those that are held, or where chunks
 -- follow the data those that the data length says
-abbrev pub frames_found : RepairState → WavSpecEx → ℕ → ℕ → ℕ
-frames_found HasChunksAfterData s len n = len / frame_length s
-frames_found _ s len n = frames_held s len n
+abbrev pub frames_found : RepairState → WavSpecEx → ℕ → ℕ → ℕ → ℕ
+frames_found HasChunksAfterData s len shown n = len / frame_length s
+frames_found _ s len shown n = frames_held s shown n
 
-abbrev pub torn_found : RepairState → WavSpecEx → ℕ → ℕ → ℕ
-torn_found HasChunksAfterData s len n = len % frame_length s
-torn_found _ s len n = torn_bytes s len n
+abbrev pub torn_found : RepairState → WavSpecEx → ℕ → ℕ → ℕ → ℕ
+torn_found HasChunksAfterData s len shown n = len % frame_length s
+torn_found _ s len shown n = torn_bytes s shown n
 
 -- What is found of contents with this head: a spec that is written, sizes that fit, how they were,
 -- and so many frames. Chunks after the data are looked for, or all that is held is taken for data.
@@ -57,14 +60,18 @@ pub record IsFoundAt (looks : Bool) (contents : List ℕ) (found : Repair) (len 
   where
     pub head : Head contents found.spec_ex len start
     pub small : len ≤ greatest_u32
-    pub check : repair_fault found.spec_ex len start (held start contents) ≡ None
+    pub check : repair_fault found.spec_ex (shown_length start len contents) start (held start contents)
+        ≡ None
     pub state : found.state
-        ≡ state_of (are_right found.spec_ex start len (field 4 contents) (held start contents))
+        ≡ state_of (are_right found.spec_ex start len (field 4 contents)
+        (shown_length start len contents) (held start contents))
         (looks && is_followed len (drop start contents))
     pub frames : found.frames
-        ≡ frames_found found.state found.spec_ex len (held start contents)
+        ≡ frames_found found.state found.spec_ex len (shown_length start len contents)
+        (held start contents)
     pub left_over : found.left_over
-        ≡ torn_found found.state found.spec_ex len (held start contents)
+        ≡ torn_found found.state found.spec_ex len (shown_length start len contents)
+        (held start contents)
 
 -- something looked at a medium: nothing was written, and a call that failed counts one fault
 pub record Looks {T E : Type 0} (result : Result T E) (old new : MediumState) : Type 0 where
@@ -200,6 +207,6 @@ pub record ReadsFrames (found : Repair) (start : ℕ) (list : List (List ℕ)) (
       ≡ whole_frames found.spec_ex list
 
 -- No byte of these samples is taken for a pad byte: where a frame has one byte, and the data length
--- is one less than what is held, the last byte held isn't theirs.
+-- that is shown is one less than what is held, the last byte held isn't theirs.
 abbrev pub IsNoPad : WavSpecEx → ℕ → ℕ → List (List ℕ) → Type 0
-IsNoPad s len n list = frame_length s ≡ 1 → n ≡ len + 1 → length list ≤ len
+IsNoPad s shown n list = frame_length s ≡ 1 → n ≡ shown + 1 → length list ≤ shown

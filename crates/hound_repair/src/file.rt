@@ -1,8 +1,9 @@
 // Files on disk, repaired in place.
-ghost use Rattle.std.specs.Prelude.{◌≡◌, ◌⊎◌, false, IfOk};
+ghost use Rattle.std.specs.Prelude.{◌≡◌, false, IfErr, IfOk};
 ghost use Rattle.std.proofs.lemmas.Bool.{false≢true};
 ghost use Rattle.hound_medium.specs.{unknown};
 ghost use Rattle.hound_walk.specs.{IsSoundSpec};
+ghost use Rattle.hound_writer.specs.{IsFileError};
 
 use crate::look::find_damage;
 use crate::mend::{repair, repair_to_end};
@@ -69,7 +70,9 @@ impl Medium for FileInPlace {
 }
 
 // The file within a buffer, unless it is a pipe or a terminal, which have no place.
-fn buffered(alloc: Global, file: fs::File) -> Result<BufReader<fs::File>> {
+fn buffered(alloc: Global, file: fs::File) -> Result<BufReader<fs::File>>
+    ensures told { IfErr result IsFileError }
+{
     let mut file = file;
     file.stream_position()?;
     BufReader::new(alloc, file).or(Err(Error::OutOfMemory))
@@ -80,7 +83,9 @@ fn open_in_place(
     rt: &impl Files<File = fs::File>,
     alloc: Global,
     path: Path<'_>,
-) -> Result<FileInPlace> {
+) -> Result<FileInPlace>
+    ensures told { IfErr result IsFileError }
+{
     let file = fs::OpenOptions::new()
         .read(true)
         .write(true)
@@ -100,6 +105,7 @@ pub fn repair_file(
     path: Path<'_>,
 ) -> Result<Repair>
     ensures sound { IfOk result (λ found. IsSoundSpec found.spec_ex) }
+    ensures told { IfErr result IsFileError }
 {
     let (_, found) = repair(open_in_place(rt, alloc, path)?).map_err(|(_, error)| error)?;
     Ok(found)
@@ -115,6 +121,7 @@ pub fn repair_file_to_end(
     path: Path<'_>,
 ) -> Result<Repair>
     ensures sound { IfOk result (λ found. IsSoundSpec found.spec_ex) }
+    ensures told { IfErr result IsFileError }
 {
     let (_, found) = repair_to_end(open_in_place(rt, alloc, path)?).map_err(|(_, error)| error)?;
     Ok(found)
@@ -129,6 +136,7 @@ pub fn find_damage_in_file(
     path: Path<'_>,
 ) -> Result<Repair>
     ensures sound { IfOk result (λ found. IsSoundSpec found.spec_ex) }
+    ensures told { IfErr result IsFileError }
 {
     let reader = buffered(alloc, fs::open(rt, path)?)?;
     let (_, found) = find_damage(reader).map_err(|(_, error)| error)?;

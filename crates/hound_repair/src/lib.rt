@@ -16,7 +16,8 @@ mod sizes;
 pub use bytes::{Unrepaired, find_damage_in_bytes, repair_bytes, set_sizes};
 pub use file::{find_damage_in_file, repair_file, repair_file_to_end};
 pub use laws::{
-    a_half_mended_file_is_repaired, a_repair_keeps_stored_samples, a_second_repair_writes_nothing,
+    a_half_mended_file_is_repaired, a_look_finds_what_a_repair_does, a_repair_keeps_stored_samples,
+    a_second_repair_writes_nothing,
 };
 pub use look::{Rest, find_damage};
 pub use mend::{repair, repair_to_end};

@@ -1,12 +1,12 @@
 // What a file holds, looked at without writing.
-ghost use Rattle.std.specs.Prelude.{◌≡◌, ◌+◌, ◌<◌, ◌≤◌, ◌^◌, ◌↔◌, ◌&&◌, ◌==◌, true, false, IsTrue, None, Some, Ok, length, take, drop, min, nat_le, nat_lt, ◌∷◌, [], IfOk, IfSome, OnOk, MatchResult, if◌then◌else◌};
+ghost use Rattle.std.specs.Prelude.{◌≡◌, ◌+◌, ◌<◌, ◌≤◌, ◌^◌, ◌↔◌, ◌&&◌, ◌==◌, true, false, IsTrue, None, Some, Ok, length, take, drop, min, nat_le, nat_lt, ◌∷◌, [], IfErr, IfOk, IfSome, OnOk, MatchResult, if◌then◌else◌};
 ghost use Rattle.hound_number.specs.{number};
 ghost use Rattle.hound_spec.specs.{padded, is_pair};
 ghost use Rattle.hound_medium.specs.{WhereTells};
 ghost use Rattle.hound_walk.specs.{Head, IsDataPlace, IsSoundSpec};
-ghost use Rattle.hound_writer.specs.{field};
+ghost use Rattle.hound_writer.specs.{IsMediumError, field};
 ghost use Rattle.hound_repair.specs.Damages.{may_be_chunks, FindsDamage, IsNotMeasured, IsSoundDamage, repair_of};
-ghost use Rattle.hound_repair.specs.Held.{are_chunks, begins_chunk, chunk_content, ends_with_id3, has_known_tag, has_tag, is_followed, is_printable, said_length, are_right, held, missing_pad};
+ghost use Rattle.hound_repair.specs.Held.{are_chunks, begins_chunk, chunk_content, ends_with_id3, has_known_tag, has_tag, is_followed, is_printable, said_length, are_right, held, missing_pad, shown_length};
 ghost use Rattle.hound_repair.specs.Repairing.{Finds, IsNotFound, Looks, state_of};
 
 use crate::read_at::ReadAt;
@@ -45,6 +45,7 @@ pub enum Rest {
 #[derive(Clone, Copy)]
 pub(crate) struct Damage {
     pub(crate) head: FileHead,
+    pub(crate) shown: u64,
     pub(crate) held: u64,
     pub(crate) sizes: Sizes,
     pub(crate) state: RepairState,
@@ -174,6 +175,32 @@ fn state_of<R: ReadAt>(
     Ok(RepairState::CutOff)
 }
 
+// The data length that a file with this head shows which holds so many bytes: a single byte after the
+// data that isn't 0 is no pad byte.
+#[tactic(auto, unfolding(crate::specs::Held::uncounted))]
+fn shown_length<R: ReadAt>(source: &mut R, head: FileHead, count: u64) -> io::Result<u64>
+    requires start { IsDataPlace head.data_start }
+    requires inside { WhereTells R.tells
+        (head.data_start ≤ length (R.state source.old).contents) }
+    requires count { WhereTells R.tells
+        (count ≡ min (held head.data_start (R.state source.old).contents) (2 ^ 33)) }
+    ensures looks { WhereTells R.tells (Looks result (R.state source.old) (R.state source.new)) }
+    ensures shown { WhereTells R.tells (IfOk result (λ shown.
+        shown ≡ shown_length head.data_start head.data_length (R.state source.old).contents)) }
+    ensures small { IfOk result (λ shown. shown ≤ 2 ^ 32) }
+{
+    let length = head.data_length as u64;
+    if count != length + 1 {
+        return Ok(length);
+    }
+    let mut last = [0; 1];
+    source.read_at(head.data_start + length, &mut last)?;
+    if last[0] == 0 {
+        return Ok(length);
+    }
+    Ok(count)
+}
+
 /// Looks at what a file with this head holds.
 pub(crate) fn measure<R: ReadAt>(source: &mut R, head: FileHead, rest: Rest) -> Result<Damage>
     requires sound { IsSoundSpec head.spec_ex }
@@ -181,6 +208,7 @@ pub(crate) fn measure<R: ReadAt>(source: &mut R, head: FileHead, rest: Rest) -> 
     requires head { WhereTells R.tells
         (Head (R.state source.old).contents head.spec_ex head.data_length head.data_start) }
     ensures sound { IfOk result IsSoundDamage }
+    ensures told { IfErr result IsMediumError }
     ensures finds { WhereTells R.tells (MatchResult result
         (λ damage. FindsDamage (may_be_chunks rest) (R.state source.old) damage (R.state source.new))
         (λ error. IsNotMeasured head (R.state source.old) (R.state source.new) error)) }
@@ -191,13 +219,15 @@ pub(crate) fn measure<R: ReadAt>(source: &mut R, head: FileHead, rest: Rest) -> 
         return Err(Error::Unsupported);
     }
     let held = source.held_from(head.data_start)?;
-    let sizes = match right_sizes(head, held) {
+    let shown = shown_length(source, head, held)?;
+    let sizes = match right_sizes(head, shown, held) {
         Ok(sizes) => sizes,
         Err(error) => return Err(error),
     };
     let state = state_of(source, head, held, sizes, rest)?;
     Ok(Damage {
         head,
+        shown,
         held,
         sizes,
         state,
@@ -208,6 +238,7 @@ pub(crate) fn measure<R: ReadAt>(source: &mut R, head: FileHead, rest: Rest) -> 
 pub(crate) fn look<S: Source>(source: S, rest: Rest) -> result::Result<(S, Damage), (S, Error)>
     requires { WhereTells S.tells ((S.state source).place ≡ 0) }
     ensures sound { IfOk result (λ found. IsSoundDamage found.1) }
+    ensures told { IfErr result (λ refused. IsMediumError refused.1) }
     ensures finds { WhereTells S.tells (MatchResult result
         (λ found. FindsDamage (may_be_chunks rest) (S.state source) found.1 (S.state found.0))
         (λ refused. IsNotFound (S.state source) (S.state refused.0) refused.1)) }
@@ -265,6 +296,7 @@ impl Damage {
 pub fn find_damage<S: Source>(medium: S) -> result::Result<(S, Repair), (S, Error)>
     requires { WhereTells S.tells ((S.state medium).place ≡ 0) }
     ensures sound { IfOk result (λ found. IsSoundSpec found.1.spec_ex) }
+    ensures told { IfErr result (λ refused. IsMediumError refused.1) }
     ensures found { WhereTells S.tells (MatchResult result
         (λ found. Finds true (S.state medium) found.1 (S.state found.0))
         (λ refused. IsNotFound (S.state medium) (S.state refused.0) refused.1)) }

@@ -1,7 +1,8 @@
 // The right sizes, put into a file.
-ghost use Rattle.std.specs.Prelude.{◌≡◌, ◌+◌, ◌≤◌, true, false, IfOk, length};
+ghost use Rattle.std.specs.Prelude.{◌≡◌, ◌+◌, ◌≤◌, true, false, IfErr, IfOk, length};
 ghost use Rattle.hound_walk.specs.{IsSoundSpec};
 ghost use Rattle.hound_medium.specs.{WhereKeeps, WhereTells};
+ghost use Rattle.hound_writer.specs.{IsMediumError};
 ghost use Rattle.hound_repair.specs.Damages.{may_be_chunks, IsSoundDamage, PutsPad, PutsSizes};
 ghost use Rattle.hound_repair.specs.Repairing.{FlushesBeforePad, HalfMendedAtEach, MendsMedium, RepairsMedium};
 
@@ -46,6 +47,7 @@ fn put_sizes<M: Medium>(medium: &mut M, damage: Damage) -> io::Result<()>
 fn repair_with<M: Source + Medium>(medium: M, rest: Rest) -> result::Result<(M, Repair), (M, Error)>
     requires { WhereTells M.tells ((M.state medium).place ≡ 0) }
     ensures sound { IfOk result (λ done. IsSoundSpec done.1.spec_ex) }
+    ensures told { IfErr result (λ refused. IsMediumError refused.1) }
     ensures repaired { WhereTells M.tells (RepairsMedium (may_be_chunks rest) M.state medium result) }
     ensures moments { WhereKeeps M.tells M.keeps (MendsMedium (may_be_chunks rest) M.state medium result) }
 {
@@ -87,6 +89,7 @@ fn repair_with<M: Source + Medium>(medium: M, rest: Rest) -> result::Result<(M, 
 pub fn repair<M: Source + Medium>(medium: M) -> result::Result<(M, Repair), (M, Error)>
     requires { WhereTells M.tells ((M.state medium).place ≡ 0) }
     ensures sound { IfOk result (λ done. IsSoundSpec done.1.spec_ex) }
+    ensures told { IfErr result (λ refused. IsMediumError refused.1) }
     ensures repaired { WhereTells M.tells (RepairsMedium true M.state medium result) }
     ensures moments { WhereKeeps M.tells M.keeps (MendsMedium true M.state medium result) }
 {
@@ -98,6 +101,7 @@ pub fn repair<M: Source + Medium>(medium: M) -> result::Result<(M, Repair), (M, 
 pub fn repair_to_end<M: Source + Medium>(medium: M) -> result::Result<(M, Repair), (M, Error)>
     requires { WhereTells M.tells ((M.state medium).place ≡ 0) }
     ensures sound { IfOk result (λ done. IsSoundSpec done.1.spec_ex) }
+    ensures told { IfErr result (λ refused. IsMediumError refused.1) }
     ensures repaired { WhereTells M.tells (RepairsMedium false M.state medium result) }
     ensures moments { WhereKeeps M.tells M.keeps (MendsMedium false M.state medium result) }
 {

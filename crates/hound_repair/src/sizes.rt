@@ -63,20 +63,21 @@ pub(crate) struct Sizes {
     pub(crate) left_over: u32,
 }
 
-/// The right sizes of a file with this head that holds so many bytes from the data on.
+/// The right sizes of a file with this head that shows this data length, and holds so many bytes from
+/// the data on.
 #[tactic(auto, using(crate::proofs::Dividing::whole_le, crate::proofs::Dividing::times_le), unfolding(crate::specs::Repairing::size_fault, crate::specs::Held::data_held, crate::specs::Held::ends_with_pad))]
-pub(crate) fn right_sizes(head: FileHead, held: u64) -> Result<Sizes>
+pub(crate) fn right_sizes(head: FileHead, shown: u64, held: u64) -> Result<Sizes>
     requires sound { IsSoundSpec head.spec_ex }
     requires start { IsDataPlace head.data_start }
+    requires small { shown ≤ 2 ^ 32 }
     requires few { held ≤ 2 ^ 33 }
-    ensures check { FailsCheck result (size_fault head.spec_ex head.data_length head.data_start held) }
-    ensures right { IfOk result (AreRightSizes head held) }
+    ensures check { FailsCheck result (size_fault head.spec_ex shown head.data_start held) }
+    ensures right { IfOk result (AreRightSizes head shown held) }
 {
     let frame = head.spec_ex.spec.channels as u64 * head.spec_ex.bytes_per_sample as u64;
-    let length = head.data_length as u64;
     // All that is held is data, except a pad byte that the data length shows.
-    let data = if held == length + 1 && length % 2 == 1 && length % frame == 0 {
-        length
+    let data = if held == shown + 1 && shown % 2 == 1 && shown % frame == 0 {
+        shown
     } else {
         held
     };

@@ -1,8 +1,9 @@
 -- What repairing does.
 use Rattle.std.specs.Prelude.{◌≡◌, ◌⊎◌, ℕ, Bool, ◌<◌, ◌≤◌, List, length, take, true, Result, Ok, Err}
 use Rattle.hound_walk.specs.declared.cause.Cause.TheVariants.{Unsupported}
+use Rattle.hound_walk.specs.{Refused}
 use Rattle.hound_writer.specs.{by_bytes, too_long}
-use Rattle.hound_repair.specs.{IsFoundAt, IsRepairFault, LacksRoom, RepairsBytes}
+use Rattle.hound_repair.specs.{HasUnfitHead, IsFoundAt, LacksRoom, RepairsBytes}
 use Rattle.hound_repair.specs.declared.sizes.Repair.{Repair}
 use Rattle.hound_repair.specs.declared.sizes.RepairState.{RepairState}
 use Rattle.hound_repair.specs.declared.sizes.RepairState.TheVariants.{Whole, CutOff, HasChunksAfterData}
@@ -30,11 +31,12 @@ abbrev pub FindsInFile : List ℕ → HoundRepair → Type 0
 FindsInFile bytes c = (found : Repair) × IsReported found c
     × ((len : ℕ) × (start : ℕ) × IsFoundAt true bytes found len start)
 
--- why a file isn't looked at
+-- why a file isn't looked at: it has no head for this cause, or it has one of samples that aren't
+-- written, or whose sizes don't fit
 abbrev pub IsDamageFault : List ℕ → Fault → Type 0
-IsDamageFault bytes (Head cause) = IsRepairFault bytes (by_bytes cause)
-IsDamageFault bytes NotWritable = IsRepairFault bytes (by_bytes Unsupported)
-IsDamageFault bytes TooLong = IsRepairFault bytes too_long
+IsDamageFault bytes (Head cause) = Refused bytes cause
+IsDamageFault bytes NotWritable = HasUnfitHead bytes (by_bytes Unsupported)
+IsDamageFault bytes TooLong = HasUnfitHead bytes too_long
 IsDamageFault bytes _ = ⊥
 
 -- why a file isn't repaired

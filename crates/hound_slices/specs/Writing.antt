@@ -41,7 +41,7 @@ file_size s count = data_start s + padded (count * s.bytes_per_sample)
 
 -- why so many samples after a header of this length are no file
 abbrev pub IsSizeFault : WavSpecEx → ℕ → ℕ → Fault → Type 0
-IsSizeFault s start count UnfinishedFrame = count % s.spec.channels ≡ 0 → ⊥
+IsSizeFault s start count UnfinishedFrame = (1 ≤ s.spec.channels) × (count % s.spec.channels ≡ 0 → ⊥)
 IsSizeFault s start count TooLong = greatest_u32 < riff_size start (count * s.bytes_per_sample)
 IsSizeFault s start count _ = ⊥
 
@@ -55,8 +55,9 @@ abbrev pub IsWriteFault : {V : Type 0} → SampleFormat → (V → ℕ → ℕ �
     → WavSpecEx → List V → ℕ → Fault → Type 0
 IsWriteFault format container s values room OtherFormat = s.spec.sample_format ≡ format → ⊥
 IsWriteFault format container s values room NotWritable = (IsWritable s → ⊥)
-    ⊎ (containers_in container s values ≡ Err unsupported)
-IsWriteFault format container s values room TooWide = containers_in container s values ≡ Err too_wide
+    ⊎ ((s.spec.sample_format ≡ format) × (containers_in container s values ≡ Err unsupported))
+IsWriteFault format container s values room TooWide =
+    (s.spec.sample_format ≡ format) × (containers_in container s values ≡ Err too_wide)
 IsWriteFault format container s values room NoRoom = room < file_size s (length values)
 IsWriteFault format container s values room fault = IsSizeFault s (data_start s) (length values) fault
 
@@ -134,9 +135,9 @@ IsRefusedBy format container s samples start values used room OtherFormat =
     s.spec.sample_format ≡ format → ⊥
 IsRefusedBy format container s samples start values used room NotWritable =
     (IsPair s.spec.sample_format s.spec.bits_per_sample s.bytes_per_sample → ⊥)
-    ⊎ (containers_in container s values ≡ Err unsupported)
+    ⊎ ((s.spec.sample_format ≡ format) × (containers_in container s values ≡ Err unsupported))
 IsRefusedBy format container s samples start values used room TooWide =
-    containers_in container s values ≡ Err too_wide
+    (s.spec.sample_format ≡ format) × (containers_in container s values ≡ Err too_wide)
 IsRefusedBy format container s samples start values used room Truncated =
     used < start + samples * s.bytes_per_sample
 IsRefusedBy format container s samples start values used room NoRoom =
@@ -164,9 +165,10 @@ abbrev pub IsEncodeFault : {V : Type 0} → SampleFormat → (V → ℕ → ℕ 
 IsEncodeFault format container s values room OtherFormat = s.spec.sample_format ≡ format → ⊥
 IsEncodeFault format container s values room NotWritable =
     (IsPair s.spec.sample_format s.spec.bits_per_sample s.bytes_per_sample → ⊥)
-    ⊎ (containers_in container s values ≡ Err unsupported)
-IsEncodeFault format container s values room TooWide = containers_in container s values ≡ Err too_wide
-IsEncodeFault format container s values room NoRoom = room / s.bytes_per_sample < length values
+    ⊎ ((s.spec.sample_format ≡ format) × (containers_in container s values ≡ Err unsupported))
+IsEncodeFault format container s values room TooWide =
+    (s.spec.sample_format ≡ format) × (containers_in container s values ≡ Err too_wide)
+IsEncodeFault format container s values room NoRoom = room < length values * s.bytes_per_sample
 IsEncodeFault format container s values room _ = ⊥
 
 -- what encoding does, by its outcome: the containers of the values are the front of the caller's

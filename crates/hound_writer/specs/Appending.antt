@@ -1,14 +1,14 @@
 -- Appending to an existing file.
-use Rattle.std.specs.Prelude.{◌≡◌, ℕ, ◌/◌, ◌%◌, ◌==◌, ◌⊎◌, not, nat_lt, if◌then◌else◌, List, [], Option, None, Some, Result, Ok, Err}
+use Rattle.std.specs.Prelude.{◌≡◌, ℕ, ◌/◌, ◌%◌, ◌==◌, ◌⊎◌, ⊤, not, nat_lt, if◌then◌else◌, List, [], Option, None, Some, Result, Ok, Err}
 use Rattle.hound_spec.specs.declared.error.Error.{Error}
-use Rattle.hound_spec.specs.declared.error.Error.TheVariants.{TooLong}
+use Rattle.hound_spec.specs.declared.error.Error.TheVariants.{OutOfMemory, TooLong}
 use Rattle.hound_spec.specs.declared.spec.WavSpecEx.{WavSpecEx}
 use Rattle.hound_spec.specs.{greatest_u32, riff_size, is_pair}
 use Rattle.hound_medium.specs.{MediumState, Stays, WhereTells, one_more}
 use Rattle.hound_walk.specs.declared.cause.Cause.{Cause}
 use Rattle.hound_walk.specs.declared.cause.Cause.TheVariants.{Format, Unsupported}
 use Rattle.hound_walk.specs.declared.cause.Reason.TheVariants.{DataLength, FrameLength}
-use Rattle.hound_walk.specs.{Head, IsSoundSpec, Refused, Names}
+use Rattle.hound_walk.specs.{Head, IsRefusal, IsSoundSpec, Refused, Names}
 use Rattle.hound_writer.specs.Accepting.{IsIoError}
 use Rattle.hound_writer.specs.Writer.{Ghosts, WriterState, IsSound, IsWhole, IsCounted, data_length, data_end}
 
@@ -58,6 +58,14 @@ HasOneAppendAnswer bytes =
 abbrev pub NamesFault : Error → AppendFault → Type 0
 NamesFault e (by_bytes cause) = Names e cause
 NamesFault e too_long = e ≡ TooLong
+
+-- an error of appending to the file in a medium, or of repairing it, over every medium
+abbrev pub IsMediumError : Error → Type 0
+IsMediumError e = (e ≡ TooLong) ⊎ IsRefusal e (λ _. ⊤)
+
+-- the same of a file on disk, for whose buffer there may be no memory
+abbrev pub IsFileError : Error → Type 0
+IsFileError e = (e ≡ OutOfMemory) ⊎ IsMediumError e
 
 -- nothing was written, and only the place and the faults have changed
 pub record PutsNothing (old new : MediumState) : Type 0 where

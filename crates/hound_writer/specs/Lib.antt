@@ -1,6 +1,6 @@
 -- The words of this crate, for those above it. The file is made by `scripts/make_words`.
 pub use Rattle.hound_writer.specs.Accepting.{AcceptAnswer, Accepts, AcceptsBytes, AcceptsEach, Adds, AddsAtEach, AddsToFile, AreI16, FitAnswer, IsIoError, IsPublishing, IsStored, OnPublished, OnRefused, StaysStored, StaysTrue, UnlessFailed, container_in, containers_in, faults_told, i16_bytes, if_marked, mark_of, one, outcome_of, sample_bytes, whole_containers}
-pub use Rattle.hound_writer.specs.Appending.{AnswersAppend, AppendAnswer, AppendFault, Appends, FailsCheck, FollowsData, HasOneAppendAnswer, IsAppendFault, IsNotAppended, NamesFault, PutsNothing, appendable, by_bytes, faulty, too_long}
+pub use Rattle.hound_writer.specs.Appending.{AnswersAppend, AppendAnswer, AppendFault, Appends, FailsCheck, FollowsData, HasOneAppendAnswer, IsAppendFault, IsFileError, IsMediumError, IsNotAppended, NamesFault, PutsNothing, appendable, by_bytes, faulty, too_long}
 unfoldable pub use Rattle.hound_writer.specs.Appending.{head_fault}
 pub use Rattle.hound_writer.specs.Batch.{IsSameFile, WritesToBatch, batch_bytes, batch_lender, batch_writer, remaining}
 pub use Rattle.hound_writer.specs.Beginning.{Begins, BeginsFile, HasBegun, IsNotBegun, PutsHeader}

@@ -41,7 +41,8 @@ AppendsRecorder s start samples (Ok recorder) = (samples % s.spec.channels ≡ 0
     × IsPair s.spec.sample_format s.spec.bits_per_sample s.bytes_per_sample × (1 ≤ s.spec.channels)
     × HasData recorder recorder.data_length
     × (recorder ≡ recorder_of start (samples * s.bytes_per_sample) s.bytes_per_sample)
-AppendsRecorder s start samples (Err UnfinishedFrame) = samples % s.spec.channels ≡ 0 → ⊥
+AppendsRecorder s start samples (Err UnfinishedFrame) = (1 ≤ s.spec.channels)
+    × (samples % s.spec.channels ≡ 0 → ⊥)
 AppendsRecorder s start samples (Err TooLong) = greatest_u32 < riff_size start (samples * s.bytes_per_sample)
 AppendsRecorder s start samples (Err error) = (error ≡ NotWritable) × ((s.spec.channels ≡ 0) ⊎ (start < 20)
     ⊎ (IsPair s.spec.sample_format s.spec.bits_per_sample s.bytes_per_sample → ⊥))

@@ -1,8 +1,8 @@
 // Appending to existing files.
-ghost use Rattle.std.specs.Prelude.{◌≡◌, [], IfOk, MatchResult};
+ghost use Rattle.std.specs.Prelude.{◌≡◌, [], IfErr, IfOk, MatchResult};
 ghost use Rattle.hound_medium.specs.{WhereTells};
 ghost use Rattle.hound_walk.specs.{IsSoundSpec, Head, IsDataPlace};
-ghost use Rattle.hound_writer.specs.{Recorded, appended, IsWhole, accepted_samples, Appends, IsNotAppended, FailsCheck, head_fault};
+ghost use Rattle.hound_writer.specs.{Recorded, appended, IsWhole, accepted_samples, Appends, IsMediumError, IsNotAppended, FailsCheck, head_fault};
 
 use crate::WavWriter;
 use crate::output::Output;
@@ -44,8 +44,9 @@ pub(crate) fn append_at<W: Medium>(
     requires start { IsDataPlace head.data_start }
     requires head { WhereTells W.tells
         (Head (W.state writer).contents head.spec_ex head.data_length head.data_start) }
-    ensures { MatchResult result (Appends W.Placed (W.state writer))
+    ensures appends { MatchResult result (Appends W.Placed (W.state writer))
         (λ refused. WhereTells W.tells (IsNotAppended (W.state writer) (W.state refused.0) refused.1)) }
+    ensures told { IfErr result (λ refused. IsMediumError refused.1) }
 {
     if let Err(error) = check_head(head) {
         return Err((writer, error));
@@ -71,6 +72,7 @@ impl<W: Source + Medium> WavWriter<W> {
         requires { WhereTells W.tells ((W.state writer).place ≡ 0) }
         ensures appends { MatchResult result (Appends W.Placed (W.state writer))
             (λ e. (back : W) × WhereTells W.tells (IsNotAppended (W.state writer) (W.state back) e)) }
+        ensures told { IfErr result IsMediumError }
         ensures recorded { IfOk result (λ w. WhereTells W.tells (IsWhole W.state w) →
             Recorded W.Placed w.spec_ex (appended (W.state writer) w.data_start
             (accepted_samples W.state w)) [] w) }
@@ -94,6 +96,7 @@ impl<W: Source + Medium> WavWriter<W> {
         requires { WhereTells W.tells ((W.state writer).place ≡ 0) }
         ensures appends { MatchResult result (Appends W.Placed (W.state writer))
             (λ refused. WhereTells W.tells (IsNotAppended (W.state writer) (W.state refused.0) refused.1)) }
+        ensures told { IfErr result (λ refused. IsMediumError refused.1) }
         ensures recorded { IfOk result (λ w. WhereTells W.tells (IsWhole W.state w) →
             Recorded W.Placed w.spec_ex (appended (W.state writer) w.data_start
             (accepted_samples W.state w)) [] w) }

@@ -1,9 +1,10 @@
 // Writers of files on disk.
-ghost use Rattle.std.specs.Prelude.{◌≡◌, ◌⊎◌, IfOk, IfErr};
+ghost use Rattle.std.specs.Prelude.{◌≡◌, ◌⊎◌, [], IfOk, IfErr};
 ghost use Rattle.hound_spec.specs.declared.error.Error.TheVariants.{OutOfMemory};
 ghost use Rattle.hound_spec.specs.{with_default_width};
 ghost use Rattle.hound_walk.specs.{IsDataPlace, IsSoundSpec};
 ghost use Rattle.hound_writer.specs.Accepting.{IsIoError};
+ghost use Rattle.hound_writer.specs.Appending.{IsFileError};
 ghost use Rattle.hound_writer.specs.Beginning.{BeginsFile};
 ghost use Rattle.hound_writer.specs.Writer.{IsSound};
 
@@ -61,6 +62,7 @@ fn open_until_data(
 ) -> Result<(fs::File, FileHead)>
     ensures sound { IfOk result (λ found. IsSoundSpec found.1.spec_ex) }
     ensures start { IfOk result (λ found. IsDataPlace found.1.data_start) }
+    ensures told { IfErr result IsFileError }
 {
     let mut file = fs::OpenOptions::new()
         .read(true)
@@ -133,6 +135,8 @@ impl WavWriter<io::BufWriter<fs::File>> {
         path: Path<'_>,
     ) -> Result<WavWriter<io::BufWriter<fs::File>>>
         ensures sound { IfOk result (λ w. IsSound w) }
+        ensures fresh { IfOk result (λ w. (w.buffered ≡ []) × (w.batch_memory ≡ [])) }
+        ensures told { IfErr result IsFileError }
     {
         let (file, head) = open_until_data(rt, alloc, path)?;
         let writer = buffered(alloc, file)?;
@@ -191,6 +195,8 @@ impl WavWriter<Durable<SyncedFile>> {
         path: Path<'_>,
     ) -> Result<WavWriter<Durable<SyncedFile>>>
         ensures sound { IfOk result (λ w. IsSound w) }
+        ensures fresh { IfOk result (λ w. (w.buffered ≡ []) × (w.batch_memory ≡ [])) }
+        ensures told { IfErr result IsFileError }
     {
         let (file, head) = open_until_data(rt, alloc, path)?;
         let writer = synced(rt, alloc, path, file)?;

@@ -1,8 +1,9 @@
 use Rattle.std.proofs.lemmas.Grind.{common_steps}
-use Rattle.std.proofs.Common.{◌≡◌, ◌<◌, ◌^◌, true, false, inl, refl, sym, ◌∙◌, arith, rules, length-drop}
+use Rattle.std.proofs.Common.{◌≡◌, ◌≤◌, ◌<◌, ◌^◌, true, false, inl, refl, sym, ap, subst, ◌∙◌, arith, rules, length-drop}
 use Rattle.hound_spec.specs.{is_pair}
 use Rattle.hound_writer.proofs.Heads.{head_inside}
-use Rattle.hound_repair.specs.Held.{held}
+use Rattle.hound_repair.specs.Held.{held, shown_length}
+use Rattle.hound_repair.specs.Repairing.{size_fault}
 use Rattle.hound_repair.specs.declared.sizes.Sizes.{Sizes}
 use Rattle.hound_repair.proofs.Measuring.{fails_for, is_all, not_written, same_fault, written}
 use Rattle.hound_repair.proofs.RightSizes.{size_fits}
@@ -17,28 +18,35 @@ returns-then-not-is_pair-clause-finds g c told =
     search rules in
     record {
       puts = search rules;
-      why = inl (_, not_written s head.data_length head.data_start _ pair, refl, refl);
+      why = inl (_, not_written s _ head.data_start _ pair, refl, refl);
     }
 
 pub returns-in-Err-clause-finds : goal.returns-in-Err-clause-finds
 returns-in-Err-clause-finds g c told =
     let head = c.args.head in
     let s = head.spec_ex in
-    let n = held head.data_start (g.R.ReadAt.state c.args.source.now).contents in
+    let contents = (g.R.ReadAt.state c.args.source.now).contents in
+    let n = held head.data_start contents in
+    let shown = shown_length head.data_start head.data_length contents in
     let pair : is_pair s.spec.sample_format s.spec.bits_per_sample s.bytes_per_sample ≡ true =
     search rules in
-    let small : c.args.head.data_length < 2 ^ 32 = search rules in
-    let looks = c.in_ok-held.ensures.looks told in
-    let same = same_fault s head.data_length head.data_start n
+    let first = c.in_ok-held.ensures.looks told in
+    let second = c.in_ok-shown.ensures.looks told in
+    let is : c.in_ok-shown.shown ≡ shown =
+    c.in_ok-shown.ensures.shown told
+    ∙ ap (shown_length head.data_start head.data_length) first.puts.stays.contents in
+    let small : shown ≤ 2 ^ 32 = subst (λ k. k ≤ 2 ^ 32) is c.in_ok-shown.ensures.small in
+    let same = same_fault s shown head.data_start n
     c.in_ok-held.held c.requires.sound small c.requires.start.0 (c.in_ok-held.ensures.held told) in
     let check = fails_for Sizes c.in-Err.error _ c.in-Err.ensures.check in
     record {
-      puts = looks.puts;
+      puts = puts_nothing_then _ _ _ first.puts second.puts;
       why = inl (
         check.0,
-        written s head.data_length head.data_start n pair ∙ sym same ∙ check.1,
+        written s shown head.data_start n pair ∙ sym same
+            ∙ ap (λ k. size_fault s k head.data_start c.in_ok-held.held) (sym is) ∙ check.1,
         check.2,
-        looks.faults,
+        second.faults ∙ first.faults,
       );
     }
 

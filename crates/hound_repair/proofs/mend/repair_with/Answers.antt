@@ -1,10 +1,27 @@
-use Rattle.std.proofs.Common.{inr, ap, subst, sym, ◌∙◌, rules}
-use Rattle.hound_medium.specs.{one_more}
+use Rattle.std.proofs.Common.{◌≡◌, Bool, Result, Err, inl, inr, ap, subst, sym, ◌∙◌, rules}
+use Rattle.hound_medium.specs.{MediumState, one_more}
 use Rattle.hound_repair.specs.Damages.{may_be_chunks}
-use Rattle.hound_repair.specs.Repairing.{Repairs}
+use Rattle.hound_repair.specs.Repairing.{IsNotFound, Repairs, RepairsMedium}
+use Rattle.hound_repair.specs.declared.sizes.Repair.{Repair}
+use Rattle.hound_spec.specs.declared.error.Error.{Error}
 use Rattle.hound_repair.proofs.Halves.{mends_at_each}
 use Rattle.hound_repair.proofs.Mending.{half_after, put_ok, repairs_kept}
 use Rattle.hound_repair.proofs.mend.repair_with.Goals as goal
+
+-- a file that isn't found isn't repaired
+not_found : {M : Type 0} (looks : Bool) (state : M → MediumState) (old : M) (r : Result (M × Repair) (M × Error)) (e : M × Error)
+    → r ≡ Err e → IsNotFound (state old) (state e.0) e.1 → RepairsMedium looks state old r
+not_found looks state old r e is not = subst (RepairsMedium looks state old) (sym is) (record {
+  why = elim not.why [
+    | inl fault ↦ inl (fault.0, fault.1, fault.2, not.puts, fault.3)
+    | inr failed ↦ inr (failed.0, inl not.puts, failed.1)
+  ];
+})
+
+pub returns-in_err-medium-clause-repaired : goal.returns-in_err-medium-clause-repaired
+returns-in_err-medium-clause-repaired g c told =
+    not_found (may_be_chunks c.args.rest) g.M.Placed.state c.args.medium c.from_residual.result c.in_err-medium.field-0.0
+    (search rules) (c.in_err-medium.ensures.finds told)
 
 pub returns-then-ne-clause-repaired : goal.returns-then-ne-clause-repaired
 returns-then-ne-clause-repaired g c told =

@@ -17,7 +17,7 @@ returns-in_err-check_samples-clause-encodes g c =
       subst (λ s. IsEncodeFault c.args.format g.S.Sample.container s c.args.samples.now (length c.args.out.now) fault)
           c.spec_from_c-spec_ex.ensures
           (failed (IsEncodeFault c.args.format g.S.Sample.container c.spec_from_c-spec_ex.result c.args.samples.now (length c.args.out.now))
-          _ fault c.in_err-check_samples.ensures (λ wide. wide) inr),
+          _ fault c.in_err-check_samples.ensures (λ wide. (search rules, wide)) (λ none. inr (search rules, none))),
     )
 
 pub returns-clause-encodes : goal.returns-clause-encodes

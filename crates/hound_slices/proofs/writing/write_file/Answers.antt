@@ -23,7 +23,7 @@ returns-in_err-check_samples-clause-writes g c =
       subst (λ s. IsWriteFault c.args.format g.S.Sample.container s c.args.samples.now (length c.args.out.now) fault)
           c.spec_from_c-spec_ex.ensures
           (failed (IsWriteFault c.args.format g.S.Sample.container c.spec_from_c-spec_ex.result c.args.samples.now (length c.args.out.now))
-          _ fault c.in_err-check_samples.ensures (λ wide. wide) inr),
+          _ fault c.in_err-check_samples.ensures (λ wide. (search rules, wide)) (λ none. inr (search rules, none))),
     )
 
 pub returns-clause-writes : goal.returns-clause-writes

@@ -15,8 +15,8 @@ at_end-requires-clause-at_most g c tells =
     (g.W.Placed.state c.args.writer).contents _ (c.requires.head tells)
     (c.in_default-go.ensures tells).stays.contents
 
-pub returns : goal.returns
-returns g c =
+pub returns-clause-appends : goal.returns-clause-appends
+returns-clause-appends g c =
     let head = c.args.head in
     rw (c.over.ensures, c.at_end.ensures)
     record {

@@ -7,7 +7,7 @@ returns-in-Ok-clause-appends g c =
     let old = g.W.Placed.state c.args.writer in
     let mid = g.W.Placed.state c.find_data-writer.result.0 in
     answer_after g.W.Placed c.in-Ok.head old mid _
-    (rw c.in-Ok.is at c.find_data-writer.ensures.finds) c.append_at.ensures
+    (rw c.in-Ok.is at c.find_data-writer.ensures.finds) c.append_at.ensures.appends
 
 pub returns-in-Ok-clause-recorded : goal.returns-in-Ok-clause-recorded
 returns-in-Ok-clause-recorded g c =

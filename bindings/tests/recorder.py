@@ -1,0 +1,223 @@
+#!/usr/bin/env python3
+"""Tries what bindings/c/record.c does at the edges of a recording: files that exist, a folder that can't be synced, two
+programs on one file, an output that nobody reads, an input without bytes yet or that ends within a frame, disks that are
+full, and files that can't be appended to. Each of its wrong versions has to be found.
+
+usage: recorder.py     (with cc; as root it also tries a folder that can't be read, and a disk that fills up)"""
+import os
+import resource
+import signal
+import stat
+import struct
+import subprocess
+import sys
+import tempfile
+import time
+
+TOP = os.path.dirname(os.path.dirname(os.path.dirname(os.path.abspath(__file__))))
+C = os.path.join(TOP, "bindings", "c")
+SHAPE = ["48000", "2", "16", "100"]
+DATA = bytes(range(1, 251)) * 16  # 1,000 whole frames of two channels with 16 bits
+# Wrong versions of record.c: a part, and what is in its place.
+WRONG = {
+    "a file that exists is emptied": ("is_overwritten ? O_CREAT : O_CREAT | O_EXCL", "O_CREAT"),
+    "a file is emptied before its folder is synced": ("file = open(path, flags | O_RDWR, 0666);", "file = open(path, flags | O_RDWR | (flags ? O_TRUNC : 0), 0666);"),
+    "a file that isn't recorded to stays": ("if (why && flags & O_EXCL) unlink(path);", ""),
+    "no lock": ("flock(file, LOCK_EX | LOCK_NB) < 0", "0"),
+    "an output that nobody reads ends it": ("signal(SIGPIPE, SIG_IGN);", ""),
+    "an input without bytes yet is at its end": ("errno == EAGAIN || errno == EWOULDBLOCK", "0"),
+    "a torn frame isn't reported": ('if (torn > 0) complain("the input ends within a frame, which isn\'t recorded");', ""),
+    "a fault has no reason": ('return complain(more == 0 ? "nothing could be written" : strerror(errno)), 0;', "return is_whole = 0;"),
+    "what the header counts isn't reported": ('fprintf(stderr, "record: the header counts only %llu samples: repair the file\\n", counted), is_whole = 0', "is_whole = 0"),
+    "a file of no bytes is appended to": ('if (length == 0) stop("the file is empty: it has no header to append to");', ""),
+    "a pipe is taken for a file": ("!S_ISREG(about.st_mode)", "0"),
+    "a rejected block isn't cut off": ("if (!ok && ftruncate(file, place) < 0)", "if (0)"),
+}
+
+
+class Wrong(Exception):
+    pass
+
+
+def compiled(folder, name, text):
+    """The program of this text, with the library that the packages take."""
+    program = os.path.join(folder, name)
+    with open(program + ".c", "w") as file:
+        file.write(text)
+    library = os.environ.get("HOUND_C_LIB") or os.path.join(TOP, "bindings", "lib", os.uname().machine + "-linux")
+    words = [os.environ.get("CC", "cc"), "-O1", "-w", "-I" + C, program + ".c", os.path.join(library, "libhound_c.a")]
+    subprocess.run([*words, "-o", program], check=True)
+    return program
+
+
+def contents_of(path):
+    with open(path, "rb") as file:
+        return file.read()
+
+
+def counted_in(path):
+    """How many samples the header of a file counts; its data begin at byte 44, and it holds them."""
+    contents = contents_of(path)
+    (length,) = struct.unpack("<I", contents[40:44])
+    if contents[44 : 44 + length] != (DATA * 99)[:length]:
+        raise Wrong("the file counts samples that weren't given, or that it doesn't hold")
+    return length // 2
+
+
+def run(words, data=DATA, **options):
+    return subprocess.run(words, input=data, stdout=subprocess.PIPE, stderr=subprocess.PIPE, timeout=20, **options)
+
+
+def expect(what, holds):
+    if not holds:
+        raise Wrong(what)
+
+
+def is_rejected(ran, sentence):
+    return (ran.returncode, ran.stdout) == (1, b"") and ran.stderr.startswith(b"record: " + sentence)
+
+
+def exists(record, path):
+    expect("it doesn't record", run([record, path, *SHAPE]).returncode == 0 and counted_in(path) == len(DATA) // 2)
+    before = contents_of(path)
+    expect("it records over a file", is_rejected(run([record, path, *SHAPE]), b"the file exists"))
+    expect("a file that is there changes", contents_of(path) == before)
+    expect("--overwrite fails", run([record, path, *SHAPE, "--overwrite"], DATA[:400]).returncode == 0 and counted_in(path) == 200)
+    expect("--append fails", run([record, path, *SHAPE, "--append"], DATA[400:800]).returncode == 0 and counted_in(path) == 400)
+
+
+def folder_without_leave(record, path):
+    """As a user who may write in a folder and not read it."""
+    if os.geteuid() != 0:
+        return
+    home = os.path.dirname(path)
+    drop = os.path.join(home, "drop")
+    os.chmod(home, 0o755)
+    os.mkdir(drop)
+    there, new = os.path.join(drop, "there.wav"), os.path.join(drop, "new.wav")
+    run([record, there, *SHAPE])
+    os.chmod(there, 0o666)
+    os.chmod(drop, 0o733)
+    before = contents_of(there)
+    nobody = ["setpriv", "--reuid=65534", "--regid=65534", "--clear-groups", record]
+    for words in [there, *SHAPE, "--durable", "--overwrite"], [new, *SHAPE, "--durable"]:
+        expect("the folder isn't synced", is_rejected(run([*nobody, *words]), b"Permission denied"))
+    expect("a recording is emptied that isn't begun anew", contents_of(there) == before)
+    expect("an empty file is left", not os.path.exists(new))
+
+
+def two_programs(record, path):
+    first = subprocess.Popen([record, path, *SHAPE], stdin=subprocess.PIPE, stdout=subprocess.PIPE)
+    first.stdin.write(DATA)
+    first.stdin.flush()
+    first.stdout.readline()
+    repair = compiled(os.path.dirname(path), "repair", open(os.path.join(C, "repair.c")).read())
+    rejected = [run([record, path, *SHAPE, word]) for word in ("--append", "--overwrite")]
+    repaired = run([repair, path])
+    first.communicate()
+    expect("two programs record to one file", all(is_rejected(ran, b"another program records") for ran in rejected))
+    expect("a live recording is repaired", repaired.returncode == 1 and repaired.stderr.startswith(b"repair: another program"))
+    expect("the first recorder lost samples", counted_in(path) == len(DATA) // 2)
+    expect("a lock outlives its program", run([record, path, *SHAPE, "--append"]).returncode == 0)
+
+
+def closed_output(record, path):
+    recorder = subprocess.Popen([record, path, *SHAPE], stdin=subprocess.PIPE, stdout=subprocess.PIPE)
+    recorder.stdin.write(DATA)
+    recorder.stdin.flush()
+    recorder.stdout.readline()
+    recorder.stdout.close()
+    for _ in range(9):
+        time.sleep(0.01)
+        try:
+            recorder.stdin.write(DATA)
+            recorder.stdin.flush()
+        except BrokenPipeError:
+            raise Wrong("it ends where nobody reads what it prints") from None
+    recorder.stdin.close()
+    expect("its status is that of an error", recorder.wait() == 0 and counted_in(path) == 10 * len(DATA) // 2)
+
+
+def slow_input(record, path):
+    """A pipe that doesn't block, with pauses and pieces of odd lengths."""
+    reading, writing = os.pipe()
+    os.set_blocking(reading, False)
+    recorder = subprocess.Popen([record, path, *SHAPE], stdin=reading, stdout=subprocess.PIPE, stderr=subprocess.PIPE)
+    os.close(reading)
+    for first in range(0, len(DATA), 777):
+        time.sleep(0.01)
+        try:
+            os.write(writing, DATA[first : first + 777])
+        except BrokenPipeError:
+            raise Wrong("it ends before its input does") from None
+    os.close(writing)
+    recorder.communicate()
+    expect("samples of a slow input are lost", recorder.returncode == 0 and counted_in(path) == len(DATA) // 2)
+
+
+def torn_frame(record, path):
+    ran = run([record, path, *SHAPE], DATA[:-1])
+    expect("a torn frame isn't reported", ran.returncode == 1 and b"within a frame" in ran.stderr)
+    expect("its whole frames aren't counted", counted_in(path) == len(DATA) // 2 - 2)
+
+
+def full_disk(record, path):
+    """The header can't be written any more once the blocks of the file can't, by a limit of its length."""
+    limit = lambda: (signal.signal(signal.SIGXFSZ, signal.SIG_IGN), resource.setrlimit(resource.RLIMIT_FSIZE, (1000, 1000)))
+    ran = run([record, path, *SHAPE], preexec_fn=limit)
+    expect("a full disk isn't named", ran.returncode == 1 and b"record: File too large\n" in ran.stderr)
+    said = [int(line) for line in ran.stdout.split() if line.isdigit()]
+    expect("samples of a checkpoint are lost", counted_in(path) >= max(said))
+    expect("a part of a rejected block stays", os.path.getsize(path) == 44 + 2 * counted_in(path))
+
+
+def failing_header(record, path):
+    """No size of the header can be written after the first checkpoint, as on a disk that fails."""
+    ran = run(["strace", "-qq", "-o", "/dev/null", "-P", path, "-e", "trace=pwrite64", "-e", "inject=pwrite64:error=EIO:when=6+", record, path, *SHAPE])
+    counted = counted_in(path)
+    expect("why samples aren't counted isn't said", ran.returncode == 1 and b"record: Input/output error\n" in ran.stderr)
+    expect("how many are counted isn't said", b"record: the header counts only %d samples" % counted in ran.stderr)
+
+
+def not_appended(record, path):
+    open(path, "w").close()
+    expect("an empty file is appended to", is_rejected(run([record, path, *SHAPE, "--append"]), b"the file is empty"))
+    os.remove(path)
+    os.mkfifo(path)
+    for words in ["--append"], ["--overwrite"]:
+        expect("a pipe is recorded to", is_rejected(run([record, path, *SHAPE, *words]), b"this is no regular file"))
+    expect("a pipe isn't left", stat.S_ISFIFO(os.stat(path).st_mode))
+
+
+CHECKS = [exists, folder_without_leave, two_programs, closed_output, slow_input, torn_frame, full_disk, failing_header, not_appended]
+
+
+def first_failure(record):
+    """Why a program is wrong, if it is."""
+    for check in CHECKS:
+        with tempfile.TemporaryDirectory() as folder:
+            try:
+                check(record, os.path.join(folder, "take.wav"))
+            except (Wrong, subprocess.TimeoutExpired) as error:
+                return f"{check.__name__}: {error}"
+    return None
+
+
+def main():
+    with tempfile.TemporaryDirectory() as folder:
+        os.chmod(folder, 0o755)
+        with open(os.path.join(C, "record.c")) as file:
+            text = file.read()
+        failure = first_failure(compiled(folder, "record", text))
+        if failure:
+            sys.exit(f"recorder: {failure}")
+        for number, (what, (part, other)) in enumerate(WRONG.items()):
+            if text.count(part) != 1:
+                sys.exit(f"recorder: record.c has {text.count(part)} times: {part}")
+            if not first_failure(compiled(folder, f"wrong{number}", text.replace(part, other))):
+                sys.exit(f"recorder: this wrong version isn't found: {what}")
+        print(f"recorder: {len(CHECKS)} checks, and {len(WRONG)} wrong versions found")
+
+
+if __name__ == "__main__":
+    main()

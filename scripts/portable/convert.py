@@ -1,0 +1,361 @@
+#!/usr/bin/env python3
+"""Translates hound_c.wasm, the proved module for a memory of 64 bits, into one C99 file that has the functions of hound.h,
+for computers that bindings/lib has no library for. It is trusted: a mistake here is one in that file. So it only knows
+what that module has, and rejects everything else; module.py reads the module, and addresses.py looks that nothing in it
+depends on where memory is.
+
+usage: convert.py hound_c.wasm hound.h > hound_c.c     (prelude.c, beside it, begins the file)
+
+An address of the module is an address of the process. Of the module's own memory three things are left:
+- The constants. Each i64.const and each offset that points into them becomes an address in an array.
+- The stack. A function takes a frame of a fixed size, and none calls itself, so the greatest depth is known. Each function
+  of hound.h has an array of that size, and its end, `sp`, is passed to the functions that take a frame. The module's tests
+  for an overflow of its stack are left out, since there is room for the greatest depth.
+- A flag, by which the module rejects calls after a trap. Here a trap ends the process.
+
+A value that is computed becomes a part of an expression, where it is used; one that reads a local or the memory is stored
+in a variable before that changes. A block becomes a label, and a branch a goto."""
+import hashlib
+import os
+import re
+import struct
+import sys
+
+import addresses
+from module import (
+    BLOCK, BR, BR_IF, BR_TABLE, CALL, END, F32_CONST, F64_CONST, GLOBAL_GET, GLOBAL_SET, I32_CONST, I32_EQZ, I64_ADD, I64_CONST, I64_GT_S, I64_LT_S, I64_SUB,
+    LOADS, LOCAL_GET, LOCAL_SET, LOCAL_TEE, LOOP, MEMORY_COPY, MEMORY_FILL, OPERATORS, RETURN, SELECT, SHIFTS, STORES, UNREACHABLE, Module, need,
+)  # fmt: skip
+
+C_TYPES = {"i": "uint32_t", "l": "uint64_t", "f": "float", "d": "double", "": "void"}
+# The globals: the end of the stack that is free, and the flag. The functions that a guarded call calls.
+GET_SP, SET_SP, GET_FLAG, SET_FLAG = (GLOBAL_GET, 0), (GLOBAL_SET, 0), (GLOBAL_GET, 1), (GLOBAL_SET, 1)
+ENTER, LEAVE, TRAP = (CALL, 0), (CALL, 1), (CALL, 2)
+
+
+def take_guards_out(module):
+    """Takes the flag out of the exports: each of them is a guarded call of another function."""
+    enter, leave, trap = (function.code for function in module.functions[:3])
+    need(enter == [GET_FLAG, (LOCAL_SET, 0), (I32_CONST, 1), SET_FLAG, (LOCAL_GET, 0), (I32_CONST, 0), (0x47,)], "enter sets the flag")
+    need(leave == [(I32_CONST, 0), SET_FLAG] and trap == [(UNREACHABLE,)], "leave clears it, and trap ends the process")
+    guard = [(BLOCK,), ENTER, I32_EQZ, (BR_IF, 0), TRAP, (UNREACHABLE,), (END,)]
+    for function in module.exports.values():
+        need(function.code[: len(guard)] == guard and function.code.count(LEAVE) == 1, "an export is guarded")
+        function.code = [one for one in function.code[len(guard) :] if one != LEAVE]
+    for function in module.functions[3:]:
+        need(not function.has(ENTER, LEAVE, TRAP, GET_FLAG, SET_FLAG), "the flag is in guards alone")
+
+
+def take_frame_out(function):
+    """Notes how much of the stack a function takes, and takes the test for an overflow and the end out, where the frame is
+    given back. After that the frame of a function begins at `sp` less its size, and those that it calls get that as `sp`."""
+    code = function.code
+    if GET_SP not in code:
+        return
+    at = code.index(GET_SP)
+    after = code[at + 1 :]
+    if after[:3] == [(I64_CONST, 15), I64_GT_S, (BR_IF, 0)]:  # A test alone: on if sp > 15, and else a trap.
+        need(code[:at] == [(BLOCK,)] and after[3:5] == [(UNREACHABLE,), (END,)], "a test is a block with a trap")
+        del code[: at + 6]
+    elif after[:2] == [(I64_CONST, 16), I64_LT_S]:  # A test alone: a trap if sp < 16.
+        need(after[2][0] == BR_IF, "a test branches to a trap")
+        del code[at : at + 4]
+    else:
+        take_frame(function, at)
+    need(code.count(GET_SP) == (function.frame > 0) and code.count(SET_SP) <= 1, "the stack has no other use")
+
+
+def take_frame(function, at):
+    """The same of a function that takes a frame, whose size is subtracted from `sp` after this place."""
+    code = function.code
+    (kind, function.frame), minus, (tee, local), is_taken = code[at + 1], code[at + 2], code[at + 3], code[at + 4] == SET_SP
+    need(kind == I64_CONST and function.frame % 16 == 0 and minus == I64_SUB and tee == LOCAL_TEE, "a frame is below sp")
+    test = at + 3
+    if is_taken:
+        test = next(place for place in range(at + 5, len(code)) if code[place] != (BLOCK,)) + 1
+        need(code[test - 1] == (LOCAL_GET, local) and code[test][0] == LOCAL_TEE, "the frame that is taken is tested")
+        local = code[test][1]
+    else:
+        need(not any(one[0] == CALL for one in code), "a function that leaves sp as it is calls nothing")
+    need(code[test + 1 : test + 3] == [(I64_CONST, 16), I64_LT_S] and code[test + 3][0] == BR_IF, "a test branches to a trap")
+    code[test : test + 4] = [(LOCAL_SET, local)]
+    need(not any(one in ((LOCAL_SET, local), (LOCAL_TEE, local)) for one in code[test + 1 :]), "the address of a frame stays")
+    ends = [place for place in range(test, len(code)) if code[place] == SET_SP]
+    need(len(ends) == is_taken, "a frame is given back in one place")
+    for end in ends:
+        last = [one[0] for one in code[end + 1 :]]
+        need(code[end - 3 : end] == [(LOCAL_GET, local), (I64_CONST, function.frame), I64_ADD], "all of a frame is given back")
+        need(last in ([], [LOCAL_GET], [RETURN, END, UNREACHABLE]) and code.count((RETURN,)) == last.count(RETURN), "it is given back at the end")
+        del code[end - 3 : end + 1]
+
+
+def depth_of(module, function, above=()):
+    """How many bytes of stack a call takes."""
+    need(function not in above, "no function calls itself")
+    if function.depth is None:
+        take_frame_out(function)
+        called = (depth_of(module, one, (*above, function)) for one in module.called_by(function))
+        function.depth = function.frame + max(called, default=0)
+    return function.depth
+
+
+class Value:
+    """An expression in C: its type, what it reads (locals, "sp", "memory", "call"), and its number if it is a constant."""
+
+    def __init__(self, kind, text, reads=(), number=None):
+        self.kind, self.text, self.reads, self.number = kind, text, frozenset(reads), number
+        self.type = "i" if kind == "b" else kind
+
+    @property
+    def alone(self):
+        """As it stands alone: a comparison is an int in C."""
+        return f"(uint32_t)({self.text})" if self.kind == "b" else self.text
+
+    @property
+    def condition(self):
+        return self.text if self.kind == "b" else f"{self} != 0"
+
+    def __str__(self):
+        """As an operand."""
+        return self.alone if self.kind == "b" or re.fullmatch(r"\w+|\w+\([^()]*\)|\(-[^()]*\)", self.text) else f"({self.text})"
+
+
+class Translator:
+    """Translates a function: its lines of C, the values on the stack of the module's machine, and the open blocks, each with
+    its label, whether it is a loop, and the values below it."""
+
+    def __init__(self, module, function):
+        self.module, self.function = module, function
+        self.lines, self.values, self.blocks = [], [], []
+        self.labels = self.variables = 0
+
+    def write(self, line):
+        self.lines.append("    " + line)
+
+    def push(self, kind, text, *operands, reads=(), number=None):
+        self.values.append(Value(kind, text, frozenset(reads).union(*(one.reads for one in operands)), number))
+
+    def pop(self, kind):
+        value = self.values.pop()
+        need(value.type == kind, "operands have their types")
+        return value
+
+    def pop_all(self, kinds):
+        return [self.pop(kind) for kind in reversed(kinds)][::-1]
+
+    def store_readers_of(self, what=None):
+        """Stores the values that read this in variables, before it changes; without it, all but constants."""
+        for place, value in enumerate(self.values):
+            if what in value.reads or what is None and value.number is None and not re.fullmatch(r"t\d+", value.text):
+                self.variables += 1
+                self.write(f"const {C_TYPES[value.type]} t{self.variables} = {value.alone};")
+                self.values[place] = Value(value.type, f"t{self.variables}")
+
+    def constant(self, code, number):
+        is_in_data = self.module.is_in_data(number)
+        if code == I64_CONST and is_in_data:
+            self.push("l", f"DATA({number - self.module.data_start})")
+        elif code in (I32_CONST, I64_CONST):
+            need(not is_in_data and not self.module.is_in_data(-number % (1 << 64)), "only an i64.const is the address of a constant")
+            digits, suffix = str(number) if number < 1 << 16 else hex(number), "u" if code == I32_CONST else "ull"
+            self.push("i" if code == I32_CONST else "l", digits + suffix, number=number)
+        elif number != number:
+            need(code == F64_CONST and struct.pack("<d", number) == struct.pack("<Q", 0x7FF8 << 48), "a NaN is the usual one")
+            self.push("d", "f64_of(0x7ff8000000000000ull)", number=number)
+        else:
+            text = f"{number!r}{'f' if code == F32_CONST else ''}"
+            self.push("f" if code == F32_CONST else "d", f"({text})" if text.startswith("-") else text, number=number)
+
+    def address(self, base, offset):
+        if self.module.is_in_data(offset):
+            return f"DATA({offset - self.module.data_start})" + (f" + {base}" if base.number != 0 else "")
+        need(offset < 4096, "an offset is small, or in the constants")
+        return f"{base} + {offset}" if offset else base.alone
+
+    def operator(self, code):
+        kinds, result, meaning = OPERATORS[code]
+        values = self.pop_all(kinds)
+        last = values[-1]
+        if (code,) == I32_EQZ and last.kind == "b":
+            meaning = "!({0.text})"
+        elif code in SHIFTS:
+            mask = SHIFTS[code]
+            values[1] = Value("i", f"({last} & {mask})" if last.number is None else str(last.number & mask), last.reads)
+        elif code in (0x6A, 0x7C) and last.number is not None:  # The sum with a negative number is a difference.
+            width, suffix = (32, "u") if code == 0x6A else (64, "ull")
+            if last.number >> (width - 1):
+                meaning, values[1] = "{0} - {1}", Value("i", f"{-last.number % (1 << width)}{suffix}")
+        self.push(result, meaning.format(*values), *values)
+
+    def call(self, function):
+        values = self.pop_all(function.parameters)
+        self.store_readers_of("memory")
+        text = f"{function.name_in_c}({', '.join(['sp'] * (function.depth > 0) + [value.alone for value in values])})"
+        if function.result:
+            self.push(function.result, text, reads=["call"])
+            self.store_readers_of("call")
+        else:
+            self.write(text + ";")
+
+    def leave(self):
+        return f"return {self.values[-1].alone};" if self.function.result else "return;"
+
+    def branch(self, label):
+        if label < len(self.blocks):
+            return f"goto {self.blocks[-1 - label][0]};"
+        need(not self.function.frame, "a function with a frame doesn't branch to its end")
+        return self.leave()
+
+    def open_block(self, is_loop):
+        self.store_readers_of()
+        self.labels += 1
+        self.blocks.append((f"L{self.labels}", is_loop, list(self.values)))
+        if is_loop:
+            self.lines.append(f"L{self.labels}:;")
+
+    def close_block(self):
+        label, is_loop, self.values = self.blocks.pop()
+        if not is_loop:
+            self.lines.append(f"{label}:;")
+
+    def table(self, *labels):
+        self.write(f"switch ({self.pop('i').alone}) {{")
+        *places, default = map(self.branch, labels)
+        for place in dict.fromkeys(places):
+            if place != default:
+                self.write("".join(f"case {number}: " for number, other in enumerate(places) if other == place) + place)
+        self.write(f"default: {default}")
+        self.write("}")
+
+    def step(self, code, *immediate):
+        """Translates an instruction, and returns whether what follows it is reached."""
+        if code in OPERATORS:
+            self.operator(code)
+        elif code in (I32_CONST, I64_CONST, F32_CONST, F64_CONST):
+            self.constant(code, *immediate)
+        elif code == LOCAL_GET:
+            name = f"l{immediate[0]}"
+            self.push(self.function.locals[immediate[0]], name, reads=[name])
+        elif code in (LOCAL_SET, LOCAL_TEE):
+            kind, name = self.function.locals[immediate[0]], f"l{immediate[0]}"
+            value = self.pop(kind)
+            self.store_readers_of(name)
+            if value.text != name:
+                self.write(f"{name} = {value.alone};")
+            if code == LOCAL_TEE:
+                self.push(kind, name, reads=[name])
+        elif code == GLOBAL_GET:
+            self.push("l", "sp", reads=["sp"])
+        elif code == GLOBAL_SET:
+            value = self.pop("l")
+            self.store_readers_of("sp")
+            self.write(f"sp = {value.alone};")
+        elif code in LOADS:
+            kind, meaning = LOADS[code]
+            base = self.pop("l")
+            self.push(kind, meaning.format(self.address(base, *immediate)), base, reads=["memory"])
+        elif code in STORES:
+            kind, meaning = STORES[code]
+            base, value = self.pop_all(["l", kind])
+            self.store_readers_of("memory")
+            self.write(meaning.format(self.address(base, *immediate), value.alone) + ";")
+        elif code in (MEMORY_COPY, MEMORY_FILL):
+            to, value, count = self.pop_all("lll" if code == MEMORY_COPY else "lil")
+            self.store_readers_of("memory")
+            self.write(f"{'MOVE' if code == MEMORY_COPY else 'FILL'}({to.alone}, {value.alone}, {count.alone});")
+        elif code == SELECT:
+            test, other = self.pop("i"), self.values.pop()
+            first = self.pop(other.type)
+            self.push(first.type, f"{test.condition} ? {first} : {other}", test, first, other)
+        elif code == CALL:
+            self.call(self.module.functions[immediate[0]])
+        elif code in (BLOCK, LOOP):
+            self.open_block(code == LOOP)
+        elif code == END:
+            self.close_block()
+        elif code == BR_IF:
+            test = self.pop("i")
+            self.write(f"if ({test.condition}) {self.branch(*immediate)}")
+        elif code == BR_TABLE:
+            self.table(*immediate)
+        else:
+            self.write({BR: lambda: self.branch(*immediate), RETURN: self.leave, UNREACHABLE: lambda: "TRAP();"}[code]())
+        return code not in (BR, BR_TABLE, RETURN, UNREACHABLE)
+
+    def translated(self):
+        """The function in C."""
+        function, unreached = self.function, 0  # how many open blocks there are since the code isn't reached
+        for code, *immediate in function.code:
+            if unreached:
+                unreached += (code in (BLOCK, LOOP)) - (code == END)
+            if not unreached:
+                unreached = 0 if self.step(code, *immediate) else 1
+        if not unreached and function.result:
+            self.write(self.leave())
+        text = "\n".join(self.lines)
+        text = re.sub(r"(?m)^(L\d+):;\n?", lambda label: label[0] if f"goto {label[1]};" in text else "", text).rstrip("\n")
+        declared = []
+        for kind in "ilfd":
+            own = range(len(function.parameters), len(function.locals))
+            names = [f"l{number} = 0" for number in own if function.locals[number] == kind and re.search(rf"\bl{number}\b", text)]
+            declared += [f"    {C_TYPES[kind]} {', '.join(names)};"] if names else []
+        return "\n".join([f"/* {function.name} */", signature(function) + " {", *declared, text, "}", ""])
+
+
+def signature(function):
+    parameters = ["uint64_t sp"] * (function.depth > 0) + [f"{C_TYPES[kind]} l{number}" for number, kind in enumerate(function.parameters)]
+    return f"static {C_TYPES[function.result]} {function.name_in_c}({', '.join(parameters) or 'void'})"
+
+
+def exported(module, name, declaration):
+    """The function of hound.h with this name: it calls what the export of this name calls."""
+    export, (called,) = module.exports[name], module.called_by(module.exports[name])
+    returned, parameters = re.match(r"(\w+) \w+\((.*)\)", declaration).groups()
+    arguments = []
+    for parameter in parameters.split(", "):
+        word = re.search(r"\w+$", parameter)[0]
+        is_narrow = re.search(r"int(16|32)_t ", parameter) and "*" not in parameter
+        arguments.append(f"(uint64_t)(uintptr_t){word}" if "*" in parameter else f"(uint32_t){word}" if is_narrow else word)
+    need("".join("i" if argument.startswith("(uint32_t)") else "l" for argument in arguments) == export.parameters, "arguments have the types of hound.h")
+    need(returned == {"i": "int32_t", "l": "int64_t"}[export.result], "results have the types of hound.h")
+    count = len(called.parameters)
+    need(export.code[:count] == [(LOCAL_GET, number) for number in range(count)] and export.code[count][0] == CALL, "arguments are passed on")
+    *kept, last = export.code[count + 1 :]
+    if called.result:
+        need(kept == [(LOCAL_SET, last[1])] and last[0] == LOCAL_GET, "the result is returned")
+        result = f"{called.name_in_c}({', '.join(['sp'] * (called.depth > 0) + arguments[:count])})"
+    else:
+        need(not kept and last == (LOCAL_GET, 0) and not called.code, "or the first argument, and the call does nothing")
+        result = arguments[0]
+    stack = [f"    STACK({called.depth});"] * (called.depth > 0)
+    return "\n".join([f"{returned} {name}({parameters}) {{", *stack, f"    return s{returned[3:5]}({result});", "}", ""])
+
+
+def converted(wasm, header):
+    """The C file of a module that exports the functions of hound.h."""
+    module = Module(wasm)
+    declarations = {found[2]: found[0] for found in re.finditer(r"(?m)^(int32_t|int64_t) (hound_\w+)\(.*;$", header)}
+    need(set(declarations) == set(module.exports), "the exports are the functions of hound.h")
+    take_guards_out(module)
+    greatest = max(depth_of(module, function) for function in module.exports.values())
+    need(greatest + 16 <= module.stack_top, "the stack doesn't overflow")
+    addresses.check(module, header)
+    reached = [function for export in module.exports.values() for function in module.called_by(export)]
+    for function in reached:
+        reached += [one for one in module.called_by(function) if one not in reached]
+    reached = sorted((function for function in set(reached) if function.code), key=lambda function: function.number)
+    with open(os.path.join(os.path.dirname(os.path.abspath(__file__)), "prelude.c")) as file:
+        text = file.read()
+    rows = [", ".join(map(str, module.data[first : first + 32])) for first in range(0, len(module.data), 32)]
+    for word, value in (("MODULE", hashlib.sha256(wasm).hexdigest()), ("GREATEST", greatest), ("LENGTH", len(module.data)), ("BYTES", ",\n    ".join(rows))):
+        text = text.replace(f"@{word}@", str(value))
+    signatures = [signature(function) + ";" for function in reached]
+    bodies = [Translator(module, function).translated() for function in reached]
+    return "\n".join([text, *signatures, "", *bodies, *(exported(module, name, declarations[name]) for name in declarations)])
+
+
+if __name__ == "__main__":
+    if len(sys.argv) != 3:
+        sys.exit("usage: convert.py hound_c.wasm hound.h > hound_c.c")
+    with open(sys.argv[1], "rb") as wasm, open(sys.argv[2]) as header:
+        sys.stdout.write(converted(wasm.read(), header.read()))
