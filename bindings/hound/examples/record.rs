@@ -1,56 +1,71 @@
-//! Records the samples of standard input, little-endian, of 16 bits, one channel and 44100 Hz. After every so many a
-//! checkpoint makes the file's header count all, and prints how many they are. After an error the program continues, and
-//! prints how many samples were lost. With `append` it repairs the file, where a recording was cut off, and continues
-//! after all that it holds; without it an existing file is emptied. With `durable` the checkpoints survive a loss of power.
+//! Records the samples of standard input, which are integers as a WAV file has them, little-endian. After every so many
+//! a checkpoint makes the file's header count all whole frames, and prints how many samples these are. After an error
+//! the program continues, and prints how many samples were lost. With `append` it repairs the file, where a recording was
+//! cut off, and continues after all that it holds; without it an existing file is emptied. With `durable` the checkpoints
+//! survive a loss of power.
 //!
-//!     arecord -t raw -f S16_LE -r 44100 | record FILE SAMPLES [append] [durable]
-use hound::{RepairState, SampleFormat, WavSpec, WavWriter};
+//!     arecord -t raw -f S16_LE -c 2 -r 44100 | record FILE 44100 2 16 SAMPLES [append] [durable]
+use hound::blocks::WriteSamples;
+use hound::{Error, RepairState, SampleFormat, WavSpec, WavWriter};
 use std::io::{self, Read};
 use std::{env, process};
-
-const SPEC: WavSpec = WavSpec { channels: 1, sample_rate: 44100, bits_per_sample: 16, sample_format: SampleFormat::Int };
 
 fn stop(why: &str) -> ! {
     eprintln!("record: {why}");
     process::exit(1)
 }
 
+/// The spec, and after how many samples a checkpoint is made, that the words say.
+fn parsed(words: &[String]) -> Option<(WavSpec, u32)> {
+    let number = |at: usize| words.get(at)?.parse::<u32>().ok().filter(|number| *number > 0);
+    let (sample_rate, channels) = (number(2)?, u16::try_from(number(3)?).ok()?);
+    let bits_per_sample = u16::try_from(number(4)?).ok()?;
+    let are_known = words.get(6..)?.iter().all(|word| word == "append" || word == "durable");
+    let spec = WavSpec { channels, sample_rate, bits_per_sample, sample_format: SampleFormat::Int };
+    Some((spec, number(5)?)).filter(|_| are_known && [8, 16, 24, 32].contains(&bits_per_sample))
+}
+
 /// Repairs the file, after which all that it holds counts, or stops if other samples can't follow that.
-fn prepare_to_append(path: &str) -> hound::Result<()> {
+fn prepare_to_append(path: &str, spec: WavSpec) -> hound::Result<()> {
     let found = hound::repair_file(path)?;
     if found.state == RepairState::HasChunksAfterData {
         stop("chunks or a tag follow the samples, and appending would overwrite them")
     }
-    if found.spec_ex.spec != SPEC {
+    if found.spec_ex.spec != spec {
         stop("the file has samples of another kind")
     }
     Ok(())
 }
 
+/// The integer of a container; one of a single byte has no sign.
+fn integer(container: &[u8]) -> i32 {
+    let unused = 32 - 8 * container.len() as u32;
+    let integer = container.iter().rev().fold(0, |high, byte| high << 8 | i32::from(*byte)) << unused >> unused;
+    if let [byte] = *container { i32::from(byte) - 128 } else { integer }
+}
+
 fn main() -> hound::Result<()> {
     let words: Vec<String> = env::args().collect();
-    let every = words.get(2).and_then(|word| word.parse::<u32>().ok()).map_or(0, u64::from);
-    if every == 0 || words[3..].iter().any(|word| word != "append" && word != "durable") {
-        stop("usage: record FILE SAMPLES [append] [durable]")
-    }
-    let has = |word: &str| words[3..].iter().any(|other| other == word);
+    let usage = "usage: record FILE RATE CHANNELS BITS SAMPLES [append] [durable]";
+    let (spec, every) = parsed(&words).unwrap_or_else(|| stop(usage));
+    let has = |word: &str| words[6..].iter().any(|other| other == word);
     if has("append") {
-        prepare_to_append(&words[1])?;
+        prepare_to_append(&words[1], spec)?;
     }
     let mut writer = match (has("append"), has("durable")) {
-        (false, false) => WavWriter::create(&words[1], SPEC)?,
-        (false, true) => WavWriter::create_durable(&words[1], SPEC)?,
+        (false, false) => WavWriter::create(&words[1], spec)?,
+        (false, true) => WavWriter::create_durable(&words[1], spec)?,
         (true, false) => WavWriter::append(&words[1])?,
         (true, true) => WavWriter::append_durable(&words[1])?,
     };
 
-    let mut errors = 0;
+    let (mut errors, width) = (0, usize::from(spec.bits_per_sample / 8));
     loop {
         let mut bytes = Vec::new();
-        if io::stdin().lock().take(2 * every).read_to_end(&mut bytes)? < 2 {
+        if io::stdin().lock().take(u64::from(every) * width as u64).read_to_end(&mut bytes)? < width {
             break;
         }
-        let samples: Vec<i16> = bytes.chunks_exact(2).map(|sample| i16::from_le_bytes([sample[0], sample[1]])).collect();
+        let samples: Vec<i32> = bytes.chunks_exact(width).map(integer).collect();
         // Half of them one by one, and the others, all or none, at once.
         let (single, block) = samples.split_at(samples.len() / 2);
         for sample in single {
@@ -65,6 +80,7 @@ fn main() -> hound::Result<()> {
         }
         match writer.flush() {
             Ok(()) => println!("{}", writer.len()),
+            Err(Error::UnfinishedSample) => println!("{}", writer.duration() * u32::from(spec.channels)),
             Err(_) => errors += 1,
         }
     }

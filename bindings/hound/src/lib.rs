@@ -34,10 +34,9 @@
 //! # Ok::<(), hound::Error>(())
 //! ```
 //!
-//! What hound doesn't have is marked "own": [`WavReader::read_samples`], [`WavWriter::write_samples`],
-//! [`WavWriter::create_durable`], [`WavWriter::append_durable`], [`repair_file`], [`repair_file_to_end`]. The crate
-//! `hound_bindings`, which can be used beside it, looks for damage and writes nothing (`find_damage`), and scales
-//! integers to floats and back (`to_f32`, `from_f32`).
+//! What hound doesn't have is marked "own": [`blocks`], [`WavWriter::create_durable`], [`WavWriter::append_durable`],
+//! [`repair_file`], [`repair_file_to_end`]. The crate `hound_bindings`, which can be used beside it, looks for damage
+//! and writes nothing (`find_damage`), and scales integers to floats and back (`to_f32`, `from_f32`).
 //!
 //! # Differences from hound 3.5.1
 //!
@@ -47,8 +46,8 @@
 //! - `seek` leads to its frame also after samples that were rejected or torn, and where 24 bits are in four
 //!   bytes.
 //! - A fold, and what is made of one (`for_each`, `sum`, `count`), reads blocks. After a closure that
-//!   panicked the next sample is the one after the last, but the reader may have given more bytes.
-//! - `WavReader<R>` isn't covariant in `R`.
+//!   panicked the next sample is the one after the last, but the reader may have given more bytes. After a reader that
+//!   panicked the samples of its block are lost, and no `seek` leads to its frame.
 //! - Where a header is wrong, more of its bytes may have been taken.
 //!
 //! Writing:
@@ -60,21 +59,29 @@
 //!   in the buffer, and the next call writes them at their place. Where a disk is full, repeat `flush` once there is
 //!   room, before `finalize`. A limit of the file's size (`ulimit -f`) ends the program by `SIGXFSZ`; it is an error,
 //!   as a full disk is, only if the program ignores that signal.
-//! - After a write that failed, a part of the samples that were rejected with it may stay after the data. Readers
-//!   don't count them, as with hound, but [`repair_file`] takes them for samples.
-//! - `flush` in an unfinished frame stores all samples, then it returns `UnfinishedSample`. Readers reject the
-//!   file until the frame is finished and flushed, or [`repair_file`] ran, also after a writer is dropped there.
-//! - A file that its sizes can't count, which hound makes with wrong sizes, is an `IoError`.
+//! - After a write that failed, the next call that writes makes a checkpoint first, and `finalize` tries once more. A
+//!   file is cut off where a block failed; over another writer a part of that block may stay after the data. Readers
+//!   don't count it, as with hound, but [`repair_file`] takes it for samples.
+//! - The file has whole frames alone. `flush` and `finalize` in an unfinished frame store and count those before it,
+//!   then they return `UnfinishedSample`; later samples finish it. hound counts the samples of such a frame, and then
+//!   readers reject the file. They are lost at a drop.
+//! - A writer that panics counts as one that failed. A drop tries to write then, too, and swallows a panic.
+//! - A file that its sizes can't count, which hound makes with wrong sizes, is an `IoError`. So is appending to one
+//!   that is shorter than its header counts (`UnexpectedEof`), if `seek` finds its length: hound counts zeros then.
 //! - A spec that can't be written is `Unsupported`; nothing is written, and an existing file stays as it is. hound
 //!   empties it, and then panics, or writes a wrong header.
 //! - Files of 24 bits in four bytes are appended to.
 //! - `write_sample_unchecked` is checked, and safe: rustc warns of an `unsafe` around it.
+//!
+//! `WavReader<R>`, `WavIntoSamples<R, S>` and `WavWriter<W>` aren't covariant in `R` and `W`.
 #![forbid(unsafe_code)]
 #![warn(missing_docs)]
 
 extern crate hound_bindings as proved;
 
+pub mod blocks;
 mod error;
+mod medium;
 mod reader;
 mod repair;
 mod sample;

@@ -6,7 +6,7 @@ use crate::{Error, Result, Sample, SampleFormat, WavSpec, WavSpecEx, BLOCK};
 use std::io::{self, BufRead, Read};
 use std::{fs, marker, mem, panic, path};
 
-// How many samples `read_samples` decodes at once, at least. Fewer are faster one by one.
+// How many samples a block decodes at once, at least. Fewer are faster one by one.
 const SHORTEST_BLOCK: usize = 16;
 
 /// Reads on from byte `count` of these, until they or the reader end.
@@ -56,7 +56,7 @@ pub struct WavReader<R> {
     ahead: Vec<i32>,
     first_ahead: u64,
     fault: Option<io::Error>,
-    // Up to which number integers, and floats, are read one by one: to the end, or none after a block was decoded.
+    // Up to which number floats, and integers, are read one by one: to the end, or none after a block was decoded.
     single_until: [u64; 2],
     buffer: Option<Buffer<R>>,
 }
@@ -139,10 +139,8 @@ impl<R: Read> WavReader<R> {
         Ok(())
     }
 
-    /// Reads samples into the front of a slice (own). Returns how many came, and why no more if the slice
-    /// isn't full: the item that an iterator would give next, which then counts as read, or Ok at the end of
-    /// the file.
-    pub fn read_samples<S: Sample>(&mut self, samples: &mut [S]) -> (usize, Result<()>) {
+    // What `ReadSamples` does.
+    pub(crate) fn read_into<S: Sample>(&mut self, samples: &mut [S]) -> (usize, Result<()>) {
         let (mut count, in_blocks) = (0, samples.len() >= SHORTEST_BLOCK);
         while count < samples.len() {
             let decoded = if in_blocks { self.read_block(&mut samples[count..]) } else { 0 };
@@ -296,13 +294,14 @@ impl<R: Read> WavReader<R> {
 
     // Decodes the next samples into the front of these. Returns how many: 0 where they are read one by one.
     fn read_block<S: Sample>(&mut self, samples: &mut [S]) -> usize {
-        let Some(coding) = self.begin_block::<S>() else { return 0 };
-        let count = self.decode_next(coding.decode, &self.containers(), samples);
-        if let Some((_, take)) = self.buffer {
-            take(&mut self.reader, count * usize::from(self.bytes_per_sample));
-        }
-        self.samples_read += count as u64;
-        count
+        self.begin_block::<S>().map_or(0, |coding| {
+            let count = self.decode_next(coding.decode, &self.containers(), samples);
+            if let Some((_, take)) = self.buffer {
+                take(&mut self.reader, count * usize::from(self.bytes_per_sample));
+            }
+            self.samples_read += count as u64;
+            count
+        })
     }
 
     // Decodes the next samples before they are asked for.

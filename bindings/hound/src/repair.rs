@@ -21,7 +21,8 @@ pub struct Repair {
 /// where one is missing (own). A file that is whole stays as it is. So does one in which chunks or a tag follow the
 /// data, also where its header counts too few samples: of that one [`repair_file_to_end`] is the repair.
 ///
-/// The file is read into memory. It is synced as it was found; then the data length, the pad byte and the RIFF
+/// The file is read into memory, at most 4 GiB and 8 bytes. Where another program repairs it, or records to it durably,
+/// the error is `WouldBlock`. It is synced as it was found; then the data length, the pad byte and the RIFF
 /// size are written in this order, each with a sync. So after a kill or an error, also an `IoError` between these
 /// steps, the header counts only samples that are there, and a second call finishes the repair: the pad byte follows
 /// data that are already counted, and a wrong RIFF size marks the file as unrepaired. Where that size was right before,
@@ -37,10 +38,13 @@ pub fn repair_file_to_end<P: AsRef<path::Path>>(filename: P) -> Result<Repair> {
     repair_by(proved::repair_to_end, filename.as_ref())
 }
 
+// How many bytes the RIFF size can count, with those before them.
+const LONGEST: u64 = 8 + u32::MAX as u64;
+
 fn repair_by(repair: fn(&mut [u8], usize) -> proved::Result<proved::Repair>, filename: &path::Path) -> Result<Repair> {
     let mut file = fs::OpenOptions::new().read(true).write(true).open(filename)?;
-    let mut bytes = Vec::new();
-    (&file).take(u64::MAX).read_to_end(&mut bytes)?; // without the `seek` of a file, whose error is ignored
+    proved::lock(&file)?;
+    let mut bytes = contents(&file)?;
     let length = bytes.len();
     bytes.push(0);
     let found = repair(&mut bytes, length)?;
@@ -56,4 +60,16 @@ fn repair_by(repair: fn(&mut [u8], usize) -> proved::Result<proved::Repair>, fil
         }
     }
     Ok(Repair { spec_ex: found.spec.into(), frames: found.frames, left_over: found.left_over, state: found.state })
+}
+
+/// All bytes from here on of a file that may be a WAV file.
+pub(crate) fn contents(file: &fs::File) -> Result<Vec<u8>> {
+    let (mut bytes, mut walk) = (Vec::new(), proved::Walk::new());
+    file.take(walk.length() as u64).read_to_end(&mut bytes)?; // without the `seek` of a file, whose error is ignored
+    walk.take(&bytes)?; // What isn't a WAV file may have no end.
+    file.take(LONGEST).read_to_end(&mut bytes)?;
+    if bytes.len() as u64 > LONGEST {
+        return Err(proved::Error::TooLong.into());
+    }
+    Ok(bytes)
 }

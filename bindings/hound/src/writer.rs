@@ -1,34 +1,35 @@
-use crate::proved::{self, Recorder, Walk};
+use crate::medium::Medium;
+use crate::proved::{self, Info, Recorder, Walk};
+use crate::repair::contents;
 use crate::sample::Encode;
 use crate::spec::containers;
-use crate::{Error, Result, Sample, SampleFormat, WavSpec, WavSpecEx, BLOCK};
+use crate::{Error, RepairState, Result, Sample, SampleFormat, WavSpec, WavSpecEx, BLOCK};
 use std::io::{self, Read, Seek, SeekFrom, Write};
-use std::{fs, iter, mem, path};
+use std::{fs, iter, panic, path};
 
 /// Writes samples to a file, after its header, and the sizes into the header.
 ///
 /// The channels of a frame follow one another, and a file holds whole frames. Samples are buffered:
 /// `flush` writes them and the sizes, `finalize` does so and ends the file. A drop does it too, but its
-/// errors aren't seen.
+/// errors aren't seen, and neither are its panics.
 pub struct WavWriter<W: Write + Seek> {
-    core: Core<W>,
+    pub(crate) core: Core<W>,
     batch: Vec<i16>,
     finalized: bool,
 }
 
-// What a batch needs of a writer.
-struct Core<W> {
+// What a batch needs of a writer. Accepted samples are integers first, then containers, then in the file.
+pub(crate) struct Core<W> {
     spec_ex: WavSpecEx,
-    writer: W,
-    place: Option<u64>, // where the writer is, if that is known
-    recorder: Recorder,
-    sync: fn(&mut W) -> io::Result<()>,
-    // The buffered samples: the first `count` of as many as may be, all of one format.
+    medium: Medium<W>,
+    // The integers: the first `count` of as many as have room in the file, all of one format.
     buffer: Vec<i32>,
     count: usize,
     format: SampleFormat,
     unused: u32, // how many bits of 32 an integer of the file has no use for
+    // The containers: the first `waiting` bytes, which are less than a frame, unless a write failed.
     bytes: Vec<u8>,
+    waiting: usize,
 }
 
 impl<W: Write + Seek> Core<W> {
@@ -52,10 +53,14 @@ impl<W: Write + Seek> Core<W> {
         S::CODING.map_or(Ok(()), |coding| {
             (coding.encode)(&self.containers(coding.format), &[(coding.from)(sample)], &mut [0; 4])?;
             self.spill()?;
-            // At the end of the longest file samples are buffered one by one; where none has room the buffer is empty.
-            let room = if self.next_place(BLOCK).is_ok() { BLOCK } else { 1 };
-            self.buffer.truncate(room - 1);
-            self.next_place(room)?;
+            // The buffer grows, since most of it is of no use for a short file. At the end of the longest file samples
+            // are buffered one by one; where none has room the buffer is empty.
+            let mut room = (2 * self.buffer.capacity()).clamp(BLOCK / 32, BLOCK);
+            if self.find_room(room).is_err() {
+                self.buffer.clear();
+                self.find_room(1)?;
+                room = 1;
+            }
             self.buffer.resize(room, 0);
             self.format = coding.format;
             self.buffer::<S>(sample, coding.format)
@@ -66,61 +71,59 @@ impl<W: Write + Seek> Core<W> {
         containers(format, self.spec_ex.spec.bits_per_sample, self.spec_ex.bytes_per_sample)
     }
 
-    fn write_at(&mut self, place: u64, bytes: &[u8]) -> io::Result<()> {
-        if self.place.take() != Some(place) {
-            self.writer.seek(SeekFrom::Start(place))?;
+    fn samples(&self) -> u32 {
+        (self.medium.recorder.samples() + (self.waiting / self.medium.width + self.count) as u64) as u32
+    }
+
+    // Whether the file has room for so many samples after those that wait, and for the rest of their last frame.
+    fn find_room(&mut self, samples: usize) -> Result<()> {
+        let (all, channels) = (self.waiting / self.medium.width + samples, usize::from(self.spec_ex.spec.channels));
+        self.medium.next_place((all + channels - 1) / channels * channels).map(drop)
+    }
+
+    // Writes the whole frames of the buffered samples; the rest waits.
+    fn spill(&mut self) -> Result<()> {
+        if self.count > 0 {
+            let (spec, samples) = (self.containers(SampleFormat::Int), &self.buffer[..self.count]);
+            self.waiting = encode_after(self.waiting, &mut self.bytes, &spec, samples, proved::encode)?;
+            self.count = 0;
         }
-        self.writer.write_all(bytes)?;
-        self.place = Some(place + bytes.len() as u64);
-        Ok(())
-    }
-
-    // Where so many samples go, after the checkpoint that a fault makes necessary.
-    fn next_place(&mut self, samples: usize) -> Result<u64> {
-        if let Err(proved::Error::NeedsCheckpoint) = self.recorder.place(0) {
-            self.checkpoint()?;
+        let result = self.write_waiting(self.waiting, false);
+        if result.is_err() {
+            self.buffer.clear(); // The next sample has to come here first.
         }
-        Ok(self.recorder.place(samples as u64)?)
-    }
-
-    // Writes these containers: all of them count, or none.
-    fn write_containers(&mut self, bytes: &[u8]) -> Result<()> {
-        let samples = bytes.len() / usize::from(self.spec_ex.bytes_per_sample);
-        let place = self.next_place(samples)?;
-        let result = self.write_at(place, bytes);
-        self.recorder.wrote(samples as u64, result.is_ok())?;
-        Ok(result?)
-    }
-
-    fn encode<S>(&mut self, spec: &proved::Spec, samples: &[S], encode: Encode<S>) -> Result<()> {
-        let mut bytes = mem::take(&mut self.bytes);
-        bytes.resize(bytes.len().max(samples.len() * usize::from(spec.bytes_per_sample)), 0);
-        let result = match encode(spec, samples, &mut bytes) {
-            Ok(count) => self.write_containers(&bytes[..count]),
-            Err(error) => Err(error.into()),
-        };
-        self.bytes = bytes;
         result
     }
 
-    // Writes the buffered samples.
-    fn spill(&mut self) -> Result<()> {
-        if self.count > 0 {
-            let buffer = mem::take(&mut self.buffer);
-            let result = self.encode(&self.containers(SampleFormat::Int), &buffer[..self.count], proved::encode);
-            self.buffer = buffer;
-            result?;
-            self.count = 0;
+    // Writes the whole frames of these containers; the rest waits. Those of a block are accepted by that.
+    fn write_waiting(&mut self, length: usize, is_block: bool) -> Result<()> {
+        let (whole, mut count, mut result) = (length - length % self.medium.frame, 0, Ok(()));
+        if whole > 0 {
+            result = self.medium.write_frames(&self.bytes[..whole], is_block, &mut count);
+            self.bytes.copy_within(count..length, 0);
         }
-        Ok(())
+        if result.is_ok() || !is_block {
+            self.waiting = length - count;
+        }
+        result
+    }
+
+    // Accepts the containers of a block, which end here.
+    fn write_block(&mut self, end: usize) -> Result<()> {
+        self.find_room((end - self.waiting) / self.medium.width)?;
+        self.write_waiting(end, true)
     }
 
     // Writes samples after the buffered ones; then the room for others is counted anew.
-    fn write_samples<S: Sample + Copy>(&mut self, samples: &[S]) -> Result<()> {
+    pub(crate) fn write_samples<S: Sample + Copy>(&mut self, samples: &[S]) -> Result<()> {
         self.spill()?;
         self.buffer.clear();
         match S::CODING {
-            Some(coding) => self.encode(&self.containers(coding.format), samples, coding.encode),
+            Some(coding) => {
+                let spec = self.containers(coding.format);
+                let end = encode_after(self.waiting, &mut self.bytes, &spec, samples, coding.encode)?;
+                self.write_block(end)
+            }
             None => self.write_own(samples.iter().copied()),
         }
     }
@@ -129,38 +132,40 @@ impl<W: Write + Seek> Core<W> {
     fn write_own<S: Sample>(&mut self, mut samples: impl Iterator<Item = S>) -> Result<()> {
         let (spec, mut bytes) = (self.containers(SampleFormat::Int), Vec::new());
         samples.try_for_each(|sample| sample.write_padded(&mut bytes, spec.bits_per_sample, spec.bytes_per_sample))?;
+        if bytes.len() % self.medium.width != 0 {
+            return Err(Error::Unsupported);
+        }
         self.spill()?;
         self.buffer.clear();
-        match bytes.len() % usize::from(spec.bytes_per_sample) {
-            0 => self.write_containers(&bytes),
-            _ => Err(Error::Unsupported),
-        }
+        self.bytes.truncate(self.waiting);
+        self.bytes.append(&mut bytes);
+        self.write_block(self.bytes.len())
     }
 
-    fn checkpoint(&mut self) -> Result<()> {
-        let mut result = Ok(());
-        loop {
-            match self.recorder.next_effect(result.is_ok()) {
-                Ok(Some(effect)) if effect.is_sync() => result = (self.sync)(&mut self.writer),
-                Ok(Some(effect)) => result = self.write_at(effect.place(), effect.bytes()),
-                Ok(None) => return Ok(()),
-                Err(error) => return Err(result.err().map_or(error.into(), Error::IoError)),
-            }
-        }
-    }
-
-    // Writes all samples, and the sizes that count them.
+    // Writes all whole frames, and the sizes that count those that are written, also where a fault left out others.
     fn publish(&mut self, flushes: bool) -> Result<()> {
-        self.spill()?;
-        self.checkpoint()?;
+        let room = self.buffer.len() - self.count;
+        let spilled = self.spill();
+        self.buffer.truncate(room);
+        let published = self.medium.checkpoint();
+        spilled.and(published)?;
         if flushes {
-            self.writer.flush()?;
+            self.medium.writer.flush()?;
         }
-        match self.recorder.samples() % u64::from(self.spec_ex.spec.channels) {
-            0 => Ok(()),
-            _ => Err(Error::UnfinishedSample),
-        }
+        if self.waiting == 0 { Ok(()) } else { Err(Error::UnfinishedSample) }
     }
+}
+
+// Encodes samples after the containers that wait, and returns where they end.
+fn encode_after<S>(
+    waiting: usize,
+    bytes: &mut Vec<u8>,
+    spec: &proved::Spec,
+    samples: &[S],
+    encode: Encode<S>,
+) -> Result<usize> {
+    bytes.resize(bytes.len().max(waiting + samples.len() * usize::from(spec.bytes_per_sample)), 0);
+    Ok(waiting + encode(spec, samples, &mut bytes[waiting..])?)
 }
 
 impl<W: Write + Seek> WavWriter<W> {
@@ -172,24 +177,23 @@ impl<W: Write + Seek> WavWriter<W> {
 
     /// The same, with containers of another width.
     pub fn new_with_spec_ex(mut writer: W, spec_ex: WavSpecEx) -> Result<WavWriter<W>> {
-        let (header, recorder) = beginning(spec_ex)?;
-        writer.write_all(&header)?;
-        Ok(WavWriter::at(writer, header.len() as u64, spec_ex, recorder))
+        let (mut header, recorder) = ([0; 68], Recorder::begin(&spec_ex.into())?);
+        let length = proved::header_to(&spec_ex.into(), 0, &mut header)?;
+        writer.write_all(&header[..length])?;
+        Ok(WavWriter::at(writer, Some(length as u64), spec_ex, recorder))
     }
 
-    fn at(writer: W, place: u64, spec_ex: WavSpecEx, recorder: Recorder) -> WavWriter<W> {
+    fn at(writer: W, place: Option<u64>, spec_ex: WavSpecEx, recorder: Recorder) -> WavWriter<W> {
         WavWriter {
             core: Core {
                 spec_ex,
-                writer,
-                place: Some(place),
-                recorder,
-                sync: |_| Ok(()),
+                medium: Medium::new(writer, place, recorder, spec_ex),
                 buffer: Vec::new(),
                 count: 0,
                 format: SampleFormat::Int,
                 unused: 32 - u32::from(spec_ex.spec.bits_per_sample.clamp(1, 32)),
                 bytes: Vec::new(),
+                waiting: 0,
             },
             batch: Vec::new(),
             finalized: false,
@@ -202,18 +206,14 @@ impl<W: Write + Seek> WavWriter<W> {
     /// `Unsupported`. Nothing is converted: an integer for floats is taken as their bits, as by hound, and so is a
     /// float for integers of 32 bits.
     ///
-    /// An error, as that of a full disk, rejects this sample alone: those that were accepted stay in the buffer.
+    /// An error, as that of a full disk, rejects this sample alone: those that were accepted stay in the buffer. The
+    /// next call that writes to the file makes a checkpoint first, of the whole frames that were written before.
     #[inline(always)]
     pub fn write_sample<S: Sample>(&mut self, sample: S) -> Result<()> {
         match S::CODING {
             Some(coding) => self.core.buffer::<S>((coding.to)(sample), coding.format),
             None => self.core.write_own(iter::once(sample)),
         }
-    }
-
-    /// Writes samples, all of them or none (own).
-    pub fn write_samples<S: Sample + Copy>(&mut self, samples: &[S]) -> Result<()> {
-        self.core.write_samples(samples)
     }
 
     /// A writer of a batch of so many integers of 16 bits, without a result for each.
@@ -232,16 +232,20 @@ impl<W: Write + Seek> WavWriter<W> {
     /// Writes the buffered samples and the sizes, and flushes the writer. If the program ends after that,
     /// a reader finds all samples up to here.
     ///
-    /// If the last frame isn't finished all is written nevertheless, and the result is `UnfinishedSample`.
+    /// If the last frame isn't finished, the frames before it are written and counted, its samples stay in the buffer
+    /// until others finish it, and the result is `UnfinishedSample`. After another error the sizes count the whole
+    /// frames that were written, as far as the file can still be changed.
     pub fn flush(&mut self) -> Result<()> {
         self.core.publish(true)
     }
 
-    /// Ends the file: a `flush` that is the last. If it fails, the samples in the buffer are lost, up to 4096. To be
-    /// able to repeat it, call `flush` until that is Ok, and then this.
+    /// Ends the file: a `flush` that is the last. If it fails it is tried once more, and the samples that are in the
+    /// buffer after that are lost, as are those of a frame that isn't finished. To be able to repeat it, call `flush`
+    /// until that is Ok, and then this.
     pub fn finalize(mut self) -> Result<()> {
-        self.finalized = true;
-        self.core.publish(true)
+        let result = self.core.publish(true);
+        self.finalized = matches!(result, Ok(()) | Err(Error::UnfinishedSample));
+        result
     }
 
     /// What the file says of its samples.
@@ -256,14 +260,15 @@ impl<W: Write + Seek> WavWriter<W> {
 
     /// How many samples the file has up to now, of all channels together.
     pub fn len(&self) -> u32 {
-        (self.core.recorder.samples() + self.core.count as u64) as u32
+        self.core.samples()
     }
 }
 
 impl<W: Write + Seek> Drop for WavWriter<W> {
     fn drop(&mut self) {
         if !self.finalized {
-            let _ = self.core.publish(false);
+            // A panic of the writer, while another one unwinds, would end the program.
+            let _ = panic::catch_unwind(panic::AssertUnwindSafe(|| self.core.publish(false)));
         }
     }
 }
@@ -272,16 +277,15 @@ impl<W: Read + Write + Seek> WavWriter<W> {
     /// Appends to a file, of which the writer has to be at the beginning: the next sample follows those
     /// that its header counts. A fact chunk stays as it is.
     ///
-    /// What follows these is overwritten, without an error, also the samples of a recording that was cut off. So
+    /// A file that lacks samples which its header counts is an `IoError`, if a `seek` to its end succeeds. What follows
+    /// these samples is overwritten, without an error, also the samples of a recording that was cut off. So
     /// repair it first, always, as [`repair_file`](crate::repair_file) does a file. Append only if that reports
     /// `Whole` or `CutOff`: where it reports `HasChunksAfterData` it repaired nothing, and what would be overwritten
     /// may be samples ([`repair_file_to_end`](crate::repair_file_to_end)).
     pub fn new_append(mut writer: W) -> Result<WavWriter<W>> {
         let info = Walk::over(&mut writer)??;
-        let recorder = Recorder::append(&info)?;
-        let place = recorder.place(0)?;
-        writer.seek(SeekFrom::Start(place))?;
-        Ok(WavWriter::at(writer, place, info.spec.into(), recorder))
+        let recorder = continuing(&info, writer.seek(SeekFrom::End(0)).ok())?;
+        Ok(WavWriter::at(writer, None, info.spec.into(), recorder))
     }
 }
 
@@ -302,11 +306,19 @@ impl WavWriter<io::BufWriter<fs::File>> {
     /// name are on the disk, and after a `flush` all samples are: it syncs them before the sizes that count them,
     /// and then these.
     ///
-    /// Only single samples are buffered, up to 4096: each [`write_samples`](WavWriter::write_samples) is a write of
-    /// the system. After a write that failed, as on a full disk, the writer continues. After a sync that failed each
-    /// later `flush` fails, since nobody knows what the disk has.
+    /// A file that there was is emptied once its folder is synced. Until the writer is dropped, another one that is
+    /// durable, or a repair of the file, is an error (`WouldBlock`), if the file system has locks.
+    ///
+    /// Only single samples are buffered, up to 4096, and those of an unfinished frame: each
+    /// [`write_samples`](crate::blocks::WriteSamples::write_samples) is a write of the system. After a write that
+    /// failed, as on a full disk, the writer continues. After a sync that failed each later `flush` fails, since nobody
+    /// knows what the disk has.
     pub fn create_durable<P: AsRef<path::Path>>(filename: P, spec: WavSpec) -> Result<WavWriter<io::BufWriter<fs::File>>> {
-        let open = || open_synced(fs::OpenOptions::new().write(true).create(true).truncate(true), filename.as_ref());
+        let open = || {
+            let file = open_alone(fs::OpenOptions::new().write(true).create(true).truncate(false), filename.as_ref())?;
+            file.set_len(0)?;
+            file.sync_all().map(|()| file)
+        };
         WavWriter::over(open, spec, true)
     }
 
@@ -314,56 +326,105 @@ impl WavWriter<io::BufWriter<fs::File>> {
     /// this returns, the file as it was found and its name are on the disk, and `flush` syncs as that of
     /// [`create_durable`](WavWriter::create_durable) does.
     ///
-    /// Call [`repair_file`](crate::repair_file) first, always, and append only if it reports `Whole` or `CutOff`.
+    /// A recording that was cut off is an error, and so are chunks after the data (`InvalidData`), and samples that the
+    /// header counts and the file lacks (`UnexpectedEof`). Call [`repair_file`](crate::repair_file) first: after `Whole`
+    /// and `CutOff` the file can be appended to.
     pub fn append_durable<P: AsRef<path::Path>>(filename: P) -> Result<WavWriter<io::BufWriter<fs::File>>> {
-        WavWriter::after(open_synced(fs::OpenOptions::new().read(true).write(true), filename.as_ref())?, true)
+        let file = open_alone(fs::OpenOptions::new().read(true).write(true), filename.as_ref())?;
+        file.sync_all()?;
+        WavWriter::after(file, true)
     }
 
     // Writes the header of a new file, which isn't opened if the spec can't be written.
     fn over(open: impl FnOnce() -> io::Result<fs::File>, spec: WavSpec, is_durable: bool) -> Result<WavWriter<io::BufWriter<fs::File>>> {
         let spec_ex = spec.with_default_width();
-        let (header, recorder) = beginning(spec_ex)?;
+        let (header, recorder) = (proved::header(&spec_ex.into(), 0)?, Recorder::begin(&spec_ex.into())?);
         let mut file = open()?;
         file.write_all(&header)?;
         if is_durable {
             file.sync_data()?;
         }
-        Ok(WavWriter::of_file(file, header.len() as u64, spec_ex, recorder, is_durable))
+        Ok(WavWriter::of_file(file, Some(header.len() as u64), spec_ex, recorder, is_durable))
     }
 
     // Appends to a file.
     fn after(file: fs::File, is_durable: bool) -> Result<WavWriter<io::BufWriter<fs::File>>> {
         let mut reader = io::BufReader::new(file);
-        let info = Walk::over(&mut reader)??;
-        let recorder = Recorder::append(&info)?;
-        let (place, mut file) = (recorder.place(0)?, reader.into_inner());
-        file.seek(SeekFrom::Start(place))?;
-        Ok(WavWriter::of_file(file, place, info.spec.into(), recorder, is_durable))
+        let (info, mut file) = (Walk::over(&mut reader)??, reader.into_inner());
+        let recorder = continuing(&info, Some(file.seek(SeekFrom::End(0))?))?;
+        if is_durable {
+            check_end(&mut file, &info, recorder.place(0)?)?;
+        }
+        Ok(WavWriter::of_file(file, None, info.spec.into(), recorder, is_durable))
     }
 
     // A durable writer has no bytes in its `BufWriter`: what the recorder takes for written is with the system, a write
     // that fails isn't one of a sync, and a sync has only to sync.
-    fn of_file(file: fs::File, place: u64, spec_ex: WavSpecEx, recorder: Recorder, is_durable: bool) -> WavWriter<io::BufWriter<fs::File>> {
+    fn of_file(
+        file: fs::File,
+        place: Option<u64>,
+        spec_ex: WavSpecEx,
+        recorder: Recorder,
+        is_durable: bool,
+    ) -> WavWriter<io::BufWriter<fs::File>> {
         let capacity = if is_durable { 0 } else { 16 * BLOCK };
         let mut writer = WavWriter::at(io::BufWriter::with_capacity(capacity, file), place, spec_ex, recorder);
+        writer.core.medium.cut = |file, place| cut(file.get_ref(), place);
         if is_durable {
-            writer.core.sync = |file| file.get_ref().sync_data();
+            writer.core.medium.sync = |file| file.get_ref().sync_data();
         }
         writer
     }
 }
 
-// The header of a new file, and its recorder, if the spec can be written.
-fn beginning(spec_ex: WavSpecEx) -> Result<(Vec<u8>, Recorder)> {
-    Ok((proved::header(&spec_ex.into(), 0)?, Recorder::begin(&spec_ex.into())?))
+// The recorder of a file that is appended to. After one that lacks samples which its header counts, others would make
+// zeros count that nobody wrote.
+fn continuing(info: &Info, length: Option<u64>) -> Result<Recorder> {
+    let recorder = Recorder::append(info)?;
+    let end = recorder.place(0)?;
+    if length.map_or(false, |length| length < end) {
+        return Err(io::Error::new(io::ErrorKind::UnexpectedEof, proved::Error::Truncated).into());
+    }
+    Ok(recorder)
 }
 
-// Opens a file, and syncs it and its folder, which has its name.
-fn open_synced(options: &fs::OpenOptions, filename: &path::Path) -> io::Result<fs::File> {
+// An error where samples or chunks follow the samples that the header counts. Those of a pad byte and of the torn
+// frame that a repair leaves may be overwritten.
+fn check_end(file: &mut fs::File, info: &Info, end: u64) -> Result<()> {
+    let (is_odd, mut rest) = ((end - info.data_start) % 2 == 1, Vec::new());
+    file.seek(SeekFrom::Start(end))?;
+    file.take(2).read_to_end(&mut rest)?;
+    let could_be_frame = (info.spec.bytes_per_sample, info.spec.channels) == (1, 1);
+    let state = match rest[..] {
+        [] => RepairState::Whole,
+        [byte] if is_odd && could_be_frame && byte != 0 => RepairState::CutOff,
+        [_] if is_odd => RepairState::Whole,
+        _ => {
+            file.seek(SeekFrom::Start(0))?;
+            proved::find_damage(&contents(file)?)?.state
+        }
+    };
+    let why = match state {
+        RepairState::Whole => return Ok(()),
+        RepairState::CutOff => "the recording was cut off: repair it first",
+        RepairState::HasChunksAfterData => "chunks or a tag follow the data",
+    };
+    Err(io::Error::new(io::ErrorKind::InvalidData, why).into())
+}
+
+// Opens a file that no other program records to, and syncs the folder, which has its name.
+fn open_alone(options: &fs::OpenOptions, filename: &path::Path) -> io::Result<fs::File> {
     let file = options.open(filename)?;
-    file.sync_all()?;
+    proved::lock(&file)?;
     fs::File::open(fs::canonicalize(filename)?.parent().unwrap_or(path::Path::new("/")))?.sync_all()?;
     Ok(file)
+}
+
+// Cuts a file off, as far as it can be. It gets no longer by that.
+fn cut(file: &fs::File, place: u64) {
+    if file.metadata().map_or(false, |found| found.len() > place) {
+        let _ = file.set_len(place);
+    }
 }
 
 /// A batch of samples of 16 bits, which `flush` writes.

@@ -1,9 +1,12 @@
 //! Each public item, as programs of hound use it.
+use hound::blocks::{ReadSamples, WriteSamples};
 use hound::{Error, Result, Sample, SampleFormat, WavReader, WavSpec, WavSpecEx, WavWriter};
+use std::cell::{RefCell, RefMut};
 use std::io::{self, Cursor, Read, Seek, SeekFrom, Write};
 use std::panic::{catch_unwind, AssertUnwindSafe};
 use std::path::PathBuf;
-use std::{env, fs, process};
+use std::rc::Rc;
+use std::{env, fs, mem, process};
 
 const MONO: WavSpec = WavSpec { channels: 1, sample_rate: 44100, bits_per_sample: 16, sample_format: SampleFormat::Int };
 const FLOATS: WavSpec = WavSpec { bits_per_sample: 32, sample_format: SampleFormat::Float, ..MONO };
@@ -26,6 +29,68 @@ impl AsRef<std::path::Path> for Path {
 impl Drop for Path {
     fn drop(&mut self) {
         let _ = fs::remove_file(&self.0);
+    }
+}
+
+/// A medium in memory that others see, too. One of its calls fails, or panics, and it may be full.
+#[derive(Clone, Default)]
+struct Disk(Rc<RefCell<DiskState>>);
+
+#[derive(Default)]
+struct DiskState {
+    file: Cursor<Vec<u8>>,
+    room: Option<usize>,
+    calls: u32,
+    fails: u32,
+    panics: bool,
+}
+
+impl Disk {
+    fn call(&self) -> io::Result<RefMut<'_, DiskState>> {
+        let mut state = self.0.borrow_mut();
+        state.calls += 1;
+        if state.calls != state.fails {
+            return Ok(state);
+        }
+        let panics = state.panics;
+        drop(state);
+        assert!(!panics, "the medium panics");
+        Err(io::Error::new(io::ErrorKind::Other, "the medium fails"))
+    }
+
+    fn contents(&self) -> Vec<u8> {
+        self.0.borrow().file.get_ref().clone()
+    }
+
+    /// What a reader finds.
+    fn samples(&self) -> Vec<i16> {
+        WavReader::new(Cursor::new(self.contents())).unwrap().into_samples().collect::<Result<_>>().unwrap()
+    }
+}
+
+impl Read for Disk {
+    fn read(&mut self, bytes: &mut [u8]) -> io::Result<usize> {
+        self.call()?.file.read(bytes)
+    }
+}
+
+impl Write for Disk {
+    fn write(&mut self, bytes: &[u8]) -> io::Result<usize> {
+        let mut state = self.call()?;
+        let room = state.room.map_or(bytes.len(), |room| room.saturating_sub(state.file.position() as usize));
+        match room.min(bytes.len()) {
+            0 => Err(io::Error::new(io::ErrorKind::Other, "the medium is full")),
+            count => state.file.write(&bytes[..count]),
+        }
+    }
+    fn flush(&mut self) -> io::Result<()> {
+        self.call().map(drop)
+    }
+}
+
+impl Seek for Disk {
+    fn seek(&mut self, to: SeekFrom) -> io::Result<u64> {
+        self.call()?.file.seek(to)
     }
 }
 
@@ -106,11 +171,12 @@ fn a_sample_of_the_other_format_is_taken_by_its_bits_or_unsupported() {
 #[test]
 fn a_new_file_has_its_header_at_once() {
     let path = Path::new("header");
-    std::mem::forget(WavWriter::create(&path, MONO).unwrap());
+    mem::forget(WavWriter::create(&path, MONO).unwrap());
     assert_eq!(fs::read(&path).unwrap(), written::<i16>(MONO, &[]));
     fs::write(&path, "longer than a header, which is emptied before the new one is written").unwrap();
-    std::mem::forget(WavWriter::create_durable(&path, FLOATS).unwrap());
+    let writer = WavWriter::create_durable(&path, FLOATS).unwrap();
     assert_eq!(fs::read(&path).unwrap(), written::<f32>(FLOATS, &[]));
+    drop(writer);
     assert_eq!(hound::repair_file(&path).unwrap().state, hound::RepairState::Whole);
 }
 
@@ -179,15 +245,180 @@ fn a_file_is_appended_to_after_batches_and_flushes() {
     assert!(catch_unwind(|| WavWriter::new(Cursor::new(Vec::new()), FLOATS).unwrap().get_i16_writer(1).flush()).is_err());
 }
 
+/// Writes so many samples, from a number on: one by one, as a block, a batch, or those of a user's own type.
+fn write_by<W: Write + Seek>(way: usize, writer: &mut WavWriter<W>, first: usize, count: usize) -> Result<()> {
+    let samples: Vec<i16> = numbers(first + count)[first..].to_vec();
+    match way {
+        0 => samples.iter().try_for_each(|&sample| writer.write_sample(sample)),
+        1 => writer.write_samples(&samples),
+        2 => writer.write_samples(&samples.iter().map(|sample| Inverse(!sample)).collect::<Vec<_>>()),
+        3 => samples.iter().try_for_each(|&sample| writer.write_sample(Inverse(!sample))),
+        _ => {
+            let mut batch = writer.get_i16_writer(count as u32);
+            samples.iter().for_each(|&sample| batch.write_sample(sample));
+            batch.flush()
+        }
+    }
+}
+const WAYS: usize = 5;
+
+/// Samples that count up.
+fn numbers(count: usize) -> Vec<i16> {
+    (0..count).map(|number| number as i16).collect()
+}
+
 #[test]
-fn a_frame_that_is_not_finished_is_stored_and_reported() {
-    let mut file = Cursor::new(Vec::new());
-    let mut writer = WavWriter::new(&mut file, WavSpec { channels: 2, ..MONO }).unwrap();
-    writer.write_samples(&[1i16, 2, 3]).unwrap();
-    assert!(matches!(writer.flush(), Err(Error::UnfinishedSample)));
-    writer.write_sample(4i16).unwrap();
-    writer.finalize().unwrap();
-    assert_eq!(file.get_ref()[40..], [8, 0, 0, 0, 1, 0, 2, 0, 3, 0, 4, 0]);
+fn a_frame_that_is_not_finished_waits_and_is_reported() {
+    for (way, frame) in (0..WAYS).flat_map(|way| [2, 3, 5, 6, 5000, 16383].map(|frame| (way, frame))) {
+        let disk = Disk::default();
+        let spec = WavSpec { channels: frame as u16, sample_rate: 8000, ..MONO };
+        let mut writer = WavWriter::new(disk.clone(), spec).unwrap();
+        write_by(way, &mut writer, 0, frame + 1).unwrap();
+        assert!(matches!(writer.flush(), Err(Error::UnfinishedSample)));
+        assert!((disk.samples(), writer.len() as usize, writer.duration()) == (numbers(frame), frame + 1, 1));
+        write_by(way, &mut writer, frame + 1, 2 * frame - 2).unwrap();
+        assert!(matches!(writer.flush(), Err(Error::UnfinishedSample)));
+        assert!((disk.samples(), writer.len() as usize, writer.duration()) == (numbers(2 * frame), 3 * frame - 1, 2));
+        write_by((way + 1) % WAYS, &mut writer, 3 * frame - 1, 1).unwrap();
+        writer.flush().unwrap();
+        write_by(way, &mut writer, 0, frame - 1).unwrap();
+        assert!(matches!(writer.finalize(), Err(Error::UnfinishedSample)));
+        assert!(disk.samples() == numbers(3 * frame));
+    }
+}
+
+#[test]
+fn a_writer_that_is_dropped_within_a_frame_leaves_the_frames_before_it() {
+    let path = Path::new("torn");
+    for bits in [8, 16, 24] {
+        let broken = || {
+            let spec = WavSpec { channels: 2, bits_per_sample: bits, ..MONO };
+            let mut writer = WavWriter::create_durable(&path, spec).unwrap();
+            (0..9000).for_each(|i| writer.write_sample(i % 100).unwrap());
+            writer.flush().unwrap();
+            (0..301).for_each(|i| writer.write_sample(i % 100).unwrap());
+            panic!("a mistake of the program");
+        };
+        assert!(catch_unwind(AssertUnwindSafe(broken)).is_err());
+        let found = WavReader::open(&path).unwrap().into_samples::<i32>().map(|sample| sample.unwrap());
+        assert!(found.eq((0..9000).chain(0..300).map(|i| i % 100)));
+    }
+}
+
+#[test]
+fn the_checkpoint_that_a_fault_forces_holds_whole_frames() {
+    for (channels, bits) in [1, 2, 3, 5, 6].iter().flat_map(|&channels| [8, 16].map(|bits| (channels, bits))) {
+        let disk = Disk::default();
+        let mut writer = WavWriter::new(disk.clone(), WavSpec { channels, bits_per_sample: bits, ..MONO }).unwrap();
+        let write = |writer: &mut WavWriter<Disk>, first: i32, last: i32| {
+            (first..last).take_while(|i| writer.write_sample(i % 100).is_ok()).count()
+        };
+        assert_eq!((write(&mut writer, 0, 6000), writer.flush().is_ok()), (6000, true));
+        let length = disk.contents().len();
+        disk.0.borrow_mut().room = Some(length + 4097 * usize::from(bits / 8));
+        let accepted = 6000 + write(&mut writer, 6000, 18000);
+        assert!(accepted < 18000);
+        // This writes the sizes first, and then, without success, samples.
+        assert!(writer.write_sample(1).is_err());
+        let right = |count: usize| (0..count).map(|i| i as i16 % 100).collect::<Vec<_>>();
+        let (held, frame) = (4097, usize::from(channels));
+        let stored = held - held % frame;
+        let has_room_for_pad_byte = bits == 16 || stored % 2 == 0;
+        assert!(disk.samples() == right(6000 + stored - if has_room_for_pad_byte { 0 } else { frame }));
+        disk.0.borrow_mut().room = None;
+        assert_eq!(accepted + write(&mut writer, accepted as i32, 18000), 18000);
+        writer.finalize().unwrap();
+        assert!(disk.samples() == right(18000));
+    }
+}
+
+#[test]
+fn what_a_full_medium_holds_is_counted() {
+    let sizes = [0, 1, 100, 4095, 4096, 4097, 9000];
+    for (channels, held) in [1, 2, 6].into_iter().flat_map(|channels| sizes.map(|held| (channels, held))) {
+        for end in ["finalize", "flush", "drop"] {
+            let disk = Disk::default();
+            let mut writer = WavWriter::new(disk.clone(), WavSpec { channels, ..MONO }).unwrap();
+            let length = disk.contents().len();
+            disk.0.borrow_mut().room = Some(length + 2 * held + 1);
+            assert!((0..12000).take_while(|&i| writer.write_sample(i as i16).is_ok()).count() >= held);
+            match end {
+                "finalize" => assert!(writer.finalize().is_err()),
+                "flush" => assert!(writer.flush().is_err()),
+                _ => drop(writer),
+            }
+            assert!(disk.samples() == numbers(held - held % usize::from(channels)));
+        }
+    }
+}
+
+/// Each call of the medium fails, or panics, in turn, and some samples are written by each way: what a writer accepted
+/// is there after that, in whole frames.
+fn try_each_call(panics: bool) {
+    for (way, channels) in (0..WAYS).flat_map(|way| [1, 2, 3].map(|channels| (way, channels))) {
+        let counts = if way == 3 { [1, 20, 7, 21] } else { [1, 5000, 4500, 8] };
+        for fails in 2.. {
+            let (disk, mut accepted) = (Disk::default(), 0);
+            let run = AssertUnwindSafe(|| {
+                let mut writer = WavWriter::new(disk.clone(), WavSpec { channels, ..MONO }).unwrap();
+                (disk.0.borrow_mut().fails, disk.0.borrow_mut().panics) = (fails, panics);
+                for count in counts {
+                    let result = write_by(way, &mut writer, accepted, count);
+                    accepted = writer.len() as usize;
+                    if result.is_err() {
+                        break;
+                    }
+                    let _ = if count == 8 || count == 21 { Ok(()) } else { writer.flush() };
+                }
+                let _ = writer.finalize();
+            });
+            let has_panicked = catch_unwind(run).is_err();
+            let is_met = disk.0.borrow().calls >= fails;
+            assert_eq!(has_panicked, is_met && panics);
+            // What a call accepted before it panicked may be there, too.
+            let (found, frame) = (disk.samples(), usize::from(channels));
+            let whole = if panics { found.len() } else { accepted } / frame * frame;
+            assert!(found == numbers(whole) && whole + frame > accepted, "call {fails}, way {way}");
+            if !is_met {
+                break;
+            }
+        }
+    }
+}
+
+#[test]
+fn a_call_that_fails_once_loses_nothing_that_was_accepted() {
+    try_each_call(false);
+}
+
+#[test]
+fn a_medium_that_panics_once_ends_no_program_and_loses_nothing_that_was_accepted() {
+    try_each_call(true);
+}
+
+#[test]
+fn a_medium_that_panics_always_ends_no_program() {
+    struct Locked;
+    impl Write for Locked {
+        fn write(&mut self, bytes: &[u8]) -> io::Result<usize> {
+            assert!(bytes.len() == 44, "a medium that is used by others");
+            Ok(44)
+        }
+        fn flush(&mut self) -> io::Result<()> {
+            panic!("a medium that is used by others")
+        }
+    }
+    impl Seek for Locked {
+        fn seek(&mut self, _: SeekFrom) -> io::Result<u64> {
+            panic!("a medium that is used by others")
+        }
+    }
+    for way in 0..WAYS {
+        let run = || write_by(way, &mut WavWriter::new(Locked, MONO).unwrap(), 0, 5000);
+        assert!(catch_unwind(run).is_err());
+    }
+    assert!(catch_unwind(|| WavWriter::new(Locked, MONO).unwrap().finalize()).is_err());
+    drop(WavWriter::new(Locked, MONO).unwrap());
 }
 
 /// A type of a user's own: integers of 16 bits, upside down.
@@ -331,8 +562,8 @@ fn a_file_that_was_cut_off_is_repaired() {
     writer.write_samples(&[1i8, 2, 3]).unwrap();
     writer.flush().unwrap();
     writer.write_samples(&[4i8, 5]).unwrap();
-    std::mem::forget(writer);
-    let mut file = fs::read(&path).unwrap();
+    let mut file = fs::read(&path).unwrap(); // as after a kill
+    drop(writer);
     file.truncate(47);
     file[4..8].fill(0);
     fs::write(&path, &file).unwrap();
@@ -375,6 +606,173 @@ fn a_file_is_appended_to_durably() {
 }
 
 #[test]
+fn only_a_whole_file_without_chunks_is_appended_to_durably() {
+    let path = Path::new("whole");
+    let append = |file: &[u8]| {
+        fs::write(&path, file).unwrap();
+        let result = WavWriter::append_durable(&path).map(drop);
+        assert!(result.is_ok() || fs::read(&path).unwrap() == file);
+        result.map_err(|error| matches!(error, Error::IoError(error) if error.kind() == io::ErrorKind::InvalidData))
+    };
+    let file = written(MONO, &[1i16, 2, 3]);
+    assert_eq!(append(&file), Ok(()));
+    assert_eq!(append(&[&file[..], &[4, 0]].concat()), Err(true));
+    assert_eq!(append(&[&file[..], &[4]].concat()), Ok(())); // as a repair leaves a torn frame
+    assert_eq!(append(&[&file[..], b"LIST\x04\0\0\0INFO"].concat()), Err(true));
+    assert_eq!(append(&file[..file.len() - 1]), Err(false));
+    // A byte that isn't 0 is no pad byte after samples of one byte, and a sample is missing in front of one that is.
+    let bytes = written(WavSpec { bits_per_sample: 8, ..MONO }, &[1i8, 2, 3]);
+    assert_eq!((append(&bytes), append(&bytes[..47])), (Ok(()), Ok(())));
+    assert_eq!(append(&[&bytes[..47], &[130]].concat()), Err(true));
+    assert_eq!(append(&[&bytes[..], &[0]].concat()), Err(true));
+    let wide = written(WavSpec { bits_per_sample: 24, ..MONO }, &[1, 2, 3]);
+    let end = wide.len() - 1;
+    assert_eq!((append(&wide), append(&wide[..end]), append(&[&wide[..end], &[7]].concat())), (Ok(()), Ok(()), Ok(())));
+}
+
+#[test]
+fn nothing_is_appended_to_a_file_that_lacks_samples_which_it_counts() {
+    let path = Path::new("lacking");
+    let file = written(MONO, &[1i16; 4000]);
+    fs::write(&path, &file[..2044]).unwrap();
+    let eof = io::ErrorKind::UnexpectedEof;
+    let lacks = |result: Result<()>| matches!(result, Err(Error::IoError(error)) if error.kind() == eof);
+    assert!(lacks(WavWriter::append(&path).map(drop)) && lacks(WavWriter::append_durable(&path).map(drop)));
+    assert_eq!(fs::read(&path).unwrap(), file[..2044]);
+    let mut medium = Cursor::new(file[..2044].to_vec());
+    assert!(lacks(WavWriter::new_append(&mut medium).map(drop)));
+    assert_eq!(medium.into_inner(), file[..2044]);
+    assert_eq!(hound::repair_file(&path).unwrap().frames, 1000);
+    WavWriter::append(&path).unwrap().write_sample(2i16).unwrap();
+    assert_eq!(WavReader::open(&path).unwrap().len(), 1001);
+}
+
+#[test]
+#[cfg(unix)]
+fn a_file_is_cut_off_after_a_block_that_failed() {
+    if env::var_os("FILES_ARE_SHORT").is_none() {
+        // Again, as a program whose files have at most 32 or 64 KiB.
+        let limited = "trap '' XFSZ; ulimit -f 64; FILES_ARE_SHORT=1 exec \"$0\" --exact \"$1\"";
+        let mut shell = process::Command::new("sh");
+        shell.arg("-c").arg(limited).arg(env::current_exe().unwrap());
+        assert!(shell.arg("a_file_is_cut_off_after_a_block_that_failed").status().unwrap().success());
+        return;
+    }
+    let path = Path::new("short");
+    for (form, channels) in (0..4).flat_map(|form| [1, 2].map(|channels| (form, channels))) {
+        let spec = WavSpec { channels, ..MONO };
+        fs::write(&path, written(spec, &[1i16, 2])).unwrap();
+        let mut writer = match form {
+            0 => WavWriter::create(&path, spec).unwrap(),
+            1 => WavWriter::create_durable(&path, spec).unwrap(),
+            2 => WavWriter::append(&path).unwrap(),
+            _ => WavWriter::append_durable(&path).unwrap(),
+        };
+        writer.write_samples(&[3i16, 4]).unwrap();
+        writer.flush().unwrap();
+        let before = fs::read(&path).unwrap();
+        assert!(writer.write_samples(&[5i16; 100_000]).is_err());
+        assert_eq!(fs::read(&path).unwrap(), before);
+        assert!(writer.write_samples(&[6i16; 3]).is_ok() && writer.write_samples(&[7i16; 100_000]).is_err());
+        assert!(writer.write_samples(&[8i16]).is_ok() && writer.finalize().is_ok());
+        let samples: &[i16] = if form > 1 { &[1, 2, 3, 4, 6, 6, 6, 8] } else { &[3, 4, 6, 6, 6, 8] };
+        assert_eq!(fs::read(&path).unwrap(), written(spec, samples));
+    }
+}
+
+#[test]
+#[cfg(target_os = "linux")]
+fn a_file_is_emptied_only_once_its_folder_is_synced() {
+    use std::os::unix::io::AsRawFd;
+    let path = Path::new("unlinked");
+    fs::write(&path, [9; 40000]).unwrap();
+    let file = fs::File::open(&path).unwrap();
+    fs::remove_file(&path).unwrap();
+    // The name of an open file that is in no folder.
+    let name = format!("/proc/self/fd/{}", file.as_raw_fd());
+    assert!(matches!(WavWriter::create_durable(&name, MONO), Err(Error::IoError(_))));
+    assert_eq!(fs::read(&name).unwrap(), [9; 40000]);
+}
+
+#[test]
+fn two_of_this_crate_do_not_change_one_file() {
+    fn is_locked<T>(result: Result<T>) -> bool {
+        let text = "another program records to, appends to or repairs this file";
+        let is = |error: &io::Error| error.kind() == io::ErrorKind::WouldBlock && error.to_string() == text;
+        result.map_or_else(|error| matches!(error, Error::IoError(error) if is(&error)), |_| false)
+    }
+    let path = Path::new("locked");
+    let mut writer = WavWriter::create_durable(&path, MONO).unwrap();
+    writer.write_sample(1i16).unwrap();
+    for _ in 0..2 {
+        assert!(is_locked(WavWriter::create_durable(&path, MONO)) && is_locked(WavWriter::append_durable(&path)));
+        assert!(is_locked(hound::repair_file(&path)) && is_locked(hound::repair_file_to_end(&path)));
+        writer.finalize().unwrap();
+        writer = WavWriter::append_durable(&path).unwrap();
+    }
+    // As hound's, these look at no lock.
+    drop((WavReader::open(&path).unwrap(), WavWriter::append(&path).unwrap()));
+    assert_eq!(fs::read(&path).unwrap(), written(MONO, &[1i16]));
+}
+
+#[test]
+#[cfg(target_os = "linux")]
+fn a_file_without_an_end_is_not_repaired() {
+    assert!(matches!(hound::repair_file("/dev/zero"), Err(Error::FormatError("no RIFF tag found"))));
+    assert!(matches!(hound::repair_file_to_end("/dev/null"), Err(Error::IoError(_))));
+}
+
+mod of_a_user {
+    use hound::*;
+    use std::io::{Cursor, Read, Seek, Write};
+
+    /// Floats in files of integers of 16 bits, by the names of the blocks that hound doesn't have.
+    trait Floats {
+        fn write_samples(&mut self, samples: &[f32]) -> Result<()>;
+    }
+
+    impl<W: Write + Seek> Floats for WavWriter<W> {
+        fn write_samples(&mut self, samples: &[f32]) -> Result<()> {
+            samples.iter().try_for_each(|sample| self.write_sample((sample * 32767.0) as i16))
+        }
+    }
+
+    trait ToFloats {
+        fn read_samples(&mut self, samples: &mut [f32]) -> usize;
+    }
+
+    impl<R: Read> ToFloats for WavReader<R> {
+        fn read_samples(&mut self, samples: &mut [f32]) -> usize {
+            let read = self.samples::<i16>().map(|sample| f32::from(sample.unwrap()) / 32767.0);
+            samples.iter_mut().zip(read).map(|(slot, sample)| *slot = sample).count()
+        }
+    }
+
+    #[test]
+    fn a_trait_of_a_user_means_the_same() {
+        let (mut file, mut samples) = (Cursor::new(Vec::new()), [0.0; 3]);
+        let mut writer = WavWriter::new(&mut file, super::MONO).unwrap();
+        writer.write_samples(&[1.0, -1.0, 0.5]).unwrap();
+        writer.finalize().unwrap();
+        assert_eq!(file.get_ref()[44..], [0xff, 0x7f, 1, 0x80, 0xff, 0x3f]);
+        file.set_position(0);
+        assert_eq!(WavReader::new(file).unwrap().read_samples(&mut samples), 3);
+        assert_eq!(samples[..2], [1.0, -1.0]);
+    }
+}
+
+#[test]
+#[allow(deprecated)]
+fn errors_and_formats_are_as_those_of_hound() {
+    use std::error::Error as _;
+    let error = Error::IoError(io::Error::new(io::ErrorKind::Other, "full"));
+    assert!(error.source().is_none() && error.cause().unwrap().to_string() == "full");
+    assert!(Error::TooWide.source().is_none() && Error::TooWide.cause().is_none());
+    assert_eq!(Error::TooWide.description(), "the sample has more bits than the destination type");
+    assert_eq!((SampleFormat::Float as u8, SampleFormat::Int as u8), (0, 1));
+}
+
+#[test]
 fn readers_and_writers_are_sent_shared_and_survive_panics() {
     fn can_be<T: Send + Sync + std::panic::UnwindSafe + std::panic::RefUnwindSafe>() {}
     can_be::<WavReader<io::BufReader<fs::File>>>();
@@ -400,7 +798,7 @@ impl Read for Long {
 impl Write for Long {
     fn write(&mut self, bytes: &[u8]) -> io::Result<usize> {
         self.header.set_position(self.place);
-        if self.place < 44 {
+        if self.place < self.header.get_ref().len() as u64 {
             self.header.write_all(bytes)?;
         }
         self.place += bytes.len() as u64;
@@ -413,8 +811,10 @@ impl Write for Long {
 
 impl Seek for Long {
     fn seek(&mut self, to: SeekFrom) -> io::Result<u64> {
-        let by = if let SeekFrom::Start(place) = to { place as i64 - self.place as i64 } else { unreachable!() };
-        self.place = self.place.wrapping_add(by as u64);
+        self.place = match to {
+            SeekFrom::Start(place) => place,
+            _ => return Err(io::ErrorKind::Unsupported.into()),
+        };
         Ok(self.place)
     }
 }
@@ -434,4 +834,26 @@ fn a_file_gets_no_longer_than_its_sizes_count() {
     writer.finalize().unwrap();
     let header = file.header.into_inner();
     assert_eq!((&header[4..8], &header[40..]), (&(4_294_967_294u32).to_le_bytes()[..], &(4_294_967_258u32).to_le_bytes()[..]));
+}
+
+#[test]
+fn the_longest_file_has_room_for_what_is_buffered_and_for_whole_frames() {
+    for channels in [2, 3, 7] {
+        let frame = 2 * u32::from(channels);
+        let longest = (u32::MAX - 60 - 1) / frame * frame;
+        let mut header = written::<i16>(WavSpec { channels, ..MONO }, &[]);
+        let start = header.len();
+        let most = if start == 44 { (u32::MAX - 36) / frame * frame } else { longest };
+        header[start - 4..].copy_from_slice(&(most - 1000 * frame).to_le_bytes());
+        let mut file = Long { header: Cursor::new(header), place: 0 };
+        let mut writer = WavWriter::new_append(&mut file).unwrap();
+        let mut count = 0;
+        for i in 0..4000 {
+            count += (0..100).filter(|_| writer.write_sample(3i16).is_ok()).count();
+            assert!(i % 3 > 0 || matches!(writer.flush(), Ok(()) | Err(Error::UnfinishedSample)));
+        }
+        assert_eq!(count, 1000 * usize::from(channels));
+        writer.finalize().unwrap();
+        assert_eq!(file.header.into_inner()[start - 4..], most.to_le_bytes());
+    }
 }

@@ -7,7 +7,7 @@
 //! error of each function that takes one; `bindings/c/hound.h` has the conditions.
 #![warn(missing_docs)]
 
-use std::{error, fmt, io};
+use std::{error, fmt, fs, io};
 
 // Each error, its code, and the sentence of hound.h for it, which scripts/check_errors compares.
 macro_rules! errors {
@@ -74,14 +74,14 @@ impl error::Error for Error {}
 /// The result of a call.
 pub type Result<T> = std::result::Result<T, Error>;
 
-/// The format of samples.
+/// The format of samples, in the order of the crate hound.
 #[derive(Clone, Copy, Debug, Default, PartialEq, Eq)]
 pub enum Format {
+    /// Floats.
+    Float,
     /// Integers.
     #[default]
     Int,
-    /// Floats.
-    Float,
 }
 
 /// What a file says of its samples.
@@ -138,6 +138,8 @@ pub struct Repair {
 
 // The C interface, as hound.h has it.
 mod c {
+    use std::mem::size_of;
+
     #[repr(C)]
     #[derive(Clone, Copy, Default)]
     pub struct Spec {
@@ -174,6 +176,7 @@ mod c {
         pub taken: u32,
         pub part: u32,
         pub fmt_length: u32,
+        pub unused: u32,
     }
 
     #[repr(C)]
@@ -184,6 +187,7 @@ mod c {
         pub number: u32,
         pub bytes_per_sample: u16,
         pub condition: u16,
+        pub unused: u32,
     }
 
     #[repr(C)]
@@ -193,6 +197,9 @@ mod c {
         pub length: u32,
         pub bytes: [u8; 4],
     }
+
+    // What the calls write through a pointer, also where 64 bits are aligned as 32 are.
+    const _: () = assert!(size_of::<Walk>() == 40 && size_of::<Recorder>() == 24);
 
     extern "C" {
         pub fn hound_info(file: *const u8, length: usize, info: *mut Info) -> i32;
@@ -543,6 +550,38 @@ impl Effect {
     }
 }
 
+/// Locks a file that is open until it is closed, without waiting: where another program has locked it, or this one has
+/// opened and locked it before, the error is `WouldBlock`. A file system without locks is no error, and neither is
+/// another system than Unix.
+pub fn lock(file: &fs::File) -> io::Result<()> {
+    match lock_by_system(file) {
+        Err(error) if error.kind() == io::ErrorKind::WouldBlock => {
+            Err(io::Error::new(error.kind(), "another program records to, appends to or repairs this file"))
+        }
+        _ => Ok(()),
+    }
+}
+
+#[cfg(unix)]
+fn lock_by_system(file: &fs::File) -> io::Result<()> {
+    use std::os::{raw::c_int, unix::io::AsRawFd};
+    extern "C" {
+        fn flock(file: c_int, operation: c_int) -> c_int;
+    }
+    const EXCLUSIVE: c_int = 2;
+    const WITHOUT_WAITING: c_int = 4;
+    // SAFETY: the file is open, and no pointer is passed.
+    match unsafe { flock(file.as_raw_fd(), EXCLUSIVE | WITHOUT_WAITING) } {
+        0 => Ok(()),
+        _ => Err(io::Error::last_os_error()),
+    }
+}
+
+#[cfg(not(unix))]
+fn lock_by_system(_: &fs::File) -> io::Result<()> {
+    Ok(())
+}
+
 /// Reads samples from number `first` on into the front of `out`, and returns how many: as many as
 /// fit, as the header counts and as the bytes hold. `Ok(0)` means the end, or that `out` is empty. Where
 /// the header counts sample `first` and the bytes don't hold it, the error is `Truncated`.
@@ -570,10 +609,16 @@ pub fn size(spec: &Spec, samples: u64) -> Result<usize> {
 /// The header of the file of so many samples: 44 or 68 bytes.
 pub fn header(spec: &Spec, samples: u64) -> Result<Vec<u8>> {
     let mut header = vec![0; 68];
-    // SAFETY: as above.
-    let length = checked(unsafe { c::hound_header(&spec.to_c(), samples, header.as_mut_ptr(), header.len()) })?;
+    let length = header_to(spec, samples, &mut header)?;
     header.truncate(length);
     Ok(header)
+}
+
+/// Writes the header of the file of so many samples to the front of `out`, and returns its length. `NoRoom` is returned
+/// where `out` is shorter.
+pub fn header_to(spec: &Spec, samples: u64, out: &mut [u8]) -> Result<usize> {
+    // SAFETY: as above.
+    checked(unsafe { c::hound_header(&spec.to_c(), samples, out.as_mut_ptr(), out.len()) })
 }
 
 /// The RIFF size, which is at byte 4 of a file, and the data length, which is in the four bytes before

@@ -277,3 +277,19 @@ fn a_recorder_goes_on_after_a_failed_write() {
     assert_eq!(recorder.next_effect(false).err(), Some(Error::SyncFailed));
     assert_eq!((recorder.place(1), recorder.wrote(1, true)), (Err(Error::SyncFailed), Err(Error::SyncFailed)));
 }
+
+#[test]
+fn a_file_that_is_open_is_locked_once() {
+    let path = std::env::temp_dir().join(format!("hound-bindings-{}", std::process::id()));
+    let open = || std::fs::OpenOptions::new().append(true).create(true).open(&path).unwrap();
+    let file = open();
+    hound_bindings::lock(&file).unwrap();
+    hound_bindings::lock(&file).unwrap();
+    if cfg!(unix) {
+        let error = hound_bindings::lock(&open()).unwrap_err();
+        assert_eq!((error.kind(), error.to_string().len()), (std::io::ErrorKind::WouldBlock, 59));
+    }
+    drop(file);
+    hound_bindings::lock(&open()).unwrap();
+    std::fs::remove_file(&path).unwrap();
+}

@@ -51,7 +51,7 @@ impl<R: Read> Blocks for original::WavReader<R> {
 impl<R: Read> Blocks for package::WavReader<R> {
     type Error = package::Error;
     fn block<S: original::Sample + package::Sample>(&mut self, samples: &mut [S]) -> (usize, Result<(), package::Error>) {
-        self.read_samples(samples)
+        package::blocks::ReadSamples::read_samples(self, samples)
     }
 }
 

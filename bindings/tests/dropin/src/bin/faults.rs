@@ -58,6 +58,7 @@ impl Read for Faulty {
 
 #[derive(Clone, Copy)]
 struct Plan {
+    channels: u16,
     bits: u16,
     is_float: bool,
     burst: i32,
@@ -93,13 +94,19 @@ both! {
                 record.flushed = record.accepted.len();
             }
         }
+        // The last frame is finished.
+        while record.accepted.len() % usize::from(plan.channels) > 0 {
+            let result = if plan.is_float { writer.write_sample(1.0) } else { writer.write_sample(1) };
+            let Ok(()) = result else { break };
+            record.accepted.push(1);
+        }
         record.ended = writer.finalize().is_ok();
     }
 
     pub fn run(disk: &Faulty, plan: Plan) -> Record {
         let mut record = Record::default();
         let sample_format = if plan.is_float { SampleFormat::Float } else { SampleFormat::Int };
-        let spec = WavSpec { channels: 1, sample_rate: 8000, bits_per_sample: plan.bits, sample_format };
+        let spec = WavSpec { channels: plan.channels, sample_rate: 8000, bits_per_sample: plan.bits, sample_format };
         match plan.is_buffered {
             false => write(WavWriter::new(disk.clone(), spec), plan, &mut record),
             true => write(WavWriter::new(BufWriter::new(disk.clone()), spec), plan, &mut record),
@@ -132,12 +139,13 @@ fn main() {
     let mut tally = Tally::default();
     for (name, run) in [("original", by_original::run as fn(&Faulty, Plan) -> Record), ("package", by_package::run)] {
         let mut outcomes = BTreeMap::new();
-        for (bits, is_float) in [(8, false), (16, false), (24, false), (32, true)] {
+        let formats = [(1, 8, false), (1, 16, false), (1, 24, false), (1, 32, true), (2, 16, false), (3, 8, false), (5, 24, false)];
+        for (channels, bits, is_float) in formats {
             for (burst, appends, is_buffered, goes_on) in [(50, false, false, false), (50, true, false, false), (50, false, true, false), (50, true, true, true), (4500, false, false, false), (4500, true, true, true)] {
-                if burst > 50 && (name == "original" || bits == 32) {
-                    continue; // Too many calls, and sizes of more than 16 bits, which half a write tears.
+                if burst > 50 && (name == "original" || bits == 32) || channels > 1 && name == "original" {
+                    continue; // Too many calls, sizes of more than 16 bits, which half a write tears, and torn frames.
                 }
-                let plan = Plan { bits, is_float, burst, appends, is_buffered };
+                let plan = Plan { channels, bits, is_float, burst, appends, is_buffered };
                 for fails in 1.. {
                     let disk = Faulty(Rc::new(RefCell::new(Disk { fails, goes_on, ..Disk::default() })));
                     let record = run(&disk, plan);
@@ -147,7 +155,7 @@ fn main() {
                     match is_kept {
                         _ if name == "original" => {}
                         true => tally.same(),
-                        false => tally.unexplained(|| format!("call {fails} of {bits} bits, {burst} {appends} {is_buffered} {goes_on}: {what}")),
+                        false => tally.unexplained(|| format!("call {fails} of {channels} channels, {bits} bits, {burst} {appends} {is_buffered} {goes_on}: {what}")),
                     }
                     if disk.calls < fails {
                         break;

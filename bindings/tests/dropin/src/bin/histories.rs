@@ -50,8 +50,7 @@ both! {
         match result {
             None => "None ".into(),
             Some(Ok(sample)) => show(sample) + " ",
-            Some(Err(Error::IoError(error))) => format!("IoError({error}) "),
-            Some(Err(error)) => format!("[{error}] "),
+            Some(Err(error)) => format!("[{error:?}] "),
         }
     }
 
@@ -66,7 +65,7 @@ both! {
     pub fn read(bytes: &[u8], seed: u64, seeks: bool) -> String {
         let mut reader = match WavReader::new(Cursor::new(bytes)) {
             Ok(reader) => reader,
-            Err(error) => return format!("Err {error}"),
+            Err(error) => return format!("Err {error:?}"),
         };
         let (spec, mut chooser) = (reader.spec(), Chooser::new(seed));
         let mut answers = format!("{spec:?} {} {}: ", reader.len(), reader.duration());
@@ -94,8 +93,9 @@ both! {
         result.map_or_else(|error| format!("[{error}] "), |()| "Ok ".into())
     }
 
-    /// What the calls return, and the file. A flush in mid-frame may be passed over.
-    pub fn write(seed: u64, flushes_torn: bool) -> (String, Vec<u8>) {
+    /// What the calls return, and the file. Where no torn frame is stored, a flush within one is passed over, and it is
+    /// taken out of the file in the end.
+    pub fn write(seed: u64, stores_torn: bool) -> (String, Vec<u8>) {
         let mut chooser = Chooser::new(seed);
         let (bits, width, sample_format) = chooser.one_of(&[
             (8, 1, SampleFormat::Int), (16, 2, SampleFormat::Int), (24, 3, SampleFormat::Int), (24, 4, SampleFormat::Int),
@@ -107,17 +107,11 @@ both! {
         let mut file = Cursor::new(Vec::new());
         for session in 0..if bits == 12 || (bits, width) == (24, 4) { 1 } else { 1 + chooser.below(3) } {
             file.rewind().unwrap();
-            let writer = match session {
+            let begun = match session {
                 0 => WavWriter::new_with_spec_ex(&mut file, WavSpecEx { spec, bytes_per_sample: width }),
                 _ => WavWriter::new_append(&mut file),
             };
-            let mut writer = match writer {
-                Ok(writer) => writer,
-                Err(error) => {
-                    answers += &format!("{error}; ");
-                    continue;
-                }
-            };
+            let Ok(mut writer) = begun.map_err(|error| answers += &format!("{error}; ")) else { continue };
             let is_long = chooser.below(40) == 0;
             for _ in 0..chooser.below(30) {
                 let sample = (chooser.next() >> (32 + chooser.below(32))) as i32;
@@ -126,7 +120,7 @@ both! {
                     1 => told(writer.write_sample(sample as i16)),
                     2 => told(writer.write_sample(sample as f32)),
                     3 => told(writer.write_sample(Own(sample as i16))),
-                    4 if !flushes_torn && writer.len() % u32::from(channels) != 0 => told(Err(Error::UnfinishedSample)),
+                    4 if !stores_torn && writer.len() % u32::from(channels) != 0 => told(Err(Error::UnfinishedSample)),
                     4 => told(writer.flush()),
                     5 if bits == 16 => {
                         let count = chooser.below(5) as u32;
@@ -140,6 +134,11 @@ both! {
             }
             if chooser.below(2) == 0 {
                 answers += &told(writer.finalize());
+            } else {
+                drop(writer);
+            }
+            if !stores_torn {
+                without_torn_frame(file.get_mut(), usize::from(channels * width));
             }
         }
         (answers, file.into_inner())
@@ -148,6 +147,15 @@ both! {
 
 fn u32_at(bytes: &[u8], at: usize) -> u32 {
     u32::from_le_bytes(bytes[at..at + 4].try_into().unwrap())
+}
+
+/// Takes a torn frame at the end out of a file.
+fn without_torn_frame(file: &mut Vec<u8>, frame: usize) {
+    let start = if file[16] == 16 { 44 } else { 68 };
+    let length = u32_at(file, start - 4) as usize / frame * frame;
+    file.truncate(start + length);
+    file[4..8].copy_from_slice(&((start - 8 + length) as u32).to_le_bytes());
+    file[start - 4..start].copy_from_slice(&(length as u32).to_le_bytes());
 }
 
 /// A file of chunks, most of them right, and some of its bytes changed.
@@ -270,7 +278,7 @@ fn main() {
     for _ in 0..count {
         let seed = chooser.next();
         let package = or_panic(|| by_package::write(seed, true));
-        let by_original = |flushes_torn| or_panic(|| by_original::write(seed, flushes_torn));
+        let by_original = |stores_torn| or_panic(|| by_original::write(seed, stores_torn));
         let padded = |made: Option<(String, Vec<u8>)>| made.map(|(answers, file)| (answers, with_pad_byte(file)));
         if package.is_none() {
             tally.unexplained(|| format!("the package panics at writing, seed {seed}"));
@@ -279,7 +287,7 @@ fn main() {
         } else if package == padded(by_original(true)) {
             tally.listed("the pad byte after odd data");
         } else if package == padded(by_original(false)) {
-            tally.listed("flush in an unfinished frame");
+            tally.listed("an unfinished frame isn't stored, and a flush there goes on");
         } else if package == by_original(true).map(|(answers, _)| (answers, Vec::new())) {
             tally.listed("a spec that can't be written: nothing is");
         } else {

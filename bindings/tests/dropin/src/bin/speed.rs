@@ -117,6 +117,15 @@ both! {
         cases_of::<_, SKIP>(&mut cases, "i24", spec(24, SampleFormat::Int), path, |i| i as i32 & 0x7f_ffff);
         cases_of::<_, SKIP>(&mut cases, "i32", spec(32, SampleFormat::Int), path, |i| i as i32);
         cases_of::<_, SKIP>(&mut cases, "f32", spec(32, SampleFormat::Float), path, |i| i as f32);
+        time::<SKIP>(&mut cases, "i16 write_sample, new(Cursor), 100 of each file".into(), || {
+            let mut file = Vec::with_capacity(500);
+            for _ in 0..COUNT / 100 {
+                file.clear();
+                let mut writer = WavWriter::new(Cursor::new(&mut file), spec(16, SampleFormat::Int)).unwrap();
+                (0..100).for_each(|i| writer.write_sample(black_box(i as i16)).unwrap());
+                writer.finalize().unwrap();
+            }
+        });
         time::<SKIP>(&mut cases, "i16 get_i16_writer(4096), create".into(), || {
             let mut writer = WavWriter::create(path, spec(16, SampleFormat::Int)).unwrap();
             for batches in 0..COUNT / 4096 {
