@@ -306,7 +306,7 @@ impl WavWriter<io::BufWriter<fs::File>> {
     /// name are on the disk, and after a `flush` all samples are: it syncs them before the sizes that count them,
     /// and then these.
     ///
-    /// A file that there was is emptied once its folder is synced. Until the writer is dropped, another one that is
+    /// A file that there was is emptied once its folder is synced (Windows syncs no folders, and has no such locks). Until the writer is dropped, another one that is
     /// durable, or a repair of the file, is an error (`WouldBlock`), if the file system has locks.
     ///
     /// Only single samples are buffered, up to 4096, and those of an unfinished frame: each
@@ -412,11 +412,13 @@ fn check_end(file: &mut fs::File, info: &Info, end: u64) -> Result<()> {
     Err(io::Error::new(io::ErrorKind::InvalidData, why).into())
 }
 
-// Opens a file that no other program records to, and syncs the folder, which has its name.
+// Opens a file that no other program records to, and syncs the folder, which has its name, where folders can be opened.
 fn open_alone(options: &fs::OpenOptions, filename: &path::Path) -> io::Result<fs::File> {
     let file = options.open(filename)?;
     proved::lock(&file)?;
-    fs::File::open(fs::canonicalize(filename)?.parent().unwrap_or(path::Path::new("/")))?.sync_all()?;
+    if cfg!(unix) {
+        fs::File::open(fs::canonicalize(filename)?.parent().unwrap_or(path::Path::new("/")))?.sync_all()?;
+    }
     Ok(file)
 }
 

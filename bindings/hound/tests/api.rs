@@ -694,6 +694,7 @@ fn a_file_is_emptied_only_once_its_folder_is_synced() {
     assert_eq!(fs::read(&name).unwrap(), [9; 40000]);
 }
 
+#[cfg(unix)] // Elsewhere there are no such locks.
 #[test]
 fn two_of_this_crate_do_not_change_one_file() {
     fn is_locked<T>(result: Result<T>) -> bool {
