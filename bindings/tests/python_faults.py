@@ -29,7 +29,7 @@ import hound_bindings as hound
 from hound_bindings import streams
 
 sys.path.insert(0, os.path.join(os.path.dirname(os.path.dirname(os.path.abspath(__file__))), "python", "tests"))
-from test_streams import Interrupted, Interruption, in_threads  # noqa: E402
+from interruptions import Interrupted, Interruption, in_threads  # noqa: E402
 
 # What every file holds, from its first sample on: bytes from 129 on, so that no zero, pad byte or tag is
 # among them, and each sample is negative (but those of 8 bits, which are positive).

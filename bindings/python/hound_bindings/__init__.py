@@ -273,13 +273,13 @@ def _samples(buffer: Any) -> Iterator[_Samples]:
             yield _Samples(_TYPES[dtype], start, count, columns)
 
 
-@contextlib.contextmanager
-def _memory(size: int) -> Iterator[mmap.mmap]:
+# Python names it from 3.13 on.
+_MAP_NORESERVE = getattr(mmap, "MAP_NORESERVE", 0x4000 if sys.platform == "linux" else 0)
+
+
+def _memory(size: int) -> mmap.mmap:
     """So much memory, whose pages cost nothing until they are written."""
-    # Python names the second of these from 3.13 on.
-    flags = mmap.MAP_PRIVATE | mmap.MAP_ANONYMOUS | getattr(mmap, "MAP_NORESERVE", 0x4000)
-    with mmap.mmap(-1, size, flags=flags) as memory:
-        yield memory
+    return mmap.mmap(-1, size, flags=mmap.MAP_PRIVATE | mmap.MAP_ANONYMOUS | _MAP_NORESERVE)
 
 
 def _copy(start: Any, count: int) -> bytearray:
@@ -443,7 +443,10 @@ def to_bytes(
 
 def _locked_if_there(path: Path) -> ContextManager[Any]:
     """The file at a path, locked, if there is one; an OSError where it may not be written."""
-    return disk.File(path, os.O_WRONLY) if os.path.exists(path) else contextlib.nullcontext()
+    try:
+        return disk.File(path, os.O_WRONLY)
+    except FileNotFoundError:
+        return contextlib.nullcontext()
 
 
 def write(
@@ -466,7 +469,11 @@ def write(
     name = os.path.realpath(os.fsdecode(path))
     if os.path.exists(path) and not os.path.isfile(path):
         with io.open(path, "wb") as device:
-            return device.write(content)
+            device.write(content)
+            if durable:
+                device.flush()
+                os.fsync(device.fileno())
+        return len(content)
     with _locked_if_there(path):
         pass  # What may not be replaced is an error before anything is written.
     part = os.path.join(os.path.dirname(name), f".hound-{secrets.token_hex(8)}")
@@ -552,32 +559,32 @@ def _image(descriptor: int) -> Iterator[Tuple[Any, int, int]]:
     It has the pages that a repair looks at: what is before the data, the headers of chunks after those that are
     counted, with a pad byte or none, and an ID3v1 tag at the end. The others are zeros, and take no memory.
     """
-    used, loaded = os.fstat(descriptor).st_size, set()  # type: Tuple[int, Set[int]]
-    with _memory(used + 1) as memory:
+    used = os.fstat(descriptor).st_size
+    memory, loaded = _memory(used + 1), set()  # type: mmap.mmap, Set[int]
 
-        def load(count: int, place: int) -> bytes:
-            end = min(place + count, used)
-            for start in range(place // _PAGE * _PAGE, end, _PAGE):
-                if start not in loaded:
-                    wanted = min(_PAGE, used - start)
-                    content = disk.read_at(descriptor, wanted, start)
-                    if len(content) < wanted:
-                        raise OSError(errno.EIO, "the file became shorter while it was read")
-                    memory[start : start + wanted] = content
-                    loaded.add(start)
-            return memory[place:end]
+    def load(count: int, place: int) -> bytes:
+        end = min(place + count, used)
+        for start in range(place // _PAGE * _PAGE, end, _PAGE):
+            if start not in loaded:
+                wanted = min(_PAGE, used - start)
+                content = disk.read_at(descriptor, wanted, start)
+                if len(content) < wanted:
+                    raise OSError(errno.EIO, "the file became shorter while it was read")
+                memory[start : start + wanted] = content
+                loaded.add(start)
+        return memory[place:end]
 
-        code, _, place, part = _walk_over(load)
-        if code in _AT_DATA:
-            length = int.from_bytes(part[-4:], "little")
-            data_start = place + len(part)
-            load(128, max(used - 128, 0))
-            for end in {data_start + length, data_start + length + length % 2}:
-                while len(header := load(8, end)) == 8 and all(32 <= byte <= 126 for byte in header[:4]):
-                    length = int.from_bytes(header[4:], "little")
-                    end += 8 + length + length % 2
-        with _address(memory) as (start, _):
-            yield start, used, place + len(part)
+    code, _, place, part = _walk_over(load)
+    data_start = place + len(part)
+    if code in _AT_DATA:
+        length = int.from_bytes(part[-4:], "little")
+        load(128, max(used - 128, 0))
+        for end in {data_start + length, data_start + length + length % 2}:
+            while len(header := load(8, end)) == 8 and all(32 <= byte <= 126 for byte in header[:4]):
+                length = int.from_bytes(header[4:], "little")
+                end += 8 + length + length % 2
+    with _address(memory) as (start, _):
+        yield start, used, data_start
 
 
 def _end_of_data(descriptor: int, overwrite: bool) -> Tuple[_Info, int, int]:
@@ -611,7 +618,7 @@ def append(path: Path, samples: Any, overwrite: bool = False, durable: bool = Fa
     The samples are written first, then the sizes: whenever the program is killed, the header counts only what is
     there, and `repair` finds the samples that were written. At an error the file is made as it was. If the system
     fails that, too, the header still counts only what is there; a part of the new samples may follow, and chunks
-    that were overwritten may be lost. With `durable` the folder is synced, then the samples, and then the sizes: the
+    that were overwritten may be lost. If a signal handler raises, all samples are appended or none. With `durable` the folder is synced, then the samples, and then the sizes: the
     samples survive a loss of power once this has returned; without, when the system has written them.
     A recording that was cut off is an error, and so are chunks or a tag after the data, unless they may be
     overwritten.
@@ -622,10 +629,11 @@ def append(path: Path, samples: Any, overwrite: bool = False, durable: bool = Fa
         old, length = disk.read_at(file.descriptor, found.data_start, 0), found.spec.bytes_per_sample * given.count
         # Longer files are an error before the room counts.
         room = min(end + length + 1, (1 << 32) + 8)
-        with _memory(room) as image, _address(image) as (memory, _):
-            image[: len(old)] = old
+        image = _memory(room)
+        image[: len(old)] = old
+        with _address(image) as (memory, _):
             size = _checked(_append[given.form.kind](memory, room, end, given.start, given.count))
-            new, data, pad = image[: len(old)], image[end : end + length], image[end + length : size]
+        new, data, pad = image[: len(old)], image[end : end + length], image[end + length : size]
         if durable:
             disk.sync_folder(path)
         _change(file.descriptor, (old, new), end, data, pad, keep, durable)

@@ -270,9 +270,11 @@ class Writer(_OneAtATime):
     that is durable has all blocks of a `flush` after a loss of power, too. Only whole frames are ever counted.
 
     After an error of `write` the block isn't in the file, and the next call continues; it first makes the header count
-    all blocks before that one, also if it is a `write`. After an OSError of a sync it is unknown what is stored, and
-    each later call is an error. A signal handler may raise in any call, as Ctrl-C does: a block is in the file only if
-    its `write` has returned, and the next call does first what wasn't done; after a `close` it is another `close`.
+    all blocks before that one, also if it is a `write`. If the system can't cut the file off either, a part of the
+    block follows what is counted, which a repair takes for samples. After an OSError of a sync it is unknown what is
+    stored, and each later call is an error. A signal handler may raise in any call, as Ctrl-C does: a block is in the
+    file only if its `write` has returned, and the next call does first what wasn't done; after a `close` that is
+    another `close`.
 
     Threads may share it: each call waits for the end of another one. A signal handler that calls it during another call
     of the same thread gets a RuntimeError. One that isn't closed is closed when it is collected or the program ends,

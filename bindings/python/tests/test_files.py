@@ -342,7 +342,7 @@ class Files(unittest.TestCase):
                 after = b"".join(some.choices(chunks, k=some.randrange(4)))
                 counted = some.choice((length, length, 0, length + some.randrange(9), 2**32 - 2))
                 riff = some.choice((None, None, 36))
-                content = by_hand(some.randbytes(length), counted, after, riff, channels, width)
+                content = by_hand(bytes(some.choices(range(256), k=length)), counted, after, riff, channels, width)
                 content = content[: some.choice((len(content), len(content), some.randrange(len(content) + 1)))]
                 for to_end in False, True:
                     self.leave(content)

@@ -1,6 +1,5 @@
 """Files that are read or written block by block, beside the module `wave` of Python and files made by hand."""
 import array
-import dis
 import errno
 import fcntl
 import gc
@@ -22,6 +21,7 @@ import wave
 
 import hound_bindings as hound
 from hound_bindings import Cause, HoundError
+from interruptions import Interrupted, Interruption, in_threads
 
 SAMPLES = array.array("h", [2, -3, 5, -7, 32767, -32768, 0, 1, 100, -100])
 
@@ -66,41 +66,6 @@ class Case(unittest.TestCase):
         with self.assertRaises(HoundError) as caught:
             call()
         self.assertEqual(caught.exception.cause, cause)
-
-
-class Interrupted(Exception):
-    """What a signal handler raises."""
-
-
-class Interruption:
-    """Raises once, before the bytecode of the package with this number, as a signal handler may."""
-
-    FOLDER = os.path.dirname(hound.__file__)
-
-    def __init__(self, at):
-        self.at, self.seen, self.place = at, 0, None
-
-    def __enter__(self):
-        sys.settrace(self.trace)
-        return self
-
-    def __exit__(self, *_):
-        sys.settrace(None)
-
-    def trace(self, frame, event, argument):
-        if not frame.f_code.co_filename.startswith(self.FOLDER):
-            return None
-        frame.f_trace_opcodes = True
-        if event == "opcode":
-            self.seen += 1
-            if self.seen == self.at:
-                self.place = frame.f_code.co_name, dis.opname[frame.f_code.co_code[frame.f_lasti]]
-                raise Interrupted(self.place)
-        return self.trace
-
-    def is_at_the_end(self):
-        """Whether only the return of a call was left, which can't be undone."""
-        return self.place == ("guarded", "RETURN_VALUE")
 
 
 class Streams(Case):
@@ -308,18 +273,6 @@ class Streams(Case):
             tracemalloc.stop()
         self.assertEqual(frames, 64 << 20)
         self.assertLess(peak, 8 << 20)
-
-
-def in_threads(*calls):
-    """Makes calls in threads, which are changed often."""
-    interval = sys.getswitchinterval()
-    sys.setswitchinterval(1e-6)
-    threads = [threading.Thread(target=call) for call in calls]
-    for thread in threads:
-        thread.start()
-    for thread in threads:
-        thread.join()
-    sys.setswitchinterval(interval)
 
 
 def content_of(path):
@@ -541,13 +494,18 @@ class Recordings(Case):
         for at in itertools.count(1):
             writer = hound.create(self.path, 8000, 1, 16, durable=True)
             writer.write(array.array("h", [1]))
-            faulty = unittest.mock.patch("os.fsync", side_effect=OSError("a fault"))
-            with faulty as sync, Interruption(at) as interruption:
+            called = []
+
+            def sync(descriptor):
+                called.append(descriptor)
+                raise OSError("a fault")
+
+            with unittest.mock.patch("os.fsync", sync), Interruption(at) as interruption:
                 try:
                     writer.flush()
                 except (OSError, Interrupted):
                     pass
-            if sync.called:
+            if called:
                 self.fails(Cause.SYNC_FAILED, writer.close)
             writer.close()
             if interruption.place is None:
