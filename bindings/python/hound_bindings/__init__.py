@@ -135,6 +135,7 @@ class _Walk(ctypes.Structure):
         ("taken", ctypes.c_uint32),
         ("part", ctypes.c_uint32),
         ("fmt_length", ctypes.c_uint32),
+        ("unused", ctypes.c_uint32),
     ]
 
 

@@ -226,6 +226,7 @@ class _Recorder(ctypes.Structure):
         ("number", ctypes.c_uint32),
         ("bytes_per_sample", ctypes.c_uint16),
         ("condition", ctypes.c_uint16),
+        ("unused", ctypes.c_uint32),
     ]
 
 
