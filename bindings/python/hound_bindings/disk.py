@@ -61,17 +61,19 @@ class File:
 
     def __init__(self, path: Union[str, "os.PathLike[str]"], flags: int) -> None:
         self.path = path
-        while True:
+        # Where another file was renamed to the path before the lock, that one is opened. Some systems number a file anew
+        # each time, so that none seems to be at its path: there is a last attempt.
+        for is_last in (False,) * 9 + (True,):
             self.is_closed = False
             self._file = io.open(path, "rb", buffering=0, opener=lambda path, _: os.open(path, flags, 0o666))
             try:
                 self._lock()
-                if self._is_at_path():
+                if is_last or self._is_at_path():
                     return
             except BaseException:
                 self.close()
                 raise
-            self.close()  # Another file was renamed to the path before the lock.
+            self.close()
 
     def __enter__(self) -> "File":
         return self

@@ -249,7 +249,7 @@ class _Block(NamedTuple):
     """A block of which a part may be in the file, and which doesn't count."""
 
     place: int
-    count: int
+    samples: int
 
 
 class _Recording(NamedTuple):
@@ -368,7 +368,7 @@ class Writer(_OneAtATime):
         if isinstance(block, _Block):
             with contextlib.suppress(OSError):
                 os.ftruncate(self._file.descriptor, block.place)
-            self._state = _Recording(_wrote(recorder, block.count, False), None, [])
+            self._state = _Recording(_wrote(recorder, block.samples, False), None, [])
 
     def _checkpoint(self) -> None:
         """Makes a checkpoint, or goes on with one from the effect on that wasn't done."""
@@ -376,12 +376,12 @@ class Writer(_OneAtATime):
         if self._state.task is None:
             code = self._next_effect(True)
         while code == 1:
-            synced = self._state.synced
+            _, effect, synced = self._state
             try:
                 self._perform()
             except OSError as error:
-                if len(synced) == 2:
-                    raise  # It is one of a signal handler.
+                if not effect.length and len(synced) != 1:
+                    raise  # It is no sync that failed: a signal handler raised it.
                 fault = error
             code = self._next_effect(fault is None and len(synced) != 1)
         if fault is not None:

@@ -1,5 +1,6 @@
 """What interrupts calls of the package: signal handlers that raise, and threads."""
 import dis
+import gc
 import os
 import sys
 import threading
@@ -21,12 +22,14 @@ class Interruption:
         self.tracer = self.trace  # It lives as long as this: Python 3.11 may call it when it has let it go.
 
     def __enter__(self):
+        gc.disable()  # What is collected isn't interrupted.
         sys._getframe().f_trace_opcodes = True  # Python 3.12 looks for one such frame first.
         sys.settrace(self.tracer)
         return self
 
     def __exit__(self, *_):
         sys.settrace(None)
+        gc.enable()
 
     def trace(self, frame, event, argument):
         if not frame.f_code.co_filename.startswith(self.FOLDER):

@@ -535,6 +535,27 @@ class Recordings(Case):
             self.assertIn(len(found), (accepted, accepted + 1))
             self.assertEqual(list(found), [number % 1000 for number in range(len(found))])
 
+    def test_a_signal_handler_that_raises_an_os_error_is_no_fault_of_a_sync(self):
+        """As one that ends a call after a while does."""
+        class Late(Interrupted, TimeoutError):
+            pass
+
+        with unittest.mock.patch("interruptions.Interrupted", Late):
+            for at in itertools.count(1):
+                writer = hound.create(self.path, 8000, 1, 16, durable=True)
+                writer.write(array.array("h", [1]))
+                with Interruption(at) as interruption:
+                    try:
+                        writer.flush()
+                    except Late:
+                        pass
+                writer.write(array.array("h", [2]))
+                writer.close()
+                self.assertEqual(list(hound.read(self.path)), [1, 2], interruption.place)
+                if interruption.place is None:
+                    break
+        self.assertGreater(at, 200)
+
     def test_a_call_by_a_signal_handler(self):
         for calls in ("flush", "write", "close"):
             errors = []
