@@ -105,6 +105,7 @@ class Reader(_OneAtATime):
         self._source: Any = io.open(file, "rb", buffering=0) if self._is_own else file
         self._state = _Next(0, [])
         try:
+            self._read1 = getattr(self._source, "read1", self._source.read)
             self._start = self._source.tell() if self._source.seekable() else None
             self._find_data()
         except BaseException:
@@ -128,8 +129,8 @@ class Reader(_OneAtATime):
 
     def _fill(self, count: int, place: int) -> bytes:
         """What is held, which begins at a place of the file, once it has so many bytes or the file ends."""
-        held = [b"".join(filter(None, self._state.held))]
-        self._state = self._state._replace(held=held)
+        frame, held = self._state.frame, [b"".join(filter(None, self._state.held))]
+        self._state = _Next(frame, held)
         size = len(held[0])
         if self._start is not None:
             self._source.seek(self._start + place + size)
@@ -137,7 +138,7 @@ class Reader(_OneAtATime):
             wanted = min(count - size, _PIECE)
             # Each is one call of C: no signal handler runs before what was read is in the list. The first one reads a
             # buffered pipe at most once, so that it has no bytes to lose; if it gives none, the other one says why.
-            held.extend(map(getattr(self._source, "read1", self._source.read), (wanted,)))
+            held.extend(map(self._read1, (wanted,)))
             if not held[-1]:
                 held.extend(map(self._source.read, (wanted,)))
             if held[-1] is None:
@@ -146,7 +147,7 @@ class Reader(_OneAtATime):
                 break
             size += len(held[-1])
         content = b"".join(filter(None, held))
-        self._state = self._state._replace(held=[content])
+        self._state = _Next(frame, [content])
         return content
 
     def _find_data(self) -> None:
