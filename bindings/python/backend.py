@@ -38,7 +38,7 @@ def build_wheel(wheel_directory, config_settings=None, metadata_directory=None):
     tag = "py3-none-" + sysconfig.get_platform().replace("-", "_").replace(".", "_")
     library = shared_library(wheel_directory)
     files = {}
-    for name in ("__init__.py", "streams.py", "py.typed"):
+    for name in ("__init__.py", "disk.py", "streams.py", "py.typed"):
         with open(os.path.join(HERE, NAME, name), "rb") as file:
             files[f"{NAME}/{name}"] = file.read()
     with open(library, "rb") as file:

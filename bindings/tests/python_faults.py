@@ -2,7 +2,8 @@
 """Kills programs that append to, repair, write and record files by the Python package, and lets their calls of
 the system fail. After each the file is read by hand, repaired, and read again: it counts only samples that it
 holds, those from before and each that was reported are there, and none was invented. Where one call failed,
-the file is the one from before, byte for byte, but for a recording. Wrong versions have to be found.
+the file is the one from before, byte for byte, but for a recording. So it is where a signal handler raises at a
+bytecode of a recorder, or threads share it; and a reader whose reads fail loses nothing. Wrong versions have to be found.
 
 usage: python_faults.py [KILLS [short]]    (200 kills where no number is given; short: fewer of the other runs)
 
@@ -10,6 +11,8 @@ It needs strace and the package hound_bindings, and for a disk that fills up the
 import array
 import collections
 import contextlib
+import ctypes
+import itertools
 import os
 import random
 import re
@@ -23,6 +26,10 @@ import time
 from typing import NamedTuple
 
 import hound_bindings as hound
+from hound_bindings import streams
+
+sys.path.insert(0, os.path.join(os.path.dirname(os.path.dirname(os.path.abspath(__file__))), "python", "tests"))
+from interruptions import Interrupted, Interruption, in_threads  # noqa: E402
 
 # What every file holds, from its first sample on: bytes from 129 on, so that no zero, pad byte or tag is
 # among them, and each sample is negative (but those of 8 bits, which are positive).
@@ -54,6 +61,10 @@ CASES = [
     Case("16 bits, stereo", 2, 2),
     Case("16 bits, mono, a chunk before the data", 1, 2, LIST),
     Case("8 bits, mono, a head of 6 pages", 1, 1, b"JUNK" + struct.pack("<I", 20001) + bytes(20002)),
+    Case("8 bits, 3 channels", 3, 1),
+    Case("24 bits, stereo", 2, 3),
+    Case("24 bits, 5 channels", 5, 3),
+    Case("8 bits, 6 channels", 6, 1),
 ]
 
 
@@ -113,11 +124,11 @@ def look(path, case, least, most, what, after=b""):
 def in_order(*order):
     """One that makes its writes in another order, and undoes none."""
 
-    def change(file, heads, end, data, pad, keep, durable):
+    def change(descriptor, heads, end, data, pad, keep, durable):
         writes = {"data": [(data, end)], "sizes": hound._sizes(heads[1]), "pad": [(pad, end + len(data))]}
         for name in order:
             for content, place in writes[name]:
-                hound._put(file.fileno(), content, place)
+                hound.disk.put(descriptor, content, place)
 
     hound._change = change
 
@@ -143,13 +154,63 @@ def counted_early():
     write = hound.Writer.write
 
     def count(self, block):
-        length = len(block) * self._recorder.bytes_per_sample
-        self._recorder.data_length += length
+        length = len(block) * self._state.recorder.bytes_per_sample
+        self._state.recorder.data_length += length
         self.flush()
-        self._recorder.data_length -= length
+        self._state.recorder.data_length -= length
         write(self, block)
 
     hound.Writer.write = count
+
+
+def effects_forgotten():
+    """A recorder that reports each effect as done, or a sync as failed, where a signal handler raised."""
+
+    def checkpoint(self):
+        recorder, effect, fault = ctypes.byref(self._state.recorder), streams._Effect(), None
+        while (code := streams._checkpoint_next(recorder, fault is None, ctypes.byref(effect))) == 1:
+            try:
+                if effect.length:
+                    hound.disk.put(self._file.descriptor, bytes(effect.bytes)[: effect.length], effect.place)
+                elif self._durable:
+                    os.fsync(self._file.descriptor)
+            except BaseException as error:
+                fault = error
+        if fault is not None:
+            raise fault
+        hound._checked(code)
+
+    hound.Writer._checkpoint = checkpoint
+
+
+def blocks_forgotten():
+    """A recorder that keeps no block in mind while it writes it."""
+    hound.Writer._cut_off = lambda self: setattr(self, "_state", streams._Recording(self._state.recorder, None, []))
+
+
+def nobody_waits():
+    """Recorders and readers that threads use at once."""
+    begin = streams._OneAtATime.__init__
+
+    def unlocked(self):
+        begin(self)
+        self._lock = contextlib.nullcontext()
+
+    streams._OneAtATime.__init__ = unlocked
+
+
+def all_held_is_returned():
+    """A reader of 16 bits that returns whatever it holds, and forgets the rest."""
+
+    def read(self, frames):
+        frame, size = self._state.frame, self._spec.bytes_per_sample * self._spec.channels
+        frames = min(frames, self.info.frames - frame)
+        content = self._fill(frames * size, 0)
+        count = len(content) // size
+        self._state = streams._Next(frame + count, [])
+        return array.array("h", content[: count * size])
+
+    hound.Reader.read = read
 
 
 CONTROLS = {
@@ -159,6 +220,10 @@ CONTROLS = {
     "nothing undone": lambda: in_order("data", "sizes", "pad"),
     "in a mapped file": mapped,
     "counted early": counted_early,
+    "effects forgotten": effects_forgotten,
+    "blocks forgotten": blocks_forgotten,
+    "nobody waits": nobody_waits,
+    "all held is returned": all_held_is_returned,
 }
 
 
@@ -402,13 +467,138 @@ def fill(folder, cases):
     return runs
 
 
+def continued(path, case, durable, at):
+    """Interrupts a recorder before a bytecode, and then continues it with the first block that isn't in the file: the
+    interruption, and how many frames there are."""
+    first, count, is_writing = 3, 2, False
+    leave(path, file_of(case, first))
+    writer = hound.append_to(path, durable)
+    with Interruption(at) as interruption:
+        try:
+            for _ in range(2):
+                block, is_writing = samples_of(case, first, count), True
+                writer.write(block)
+                first, is_writing = first + count, False
+                writer.flush()
+            writer.close()
+        except Interrupted:
+            pass
+    if is_writing and interruption.is_at_the_end():
+        first += count
+    with contextlib.suppress(ValueError):  # It is closed.
+        writer.write(samples_of(case, first, count))
+        first += count
+    writer.close()
+    return interruption, first
+
+
+def interrupt(folder, step):
+    """A signal handler that raises, at some bytecodes of each recorder."""
+    path, runs = os.path.join(folder, "interrupted.wav"), 0
+    for number, (channels, width, durable) in enumerate(itertools.product((1, 2, 3, 5, 6), (1, 2, 3), (False, True))):
+        case = Case(f"{8 * width} bits, {channels} channels", channels, width)
+        for at in itertools.count(1 + number % step, step):
+            what = f"{case.name}, {'' if durable else 'not '}durable, interrupted at {at}"
+            try:
+                interruption, frames = continued(path, case, durable, at)
+            except (hound.HoundError, OSError) as error:
+                raise Wrong(f"{what}: {error}") from error
+            look(path, case, frames, frames, f"{what}: {interruption.place}")
+            runs += 1
+            if interruption.place is None:
+                break
+    print(f"signal handlers that raise, at a bytecode: {runs} recorders, none wrong", flush=True)
+    return runs
+
+
+def share(folder, turns):
+    """Threads that share a recorder: one writes, two flush."""
+    path, blocks = os.path.join(folder, "shared.wav"), 200
+    for turn in range(turns):
+        case, durable = CASES[(0, 2, 6, 8)[turn % 4]], turn % 2 == 1
+        errors, is_done, accepted = [], [], []
+        leave(path, file_of(case, 0))
+
+        def attempt(call):
+            try:
+                call()
+                return True
+            except Exception as error:
+                errors.append(error)
+
+        def write():
+            for _ in range(blocks):
+                if attempt(lambda: writer.write(samples_of(case, 50 * len(accepted), 50))):
+                    accepted.append(1)
+            is_done.append(True)
+
+        def flush():
+            while not is_done:
+                attempt(writer.flush)
+
+        with hound.append_to(path, durable) as writer:
+            in_threads(write, flush, flush)
+        if errors:
+            raise Wrong(f"threads that share a recorder, {case.name}: {errors[0]!r}")
+        look(path, case, 50 * blocks, 50 * blocks, f"threads that share a recorder, {case.name}")
+    print(f"threads that share a recorder: {turns} runs, none wrong", flush=True)
+    return turns
+
+
+def feed(turns):
+    """Pipes that give bytes now and then, which are read in blocks of any length."""
+    some = random.Random(2)
+    for turn in range(turns):
+        case = [case for case in CASES if case.width == 2 and not case.chunks][turn % 2]
+        content, got, inner, outer = file_of(case, 500), array.array("h"), *os.pipe()
+        at = len(head(case, 0))
+        os.set_blocking(inner, False)
+        os.write(outer, content[:at])
+        with open(inner, "rb", buffering=turn % 3 * 40) as source, open(outer, "wb", buffering=0) as pipe:
+            reader = hound.open(source)
+            while at < len(content) or len(got) < 500 * case.channels:
+                try:
+                    got += reader.read(some.choice((1, 7, 64, 1000)))
+                except BlockingIOError:
+                    if at == len(content):
+                        raise Wrong(f"a pipe, {case.name}: bytes are missing after frame {reader.tell()}") from None
+                    at += pipe.write(content[at : at + some.randrange(1, 300)])
+                if reader.tell() * case.channels != len(got):
+                    raise Wrong(f"a pipe, {case.name}: {len(got)} samples are read before frame {reader.tell()}")
+        if got != samples_of(case, 0, 500):
+            raise Wrong(f"a pipe, {case.name}: other samples are read")
+    print(f"pipes that give bytes now and then: {turns} runs, none wrong", flush=True)
+    return turns
+
+
+def find_control(control, tried, *arguments):
+    """A wrong version has to be found by what is tried in a forked process."""
+    sys.stdout.flush()
+    child = os.fork()
+    if child == 0:
+        CONTROLS[control]()
+        signal.alarm(60)
+        try:
+            with open(os.devnull, "w") as output, contextlib.redirect_stdout(output):
+                tried(*arguments)
+        except Wrong:
+            os._exit(9)
+        finally:
+            os._exit(0)
+    _, status = os.waitpid(child, 0)
+    if status != 9 << 8:
+        raise Wrong(f"the wrong version '{control}' isn't found: {status}")
+    print(f"control, {control}: found", flush=True)
+
+
 def tasks(is_short):
     """The tasks whose calls are killed or fail."""
     works = [(work, case) for case in CASES for work in ("append", "durable", "overwrite", "repair")]
     works += [("write", CASES[0]), ("write", CASES[1])]
-    works += [(work, case) for case in CASES[2:5] for work in ("record", "durable record")]
+    works += [(work, case) for case in CASES[2:5] + CASES[6:] for work in ("record", "durable record")]
     if is_short:
-        works = [("durable", CASES[1]), ("overwrite", CASES[0]), ("repair", CASES[1]), ("write", CASES[0]), ("durable record", CASES[2])]
+        works = [("durable", CASES[1]), ("overwrite", CASES[0]), ("repair", CASES[1]), ("write", CASES[0])]
+        works += [("durable record", CASES[2]), ("durable", CASES[6]), ("record", CASES[8])]
     works += [("create record", CASES[0]), ("create durable record", CASES[3])]
     for work, case in works:
         yield task(work, case, 0 if "create" in work else 100, 4999)
@@ -430,6 +620,10 @@ def find_controls(folder):
         print(f"control, {control}: {len(wrong)} of {runs} runs wrong", flush=True)
         if not wrong:
             raise Wrong(f"the wrong version '{control}' isn't found")
+    find_control("effects forgotten", interrupt, folder, 7)
+    find_control("blocks forgotten", interrupt, folder, 7)
+    find_control("nobody waits", share, folder, 20)
+    find_control("all held is returned", feed, 20)
 
 
 def main():
@@ -442,6 +636,7 @@ def main():
         folder = os.path.realpath(folder)
         find_controls(folder)
         runs = order(folder) + kill(folder, count)
+        runs += interrupt(folder, 59 if is_short else 3) + share(folder, 8 if is_short else 80) + feed(20 if is_short else 200)
         for one in tasks(is_short):
             done, wrong = each_call(folder, one, ["KILL", "ENOSPC", "EIO +"], CHANGES if is_short else None)
             if wrong:

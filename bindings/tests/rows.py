@@ -73,7 +73,7 @@ def found(data):
         return None, error.cause
     spec = model.Spec(info.channels, info.sample_rate, info.bits_per_sample, info.bytes_per_sample, info.is_float)
     samples, block = [], array.array("i", bytes(28))
-    with hound._file(data) as (address, length), hound._samples(block) as (_, out, count, _):
+    with hound._address(data) as (address, length), hound._samples(block) as (_, out, count, _):
         while True:
             n = hound._read["i32"](address, length, len(samples), out, count)
             if n <= 0:

@@ -1,13 +1,16 @@
 """WAV files, read, written, appended to and repaired by proved code.
 
-A file is a path; `info`, `read` and `read_into` take its bytes, too. Samples are interleaved: `array.array`s, or anything with a buffer, such
-as a numpy array; two dimensions are frames by channels. No other process may change a file during a
-call.
+A file is a path; `info`, `read` and `read_into` take its bytes, too. Samples are interleaved: `array.array`s, or
+anything with a buffer, such as a numpy array; two dimensions are frames by channels.
+
+A file that is recorded to, appended to, repaired or replaced is locked (`flock`): what another program, or a Writer of
+this one, has locked is a BlockingIOError. Programs without such locks may not change a file during a call.
 """
 import array
 import contextlib
 import ctypes
 import enum
+import errno
 import io
 import mmap
 import operator
@@ -15,9 +18,14 @@ import os
 import secrets
 import shutil
 import sys
-from typing import Any, BinaryIO, Iterator, List, NamedTuple, Optional, Tuple, Union
+from typing import Any, BinaryIO, Callable, ContextManager, Iterator, List, NamedTuple, Optional, Set, Tuple, Union
 
-__all__ = ["Cause", "HoundError", "Info", "Reader", "Repair", "State", "Writer", "append", "append_to", "create", "find_damage", "info", "open", "read", "read_into", "repair", "to_bytes", "write"]
+from . import disk
+
+__all__ = [
+    "Cause", "HoundError", "Info", "Reader", "Repair", "State", "Writer", "append", "append_to", "create",
+    "find_damage", "info", "open", "read", "read_into", "repair", "to_bytes", "write",
+]  # fmt: skip
 
 Path = Union[str, "os.PathLike[str]"]
 File = Union[Path, bytes, bytearray, memoryview, mmap.mmap]
@@ -119,6 +127,18 @@ class _Info(ctypes.Structure):
     _fields_ = [("spec", _Spec), ("samples", ctypes.c_uint32), ("data_start", ctypes.c_uint64)]
 
 
+class _Walk(ctypes.Structure):
+    _fields_ = [
+        ("place", ctypes.c_uint64),
+        ("spec", _Spec),
+        ("length", ctypes.c_uint32),
+        ("taken", ctypes.c_uint32),
+        ("part", ctypes.c_uint32),
+        ("fmt_length", ctypes.c_uint32),
+        ("unused", ctypes.c_uint32),
+    ]
+
+
 class _Repair(ctypes.Structure):
     _fields_ = [("spec", _Spec), ("frames", ctypes.c_uint32), ("left_over", ctypes.c_uint32), ("state", ctypes.c_uint32)]
 
@@ -135,6 +155,7 @@ def _function(name: str, *arguments: Any, result: Any = _I64) -> Any:
 
 
 _info = _function("info", _POINTER, _SIZE, _POINTER, result=ctypes.c_int32)
+_walk_next = _function("walk_next", _POINTER, _POINTER, _SIZE, _POINTER, result=ctypes.c_int32)
 _find_damage = _function("find_damage", _POINTER, _SIZE, _POINTER, result=ctypes.c_int32)
 _size = _function("size", _POINTER, _U64)
 _repair, _repair_to_end = (_function(name, _POINTER, _SIZE, _SIZE, _POINTER) for name in ("repair", "repair_to_end"))
@@ -253,34 +274,13 @@ def _samples(buffer: Any) -> Iterator[_Samples]:
             yield _Samples(_TYPES[dtype], start, count, columns)
 
 
-@contextlib.contextmanager
-def _mapped(descriptor: int) -> Iterator[Tuple[Any, int]]:
-    """The address and the length of a file that is mapped; the file doesn't change with the memory."""
-    if os.fstat(descriptor).st_size == 0:
-        yield ctypes.addressof(_SPARE), 0
-        return
-    with mmap.mmap(descriptor, 0, access=mmap.ACCESS_COPY) as mapped, _address(mapped) as pair:
-        yield pair
+# Python names it from 3.13 on.
+_MAP_NORESERVE = getattr(mmap, "MAP_NORESERVE", 0x4000 if sys.platform == "linux" else 0)
 
 
-@contextlib.contextmanager
-def _file(file: File) -> Iterator[Tuple[Any, int]]:
-    """The address and the length of a file's bytes; a path is mapped."""
-    if isinstance(file, (str, os.PathLike)):
-        with io.open(file, "rb") as opened, _mapped(opened.fileno()) as pair:
-            yield pair
-    else:
-        with _address(file) as pair:
-            yield pair
-
-
-@contextlib.contextmanager
-def _image(start: Any, count: int, size: int) -> Iterator[Any]:
-    """The address of so much memory that begins with these bytes; its other pages cost nothing until
-    they are written."""
-    with mmap.mmap(-1, size, flags=mmap.MAP_PRIVATE | mmap.MAP_ANONYMOUS) as image, _address(image) as (memory, _):
-        ctypes.memmove(memory, start, count)
-        yield memory
+def _memory(size: int) -> mmap.mmap:
+    """So much memory, whose pages cost nothing until they are written."""
+    return mmap.mmap(-1, size, flags=mmap.MAP_PRIVATE | mmap.MAP_ANONYMOUS | _MAP_NORESERVE)
 
 
 def _copy(start: Any, count: int) -> bytearray:
@@ -297,29 +297,68 @@ def _info_of(start: Any, length: int) -> _Info:
     return found
 
 
+def _walk_over(read: Callable[[int, int], bytes]) -> Tuple[int, _Info, int, bytes]:
+    """Walks over what is before the data of a file, of which `read` returns so many bytes from a place on. Returns how
+    the walk ended, what it found, and the place and the bytes that it requested last."""
+    walk, found, code = _Walk(length=12), _Info(), 1
+    while code == 1:
+        place = walk.place
+        part = read(walk.length, place)
+        code = _walk_next(ctypes.byref(walk), part, len(part), ctypes.byref(found))
+    return code, found, place, part
+
+
 def _info_from(found: _Info) -> Info:
     spec, frames = found.spec, found.samples // found.spec.channels
     said = (spec.sample_rate, spec.channels, spec.bits_per_sample, spec.sample_format != 0)
     return Info(*said, frames, found.data_start, spec.bytes_per_sample)
 
 
+class _InMemory:
+    """A file whose bytes are in memory, at this address."""
+
+    def __init__(self, start: Any, length: int) -> None:
+        self._place = start, length
+        self._found = _info_of(start, length)
+        self.info = _info_from(self._found)
+
+    def _read_from(self, start: int, frames: int, dtype: Optional[str]) -> "array.array[Any]":
+        """The samples of at most so many frames (all for -1) from number `start` on."""
+        spec = self._found.spec
+        dtype = _type_of(dtype, spec)
+        form, channels = _TYPES[dtype], spec.channels
+        count = max(self._found.samples - start * channels, 0)
+        # The bytes may hold fewer than the header counts.
+        count = min(count, max(self._place[1] - self._found.data_start, 0) // spec.bytes_per_sample + channels)
+        if frames >= 0:
+            count = min(count, frames * channels)
+        samples = array.array(_CODES[form.kind], bytes(count * array.array(_CODES[form.kind]).itemsize))
+        with _address(samples) as (out, _):
+            # A file has fewer frames than this.
+            count = _checked(_read[form.kind](*self._place, min(start, 1 << 32) * channels, out, count))
+        if form.bits < min(spec.bits_per_sample, 16):
+            raise HoundError(Cause.TOO_WIDE)
+        if 0 < count < channels:
+            raise HoundError(Cause.TRUNCATED)
+        del samples[count // channels * channels :]
+        return _converted(samples, dtype)
+
+
+@contextlib.contextmanager
+def _opened(file: File) -> Iterator[Any]:
+    """What reads a file: at a path, or in memory."""
+    if isinstance(file, (str, os.PathLike)):
+        with Reader(file) as reader:
+            yield reader
+    else:
+        with _address(file) as place:
+            yield _InMemory(*place)
+
+
 def info(file: File) -> Info:
     """What the header of a file says. The data needn't all be there."""
-    with _file(file) as (start, length):
-        return _info_from(_info_of(start, length))
-
-
-def _read_frames(pair: Tuple[Any, int], spec: _Spec, start: int, dtype: str, out: Any, count: int) -> int:
-    """Reads the samples of frames, and returns how many whole frames there were."""
-    form = _TYPES[dtype]
-    # A file has fewer frames than this.
-    first = min(start, 1 << 32) * spec.channels
-    count = _checked(_read[form.kind](*pair, first, out, count))
-    if form.bits < min(spec.bits_per_sample, 16):
-        raise HoundError(Cause.TOO_WIDE)
-    if 0 < count < spec.channels:
-        raise HoundError(Cause.TRUNCATED)
-    return count // spec.channels
+    with _opened(file) as source:
+        return source.info
 
 
 def read_into(file: File, buffer: Any, start: int = 0) -> int:
@@ -329,21 +368,19 @@ def read_into(file: File, buffer: Any, start: int = 0) -> int:
     that of the samples; it is writable and contiguous.
     """
     start = _integer("start", start, 0, sys.maxsize)
-    with memoryview(buffer) as view, _file(file) as pair:
+    with memoryview(buffer) as view:
         dtype, columns = _form(view, "buffer", _READ)
         if view.readonly or not view.c_contiguous:
             raise TypeError("buffer isn't writable and contiguous")
-        spec = _info_of(*pair).spec
-        _check_columns("buffer", columns, spec.channels)
         with _address(view) as (out, size):
             if out % view.itemsize:
                 raise TypeError("buffer isn't aligned")
-            count = size // view.itemsize // spec.channels
-            if _TYPES[dtype].code in _CODES.values():
-                return _read_frames(pair, spec, start, dtype, out, count * spec.channels)
-            block = read(file, start, count, dtype)
+            with _opened(file) as source:
+                channels = source.info.channels
+                _check_columns("buffer", columns, channels)
+                block = source._read_from(start, size // view.itemsize // channels, dtype)
             ctypes.memmove(out, block.buffer_info()[0], len(block) * view.itemsize)
-            return len(block) // spec.channels
+            return len(block) // channels
 
 
 def _type_of(dtype: Optional[str], spec: _Spec) -> str:
@@ -375,21 +412,8 @@ def read(file: File, start: int = 0, frames: int = -1, dtype: Optional[str] = No
     """
     start = _integer("start", start, 0, sys.maxsize)
     frames = _integer("frames", frames, -1, sys.maxsize)
-    with _file(file) as pair:
-        found = _info_of(*pair)
-        spec = found.spec
-        dtype = _type_of(dtype, spec)
-        code = _CODES[_TYPES[dtype].kind]
-        count = max(found.samples - start * spec.channels, 0)
-        # The bytes may hold fewer than the header counts.
-        count = min(count, max(pair[1] - found.data_start, 0) // spec.bytes_per_sample + spec.channels)
-        if frames >= 0:
-            count = min(count, frames * spec.channels)
-        samples = array.array(code, bytes(count * array.array(code).itemsize))
-        with _address(samples) as (out, _):
-            frames = _read_frames(pair, spec, start, dtype, out, count)
-    del samples[frames * spec.channels :]
-    return _shaped(_converted(samples, dtype), spec.channels, always_2d)
+    with _opened(file) as source:
+        return _shaped(source._read_from(start, frames, dtype), source.info.channels, always_2d)
 
 
 def _spec_for(samples: _Samples, rate: int, channels: Optional[int], bits: Optional[int], width: int) -> _Spec:
@@ -418,41 +442,58 @@ def to_bytes(
     return file
 
 
-def _put(descriptor: int, content: bytes, place: int) -> None:
-    """Writes all of this at a place of a file."""
-    with memoryview(content) as left:
-        done = 0
-        while done < len(left):
-            done += os.pwrite(descriptor, left[done:], place + done)
+def _locked_if_there(path: Path) -> ContextManager[Any]:
+    """The file at a path, locked, if there is one; an OSError where it may not be written."""
+    try:
+        return disk.File(path, os.O_WRONLY)
+    except FileNotFoundError:
+        return contextlib.nullcontext()
 
 
 def write(
-    path: Path, samples: Any, rate: int, channels: Optional[int] = None, bits: Optional[int] = None, bytes_per_sample: int = 0
+    path: Path,
+    samples: Any,
+    rate: int,
+    channels: Optional[int] = None,
+    bits: Optional[int] = None,
+    bytes_per_sample: int = 0,
+    durable: bool = False,
 ) -> int:
     """Writes a file of these samples, and returns its length.
 
-    It is written under another name in the same folder, and renamed when it is whole: until then, at
-    an error too, a file that was there stays as it was, and the new file gets its mode. Nothing is
-    synced.
+    It is written under another name in the same folder, and renamed when it is whole: until then, at an error too, a
+    file that was there stays as it was, and the new file gets its mode. A file that is locked isn't replaced. With
+    `durable` the file is synced before it is renamed, and its folder after that: if only the last sync fails, the new
+    file is there, and may be lost with the power.
     """
     content = to_bytes(samples, rate, channels, bits, bytes_per_sample)
     name = os.path.realpath(os.fsdecode(path))
-    if os.path.exists(path):
-        if not os.path.isfile(path):
-            with io.open(path, "wb") as device:
-                return device.write(content)
-        os.close(os.open(path, os.O_WRONLY))  # An OSError where it may not be written.
+    if os.path.exists(path) and not os.path.isfile(path):
+        with io.open(path, "wb") as device:
+            device.write(content)
+            if durable:
+                device.flush()
+                os.fsync(device.fileno())
+        return len(content)
+    with _locked_if_there(path):
+        pass  # What may not be replaced is an error before anything is written.
     part = os.path.join(os.path.dirname(name), f".hound-{secrets.token_hex(8)}")
-    try:
-        with io.open(part, "xb", buffering=0) as file:
-            _put(file.fileno(), content, 0)
-        if os.path.exists(name):
-            shutil.copymode(name, part)
-        os.replace(part, name)
-    except BaseException:
-        with contextlib.suppress(OSError):
-            os.unlink(part)
-        raise
+    with disk.folder_of(name) if durable else contextlib.nullcontext() as folder:
+        try:
+            with io.open(part, "xb", buffering=0) as file:
+                disk.put(file.fileno(), content, 0)
+                if durable:
+                    os.fsync(file.fileno())
+            with _locked_if_there(path):
+                if os.path.exists(name):
+                    shutil.copymode(name, part)
+                os.replace(part, name)
+        except BaseException:
+            with contextlib.suppress(OSError):
+                os.unlink(part)
+            raise
+        if durable:
+            os.fsync(folder)
     return len(content)
 
 
@@ -462,16 +503,17 @@ def _sizes(head: bytes) -> List[Tuple[bytes, int]]:
     return [(head[4:], 4)] if len(head) <= 4096 else [(head[4:8], 4), (head[-4:], len(head) - 4)]
 
 
-def _change(file: Any, heads: Tuple[bytes, bytes], end: int, data: bytes, pad: bytes, keep: int, durable: bool) -> None:
+def _change(
+    descriptor: int, heads: Tuple[bytes, bytes], end: int, data: bytes, pad: bytes, keep: int, durable: bool
+) -> None:
     """Writes data from `end` on, then the sizes of the second head, and then the pad byte: so the header
     counts only what is there, and no pad byte is there that a repair would take for a sample.
 
     Of a file that is longer than `keep` the rest is cut off first. At an error all is made as it was,
     step by step, as far as the system lets it.
     """
-    descriptor, is_counted = file.fileno(), False
-    file.seek(end)
-    tail = file.readall()
+    is_counted = False
+    tail = disk.read_at(descriptor, os.fstat(descriptor).st_size - end, end)
 
     def sync() -> None:
         if durable:
@@ -479,19 +521,19 @@ def _change(file: Any, heads: Tuple[bytes, bytes], end: int, data: bytes, pad: b
 
     def put_sizes(head: bytes) -> None:
         for content, place in _sizes(head):
-            _put(descriptor, content, place)
+            disk.put(descriptor, content, place)
         sync()
 
     try:
         if keep < end + len(tail):
             os.ftruncate(descriptor, keep)
             sync()
-        _put(descriptor, data, end)
+        disk.put(descriptor, data, end)
         sync()
         is_counted = True
         put_sizes(heads[1])
         if pad:
-            _put(descriptor, pad, end + len(data))
+            disk.put(descriptor, pad, end + len(data))
             sync()
     except BaseException:
         with contextlib.suppress(OSError):
@@ -500,28 +542,72 @@ def _change(file: Any, heads: Tuple[bytes, bytes], end: int, data: bytes, pad: b
                 put_sizes(heads[0])
             os.ftruncate(descriptor, keep)
             try:
-                _put(descriptor, tail, end)
+                disk.put(descriptor, tail, end)
             except OSError:
                 os.ftruncate(descriptor, keep)
         raise
 
 
-def _end_of_data(start: Any, used: int, overwrite: bool) -> Tuple[_Info, int, int]:
+_PAGE = 4096
+# How a walk ends at the header of the data, also where a repair mends their length.
+_AT_DATA = (0, -Cause.DATA_LENGTH, -Cause.FRAME_LENGTH)
+
+
+@contextlib.contextmanager
+def _image(descriptor: int) -> Iterator[Tuple[Any, int, int]]:
+    """The address and the length of a file in memory that has room for a pad byte, and where the data begin.
+
+    It has the pages that a repair looks at: what is before the data, the headers of chunks after those that are
+    counted, with a pad byte or none, and an ID3v1 tag at the end. The others are zeros, and take no memory.
+    """
+    used = os.fstat(descriptor).st_size
+    memory, loaded = _memory(used + 1), set()  # type: mmap.mmap, Set[int]
+
+    def load(count: int, place: int) -> bytes:
+        end = min(place + count, used)
+        for start in range(place // _PAGE * _PAGE, end, _PAGE):
+            if start not in loaded:
+                wanted = min(_PAGE, used - start)
+                content = disk.read_at(descriptor, wanted, start)
+                if len(content) < wanted:
+                    raise OSError(errno.EIO, "the file became shorter while it was read")
+                memory[start : start + wanted] = content
+                loaded.add(start)
+        return memory[place:end]
+
+    code, _, place, part = _walk_over(load)
+    data_start = place + len(part)
+    if code in _AT_DATA:
+        length = int.from_bytes(part[-4:], "little")
+        load(128, max(used - 128, 0))
+        for end in {data_start + length, data_start + length + length % 2}:
+            while len(header := load(8, end)) == 8 and all(32 <= byte <= 126 for byte in header[:4]):
+                length = int.from_bytes(header[4:], "little")
+                end += 8 + length + length % 2
+    with _address(memory) as (start, _):
+        yield start, used, data_start
+
+
+def _end_of_data(descriptor: int, overwrite: bool) -> Tuple[_Info, int, int]:
     """What the header says of a file that can be appended to, where its data end, and how many of its
     bytes stay: chunks after the data don't."""
-    found, repair = _Info(), _Repair()
-    code = _info(start, used, ctypes.byref(found))
-    length = found.samples * found.spec.bytes_per_sample
+    code, found, _, _ = _walk_over(lambda count, place: disk.read_at(descriptor, count, place))
+    used, spec = os.fstat(descriptor).st_size, found.spec
+    length = found.samples * spec.bytes_per_sample
     end = found.data_start + length
     if code == 0 and end <= used <= end + length % 2:
+        # What isn't 0 there is the next sample of a recording that was cut off, and no pad byte.
+        if spec.channels * spec.bytes_per_sample == 1 and disk.read_at(descriptor, used - end, end) not in (b"", b"\0"):
+            raise HoundError(Cause.CUT_OFF)
         return found, end, used
-    # The file is mapped so that this changes nothing of it.
-    repaired = _repair(start, used, used, ctypes.byref(repair))
-    if repaired == -Cause.NO_ROOM or repaired >= 0 and repair.state == State.CUT_OFF:
+    damage = _Repair()
+    with _image(descriptor) as (start, used, _):
+        damaged = _find_damage(start, used, ctypes.byref(damage))
+    if damaged == 0 and damage.state == State.CUT_OFF:
         raise HoundError(Cause.CUT_OFF)
     _checked(code)
-    _checked(repaired)
-    has_chunks = repair.state == State.HAS_CHUNKS_AFTER_DATA
+    _checked(damaged)
+    has_chunks = damage.state == State.HAS_CHUNKS_AFTER_DATA
     if has_chunks and not overwrite:
         raise HoundError(Cause.CHUNKS_AFTER_DATA)
     return found, end, end if has_chunks else used
@@ -530,44 +616,47 @@ def _end_of_data(start: Any, used: int, overwrite: bool) -> Tuple[_Info, int, in
 def append(path: Path, samples: Any, overwrite: bool = False, durable: bool = False) -> int:
     """Appends whole frames to a file, and returns its length.
 
-    The samples are written first, then the sizes: whenever the program is killed, the header counts
-    only what is there, and `repair` finds the samples that were written. At an error the file is as it
-    was, as far as the system lets it. With `durable` the samples are synced, and then the sizes: the
+    The samples are written first, then the sizes: whenever the program is killed, the header counts only what is
+    there, and `repair` finds the samples that were written. At an error the file is made as it was. If the system
+    fails that, too, the header still counts only what is there; a part of the new samples may follow, and chunks
+    that were overwritten may be lost. If a signal handler raises, all samples are appended or none. With `durable` the folder is synced, then the samples, and then the sizes: the
     samples survive a loss of power once this has returned; without, when the system has written them.
-    A recording that was cut off is an error, and so are chunks or a tag after the data, unless they
-    may be overwritten.
+    A recording that was cut off is an error, and so are chunks or a tag after the data, unless they may be
+    overwritten.
     """
-    with _samples(samples) as given, io.open(path, "r+b", buffering=0) as file:
-        with _mapped(file.fileno()) as (start, used):
-            found, end, keep = _end_of_data(start, used, overwrite)
-            _check_columns("samples", given.columns, found.spec.channels)
-            old, length = _copy(start, found.data_start), found.spec.bytes_per_sample * given.count
-            # Longer files are an error before the room counts.
-            room = min(end + length + 1, (1 << 32) + 8)
-            with _image(start, found.data_start, room) as memory:
-                size = _checked(_append[given.form.kind](memory, room, end, given.start, given.count))
-                new, data = _copy(memory, found.data_start), _copy(memory + end, length)
-                pad = _copy(memory + end + length, size - end - length)
-        _change(file, (old, new), end, data, pad, keep, durable)
+    with _samples(samples) as given, disk.File(path, os.O_RDWR) as file:
+        found, end, keep = _end_of_data(file.descriptor, overwrite)
+        _check_columns("samples", given.columns, found.spec.channels)
+        old, length = disk.read_at(file.descriptor, found.data_start, 0), found.spec.bytes_per_sample * given.count
+        # Longer files are an error before the room counts.
+        room = min(end + length + 1, (1 << 32) + 8)
+        image = _memory(room)
+        image[: len(old)] = old
+        with _address(image) as (memory, _):
+            size = _checked(_append[given.form.kind](memory, room, end, given.start, given.count))
+        new, data, pad = image[: len(old)], image[end : end + length], image[end + length : size]
+        if durable:
+            disk.sync_folder(path)
+        _change(file.descriptor, (old, new), end, data, pad, keep, durable)
         return max(size, keep)
-
-
-def _repaired(call: Any, start: Any, used: int, room: int) -> Tuple[Repair, int, bytes]:
-    """Repairs a file in memory, and returns what was found, the length, and the bytes before the data
-    if they changed."""
-    found = _Repair()
-    size = _checked(call(start, room, used, ctypes.byref(found)))
-    report = Repair(State(found.state), found.frames, found.left_over)
-    changed = report.state == State.CUT_OFF
-    return report, size, _copy(start, _info_of(start, size).data_start) if changed else b""
 
 
 def find_damage(path: Path) -> Repair:
     """Returns what `repair` would, and writes nothing."""
     found = _Repair()
-    with io.open(path, "rb") as file, _mapped(file.fileno()) as (start, used):
+    with io.open(path, "rb", buffering=0) as file, _image(file.fileno()) as (start, used, _):
         _checked(_find_damage(start, used, ctypes.byref(found)))
     return Repair(State(found.state), found.frames, found.left_over)
+
+
+def _opened_for_repair(path: Path) -> Tuple[disk.File, Optional[OSError]]:
+    """A file to be repaired, and why it may only be read."""
+    try:
+        return disk.File(path, os.O_RDWR), None
+    except OSError as error:
+        if error.errno not in (errno.EACCES, errno.EPERM, errno.EROFS):
+            raise
+        return disk.File(path, os.O_RDONLY), error
 
 
 def repair(path: Path, durable: bool = False, to_end: bool = False) -> Repair:
@@ -576,23 +665,22 @@ def repair(path: Path, durable: bool = False, to_end: bool = False) -> Repair:
 
     It writes the two sizes, and then a missing pad byte; with `durable` it syncs before and after the
     sizes. A file that is whole, or that chunks follow, is only read; with `to_end` all that follows the
-    header of the data is taken for samples, also what looks like chunks. At an error the file is as it
-    was, as far as the system lets it.
+    header of the data is taken for samples, also what looks like chunks. At an error the file is made as it
+    was. If the system fails that, too, the header counts only what is there, and the file can be repaired again.
     """
-    call = _repair_to_end if to_end else _repair
-    with io.open(path, "rb") as file, _mapped(file.fileno()) as (start, used):
-        try:
-            report, size, new = _repaired(call, start, used, used)
-        except HoundError as error:
-            if error.cause != Cause.NO_ROOM:
-                raise
-            # A pad byte is missing, for which the mapping has no room.
-            with _image(start, used, used + 1) as memory:
-                report, size, new = _repaired(call, memory, used, used + 1)
-        old = file.read(len(new))
-    if new:
-        with io.open(path, "r+b", buffering=0) as file:
-            _change(file, (old, new), used, b"", bytes(size - used), used, durable)
+    found, call = _Repair(), _repair_to_end if to_end else _repair
+    file, refused = _opened_for_repair(path)
+    with file:
+        with _image(file.descriptor) as (start, used, data_start):
+            size = _checked(call(start, used + 1, used, ctypes.byref(found)))
+            sizes = _copy(start + 4, 4), _copy(start + data_start - 4, 4)
+        report = Repair(State(found.state), found.frames, found.left_over)
+        if report.state == State.CUT_OFF:
+            if refused:
+                raise refused
+            old = disk.read_at(file.descriptor, data_start, 0)
+            new = old[:4] + sizes[0] + old[8:-4] + sizes[1]
+            _change(file.descriptor, (old, new), used, b"", bytes(size - used), used, durable)
     return report
 
 

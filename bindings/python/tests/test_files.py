@@ -1,10 +1,15 @@
 """Files written, read, appended to and repaired, beside the module `wave` of Python and files made by hand."""
 import array
+import contextlib
 import ctypes
+import errno
 import os
 import pickle
+import random
 import stat
 import struct
+import subprocess
+import sys
 import tempfile
 import threading
 import unittest
@@ -33,10 +38,8 @@ def two_d(samples, columns):
 class Files(unittest.TestCase):
     def setUp(self):
         self.folder = tempfile.TemporaryDirectory()
+        self.addCleanup(self.folder.cleanup)
         self.path = os.path.join(self.folder.name, "a.wav")
-
-    def tearDown(self):
-        self.folder.cleanup()
 
     def fails(self, cause, call):
         with self.assertRaises(HoundError) as caught:
@@ -226,6 +229,151 @@ class Files(unittest.TestCase):
             self.assertEqual(places[:3], [46, 4, 47][:last] + places[last:3])
             self.assert_file(before)
 
+    def test_what_is_synced(self):
+        """The file, and its folder: before anything is appended, and after a new file has its name."""
+        sync, made = os.fsync, []
+
+        def noted(descriptor):
+            about = os.fstat(descriptor)
+            made.append("folder" if stat.S_ISDIR(about.st_mode) else about.st_size)
+            sync(descriptor)
+
+        with mock.patch("os.fsync", noted):
+            hound.write(self.path, array.array("h", [1]), 8000)
+            self.assertEqual(made, [])
+            hound.write(self.path, array.array("h", [1]), 8000, durable=True)
+            self.assertEqual(made, [46, "folder"])
+            made.clear()
+            hound.append(self.path, array.array("h", [2]), durable=True)
+            self.assertEqual(made, ["folder", 48, 48])
+        with mock.patch("os.fsync", side_effect=OSError):
+            for call in (hound.append, lambda *words, **more: hound.write(*words, 8000, **more)):
+                self.assertRaises(OSError, lambda: call(self.path, array.array("h", [3]), durable=True))
+        self.assert_file(by_hand(b"\1\0\2\0"))
+        self.assertEqual(os.listdir(self.folder.name), ["a.wav"])
+
+    def calls(self):
+        """The calls that read a file at a path."""
+        yield lambda: hound.info(self.path)
+        yield lambda: hound.read(self.path)
+        yield lambda: hound.read_into(self.path, array.array("h", bytes(200)))
+        yield lambda: hound.find_damage(self.path)
+        yield lambda: hound.repair(self.path)
+        yield lambda: hound.append(self.path, array.array("h", [1]))
+        yield lambda: hound.append_to(self.path)
+        yield lambda: hound.open(self.path).read()
+
+    def test_a_disk_that_can_t_be_read(self):
+        """No file is mapped, since Python would end by SIGBUS: each read that fails is an OSError."""
+        content, mapped, map_it = by_hand(bytes(10000), 4000), [], hound.mmap.mmap
+        fault = OSError(errno.EIO, "a fault")
+        self.leave(content)
+
+        def noted(descriptor, *words, **more):
+            mapped.append(descriptor)
+            return map_it(descriptor, *words, **more)
+
+        with mock.patch("mmap.mmap", noted):
+            for call in self.calls():
+                with contextlib.suppress(HoundError):
+                    call()
+        self.assertEqual(set(mapped), {-1})
+        self.leave(content)
+
+        class Faulty(hound.io.FileIO):
+            def read(self, count=-1):
+                raise fault
+
+        opened = lambda path, mode, buffering=0, **more: Faulty(path, mode, **more)
+        with mock.patch("os.pread", side_effect=fault), mock.patch("io.open", opened):
+            for call in self.calls():
+                with self.assertRaises(OSError) as caught:
+                    call()
+                self.assertEqual(caught.exception.errno, errno.EIO)
+        self.assert_file(content)
+
+    def test_a_loop_device_that_is_cut(self):
+        """Part of a file is on a disk that ends before it."""
+        image, disk = os.path.join(self.folder.name, "image"), os.path.join(self.folder.name, "disk")
+        run = lambda *words: subprocess.run(words, check=True, stdout=subprocess.DEVNULL, stderr=subprocess.DEVNULL)
+        with open(image, "wb") as file:
+            file.truncate(40 << 20)
+        os.mkdir(disk)
+        try:
+            run("mkfs.ext4", "-q", image)
+            run("mount", "-o", "loop", image, disk)
+        except (OSError, subprocess.CalledProcessError):
+            self.skipTest("no loop device can be mounted here")
+        self.addCleanup(run, "umount", disk)
+        self.path = os.path.join(disk, "a.wav")
+        self.leave(by_hand(bytes(8 << 20), 4 << 20))
+        with open(self.path, "rb") as file:
+            os.fsync(file.fileno())
+            os.posix_fadvise(file.fileno(), 0, 0, os.POSIX_FADV_DONTNEED)
+        os.truncate(image, 2 << 20)
+        for call in self.calls():
+            with contextlib.suppress(OSError, HoundError):
+                call()
+        self.assertRaises(OSError, lambda: hound.read(self.path))
+
+    def test_a_file_that_becomes_shorter(self):
+        content, pread = by_hand(bytes(10000), 4000), os.pread
+
+        def late(descriptor, count, place):
+            os.truncate(self.path, 20)
+            return pread(descriptor, count, place)
+
+        for call in (lambda: hound.find_damage(self.path), lambda: hound.repair(self.path)):
+            self.leave(content)
+            with mock.patch("os.pread", late), self.assertRaisesRegex(OSError, "shorter"):
+                call()
+        self.leave(by_hand(bytes(10)))
+        with mock.patch("os.pread", late), self.assertRaises(HoundError):
+            hound.append(self.path, array.array("h"))
+
+    def test_repairs_look_at_few_pages(self):
+        """What is found over them is what is found over the whole file."""
+        some = random.Random(5)
+        chunks = [CHUNK, b"TAG" + bytes(125), b"data" + bytes(4), b"junk\3\0\0\0abc\0", b"odds\1\0\0\0a"]
+        chunks += [b"\0", b"a", b"\x80bcd" + bytes(4)]
+        with mock.patch("hound_bindings._PAGE", 16):
+            for _ in range(3000):
+                width, channels, length = some.randrange(1, 4), some.randrange(1, 3), some.randrange(70)
+                after = b"".join(some.choices(chunks, k=some.randrange(4)))
+                counted = some.choice((length, length, 0, length + some.randrange(9), 2**32 - 2))
+                riff = some.choice((None, None, 36))
+                content = by_hand(bytes(some.choices(range(256), k=length)), counted, after, riff, channels, width)
+                content = content[: some.choice((len(content), len(content), some.randrange(len(content) + 1)))]
+                for to_end in False, True:
+                    self.leave(content)
+                    found = hound._Repair()
+                    memory = bytearray(content + b"U")
+                    with hound._address(memory) as (start, room):
+                        call = hound._repair_to_end if to_end else hound._repair
+                        size = call(start, room, len(content), ctypes.byref(found))
+                    if size < 0:
+                        self.fails(Cause(-size), lambda: hound.repair(self.path, to_end=to_end))
+                        self.assert_file(content)
+                        continue
+                    wanted = (State(found.state), found.frames, found.left_over)
+                    if not to_end:
+                        self.assertEqual(hound.find_damage(self.path), wanted)
+                    self.assertEqual(hound.repair(self.path, to_end=to_end), wanted)
+                    self.assert_file(memory[:size])
+
+    def test_a_long_file_is_repaired_in_little_memory(self):
+        length = 3 * 10**9 + 1
+        self.leave(by_hand(b"", width=1))
+        os.truncate(self.path, 44 + length)
+        program = f"import resource, hound_bindings as h; path = {self.path!r}"
+        program += "; print(h.find_damage(path).frames, h.repair(path).frames)"
+        program += "; print(resource.getrusage(resource.RUSAGE_SELF).ru_maxrss)"
+        env = {**os.environ, "PYTHONPATH": os.path.dirname(os.path.dirname(hound.__file__))}
+        said = subprocess.run([sys.executable, "-c", program], env=env, stdout=subprocess.PIPE, check=True).stdout
+        self.assertEqual(said.split()[:2], [b"%d" % length] * 2)
+        self.assertLess(int(said.split()[2]), 60_000)
+        self.assertEqual((hound.info(self.path).frames, os.path.getsize(self.path)), (length, 44 + length + 1))
+
     def test_a_failed_write_leaves_the_older_file(self):
         self.leave(b"older")
         os.chmod(self.path, 0o640)
@@ -260,7 +408,6 @@ class Files(unittest.TestCase):
     def test_a_pipe_is_written_to(self):
         os.mkfifo(self.path)
         found = []
-
 
         def read():
             with open(self.path, "rb") as pipe:

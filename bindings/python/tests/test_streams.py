@@ -1,17 +1,27 @@
 """Files that are read or written block by block, beside the module `wave` of Python and files made by hand."""
 import array
+import errno
+import fcntl
+import gc
 import io
+import itertools
 import os
+import signal
+import stat
 import struct
+import subprocess
+import sys
 import tempfile
 import threading
 import tracemalloc
 import unittest
 import unittest.mock
+import warnings
 import wave
 
 import hound_bindings as hound
 from hound_bindings import Cause, HoundError
+from interruptions import Interrupted, Interruption, in_threads
 
 SAMPLES = array.array("h", [2, -3, 5, -7, 32767, -32768, 0, 1, 100, -100])
 
@@ -137,6 +147,95 @@ class Streams(Case):
         self.assertEqual(got, SAMPLES)
         self.assertGreater(faults, 5)
 
+    def test_a_smaller_read_after_one_that_failed(self):
+        samples = array.array("h", range(1, 21))
+        inner, outer = os.pipe()
+        os.set_blocking(inner, False)
+        content = by_hand(samples.tobytes(), channels=1)
+        os.write(outer, content[:55])  # five samples and a half
+        with open(inner, "rb", buffering=0) as source:
+            reader = hound.open(source)
+            self.assertRaises(BlockingIOError, lambda: reader.read(8))
+            got = reader.read(1)
+            self.assertEqual((list(got), reader.tell()), ([1], 1))
+            os.write(outer, content[55:])
+            os.close(outer)
+            for block in reader.blocks(4):
+                got += block
+            self.assertEqual(got, samples)
+
+    def test_a_seek_after_a_read_that_failed(self):
+        class Faulty(io.BytesIO):
+            fails = False
+
+            def read(self, count):
+                if self.fails and count < 8:
+                    raise OSError("a fault")
+                return super().read(min(count, 4) if self.fails else count)
+
+            read1 = read
+
+        source = Faulty(made_by_wave(SAMPLES))
+        reader = hound.open(source)
+        source.fails = True
+        self.assertRaises(OSError, lambda: reader.read(2))
+        source.fails = False
+        self.assertEqual(reader.read(1), SAMPLES[:2])
+        reader.seek(3)
+        self.assertEqual(reader.read(), SAMPLES[6:])
+
+    def test_a_failure_in_the_header(self):
+        inner, outer = os.pipe()
+        os.set_blocking(inner, False)
+        os.write(outer, made_by_wave(SAMPLES)[:30])
+        with open(inner, "rb", buffering=0) as source:
+            self.assertRaises(BlockingIOError, lambda: hound.open(source))
+        os.close(outer)
+
+    def test_a_read_that_is_interrupted_at_each_bytecode(self):
+        """The next one begins at the same frame, unless only the return was left."""
+        content = made_by_wave(SAMPLES)
+
+        def piped(buffering):
+            inner, outer = os.pipe()
+            os.write(outer, content)
+            os.close(outer)
+            return open(inner, "rb", buffering=buffering)
+
+        for make in (lambda: io.BytesIO(content), lambda: piped(0), lambda: piped(64)):
+            for at in itertools.count(1):
+                with make() as source:
+                    reader, got = hound.open(source), None
+                    with Interruption(at) as interruption:
+                        try:
+                            got = reader.read(3)
+                        except Interrupted:
+                            pass
+                    if got is None:
+                        got = SAMPLES[:6] if interruption.is_at_the_end() else array.array("h")
+                    self.assertEqual(got + reader.read(), SAMPLES, interruption.place)
+                if interruption.place is None:
+                    break
+            self.assertGreater(at, 100)
+
+    def test_threads_share_a_reader(self):
+        samples = array.array("i", range(100_000))
+        with tempfile.TemporaryDirectory() as folder:
+            path = os.path.join(folder, "a.wav")
+            hound.write(path, samples, 8000)
+            with hound.open(path) as reader:
+                got, errors = [], []
+
+                def read():
+                    try:
+                        got.extend(reader.blocks(7))
+                    except Exception as error:
+                        errors.append(error)
+
+                in_threads(read, read, read)
+        self.assertEqual(errors, [])
+        self.assertEqual(sorted(got), [samples[first : first + 7] for first in range(0, len(samples), 7)])
+
     def test_a_file_that_ends_early(self):
         reader = hound.open(io.BytesIO(by_hand(SAMPLES.tobytes()[:-3], counted=20)))
         self.assertEqual(list(reader.read(3)), list(SAMPLES[:6]))
@@ -182,7 +281,8 @@ def content_of(path):
 
 
 class Calls:
-    """The writes and syncs of a file, in order: the place of each write, or "sync". The nth of them fails."""
+    """The writes and syncs of a file, in order: the place of each write, or "sync", also of its folder. The nth of them
+    fails."""
 
     def __init__(self, fails=0):
         self.made, self.fails, self.put, self.sync = [], fails, os.pwrite, os.fsync
@@ -196,7 +296,8 @@ class Calls:
 
     def __enter__(self):
         put = lambda file, content, place: self.make(place, lambda: self.put(file, content, place), lambda: self.put(file, content[:3], place))
-        sync = lambda file: self.make("sync", lambda: self.sync(file), lambda: None)
+        name = lambda file: "sync of the folder" if stat.S_ISDIR(os.fstat(file).st_mode) else "sync"
+        sync = lambda file: self.make(name(file), lambda: self.sync(file), lambda: None)
         self.patches = [unittest.mock.patch("os.pwrite", put), unittest.mock.patch("os.fsync", sync)]
         for patch in self.patches:
             patch.start()
@@ -209,7 +310,8 @@ class Calls:
 
 class Recordings(Case):
     def setUp(self):
-        folder = tempfile.TemporaryDirectory()
+        # A sync costs nothing there.
+        folder = tempfile.TemporaryDirectory(dir="/dev/shm" if os.path.isdir("/dev/shm") else None)
         self.addCleanup(folder.cleanup)
         self.path = os.path.join(folder.name, "a.wav")
 
@@ -287,10 +389,13 @@ class Recordings(Case):
     def test_the_order_of_a_durable_recording(self):
         with Calls() as calls, hound.create(self.path, 8000, 1, 8, durable=True) as writer:
             writer.write(array.array("b", [1]))
-        self.assertEqual(calls.made, ["sync", "sync", 0, 44, 45, "sync", 4, 40, "sync"])
+        self.assertEqual(calls.made, ["sync of the folder", "sync", 0, 44, 45, "sync", 4, 40, "sync"])
         with Calls() as calls, hound.append_to(self.path) as writer:
             writer.write(array.array("b", [2]))
         self.assertEqual(calls.made, [45, 4, 40])
+        with Calls() as calls:
+            hound.append_to(self.path, durable=True).close()
+        self.assertEqual(calls.made[:2], ["sync", "sync of the folder"])
 
     def test_calls_that_fail(self):
         """A write that fails loses only its block, a checkpoint is made again, and a sync that failed ends all."""
@@ -329,6 +434,346 @@ class Recordings(Case):
                 break
         self.assertGreater(nth, 20)
         self.assertEqual(written, [0, 1, 2])
+
+    def test_a_block_is_in_the_file_only_if_its_write_returned(self):
+        """Each call is interrupted at each bytecode, and then the recording is continued and closed."""
+        cases = itertools.product((False, True), (1, 2, 3), (8, 16, 24))
+        for number, (durable, channels, bits) in enumerate(cases):
+            # One of the cases is tried at each bytecode, the others at some.
+            for at in itertools.count(1 + number % 5, 1 if number == 13 else 31):
+                if self.interrupted(at, durable, channels, bits).place is None:
+                    break
+            self.assertGreater(at, 900)
+
+    def interrupted(self, at, durable, channels, bits):
+        def block(number):
+            return array.array("i", range(10 * number, 10 * number + channels))
+
+        accepted, maybe = [], []
+        writer = hound.create(self.path, 8000, channels, bits, durable)
+        with Interruption(at) as interruption:
+            try:
+                for number in 1, 2:
+                    maybe = [number]
+                    writer.write(block(number))
+                    accepted.append(number)
+                    maybe = []
+                    writer.flush()
+                writer.close()
+            except Interrupted:
+                pass
+        if not interruption.is_at_the_end():
+            maybe = []
+        what = f"{interruption.place}, {at}, {channels} channels, {bits} bits, {durable}"
+        self.assertIn(self.found(channels, bits, what), [accepted[:count] for count in range(3)] + [accepted + maybe])
+        try:
+            writer.write(block(9))
+            maybe.append(9)
+        except ValueError:
+            self.assertEqual(accepted, [1, 2])  # It is closed.
+        writer.close()
+        last = [9] * (9 in maybe)
+        self.assertIn(self.found(channels, bits, what), [accepted + maybe, accepted + last], what)
+        rest = len(content_of(self.path)) - 8
+        self.assertEqual(struct.unpack("<I", content_of(self.path)[4:8]), (rest,), what)
+        return interruption
+
+    def found(self, channels, bits, what):
+        """The numbers of the blocks that the header counts."""
+        content = content_of(self.path)
+        start, width = content.index(b"data") + 8, bits // 8
+        data = content[start : start + struct.unpack("<I", content[start - 4 : start])[0]]
+        values = [data[place] - 128 * (bits == 8) for place in range(0, len(data), width)]
+        self.assertEqual(len(data) % (channels * width), 0, what)
+        numbers = [value // 10 for value in values[::channels]]
+        self.assertEqual(values, [10 * number + place for number in numbers for place in range(channels)], what)
+        return numbers
+
+    def test_a_sync_that_failed_isn_t_forgotten(self):
+        """Its error is followed by an interruption at each bytecode."""
+        for at in itertools.count(1):
+            writer = hound.create(self.path, 8000, 1, 16, durable=True)
+            writer.write(array.array("h", [1]))
+            called = []
+
+            def sync(descriptor):
+                called.append(descriptor)
+                raise OSError("a fault")
+
+            with unittest.mock.patch("os.fsync", sync), Interruption(at) as interruption:
+                try:
+                    writer.flush()
+                except (OSError, Interrupted):
+                    pass
+            if called:
+                self.fails(Cause.SYNC_FAILED, writer.close)
+            writer.close()
+            if interruption.place is None:
+                break
+        self.assertGreater(at, 200)
+
+    def test_signals(self):
+        """A signal handler that raises, at random: all blocks whose writes returned are counted."""
+        def handler(*_):
+            raise Interrupted
+
+        before = signal.signal(signal.SIGALRM, handler)
+        self.addCleanup(signal.signal, signal.SIGALRM, before)
+        for turn in range(300):
+            writer, accepted, number = hound.create(self.path, 8000, 1, 16, durable=turn % 2 == 1), 0, 0
+            try:
+                signal.setitimer(signal.ITIMER_REAL, 0.0001 + turn * 1e-6)
+                while True:
+                    writer.write(array.array("h", [accepted % 1000]))
+                    accepted += 1
+                    writer.flush()
+            except Interrupted:
+                pass
+            writer.close()
+            found = hound.read(self.path)
+            # The signal may have come between a write and the count.
+            self.assertIn(len(found), (accepted, accepted + 1))
+            self.assertEqual(list(found), [number % 1000 for number in range(len(found))])
+
+    def test_a_signal_handler_that_raises_an_os_error_is_no_fault_of_a_sync(self):
+        """As one that ends a call after a while does."""
+        class Late(Interrupted, TimeoutError):
+            pass
+
+        with unittest.mock.patch("interruptions.Interrupted", Late):
+            for at in itertools.count(1):
+                writer = hound.create(self.path, 8000, 1, 16, durable=True)
+                writer.write(array.array("h", [1]))
+                with Interruption(at) as interruption:
+                    try:
+                        writer.flush()
+                    except Late:
+                        pass
+                writer.write(array.array("h", [2]))
+                writer.close()
+                self.assertEqual(list(hound.read(self.path)), [1, 2], interruption.place)
+                if interruption.place is None:
+                    break
+        self.assertGreater(at, 200)
+
+    def test_a_call_by_a_signal_handler(self):
+        for calls in ("flush", "write", "close"):
+            errors = []
+
+            def handler(*_):
+                try:
+                    getattr(writer, calls)(*[SAMPLES[:2]] * (calls == "write"))
+                except RuntimeError as error:
+                    errors.append(error)
+
+            before, put = signal.signal(signal.SIGUSR1, handler), os.pwrite
+
+            def interrupted(*arguments):
+                os.kill(os.getpid(), signal.SIGUSR1)
+                return put(*arguments)
+
+            with hound.create(self.path, 8000, 2, 16) as writer:
+                with unittest.mock.patch("os.pwrite", interrupted):
+                    writer.write(SAMPLES)
+                    writer.flush()
+                self.assertEqual(len(errors), 3)
+                handler()  # Outside of a call it is one as any other.
+                self.assertEqual(len(errors), 3)
+            signal.signal(signal.SIGUSR1, before)
+            found = hound.read(self.path)
+            self.assertEqual(found[:10], SAMPLES)
+            self.assertIn("signal handler", str(errors[0]))
+
+    def test_threads_share_a_writer(self):
+        """One writes, and another flushes, as with an audio callback."""
+        for turn in range(10):
+            accepted, errors, is_done = [], [], threading.Event()
+
+            def attempt(call):
+                try:
+                    call()
+                    return True
+                except Exception as error:
+                    errors.append(error)
+
+            def record():
+                for number in range(300):
+                    if attempt(lambda: writer.write(array.array("h", [number] * 64))):
+                        accepted.append(number)
+                is_done.set()
+
+            def flush():
+                while not is_done.is_set():
+                    attempt(writer.flush)
+
+            with hound.create(self.path, 8000, 1, 16, durable=turn % 2 == 1) as writer:
+                in_threads(record, flush)
+            self.assertEqual((errors, accepted), ([], list(range(300))))
+            self.assertEqual(list(hound.read(self.path)), [number for number in accepted for _ in range(64)])
+
+    def test_threads_append(self):
+        """What isn't appended is a BlockingIOError."""
+        hound.write(self.path, array.array("h"), 8000)
+        accepted, errors = [], []
+
+        def append(values):
+            for value in values:
+                try:
+                    hound.append(self.path, array.array("h", [value] * 3))
+                    accepted.append(value)
+                except Exception as error:
+                    errors.append(error)
+
+        in_threads(lambda: append(range(300)), lambda: append(range(1000, 1300)))
+        found = list(hound.read(self.path))
+        self.assertEqual(found[::3], found[1::3])
+        self.assertEqual((sorted(found[::3]), len(found) % 3), (sorted(accepted), 0))
+        self.assertLessEqual(set(map(type, errors)), {BlockingIOError})
+        self.assertTrue(accepted)
+
+    def test_a_write_of_no_bytes_is_an_error(self):
+        with hound.create(self.path, 8000, 2, 16) as writer:
+            with unittest.mock.patch("os.pwrite", return_value=0):
+                other = lambda: hound.write(self.path + "2", SAMPLES, 8000)
+                for call in (lambda: writer.write(SAMPLES), writer.flush, other):
+                    self.assertRaisesRegex(OSError, "none of the bytes", call)
+            writer.write(SAMPLES)
+        self.assertEqual(content_of(self.path), made_by_wave(SAMPLES))
+
+    def test_a_write_after_one_that_failed_publishes(self):
+        writer = hound.create(self.path, 8000, 2, 16)
+        writer.write(SAMPLES[:4])
+        with unittest.mock.patch("os.pwrite", side_effect=OSError), self.assertRaises(OSError):
+            writer.write(SAMPLES[4:6])
+        self.assertEqual(hound.info(self.path).frames, 0)
+        writer.write(SAMPLES[6:])
+        self.assertEqual(hound.info(self.path).frames, 2)
+        writer.close()
+        self.assertEqual(hound.read(self.path), SAMPLES[:4] + SAMPLES[6:])
+
+    PROGRAM = "import array, os, sys, hound_bindings as hound\npath = sys.argv[1]\n"
+
+    def run_program(self, text, *options):
+        words = [sys.executable, *options, "-c", self.PROGRAM + text, self.path]
+        env = {**os.environ, "PYTHONPATH": os.path.dirname(Interruption.FOLDER)}
+        return subprocess.run(words, env=env, stdout=subprocess.PIPE, stderr=subprocess.PIPE, timeout=60)
+
+    def test_a_writer_that_nobody_closes(self):
+        start = "writer = hound.create(path, 8000, 2, 16)\nwriter.write(array.array('h', range(10)))\n"
+        for rest in (
+            "",
+            "writer.itself = writer\ndel writer\nimport gc\ngc.collect()\nassert hound.info(path).frames == 5\n",
+            "del writer\nassert hound.info(path).frames == 5\n",
+            "raise SystemExit\n",
+            "if os.fork() == 0:\n    raise SystemExit  # It neither counts nor unlocks.\n"
+            "os.wait()\nassert hound.info(path).frames == 0\n"
+            "try:\n    hound.append_to(path)\nexcept BlockingIOError:\n    pass\nelse:\n    sys.exit('unlocked')\n",
+        ):
+            ran = self.run_program(start + rest, "-W", "always")
+            self.assertEqual((ran.returncode, ran.stdout), (0, b""), ran.stderr)
+            self.assertEqual(ran.stderr.count(b"ResourceWarning: a Writer wasn't closed"), 1, ran.stderr)
+            self.assertEqual(list(hound.read(self.path)), list(range(10)))
+        with warnings.catch_warnings():
+            warnings.simplefilter("error")
+            hound.create(self.path, 8000, 2, 16).close()
+            gc.collect()
+
+    def test_create_doesn_t_empty_what_it_may_not_replace(self):
+        create = lambda **more: hound.create(self.path, 8000, 2, 16, **more)
+        self.leave(b"older")
+        self.assertRaises(FileExistsError, lambda: create(exclusive=True))
+        self.assertEqual(content_of(self.path), b"older")
+        with unittest.mock.patch("os.fsync", side_effect=OSError("a fault")):
+            self.assertRaises(OSError, lambda: create(durable=True))
+        self.assertEqual(content_of(self.path), b"older")
+        os.unlink(self.path)
+        create(exclusive=True).close()
+        self.assertEqual(hound.info(self.path).frames, 0)
+
+    def test_a_folder_that_can_t_be_read(self):
+        self.leave(b"older")
+        folder, user = os.path.dirname(self.path), os.geteuid()
+        os.chmod(self.path, 0o666)
+        os.chmod(folder, 0o733 if user == 0 else 0o333)
+        if user == 0:
+            os.seteuid(65534)
+        try:
+            for path in self.path, self.path + "2":
+                self.assertRaises(PermissionError, lambda: hound.create(path, 8000, 2, 16, durable=True))
+        finally:
+            os.seteuid(user)
+            os.chmod(folder, 0o755)
+        self.assertEqual((content_of(self.path), os.listdir(folder)), (b"older", ["a.wav"]))
+
+    def test_two_users_of_a_file(self):
+        def calls(path):
+            yield lambda: hound.create(path, 8000, 2, 16)
+            yield lambda: hound.append_to(path)
+            yield lambda: hound.append(path, SAMPLES)
+            yield lambda: hound.repair(path)
+            yield lambda: hound.write(path, SAMPLES, 8000)
+
+        for begin in (lambda: hound.create(self.path, 8000, 2, 16), lambda: hound.append_to(self.path)):
+            writer = begin()
+            writer.write(SAMPLES)
+            for call in calls(self.path):
+                with self.assertRaises(BlockingIOError) as caught:
+                    call()
+                said = "another program records to, appends to or repairs this file"
+                self.assertEqual(str(caught.exception), f"[Errno {errno.EWOULDBLOCK}] {said}: '{self.path}'")
+            ran = self.run_program("hound.append_to(path)")
+            self.assertIn(b"BlockingIOError", ran.stderr)
+            self.assertEqual(hound.find_damage(self.path).state, hound.State.CUT_OFF)
+            writer.flush()
+            self.assertEqual(hound.read(self.path)[-10:], SAMPLES)
+            child = os.fork()
+            if child == 0:
+                signal.pause()
+            writer.close()
+            hound.append_to(self.path).close()  # The forked process has the descriptor, but no lock.
+            os.kill(child, signal.SIGKILL)
+            os.waitpid(child, 0)
+
+    def test_a_file_that_is_replaced_before_it_is_locked(self):
+        self.leave(made_by_wave(SAMPLES))
+        lock = fcntl.flock
+
+        def late(descriptor, operation):
+            if not replaced:
+                replaced.append(hound.os.replace(self.path + "2", self.path))
+            return lock(descriptor, operation)
+
+        replaced = []
+        with open(self.path + "2", "wb") as file:
+            file.write(made_by_wave(SAMPLES[:4]))
+        with unittest.mock.patch("fcntl.flock", late):
+            hound.append(self.path, SAMPLES[4:])
+        self.assertEqual(content_of(self.path), made_by_wave(SAMPLES))
+
+    def test_a_system_without_locks(self):
+        for patch in (
+            unittest.mock.patch("fcntl.flock", side_effect=OSError(errno.ENOLCK, "no locks")),
+            unittest.mock.patch("hound_bindings.disk.fcntl", None),
+        ):
+            with patch:
+                hound.create(self.path, 8000, 2, 16).close()
+                hound.append(self.path, SAMPLES)
+                hound.repair(self.path)
+                hound.write(self.path, SAMPLES, 8000, 2)
+            self.assertEqual(content_of(self.path), made_by_wave(SAMPLES))
+
+    def test_a_byte_after_odd_data(self):
+        """Where frames have one byte, what isn't zero there is a sample."""
+        for bits, channels, last in ((8, 1, b"\0"), (8, 1, b"\x4d"), (8, 3, b"\x4d"), (24, 1, b"\x4d")):
+            is_cut_off = (bits, channels, last) == (8, 1, b"\x4d")
+            content = by_hand(bytes(range(1, 4)), channels=channels, bits=bits)
+            self.leave(content + last)
+            for call in (lambda: hound.append_to(self.path).close(), lambda: hound.append(self.path, array.array("b"))):
+                if is_cut_off:
+                    self.fails(Cause.CUT_OFF, call)
+                    self.assertEqual(content_of(self.path), content + last)
+                else:
+                    call()
 
     def test_memory_stays_small(self):
         block = array.array("h", bytes(2 << 16))
