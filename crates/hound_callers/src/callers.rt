@@ -1,25 +1,33 @@
 // Functions of a user of the library, whose contracts follow from its public ones.
 ghost use Rattle.std.specs.Prelude.{◌≡◌, ℕ, ◌/◌, ◌<◌, ◌++◌, ◌⊎◌, false, true, List, length, map, ◌∷◌, None, Some, Ok, Err, Result, IfErr, IfOk, IfSome, MatchResult, OnOk};
-ghost use Rattle.hound.specs.{Begun, Call, Checkpoints, found_in, start_of, IsSameFile, ReaderState, RepairsMedium, Seeks, containers, AreContainers, canonical, HasPublished, IsLeftAfter, Keeps, accepted_by_all, begins_at, container_in, one_more, samples_left, OpensAs, ReadsFrames, IsIoError, IsNext, IsSixteen, MediumState, WhereTells, Error, IsWritable, IsWhole, sample_count, WavSpecEx, container_at, meaning_at, refusal_at, samples_before, unread};
+ghost use Rattle.hound.specs.{AreKnown, Begun, Call, Checkpoints, Known, ReadsAs, Recorded, found_in, start_of, IsSameFile, ReaderState, RepairsMedium, Seeks, containers, AreContainers, canonical, HasPublished, IsLeftAfter, Keeps, accepted_by_all, begins_at, container_in, one_more, samples_left, OpensAs, ReadsFrames, IsIoError, IsNext, IsSixteen, MediumState, WhereTells, Error, IsWritable, IsWhole, sample_count, WavSpecEx, container_at, meaning_at, refusal_at, samples_before, unread};
 ghost use Rattle.hound.specs.declared.Error.TheVariants.{OutOfMemory};
 ghost use Rattle.hound_callers.specs.Recording.{IsNoBatch, IsPublished, WritesAndFlushes, as_item};
 
 use hound::{
     Error, Medium, Repair, Sample, Source, WavReader, WavWriter, a_look_finds_what_a_repair_does,
-    a_repair_loses_no_published_sample, a_seek_leads_to_its_frame, an_iterator_gives_what_it_hints,
-    find_damage, items_are_of_the_file, one_answer, repair,
+    a_repair_loses_no_published_sample, a_seek_leads_to_its_frame, a_writer_holds_its_calls,
+    an_iterator_gives_what_it_hints, find_damage, items_are_of_the_file, one_answer, repair,
     repair_to_end, written_is_read,
 };
 use std::alloc::Global;
 use std::{io, result};
 
-/// Publishes what was accepted so far, and says how many samples these are. An error is that of the
+/// Publishes what was accepted so far, and says how many samples these are (`published`): those of the
+/// calls so far, after those of the file, and exactly these are read (`counted`). An error is that of the
 /// flush.
 pub fn publish<M: Medium>(writer: &mut WavWriter<M>) -> hound::Result<u32>
-    ensures { MatchResult result (λ count. (count ≡ sample_count writer.old)
+    ensures published { MatchResult result (λ count. (count ≡ sample_count writer.old)
         × Checkpoints M.Placed (Ok tt) writer.old writer.new)
         (λ e. Checkpoints M.Placed (Err e) writer.old writer.new) }
+    ensures counted { WhereTells M.tells (IfOk result (λ count. (s : WavSpecEx) (file : Begun)
+        (known : List Known) → Recorded M.Placed s file known writer.old →
+        (calls : List Call) × AreKnown known calls
+        × (count ≡ length (found_in file ++ accepted_by_all calls))
+        × ReadsAs s (start_of s file) (found_in file ++ accepted_by_all calls)
+        (M.state writer.new.medium).contents)) }
 {
+    a_writer_holds_its_calls::<M>();
     writer.flush()?;
     Ok(writer.len())
 }
