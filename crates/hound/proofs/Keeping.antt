@@ -214,7 +214,8 @@ module _ {W : Type 0} (kind : Ghosts W) where
         let m = made kind told calls before after flush first last same lead in
         let w = m.earlier in
         let does = subst (λ a. Does kind a flush.answer (with_memory m.mid m.memory) m.next) asked m.does in
-        let count = length-containers m.mid.spec_ex.bytes_per_sample (sample_count m.mid) (accepted_bytes kind.state m.mid) in
+        let count = length-containers m.mid.spec_ex.bytes_per_sample (sample_count m.mid)
+        (accepted_bytes kind.state m.mid) in
         says_frames flush.answer (with_memory m.mid m.memory) first.spec_ex
         (accepted_samples kind.state first ++ accepted_by_all before) w.spec_ex
         (sym count ∙ ap length (w.accepted whole)) does.answers

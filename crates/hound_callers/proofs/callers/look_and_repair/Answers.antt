@@ -1,5 +1,5 @@
 use Rattle.std.proofs.Common.{◌≡◌, ◌∙◌, ◌⊎◌, ℕ, Bool, true, Result, Ok, Err, inl, inr, ap, refl, rules, subst, sym}
-use Rattle.hound.specs.{AppendFault, Error, HalfMended, IsFoundAt, IsIoError, IsNotFound, IsNotRepaired, IsRepairFault, LeavesFor, LeavesHalf, MediumState, NamesFault, PutsNothing, Repair, Repairs, RepairsMedium, faults_after, found_length, mended, one_more}
+use Rattle.hound.specs.{AppendFault, Error, HalfMended, IsFoundAt, IsIoError, IsNotRepaired, IsRepairFault, LeavesFor, LeavesHalf, MediumState, NamesFault, PutsNothing, Repair, Repairs, RepairsMedium, faults_after, found_length, mended, one_more}
 use Rattle.hound.specs.declared.RepairState.{RepairState}
 use Rattle.hound.specs.declared.RepairState.TheVariants.{CutOff, HasChunksAfterData, Whole}
 use Rattle.hound_callers.proofs.callers.look_and_repair.Goals as goal
@@ -13,16 +13,6 @@ both old mid new first second = record {
     past = second.stays.past ∙ first.stays.past;
   };
   flushed = second.flushed ∙ first.flushed;
-}
-
--- a file that isn't found isn't repaired
-not_found : (looks : Bool) (old new : MediumState) (e : Error) → IsNotFound old new e
-    → IsNotRepaired looks old new e
-not_found looks old new e not = record {
-  why = elim not.why [
-    | inl fault ↦ inl (fault.0, fault.1, fault.2, not.puts, fault.3)
-    | inr failed ↦ inr (failed.0, inl not.puts, failed.1)
-  ];
 }
 
 -- the result of a call that didn't fail counts no fault

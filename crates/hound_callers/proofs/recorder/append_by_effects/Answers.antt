@@ -26,7 +26,8 @@ returns-in_default-clause-why g c =
       ap (λ (x : Bor (List ℕ)). length x.now) c.into_inner.ensures ∙ ap length rest ∙ length-drop h bytes,
     ) in
     let here : Readable bytes s samples start = rw (c.spec_ex-spec_ex.ensures, c.len-samples.ensures, is) readable in
-    inl (inr (s, samples, start, here, inl (not_made s start samples c.append.result c.append.ensures c.in_default.not-Ok)))
+    let why = not_made s start samples c.append.result c.append.ensures c.in_default.not-Ok in
+    inl (inr (s, samples, start, here, inl why))
 
 pub returns-then-end-contents-clause-why : goal.returns-then-end-contents-clause-why
 returns-then-end-contents-clause-why g c =

@@ -37,8 +37,8 @@ returns-in_default-Err-clause-err g c =
       c.in_ok-writer.ensures.begins,
       inr (
         as_value M _ _ _ (to_z w32 (of_z w32 c.args.value)) c.args.value (to_z-of_z {w = w32} (search rules))
-            (subst (λ r. Takes M (Whole (to_z w32 (of_z w32 c.args.value))) r c.in_ok-writer.writer c.write_sample.new.self)
-            (is_ok c.write_sample.result c.in_default.not-Err) c.write_sample.ensures.accepts),
+            (subst (λ r. Takes M (Whole (to_z w32 (of_z w32 c.args.value))) r c.in_ok-writer.writer
+            c.write_sample.new.self) (is_ok c.write_sample.result c.in_default.not-Err) c.write_sample.ensures.accepts),
         subst (λ e. Finishes M c.write_sample.new.self (Err e) c.finalize_into.result.0) (sym c.in_default-Err.error-is)
             (subst (λ r. Finishes M c.write_sample.new.self r c.finalize_into.result.0) c.in_default-Err.is-1
             c.finalize_into.ensures.finishes),

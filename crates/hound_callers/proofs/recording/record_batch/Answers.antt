@@ -52,5 +52,5 @@ returns-clause-calls g c =
     let bytes : batch_bytes values ≡ i16_bytes batch =
     c.loop-value.invariant.written
     ∙ ap (flat_map (signed_bytes_of 2)) (take_all _ batch c.loop-value-test.false) in
-    calls_of g.M.Placed _ c.args.writer.now (batch_writer values) c.flush.new.self.0 (batch_bytes values) (i16_bytes batch)
-    c.flush.result (search rules) bytes c.loop-value.invariant.stays c.flush.ensures.accepts
+    calls_of g.M.Placed _ c.args.writer.now (batch_writer values) c.flush.new.self.0 (batch_bytes values)
+    (i16_bytes batch) c.flush.result (search rules) bytes c.loop-value.invariant.stays c.flush.ensures.accepts
