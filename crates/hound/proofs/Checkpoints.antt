@@ -1,5 +1,5 @@
 -- What a flush has published is read until the next call that publishes.
-use Rattle.std.proofs.Common.{◌≡◌, ℕ, ◌-◌, ◌*◌, ◌/◌, ◌%◌, ◌≤◌, inl, inr, List, [], ◌∷◌, ◌++◌, length, refl, sym, ◌∙◌, ap, arith, append_assoc, None}
+use Rattle.std.proofs.Common.{◌≡◌, ℕ, ◌-◌, ◌*◌, ◌/◌, ◌%◌, ◌≤◌, inl, inr, List, [], ◌∷◌, ◌++◌, length, Ok, refl, sym, ◌∙◌, ap, subst, arith, append_assoc, None}
 use Rattle.std.proofs.lemmas.Bool.{cases_lt}
 use Rattle.std.proofs.lemmas.List.{append-nil, take_at}
 use Rattle.std.proofs.Math.Nat.{mul-div_cancel, mul-mod_left}
@@ -8,9 +8,10 @@ use Rattle.hound_spec.specs.declared.spec.WavSpecEx.{WavSpecEx}
 use Rattle.hound_medium.specs.{moment, MediumState}
 use Rattle.hound_walk.specs.{data_fault}
 use Rattle.hound_sample.proofs.Joined.{length-concat}
-use Rattle.hound_writer.specs.{Begun, Call, Counts, ReadsAs, field, found_in, publish, start_of}
+use Rattle.hound_writer.specs.{AreKnown, Begun, Call, Counts, Known, ReadsAs, answered, field, found_in, mark_of, publish, start_of}
 use Rattle.hound_repair.proofs.Joining.{AreWide, wide_front}
-use Rattle.hound.specs.Headline.{BeginInOrder, CountedAtEach, HasPublished, HoldsAtEnd, Keeps, accepted_by_all, begins_at}
+use Rattle.hound.specs.Headline.{BeginInOrder, CountedAtEach, HasPublished, HoldsAtEnd, Keeps, SaysFrames, accepted_by_all, begins_at}
+use Rattle.hound.proofs.Knowing.{among, publish_none}
 use Rattle.hound.proofs.PowerLoss.{accepted_parts}
 
 -- if the length field counts exactly these samples, which are whole frames, they are read
@@ -100,3 +101,62 @@ holds_at_each s file calls m keeps before later after flush k is published none 
     reads_front s (start_of s file) (found_in file ++ accepted_by_all before) more (moment m.start m.past k)
     keeps.at_end.sound.1 (wide_before s file calls before (flush ∷ (later ++ after)) m keeps.at_end is) frames
     (p.published before later after flush k is published none from to) counts
+
+-- an Ok flush among the calls: those before it, which left whole frames, and those after it
+ok_among : (s : WavSpecEx) (file : Begun) (before after : List Known) (calls : List Call)
+    (m : MediumState) → HoldsAtEnd s file calls m
+    → AreKnown (before ++ (answered publish (Ok tt) ∷ after)) calls
+    → (first last : List Call) × (flush : Call) × (calls ≡ first ++ (flush ∷ last)) × HasPublished flush
+    × AreKnown before first × AreKnown after last
+    × (length (found_in file ++ accepted_by_all first) % s.spec.channels ≡ 0)
+ok_among s file before after calls m end are =
+    let (first, last, flush, parts, before_are, is, after_are) =
+    among before after (answered publish (Ok tt)) calls are in (
+      first,
+      last,
+      flush,
+      parts,
+      (is.0, ap mark_of is.1),
+      before_are,
+      after_are,
+      subst (λ answer. SaysFrames s (found_in file ++ accepted_by_all first) answer) is.1
+          (end.says first last flush parts is.0),
+    )
+
+-- what an Ok flush has published is read, if only samples were written since
+pub ok_holds : (s : WavSpecEx) (file : Begun) (before after : List Known) (calls : List Call)
+    (m : MediumState) → HoldsAtEnd s file calls m
+    → AreKnown (before ++ (answered publish (Ok tt) ∷ after)) calls
+    → AllByRecursion (λ (one : Known). one.asked ≡ publish → ⊥) after
+    → (first : List Call) × AreKnown before first
+    × ReadsAs s (start_of s file) (found_in file ++ accepted_by_all first) m.contents
+ok_holds s file before after calls m end are none =
+    let (first, last, flush, parts, published, before_are, after_are, frames) =
+    ok_among s file before after calls m end are in (
+      first,
+      before_are,
+      holds_at_end s file calls m end first last flush parts published
+          (publish_none after last after_are none) frames,
+    )
+
+-- so it is in each state since the flush returned
+pub ok_holds_at_each : (s : WavSpecEx) (file : Begun) (before after : List Known) (calls : List Call)
+    (m : MediumState) → Keeps s file calls m
+    → AreKnown (before ++ (answered publish (Ok tt) ∷ after)) calls
+    → AllByRecursion (λ (one : Known). one.asked ≡ publish → ⊥) after
+    → (first last : List Call) × AreKnown before first × AreKnown after last
+    × ((k : ℕ) → begins_at last m.past ≤ k → k ≤ length m.past →
+    ReadsAs s (start_of s file) (found_in file ++ accepted_by_all first) (moment m.start m.past k))
+ok_holds_at_each s file before after calls m keeps are none =
+    let (first, last, flush, parts, published, before_are, after_are, frames) =
+    ok_among s file before after calls m keeps.at_end are in
+    let all = sym (append-nil last) in (
+      first,
+      last,
+      before_are,
+      after_are,
+      λ k from to. holds_at_each s file calls m keeps first last [] flush k
+          (parts ∙ ap (λ l. first ++ (flush ∷ l)) all) published
+          (publish_none after last after_are none)
+          (subst (λ l. begins_at l m.past ≤ k) all from) to frames,
+    )

@@ -1,13 +1,16 @@
 -- What a list of calls of a writer leaves.
 use Rattle.std.proofs.lemmas.Grind.{common_steps}
-use Rattle.std.proofs.Common.{refl, ◌≡◌, ℕ, ◌+◌, ◌-◌, ◌/◌, ◌%◌, ◌≤◌, max, List, [], ◌∷◌, ◌++◌, length, take, drop, IsTrue, sym, ◌∙◌, ap, subst, arith, append_assoc, length-append, length-drop}
+use Rattle.std.proofs.Common.{refl, ◌≡◌, ℕ, ◌+◌, ◌-◌, ◌/◌, ◌%◌, ◌≤◌, max, List, [], ◌∷◌, ◌++◌, length, take, drop, Result, Ok, Err, IsTrue, sym, ◌∙◌, ap, subst, arith, append_assoc, length-append, length-drop}
 use Rattle.std.proofs.lemmas.List.{length-take-le}
 use Rattle.std.proofs.lemmas.Nat.{mul-le}
 use Rattle.std.proofs.Math.Nat.{div-mul-le_self}
 use Rattle.std.specs.List.{concat, AllByRecursion}
 use Rattle.std.specs.Io.{StartsWith}
 use Rattle.hound_number.specs.{number}
+use Rattle.hound_spec.specs.declared.error.Error.{Error}
+use Rattle.hound_spec.specs.declared.error.Error.TheVariants.{UnfinishedSample}
 use Rattle.hound_spec.specs.declared.spec.WavSpecEx.{WavSpecEx}
+use Rattle.hound_sample.proofs.Containers.{length-containers}
 use Rattle.hound_spec.specs.{canonical, data_start}
 use Rattle.hound_spec.proofs.HeaderLemmas.{length-canonical}
 use Rattle.hound_medium.specs.{moment, overlay, MediumState, WhereKeeps, WhereTells}
@@ -15,13 +18,13 @@ use Rattle.hound_medium.proofs.Overlays.{front_part}
 use Rattle.hound_medium.proofs.Spans.{moment_last}
 use Rattle.hound_durable.specs.{Ascends, SurvivesLoss}
 use Rattle.hound_walk.specs.{Head, IsSoundSpec}
-use Rattle.hound_writer.specs.{Ghosts, Begun, Call, Does, Known, Lead, Left, Opens, Recorded, appended, found_in, handed_in, new_file, publish, start_of, with_memory, Counts, ChangesSizesOnly, field, WriterState, HasHeader, IsBegun, IsCounted, IsSound, IsWhole, accepted_bytes, accepted_samples, data_length}
+use Rattle.hound_writer.specs.{AreKnown, Ghosts, Begun, Call, Does, Known, Lead, Left, Opens, Recorded, appended, found_in, handed_in, new_file, publish, start_of, with_memory, Counts, ChangesSizesOnly, field, WriterState, HasHeader, IsBegun, IsCounted, IsPublishing, IsSound, IsWhole, accepted_bytes, accepted_samples, data_length, sample_count}
 use Rattle.hound_writer.proofs.Containers.{none_whole, zero_div}
 use Rattle.hound_writer.proofs.Fresh.{none_accepted}
 use Rattle.hound_writer.proofs.Publishing.{reads_all}
 use Rattle.hound_writer.proofs.Heads.{head_inside, head_with}
 use Rattle.hound_writer.proofs.Samples.{concat-samples, length-written, length_written}
-use Rattle.hound.specs.Headline.{CanonicalAtEnd, HeadAtEach, Holds, HoldsAtEnd, IfBegun, Keeps, Kept, LastsToEnd, NoFault, Promises, SurvivesAtEnd, accepted_by_all, begins_at}
+use Rattle.hound.specs.Headline.{CanonicalAtEnd, HeadAtEach, Holds, HoldsAtEnd, IfBegun, Keeps, Kept, LastsToEnd, NoFault, Promises, SaidByFlushes, SaysFrames, SurvivesAtEnd, accepted_by_all, begins_at}
 use Rattle.hound.proofs.Calling.{Went, begin, counted, front_stays, in_order, length-concat-append, made, stays_flushed, stored, went}
 use Rattle.hound.proofs.Later.{no_fault_parts, same_moment}
 use Rattle.hound_writer.proofs.Answers.{all_marked, where_marked}
@@ -33,6 +36,20 @@ use Rattle.hound.proofs.Lengths.{front_in_writes, mixed, never_less, old_or_new,
 pub sized : {M : Type 0} (state : M → MediumState) (w : WriterState M) → IsSound w → w.buffered ≡ []
     → IsWhole state w → length (concat (accepted_samples state w)) ≡ data_length w
 sized state w sound none whole = grind (arith, common_steps, concat-samples, length-take-le, length-drop, length_written)
+
+-- the result of a call that publishes says whether so many samples are whole frames
+says_frames : {M : Type 0} (answer : Result (Unit {0}) Error) (w : WriterState M) (s : WavSpecEx)
+    (list : List (List ℕ)) → w.spec_ex ≡ s → sample_count w ≡ length list → IsPublishing answer w
+    → SaysFrames s list answer
+says_frames answer w s list spec count is = go answer is
+  where
+    same : sample_count w % w.spec_ex.spec.channels ≡ length list % s.spec.channels
+    same = λ i. count i % (spec i).spec.channels
+
+    go : (answer : Result (Unit {0}) Error) → IsPublishing answer w → SaysFrames s list answer
+    go (Ok x) here = sym same ∙ here
+    go (Err UnfinishedSample) here = λ frames. here (same ∙ frames)
+    go (Err e) here = tt
 
 if_begun_then : {P Q : Type 0} (s : WavSpecEx) (file : Begun) → IfBegun s file P → (P → Q)
     → IfBegun s file Q
@@ -190,6 +207,19 @@ module _ {W : Type 0} (kind : Ghosts W) where
           length-concat-append (accepted_samples kind.state first) (accepted_by_all before),
         )
 
+    -- its result says whether there were whole frames
+    said_by_flushes : SaidByFlushes first.spec_ex first.data_start (accepted_samples kind.state first) calls
+        (kind.state last.medium)
+    said_by_flushes before after flush same asked =
+        let m = made kind told calls before after flush first last same lead in
+        let w = m.earlier in
+        let does = subst (λ a. Does kind a flush.answer (with_memory m.mid m.memory) m.next) asked m.does in
+        let count = length-containers m.mid.spec_ex.bytes_per_sample (sample_count m.mid)
+        (accepted_bytes kind.state m.mid) in
+        says_frames flush.answer (with_memory m.mid m.memory) first.spec_ex
+        (accepted_samples kind.state first ++ accepted_by_all before) w.spec_ex
+        (sym count ∙ ap length (w.accepted whole)) does.answers
+
     -- and if no call of the medium failed, an end leaves exactly that
     exact_at_end : IsBegun kind.state first → NoFault (kind.state first.medium) (kind.state last.medium)
         → (before : List Call) (end : Call) → calls ≡ before ++ (end ∷ []) → end.asked ≡ publish
@@ -326,6 +356,7 @@ module _ {W : Type 0} (kind : Ghosts W) where
           counts = of_file (λ s start found. Counts s start (found ++ accepted_by_all calls)
               m.contents) counts_at_end;
           lasts = of_file (λ s start found. LastsToEnd s start found calls m) lasts_to_end;
+          says = of_file (λ s start found. SaidByFlushes s start found calls m) said_by_flushes;
           exact = if_begun_then s file (is_first.begun told) (λ begun (none, small) before end same
               asked.
               let faults = is_first.faults told in
@@ -362,6 +393,26 @@ module _ {W : Type 0} (kind : Ghosts W) where
       → Recorded kind s file known w → Left kind s file known w.medium
   unfolding Recorded Left
   left_so_far s file known w recorded = record { last = w; recorded = recorded; is = refl }
+
+  -- and a writer is of its file, and holds what its calls accepted
+  pub holds_calls : IsTrue kind.tells → (s : WavSpecEx) (file : Begun) (known : List Known)
+      (w : WriterState W) → Recorded kind s file known w →
+      (w.spec_ex ≡ s) × (w.data_start ≡ start_of s file) × IsWhole kind.state w
+      × ((calls : List Call) × AreKnown known calls
+      × (accepted_samples kind.state w ≡ found_in file ++ accepted_by_all calls)
+      × (sample_count w ≡ length (found_in file ++ accepted_by_all calls)))
+  unfolding Recorded
+  holds_calls told s file known w r =
+      let first = first_of s file r.first r.opens in
+      let went = went kind told r.calls r.first w r.lead in
+      let here = went.accepted (first.whole told)
+      ∙ ap (λ l. l ++ accepted_by_all r.calls) (first.found told) in
+      let count = length-containers w.spec_ex.bytes_per_sample (sample_count w) (accepted_bytes kind.state w) in (
+        went.spec_ex ∙ first.spec,
+        went.data_start ∙ first.start,
+        went.whole (first.whole told),
+        (r.calls, r.are_known, here, sym count ∙ ap length here),
+      )
 
   pub left_kept : ((m : W)
       → WhereKeeps kind.tells kind.keeps ((kind.state m).contents ≡ overlay (kind.state m).start (kind.state m).past))

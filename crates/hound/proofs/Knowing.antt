@@ -56,7 +56,7 @@ published before after calls are =
     (first, last, flush, parts, is, accepted before first before_are)
 
 -- calls of which these are known publish nothing if these don't
-publish_none : (known : List Known) (calls : List Call) → AreKnown known calls
+pub publish_none : (known : List Known) (calls : List Call) → AreKnown known calls
     → AllByRecursion (λ (one : Known). one.asked ≡ publish → ⊥) known
     → AllByRecursion (λ (call : Call). call.asked ≡ publish → ⊥) calls
 publish_none [] [] are none = tt

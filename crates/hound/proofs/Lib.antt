@@ -13,3 +13,4 @@ pub mod Recorders
 pub mod Whole
 pub mod Batching
 pub mod WholeSessions
+mod InUse

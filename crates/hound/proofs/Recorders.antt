@@ -1,26 +1,22 @@
 -- What a recording keeps whose caller performs the effects.
 use Rattle.std.proofs.lemmas.Grind.{common_steps}
-use Rattle.std.proofs.Common.{◌≡◌, ℕ, ◌-◌, ◌<◌, ◌≤◌, true, List, [], ◌∷◌, ◌++◌, length, take, inr, Result, Ok, Err, refl, sym, ◌∙◌, ap, subst, arith, length-take}
+use Rattle.std.proofs.Common.{◌≡◌, ℕ, ◌-◌, ◌<◌, ◌≤◌, true, List, [], ◌∷◌, length, take, inr, Result, Ok, Err, refl, sym, ◌∙◌, ap, subst, arith, length-take}
 use Rattle.hound_number.specs.{bytes_of}
-use Rattle.hound_spec.specs.declared.error.Error.TheVariants.{TooWide}
 use Rattle.hound_spec.specs.declared.spec.WavSpecEx.{WavSpecEx}
 use Rattle.hound_spec.specs.{riff_size}
 use Rattle.hound_medium.specs.{placed, MediumState}
 use Rattle.hound_durable.specs.{Ascends, place_of}
 use Rattle.hound_durable.proofs.Ascending.{length_put, place_after, place_before}
-use Rattle.hound_sample.specs.{too_wide}
-use Rattle.hound_writer.specs.{Begun, Call, Directed, IsOrdered, IsSound, CountsAtMost, IsSynced, Known, LeavesWriter, Left, Log, Performed, PutsAt, Recorded, WriterState, field, found_in, handed_in, log_kind, start_of, write}
+use Rattle.hound_writer.specs.{Begun, Directed, IsOrdered, IsSound, CountsAtMost, IsSynced, Known, LeavesWriter, Left, Log, Performed, PutsAt, Recorded, WriterState, field, found_in, handed_in, log_kind, start_of}
 use Rattle.hound_writer.specs.declared.recorder.Recorder.{Recorder}
 use Rattle.hound_writer.specs.declared.effects.Effect.TheVariants.{Size, Sync}
-use Rattle.hound_writer.proofs.Accepting.{type_refuses}
 use Rattle.hound_writer.proofs.Directing.{at_none}
-use Rattle.hound_writer.proofs.Recording.{call_at, lead_more}
 use Rattle.hound_writer.proofs.Samples.{length_written}
 use Rattle.hound_writer.proofs.Sizes.{riff_length}
 use Rattle.hound_writer.proofs.AtMost.{inside}
-use Rattle.hound.specs.Headline.{Kept, KeptWithin, Promises, begins_at}
-use Rattle.hound.proofs.Calling.{went}
-use Rattle.hound.proofs.Keeping.{first_of, keeps_promises, left_kept, survives_counted}
+use Rattle.hound.specs.Headline.{Kept, KeptWithin}
+use Rattle.hound.proofs.InUse.{counted_after_loss, is_kept}
+use Rattle.hound.proofs.Keeping.{survives_counted}
 
 -- what calls left that a recorder directed
 module _ (s : WavSpecEx) (file : Begun) (known : List Known) (w : WriterState Log)
@@ -29,37 +25,11 @@ module _ (s : WavSpecEx) (file : Begun) (known : List Known) (w : WriterState Lo
   unfolding Left Recorded
   left = record { last = w; recorded = recorded; is = refl }
 
-  kept : Kept log_kind s file known w.medium
-  kept = left_kept log_kind (λ m _ _. m.replays) s file known w.medium left refl refl
+  abbrev kept : Kept log_kind s file known w.medium
+  kept = is_kept log_kind refl refl (λ m. m.replays) s file known w.medium left
 
   abbrev m : MediumState
   m = w.medium.state
-
-  abbrev calls : List Call
-  calls = kept.left.recorded.calls
-
-  -- one call more, which is rejected and so leaves all as it is, began at the end
-  abbrev refused : Call
-  refused = call_at log_kind (write (Err too_wide)) (Err TooWide) kept.left.last
-
-  still_promised : Promises s (start_of s file) (found_in file) (calls ++ refused ∷ []) m
-  still_promised =
-      let left = kept.left in
-      let r = left.recorded in
-      let is_first = first_of log_kind s file r.first r.opens in
-      let counts = (went log_kind refl calls r.first left.last r.lead).counts
-      (is_first.whole refl) (is_first.counts refl) in
-      subst (λ (log : Log). Promises s (start_of s file) (found_in file) (calls ++ refused ∷ []) log.state)
-      (sym left.is)
-      (keeps_promises log_kind s file (calls ++ refused ∷ []) r.first left.last is_first
-      (lead_more log_kind calls (write (Err too_wide)) (Err TooWide) r.first left.last
-      left.last r.lead
-      (type_refuses log_kind left.last too_wide (λ _ _. counts)
-      (λ _ _. left.last.medium.replays))) refl refl (λ m. m.replays))
-
-  begins_same : (list : List Call) → begins_at (list ++ refused ∷ []) m.past ≡ begins_at list m.past
-  begins_same [] = ap (λ (log : Log). length log.state.past) (sym kept.left.is)
-  begins_same (call ∷ list) = refl
 
   kept_within : (high : ℕ) → IsOrdered high m
       → KeptWithin log_kind s file known w.medium m
@@ -68,12 +38,10 @@ module _ (s : WavSpecEx) (file : Begun) (known : List Known) (w : WriterState Lo
       record {
         left = kept.left;
         promised = kept.promised;
-        survives = survives_counted s (start_of s file) (found_in file) calls m m.flushed m.faults p
-            (omega arith) order.within order.ascends
-            (λ begun sector contents some one lost.
-            (still_promised.after_loss calls [] refused m.flushed (length m.past) sector contents refl
-            (omega (arith, begun, begins_same calls)) order.within
-            (omega (arith, begins_same [])) (omega arith) order.ascends some one lost).0);
+        survives = survives_counted s (start_of s file) (found_in file) kept.left.recorded.calls m
+            m.flushed m.faults p (omega arith) order.within order.ascends
+            (counted_after_loss log_kind refl refl (λ m. m.replays) s file known w.medium left
+            m.flushed order.within order.ascends);
         left_after = λ before after flush at has_all sector contents some one lost.
             inr (inr (
               m.flushed,

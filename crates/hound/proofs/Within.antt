@@ -12,18 +12,18 @@ use Rattle.hound_medium.specs.{overlay, placed, MediumState, WhereKeeps}
 use Rattle.hound_medium.proofs.Overlays.{length-placed}
 use Rattle.hound_durable.specs.{within, Ascends, SurvivesLoss, own, replays_own}
 use Rattle.hound_durable.specs.declared.durable.Durable.{Durable}
-use Rattle.hound_writer.specs.{Ghosts, mark_of, Begun, Call, Known, Left, asked_by_all, found_in, publish, start_of, Counts, accepted_samples, data_length}
+use Rattle.hound_writer.specs.{Ghosts, mark_of, Call, asked_by_all, found_in, publish, start_of, Counts, accepted_samples, data_length}
 use Rattle.hound_writer.proofs.Samples.{length_written, samples_out}
 use Rattle.hound.specs.declared.session.Step.{Step}
 use Rattle.hound.specs.declared.session.Step.TheVariants.{Flush}
 use Rattle.hound.specs.declared.session.Begin.{Begin}
 use Rattle.hound.specs.declared.session.Begin.TheVariants.{New, Append}
 use Rattle.hound.specs.declared.session.End.{End}
-use Rattle.hound.specs.Headline.{HasPublished, KeptWithin, LosesNothing, Promises, SurvivesAtEnd, begins_at}
+use Rattle.hound.specs.Headline.{HasPublished, LeftWithin, LosesNothing, Promises, SurvivesAtEnd, begins_at}
 use Rattle.hound.specs.Run.{AppendedSurvives, IsNotBegunAs, IsSession, Ran, all_calls, end_call, accepted_by_steps, asked_by}
 use Rattle.hound.proofs.Calling.{begin as where_begun}
-use Rattle.hound.proofs.Knowing.{last_known}
-use Rattle.hound.proofs.Keeping.{all_accepted, left_kept, survives}
+use Rattle.hound.proofs.InUse.{counted_after_loss, is_kept}
+use Rattle.hound.proofs.Keeping.{all_accepted, survives, survives_counted}
 use Rattle.hound.proofs.Whole.{all_lead, part_of_header, steps_accepted}
 
 -- the state that a durable medium shows
@@ -66,16 +66,12 @@ module _ {M : Type 0} {g : Ghosts M} (d : Durable M g) (told : IsTrue g.tells)
 pub left_within : {M : Type 0} {g : Ghosts M}
     → ((m : M) → WhereKeeps g.tells g.keeps
     ((g.state m).contents ≡ overlay (g.state m).start (g.state m).past))
-    → IsTrue g.tells → IsTrue g.keeps → (s : WavSpecEx) (file : Begun) (known : List Known)
-    (one : Known) (d : Durable M g) → one.asked ≡ publish
-    → Left (durable_kind g) s file (known ++ one ∷ []) d
-    → KeptWithin (durable_kind g) s file (known ++ one ∷ []) d (within d)
-left_within {M} {g} replays told kept s file known one d publishes left =
-    let k =
-    left_kept (durable_kind g) (λ m told kept. replays_own g.keeps (g.state m.inner) m.faults m.flushed kept
-    (replays m.inner told kept)) s file (known ++ one ∷ []) d left told kept in
-    let r = k.left.recorded in
-    let (before, end, parts, is) = last_known known one r.calls r.are_known in
+    → IsTrue g.tells → IsTrue g.keeps → LeftWithin (durable_kind g)
+left_within {M} {g} replays told kept s file known d left =
+    let shows : (d : Durable M g) → (shown d).contents ≡ overlay (shown d).start (shown d).past =
+    λ d. replays_own g.keeps (g.state d.inner) d.faults d.flushed kept (replays d.inner told kept) in
+    let k = is_kept (durable_kind g) told kept shows s file known d left in
+    let p = k.promised.promises in
     record {
       left = k.left;
       promised = k.promised;
@@ -87,7 +83,7 @@ left_within {M} {g} replays told kept s file known one d publishes left =
             sector,
             omega (
               arith,
-              k.promised.promises.flushed before after flush at has_all,
+              p.flushed before after flush at has_all,
               flushed_later d told kept,
             ),
             flushed_within d told kept,
@@ -98,11 +94,13 @@ left_within {M} {g} replays told kept s file known one d publishes left =
             subst (λ l. SurvivesLoss sector (within d).start l (within d).flushed (length l) contents)
                 (sym same) lost,
           ));
-      survives = subst (λ l. SurvivesAtEnd s (start_of s file) (found_in file) l (within d))
-          (sym parts)
-          (survives_within d told kept (within d) refl s (start_of s file) (found_in file) before end
-          (is.0 ∙ publishes) (subst (λ l. Promises s (start_of s file) (found_in file) l (shown d)) parts
-          k.promised.promises));
+      survives = subst (SurvivesAtEnd s (start_of s file) (found_in file) k.left.recorded.calls)
+          (same_state d told kept)
+          (survives_counted s (start_of s file) (found_in file) k.left.recorded.calls (shown d)
+          (within d).flushed (within d).faults p
+          (flushed_later d told kept) (flushed_within d told kept) (ascends d told kept)
+          (counted_after_loss (durable_kind g) told kept shows s file known d left
+          (within d).flushed (flushed_within d told kept) (ascends d told kept)));
     }
 
 -- a flush with a mark is a call that has published

@@ -1,15 +1,18 @@
 -- What a list of calls of a writer promises, whatever failed: counted in each state, published at a
 -- flush, canonical at the end.
-use Rattle.std.specs.Prelude.{◌≡◌, ℕ, ◌+◌, ◌-◌, ◌/◌, ◌<◌, ◌≤◌, ◌⊎◌, max, Bool, true, List, [], ◌∷◌, ◌++◌, length, map, take}
+use Rattle.std.specs.Prelude.{◌≡◌, ℕ, ◌+◌, ◌-◌, ◌/◌, ◌%◌, ◌<◌, ◌≤◌, ◌⊎◌, ⊤, max, Bool, true, Result, Ok, Err, List, [], ◌∷◌, ◌++◌, length, map, take}
 use Rattle.std.specs.List.{concat, flat_map, AllByRecursion}
 use Rattle.std.specs.Io.{StartsWith}
+use Rattle.hound_spec.specs.declared.error.Error.{Error}
+use Rattle.hound_spec.specs.declared.error.Error.TheVariants.{UnfinishedSample}
 use Rattle.hound_spec.specs.declared.spec.WavSpecEx.{WavSpecEx}
 use Rattle.hound_spec.specs.{canonical, data_start}
 use Rattle.hound_number.specs.{mix}
 use Rattle.hound_medium.specs.{moment, MediumState}
-use Rattle.hound_durable.specs.{Ascends, SurvivesLoss, place_of}
+use Rattle.hound_durable.specs.{Ascends, SurvivesLoss, place_of, within}
+use Rattle.hound_durable.specs.declared.durable.Durable.{Durable}
 use Rattle.hound_walk.specs.{Head, IsSoundSpec}
-use Rattle.hound_writer.specs.{Ghosts, if_marked, mark_of, IsStored, Asked, Begun, Call, Known, LeftBy, appended, found_in, handed_in, marked, new_file, publish, write, start_of, ChangesSizesOnly, Counts, field, HasHeader}
+use Rattle.hound_writer.specs.{Ghosts, if_marked, mark_of, IsStored, Asked, Begun, Call, Known, Left, LeftBy, appended, found_in, handed_in, marked, new_file, publish, write, start_of, ChangesSizesOnly, Counts, field, HasHeader}
 
 -- what a call accepted, by what it asked and its mark
 abbrev pub accepted_of : Asked → Bool → List (List ℕ)
@@ -43,6 +46,12 @@ abbrev pub IsUncut : ℕ → List Call → List (ℕ × ℕ) → ℕ → Type 0
 IsUncut p calls past k = (before after : List Call) (call : Call) (i : ℕ) →
     calls ≡ before ++ (call ∷ after) → call.began ≤ i → i < begins_at after past → i < k →
     place_of past i ≡ p → (i + 4 ≤ begins_at after past) × (i + 4 ≤ k)
+
+-- an Ok says that these samples are whole frames, and an `UnfinishedSample` that they aren't
+abbrev pub SaysFrames : WavSpecEx → List (List ℕ) → Result (Unit {0}) Error → Type 0
+SaysFrames s list (Ok x) = length list % s.spec.channels ≡ 0
+SaysFrames s list (Err UnfinishedSample) = length list % s.spec.channels ≡ 0 → ⊥
+SaysFrames s list (Err e) = ⊤
 
 -- Calls with the writer of a file of this spec, whose data begin at `start` and which had these
 -- samples; and the medium as it is after them.
@@ -185,6 +194,11 @@ module _ (s : WavSpecEx) (start : ℕ) (found : List (List ℕ)) (calls : List C
       AllByRecursion (λ call. call.asked ≡ publish → ⊥) later →
       field (start - 4) medium.contents ≡ length (concat (accepted before))
 
+  -- A call that publishes says by its result whether the samples accepted before it are whole frames.
+  abbrev pub SaidByFlushes : Type 0
+  SaidByFlushes = (before after : List Call) (flush : Call) → calls ≡ before ++ (flush ∷ after) →
+      flush.asked ≡ publish → SaysFrames s (accepted before) flush.answer
+
   -- An end that published leaves the canonical file of all accepted samples.
   abbrev pub CanonicalAtEnd : Type 0
   CanonicalAtEnd = (before : List Call) (end : Call) → calls ≡ before ++ (end ∷ []) →
@@ -241,6 +255,7 @@ pub record HoldsAtEnd (s : WavSpecEx) (file : Begun) (calls : List Call)
       (found_in file ++ accepted_by_all calls)
   pub counts : Counts s (start_of s file) (found_in file ++ accepted_by_all calls) medium.contents
   pub lasts : LastsToEnd s (start_of s file) (found_in file) calls medium
+  pub says : SaidByFlushes s (start_of s file) (found_in file) calls medium
   pub exact : IfBegun s file (NoFault (handed_in file) medium →
       (before : List Call) (end : Call) → calls ≡ before ++ (end ∷ []) → end.asked ≡ publish →
       let list = canonical s (found_in file ++ accepted_by_all before) in
@@ -306,3 +321,8 @@ pub record KeptWithin {W : Type 0} (kind : Ghosts W) (s : WavSpecEx)
       (start_of s file - 4) / sector ≡ (start_of s file - 1) / sector →
       SurvivesLoss sector medium.start medium.past medium.flushed (length medium.past) contents →
       IsLeftAfter (start_of s file) (begins_at after (kind.state durable).past) (kind.state durable) contents
+
+-- what calls have left in a `Durable` is kept through a loss of power too
+abbrev pub LeftWithin : {M : Type 0} {g : Ghosts M} → Ghosts (Durable M g) → Type 0
+LeftWithin {M} {g} kind = (s : WavSpecEx) (file : Begun) (known : List Known) (durable : Durable M g)
+    → Left kind s file known durable → KeptWithin kind s file known durable (within durable)

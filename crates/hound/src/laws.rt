@@ -6,9 +6,9 @@ ghost use Rattle.hound_spec.specs.declared.error.Error.{Error};
 ghost use Rattle.hound_spec.specs.declared.spec.WavSpecEx.{WavSpecEx};
 ghost use Rattle.hound_spec.specs.{canonical, data_start, riff_size};
 ghost use Rattle.hound_medium.specs.{MediumState, WhereKeeps, WhereTells, moment};
-ghost use Rattle.hound_durable.specs.{Ascends, place_of, within};
+ghost use Rattle.hound_durable.specs.{Ascends, place_of};
 ghost use Rattle.hound_sample.specs.{Refusal, int_container};
-ghost use Rattle.hound_writer.specs.{mark_of, AcceptAnswer, AcceptsBytes, ChangesSizesOnly, appended, AcceptsEach, i16_bytes, AreKnown, Asked, Begun, Call, IsKnown, Known, Lead, Left, Recorded, asked_by_all, found_in, made, marked, new_file, publish, start_of, IsSameFile, Finishes, WriterState, IsWhole, accepted_samples, data_length, AreFrames, IsPublishResult, IsSound, CountsAtMost, LeavesWriter, PutsAt, ReadsAs, field, Log, Performed, checkpoint, handed_in, log_kind, Directed, IsSynced};
+ghost use Rattle.hound_writer.specs.{mark_of, AcceptAnswer, AcceptsBytes, ChangesSizesOnly, appended, AcceptsEach, i16_bytes, AreKnown, Asked, Begun, Call, IsKnown, Known, Lead, Left, Recorded, answered, sample_count, asked_by_all, found_in, made, marked, new_file, publish, start_of, IsSameFile, Finishes, WriterState, IsWhole, accepted_samples, data_length, AreFrames, IsPublishResult, IsSound, CountsAtMost, LeavesWriter, PutsAt, ReadsAs, field, Log, Performed, checkpoint, handed_in, log_kind, Directed, IsSynced};
 ghost use Rattle.hound_writer.specs.declared.recorder.Recorder.{Recorder};
 ghost use Rattle.hound_writer.specs.declared.effects.Effect.TheVariants.{Size, Sync};
 ghost use Rattle.hound_repair.specs.{ReadsFrames, Repairs};
@@ -17,7 +17,7 @@ ghost use Rattle.hound_repair.specs.declared.sizes.RepairState.TheVariants.{HasC
 ghost use Rattle.hound.specs.declared.session.Begin.TheVariants.{New};
 ghost use Rattle.hound.specs.declared.session.Begin.{Begin};
 ghost use Rattle.hound.specs.declared.session.End.{End};
-ghost use Rattle.hound.specs.Headline.{HasPublished, Holds, HoldsAtEnd, IsLeftAfter, Keeps, Kept, KeptWithin, accepted_as_seen, accepted_by_all, begins_at, seen};
+ghost use Rattle.hound.specs.Headline.{HasPublished, Holds, HoldsAtEnd, IsLeftAfter, Keeps, Kept, KeptWithin, LeftWithin, accepted_as_seen, accepted_by_all, begins_at, seen};
 ghost use Rattle.hound.specs.Run.{BeginsAs, EndsAs, Ran, asked_by, containers_of};
 ghost use Rattle.hound.specs.Sessions.{RunsOn, all_steps};
 
@@ -152,6 +152,40 @@ pub fn a_checkpoint_holds()
         → ReadsAs s (start_of s file) (found_in file ++ accepted_by_all before) (moment m.start m.past k) }
 {}
 
+/// When `flush` returns Ok, a reader finds every sample accepted so far, until the next call that
+/// publishes, whatever becomes of those between (`now`), and in each state of a medium that records every
+/// byte written, from where the calls after the `flush` begin (`at_each`). So it is of what an Ok end has
+/// left (`at_end`).
+pub fn an_ok_flush_is_kept<M: Medium>()
+    ensures now { WhereTells M.tells ((s : WavSpecEx) (file : Begun) (before after : List Known)
+        (w : WriterState M) → Recorded M.Placed s file (before ++ (answered publish (Ok tt) ∷ after)) w
+        → AllByRecursion (λ (one : Known). one.asked ≡ publish → ⊥) after
+        → (calls : List Call) × AreKnown before calls
+        × ReadsAs s (start_of s file) (found_in file ++ accepted_by_all calls) (M.state w.medium).contents) }
+    ensures at_each { WhereKeeps M.tells M.keeps ((s : WavSpecEx) (file : Begun) (before after : List Known)
+        (w : WriterState M) → Recorded M.Placed s file (before ++ (answered publish (Ok tt) ∷ after)) w
+        → AllByRecursion (λ (one : Known). one.asked ≡ publish → ⊥) after
+        → let m = M.state w.medium in
+        (calls later : List Call) × AreKnown before calls × AreKnown after later
+        × ((k : ℕ) → begins_at later m.past ≤ k → k ≤ length m.past →
+        ReadsAs s (start_of s file) (found_in file ++ accepted_by_all calls) (moment m.start m.past k))) }
+    ensures at_end { WhereTells M.tells ((s : WavSpecEx) (file : Begun) (known : List Known) (medium : M)
+        → Left M.Placed s file (known ++ answered publish (Ok tt) ∷ []) medium
+        → (calls : List Call) × AreKnown known calls
+        × ReadsAs s (start_of s file) (found_in file ++ accepted_by_all calls) (M.state medium).contents) }
+{}
+
+/// A writer to which calls led is of their file, with all bytes that it wrote, and holds the samples that the
+/// file had and those that the calls accepted: so many are what `len` returns.
+pub fn a_writer_holds_its_calls<M: Medium>()
+    ensures { WhereTells M.tells ((s : WavSpecEx) (file : Begun) (known : List Known)
+        (w : WriterState M) → Recorded M.Placed s file known w →
+        (w.spec_ex ≡ s) × (w.data_start ≡ start_of s file) × IsWhole M.state w
+        × ((calls : List Call) × AreKnown known calls
+        × (accepted_samples M.state w ≡ found_in file ++ accepted_by_all calls)
+        × (sample_count w ≡ length (found_in file ++ accepted_by_all calls)))) }
+{}
+
 /// The mark of a call for samples is its being Ok: by its answer it is never `UnfinishedSample`, whose
 /// mark at a `flush` is that of an Ok.
 pub fn a_write_is_marked_by_its_ok<M: Medium>()
@@ -167,14 +201,10 @@ pub fn an_append_keeps_the_front<M: Medium>()
         → ChangesSizesOnly start old.contents (M.state medium).contents) }
 {}
 
-/// What a loss of power leaves of the medium within a `Durable` over which a writer was ended: it
-/// counts, and has lost no sample that a flush has published.
-pub fn what_a_loss_leaves<M: Medium>(durable: &Durable<M>)
-    ensures { WhereKeeps M.tells M.keeps ((s : WavSpecEx) (file : Begun) (known : List Known)
-        (end : Known) → end.asked ≡ publish
-        → Left (⟦<Durable<M> as Placed>⟧) s file (known ++ end ∷ []) durable.now
-        → KeptWithin (⟦<Durable<M> as Placed>⟧) s file (known ++ end ∷ []) durable.now
-        (within durable.now)) }
+/// What a loss of power leaves of the medium within a `Durable` over which a writer was ended, or is in use
+/// (`so_far` of [`what_is_kept`]): it counts, and has lost no sample that a flush has published.
+pub fn what_a_loss_leaves<M: Medium>()
+    ensures { WhereKeeps M.tells M.keeps (LeftWithin (⟦<Durable<M> as Placed>⟧)) }
 {}
 
 /// The effects of a checkpoint, all of them or up to one that failed, publish as `flush` does: at an Ok

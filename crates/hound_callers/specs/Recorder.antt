@@ -1,8 +1,9 @@
 -- What callers do that perform a recorder's effects themselves.
-use Rattle.std.specs.Prelude.{◌≡◌, ◌⊎◌, ℕ, ◌+◌, ◌%◌, ◌<◌, ◌≤◌, Bool, true, false, List, [], ◌∷◌, ◌++◌, length, take, drop, Result}
+use Rattle.std.specs.Prelude.{◌≡◌, ◌⊎◌, ℕ, ◌+◌, ◌*◌, ◌%◌, ◌<◌, ◌≤◌, Bool, true, false, List, [], ◌∷◌, ◌++◌, length, take, drop, codes, Result, Err}
 use Rattle.std.specs.Borrow.{Bor}
 use Rattle.std.specs.List.{AllByRecursion, flat_map}
-use Rattle.hound.specs.{Asked, Begun, Directed, KeptWithin, Known, Log, MediumState, ReadsAs, Recorder, Refusal, WavSpecEx, found_in, greatest_u32, if_marked, log_kind, publish, riff_size, seen, start_of, whole_containers, write}
+use Rattle.hound.specs.{AppendsRecorder, Asked, Begun, Directed, Error, IsRefusal, KeptWithin, Known, Log, MediumState, ReadsAs, Readable, Recorder, RecorderError, Refusal, Unreadable, WavSpecEx, found_in, greatest_u32, if_marked, log_kind, publish, riff_size, seen, start_of, whole_containers, write}
+use Rattle.hound.specs.declared.Error.TheVariants.{FormatError, Unsupported}
 use Rattle.hound_callers.specs.Recording.{published_calls}
 
 -- a recorder of which nothing failed, with no checkpoint under way
@@ -37,6 +38,19 @@ StopsAt s r (block ∷ blocks) calls = StopsIn s r block calls
 abbrev pub Stops : WavSpecEx → Begun → List Known → Bor (List ℕ) → Recorder → MediumState → Type 0
 Stops s file known block r m = (calls : List (Asked × Bool)) × StopsIn s r block calls
     × (r.number ≡ 0) × Directed s file (known ++ seen calls) r true m
+
+-- the error of contents whose data are cut off
+abbrev pub IsCutOffError : Error → Type 0
+IsCutOffError (FormatError text) = text.now ≡ codes "the data are cut off"
+IsCutOffError _ = ⊥
+
+-- Why a file with these contents isn't recorded further: they can't be read, no recorder begins with
+-- them, or they lack data that the header counts.
+abbrev pub IsNotResumed : List ℕ → Error → Type 0
+IsNotResumed contents e = IsRefusal e (Unreadable contents)
+    ⊎ ((s : WavSpecEx) × (samples start : ℕ) × Readable contents s samples start
+    × (((error : RecorderError) × AppendsRecorder s start samples (Err error) × (e ≡ Unsupported))
+    ⊎ ((length contents < start + samples * s.bytes_per_sample) × IsCutOffError e)))
 
 -- the file is read as its samples and then these blocks, if they are whole frames
 abbrev pub ReadsBlocks : WavSpecEx → Begun → List (Bor (List ℕ)) → List ℕ → Type 0

@@ -1,5 +1,5 @@
 -- What a recorder asks of its writer, and what it sees; the checkpoints of a session.
-use Rattle.std.specs.Prelude.{◌≡◌, ◌⊎◌, ℕ, suc, ◌*◌, ◌%◌, ◌==◌, Bool, true, false, List, [], ◌∷◌, ◌++◌, Result, Ok, Err, IsOk, ◌<◌, drop, length, take}
+use Rattle.std.specs.Prelude.{◌≡◌, ◌⊎◌, ℕ, suc, ◌*◌, ◌%◌, ◌==◌, Bool, true, false, List, [], ◌∷◌, ◌++◌, Option, None, Some, Result, Ok, Err, IsOk, ◌<◌, drop, length, take}
 use Rattle.std.specs.Borrow.{Bor}
 use Rattle.std.specs.List.{All, flat_map}
 use Rattle.hound.specs.{Ghosts, Accepts, Asked, Begun, Call, Checkpoints, Error, HasPublished, HasRoom, IsWhole, KeptWithin, Known, MediumState, ReadsAs, Refusal, WavSpecEx, WriterState, accepted_samples, containers_in, accepted_by_all, if_marked, made, marked, publish, seen, write}
@@ -87,3 +87,8 @@ IsPublished state asked old new = (list : List (List ℕ)) × (asked ≡ Ok list
     × ReadsAs old.spec_ex old.data_start (accepted_samples state old ++ list)
     (state new.medium).contents
     × IsWhole state new × (accepted_samples state new ≡ accepted_samples state old ++ list)
+
+-- a sample that may be there, as an item
+abbrev pub as_item : {A : Type 0} → Option A → Option (Result A Error)
+as_item None = None
+as_item (Some value) = Some (Ok value)

@@ -1,24 +1,33 @@
 // Functions of a user of the library, whose contracts follow from its public ones.
-ghost use Rattle.std.specs.Prelude.{◌≡◌, ℕ, ◌/◌, ◌<◌, ◌++◌, ◌⊎◌, false, List, length, map, ◌∷◌, None, Some, Ok, Err, Result, IfErr, IfOk, IfSome, MatchResult, OnOk};
-ghost use Rattle.hound.specs.{Begun, Call, Checkpoints, found_in, start_of, IsSameFile, ReaderState, RepairsMedium, Seeks, containers, AreContainers, canonical, HasPublished, IsLeftAfter, Keeps, accepted_by_all, begins_at, container_in, one_more, samples_left, OpensAs, ReadsFrames, IsIoError, IsSixteen, MediumState, WhereTells, Error, IsWritable, IsWhole, sample_count, WavSpecEx, container_at, meaning_at, refusal_at, samples_before, unread};
+ghost use Rattle.std.specs.Prelude.{◌≡◌, ℕ, ◌/◌, ◌<◌, ◌++◌, ◌⊎◌, false, true, List, length, map, ◌∷◌, None, Some, Ok, Err, Result, IfErr, IfOk, IfSome, MatchResult, OnOk};
+ghost use Rattle.hound.specs.{AreKnown, Begun, Call, Checkpoints, Known, ReadsAs, Recorded, found_in, start_of, IsSameFile, ReaderState, RepairsMedium, Seeks, containers, AreContainers, canonical, HasPublished, IsLeftAfter, Keeps, accepted_by_all, begins_at, container_in, one_more, samples_left, OpensAs, ReadsFrames, IsIoError, IsNext, IsSixteen, MediumState, WhereTells, Error, IsWritable, IsWhole, sample_count, WavSpecEx, container_at, meaning_at, refusal_at, samples_before, unread};
 ghost use Rattle.hound.specs.declared.Error.TheVariants.{OutOfMemory};
-ghost use Rattle.hound_callers.specs.Recording.{IsPublished, WritesAndFlushes};
+ghost use Rattle.hound_callers.specs.Recording.{IsNoBatch, IsPublished, WritesAndFlushes, as_item};
 
 use hound::{
-    Error, Medium, Repair, Sample, Source, WavReader, WavWriter,
-    a_repair_loses_no_published_sample, a_seek_leads_to_its_frame, an_iterator_gives_what_it_hints,
-    items_are_of_the_file, one_answer, repair_to_end, written_is_read,
+    Error, Medium, Repair, Sample, Source, WavReader, WavWriter, a_look_finds_what_a_repair_does,
+    a_repair_loses_no_published_sample, a_seek_leads_to_its_frame, a_writer_holds_its_calls,
+    an_iterator_gives_what_it_hints, find_damage, items_are_of_the_file, one_answer, repair,
+    repair_to_end, written_is_read,
 };
 use std::alloc::Global;
 use std::{io, result};
 
-/// Publishes what was accepted so far, and says how many samples these are. An error is that of the
+/// Publishes what was accepted so far, and says how many samples these are (`published`): those of the
+/// calls so far, after those of the file, and exactly these are read (`counted`). An error is that of the
 /// flush.
 pub fn publish<M: Medium>(writer: &mut WavWriter<M>) -> hound::Result<u32>
-    ensures { MatchResult result (λ count. (count ≡ sample_count writer.old)
+    ensures published { MatchResult result (λ count. (count ≡ sample_count writer.old)
         × Checkpoints M.Placed (Ok tt) writer.old writer.new)
         (λ e. Checkpoints M.Placed (Err e) writer.old writer.new) }
+    ensures counted { WhereTells M.tells (IfOk result (λ count. (s : WavSpecEx) (file : Begun)
+        (known : List Known) → Recorded M.Placed s file known writer.old →
+        (calls : List Call) × AreKnown known calls
+        × (count ≡ length (found_in file ++ accepted_by_all calls))
+        × ReadsAs s (start_of s file) (found_in file ++ accepted_by_all calls)
+        (M.state writer.new.medium).contents)) }
 {
+    a_writer_holds_its_calls::<M>();
     writer.flush()?;
     Ok(writer.len())
 }
@@ -57,9 +66,25 @@ pub fn repair_recording<N: Source + Medium>(left: N) -> result::Result<(N, Repai
     repair_to_end(left)
 }
 
+/// Looks at a file before anything is written, then repairs it, and returns what the look found: it is what
+/// `repair` reports, which is all that happened to the file.
+pub fn look_and_repair<M: Source + Medium>(medium: M) -> result::Result<(M, Repair), (M, Error)>
+    requires { WhereTells M.tells ((M.state medium).place ≡ 0) }
+    ensures { WhereTells M.tells (RepairsMedium true M.state medium result) }
+{
+    a_look_finds_what_a_repair_does();
+    let (medium, found) = find_damage(medium)?;
+    let mut medium = medium;
+    if let Err(error) = medium.go(0) {
+        return Err((medium, Error::IoError(error)));
+    }
+    let (medium, _) = repair(medium)?;
+    Ok((medium, found))
+}
+
 /// The first sample of a frame, by a reader that has read nothing yet: that of its container, or an
-/// `IoError`, for a type that reads the file (`sample`). An error is a fault of the seek, or comes
-/// after it (`err`).
+/// `IoError`, for a type that reads the file (`sample`). An error is a fault of the seek, or else the result
+/// is the next item after it, none past the end (`item`).
 pub fn sample_at<S: Sample, R: Source>(
     reader: &mut WavReader<R>,
     time: u32,
@@ -69,9 +94,12 @@ pub fn sample_at<S: Sample, R: Source>(
         → refusal_at S.refusal reader.old.spec_ex ≡ None → MatchResult result (λ sample. sample
         ≡ Some (meaning_at S.meaning reader.old.spec_ex (container_at reader.old.spec_ex.bytes_per_sample
         (samples_before time reader.old.spec_ex) (unread (R.state reader.old.reader))))) IsIoError) }
-    ensures err { WhereTells R.tells (IfErr result (λ e.
-        (IsIoError e × ((R.state reader.new.reader).faults ≡ one_more (R.state reader.old.reader).faults))
-        ⊎ ((mid : ReaderState R) × Seeks R.state time reader.old mid))) }
+    ensures item { WhereTells R.tells (MatchResult result
+        (λ sample. (mid : ReaderState R) × Seeks R.state time reader.old mid
+        × IsNext R.remaining S.refusal S.meaning (as_item sample) mid reader.new)
+        (λ e. (IsIoError e × ((R.state reader.new.reader).faults ≡ one_more (R.state reader.old.reader).faults))
+        ⊎ ((mid : ReaderState R) × Seeks R.state time reader.old mid
+        × IsNext R.remaining S.refusal S.meaning (Some (Err e)) mid reader.new))) }
 {
     a_seek_leads_to_its_frame::<R, S>();
     reader.seek(time)?;
@@ -111,14 +139,16 @@ pub fn open_written(bytes: &[u8]) -> hound::Result<WavReader<&[u8]>>
     WavReader::new(bytes)
 }
 
-/// Begins a batch, writes a sample to it and gives it up: nothing was accepted.
+/// Begins a batch, writes a sample to it and gives it up: nothing was accepted (`same`). An error is that
+/// of the batch that wasn't begun (`err`).
 pub fn give_up_batch<M: Medium>(
     alloc: Global,
     writer: &mut WavWriter<M>,
     value: i16,
 ) -> hound::Result<()>
     requires { IsSixteen writer.old.spec_ex }
-    ensures { IsSameFile writer.old writer.new }
+    ensures same { IsSameFile writer.old writer.new }
+    ensures err { IfErr result (IsNoBatch writer.old 1) }
 {
     let mut batch = writer.get_i16_writer(alloc, 1)?;
     batch.write_sample(value);

@@ -10,15 +10,15 @@ mod recorder;
 mod recording;
 
 pub use callers::{
-    give_up_batch, open_written, publish, record_checkpoint, repair_recording, sample_at,
-    samples_of,
+    give_up_batch, look_and_repair, open_written, publish, record_checkpoint, repair_recording,
+    sample_at, samples_of,
 };
 pub use editing::append_blocks;
 pub use example::record_and_read;
 pub use reading::{opened_meanwhile, read_block, read_from, reopen};
 pub use recorder::{append_by_effects, record_by_effects};
 pub use recording::{
-    finish_durable, pack_one, publish_and_continue, record, record_at_once, record_batch,
-    record_checkpoints, record_mixed, record_safely, record_steps, record_twelve,
+    finish_durable, pack_one, publish_and_continue, publish_durably, record, record_at_once,
+    record_batch, record_checkpoints, record_mixed, record_safely, record_steps, record_twelve,
     record_twelve_and_repair, record_twelve_through_a_loss, write_if_short,
 };

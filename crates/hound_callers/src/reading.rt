@@ -1,7 +1,7 @@
 // Reading a block, and opening a file again.
-ghost use Rattle.std.specs.Prelude.{◌≡◌, ◌⊎◌, ℕ, ◌+◌, ◌-◌, ◌*◌, ◌/◌, ◌%◌, ◌≤◌, ◌++◌, ◌∷◌, List, None, Some, Ok, IsSome, IfErr, IfOk, MatchResult, drop, length, map, min, take};
+ghost use Rattle.std.specs.Prelude.{◌≡◌, ◌⊎◌, ℕ, ◌+◌, ◌-◌, ◌*◌, ◌/◌, ◌%◌, ◌≤◌, ◌++◌, ◌∷◌, List, None, Some, Ok, Err, IsSome, IfErr, IfOk, MatchResult, drop, length, map, min, take};
 ghost use Rattle.std.specs.List.{AllByRecursion, concat};
-ghost use Rattle.hound.specs.{Begun, Call, Error, HasPublished, IsUncut, ReadsAs, Keeps, accepted_by_all, begins_at, field, found_in, mix, moment, publish, start_of, AreContainers, GivesItems, IsIoError, IsWhole, IsWritable, ReaderState, WavSpecEx, WhereTells, accepted_samples, canonical, containers, data_fault, data_start, greatest_u32, header, one_more, over_bytes, riff_size, samples_before, samples_left};
+ghost use Rattle.hound.specs.{Begun, Call, Error, HasPublished, IsUncut, ReadsAs, ReadsBlock, Seeks, Keeps, accepted_by_all, begins_at, field, found_in, mix, moment, publish, start_of, AreContainers, GivesItems, IsIoError, IsNotAppended, IsWhole, IsWritable, ReaderState, WavSpecEx, WhereTells, accepted_samples, canonical, containers, data_fault, data_start, greatest_u32, header, one_more, over_bytes, riff_size, samples_before, samples_left};
 
 use hound::{
     Error, Journal, Medium, Placed, Sample, Source, WavReader, WavWriter, a_block_is_its_items,
@@ -12,7 +12,8 @@ use std::alloc::Global;
 use std::{io, result};
 
 /// Reads a block: at an Ok it has all samples that fit or are left (`all`), those that as many calls
-/// of `next` would have given, and the reader is left as these would have left it (`same`).
+/// of `next` would have given, and the reader is left as these would have left it (`same`). An error is
+/// that of the item in whose place it came (`err`).
 pub fn read_block<S: Sample, R: io::Read + Drop>(
     reader: &mut WavReader<R>,
     block: &mut [S],
@@ -23,6 +24,8 @@ pub fn read_block<S: Sample, R: io::Read + Drop>(
         GivesItems R.remaining S.refusal S.meaning (map Ok others) reader.old other →
         (take count block.new ≡ others)
         × (over_bytes R.remaining reader.new ≡ over_bytes R.remaining other)) }
+    ensures err { IfErr result (λ e. (count : ℕ) × ReadsBlock R.remaining S.refusal S.meaning count
+        (Err e) block.old block.new reader.old reader.new) }
 {
     a_block_is_its_items::<R, S>();
     let (count, result) = reader.read_samples(block);
@@ -32,7 +35,7 @@ pub fn read_block<S: Sample, R: io::Read + Drop>(
 
 /// Reads a block from a frame on, by a reader that has read nothing yet. Returns how many samples
 /// came, all that fit or are left (`all`), and what is left of the input: the bytes after their
-/// containers (`rest`).
+/// containers (`rest`). An error is a fault of the seek, or that of the item in whose place it came (`err`).
 pub fn read_from<S: Sample, R: Source>(
     reader: WavReader<R>,
     time: u32,
@@ -44,6 +47,10 @@ pub fn read_from<S: Sample, R: Source>(
     ensures rest { WhereTells R.tells ((bytes : List ℕ) → R.remaining reader.reader ≡ Some bytes →
         IfOk result (λ done. R.remaining done.1 ≡ Some (drop ((samples_before time reader.spec_ex
         + done.0) * reader.spec_ex.bytes_per_sample) bytes))) }
+    ensures err { WhereTells R.tells (IfErr result (λ e. (IsIoError e × (last : ReaderState R)
+        × ((R.state last.reader).faults ≡ one_more (R.state reader.reader).faults))
+        ⊎ ((mid last : ReaderState R) × Seeks R.state time reader mid × (count : ℕ)
+        × ReadsBlock R.remaining S.refusal S.meaning count (Err e) block.old block.new mid last))) }
 {
     a_reader_is_where_it_counts::<R, S>();
     let mut reader = reader;
@@ -55,7 +62,8 @@ pub fn read_from<S: Sample, R: Source>(
 
 /// Opens a file to append to it. The samples accepted so far are those of a canonical file
 /// (`written`), or, of a recording that was cut off, those that its header counts (`begun`). If
-/// these are whole frames and leave room, it is Ok unless the medium fails.
+/// these are whole frames and leave room, it is Ok unless the medium fails. At an error nothing was written
+/// (`refused`).
 pub fn reopen<M: Source + Medium>(medium: M) -> result::Result<WavWriter<M>, (M, Error)>
     requires { WhereTells M.tells ((M.state medium).place ≡ 0) }
     ensures written { WhereTells M.tells ((s : WavSpecEx) (list : List (List ℕ)) → IsWritable s →
@@ -69,6 +77,8 @@ pub fn reopen<M: Source + Medium>(medium: M) -> result::Result<WavWriter<M>, (M,
         (λ w. (w.spec_ex ≡ s) × (len ≤ length rest → IsWhole M.state w)
         × (accepted_samples M.state w ≡ containers s.bytes_per_sample (len / s.bytes_per_sample) rest))
         (λ refused. IsIoError refused.1 × ((M.state refused.0).faults ≡ one_more (M.state medium).faults))) }
+    ensures refused { IfErr result (λ refused. WhereTells M.tells
+        (IsNotAppended (M.state medium) (M.state refused.0) refused.1)) }
 {
     written_is_head();
     written_is_read();

@@ -1,7 +1,7 @@
 // Recorders whose caller performs the effects, on a medium.
-ghost use Rattle.std.specs.Prelude.{◌≡◌, ◌≤◌, ℕ, List, [], ◌++◌, ◌∷◌, Bool, IfErr, IfOk, OnErr, OnOk, drop, is_ok, length, take, true};
-ghost use Rattle.hound.specs.{Asked, Begun, Directed, IsNotBegun, IsSynced, Known, Performs, PutsAt, Readable, Recorder, WavSpecEx, WhereKeeps, WhereTells, new_file, publish, resumed_file, seen};
-ghost use Rattle.hound_callers.specs.Recorder.{IsReady, Saves, Stops, StopsAt, longer, samples_of};
+ghost use Rattle.std.specs.Prelude.{◌≡◌, ◌⊎◌, ◌≤◌, ℕ, List, [], ◌++◌, ◌∷◌, Bool, IfErr, IfOk, OnErr, OnOk, drop, is_ok, length, take, true};
+ghost use Rattle.hound.specs.{Asked, Begun, Directed, IsIoError, IsNotBegun, IsSynced, Known, Performs, PutsAt, Readable, Recorder, WavSpecEx, one_more, WhereKeeps, WhereTells, new_file, publish, resumed_file, seen};
+ghost use Rattle.hound_callers.specs.Recorder.{IsNotResumed, IsReady, Saves, Stops, StopsAt, longer, samples_of};
 ghost use Rattle.hound_callers.specs.Recording.{published_calls};
 
 use hound::{
@@ -125,9 +125,9 @@ pub fn record_by_effects<M: Medium>(
     Ok(save_blocks(medium, &mut recorder, blocks))
 }
 
-/// Appends blocks to a file with these contents, as [`record_by_effects`] records a new one. It is an
-/// error, after which the file is as it was (`refused`), if the contents can't be read, or aren't
-/// appended to, or lack data that the header counts; or if the medium failed.
+/// Appends blocks to a file with these contents, as [`record_by_effects`] records a new one. At an error
+/// the file is as it was (`refused`): the contents can't be read, or aren't appended to, or lack data that
+/// the header counts, or the medium failed (`why`).
 pub fn append_by_effects<M: Medium>(
     medium: &mut M,
     contents: &[u8],
@@ -137,6 +137,8 @@ pub fn append_by_effects<M: Medium>(
     requires synced { WhereKeeps M.tells M.keeps (IsSynced (M.state medium.old)) }
     ensures refused { IfErr result (λ e. WhereTells M.tells
         ((M.state medium.new).contents ≡ (M.state medium.old).contents)) }
+    ensures why { IfErr result (λ e. IsNotResumed contents.now e ⊎ (IsIoError e × WhereTells M.tells
+        ((M.state medium.new).faults ≡ one_more (M.state medium.old).faults))) }
     ensures within { IfOk result (λ n. n ≤ length blocks.now) }
     ensures saved { IfOk result (λ n. WhereKeeps M.tells M.keeps ((s : WavSpecEx) × (samples start : ℕ)
         × Readable contents.now s samples start

@@ -1,7 +1,7 @@
 // Recorders that make their calls themselves.
 ghost use Rattle.std.specs.Prelude.{◌≡◌, ◌⊎◌, ◌-◌, ◌/◌, ◌<◌, ◌≤◌, ℕ, Bool, false, true, List, ◌∷◌, ◌++◌, [], Err, Ok, Result, MatchResult, is_ok, IsFalse, IsOk, IfOk, IfErr, IsErrAnd, IsTrue, OnErr, OnOk, drop, length, map, replicate, take};
 ghost use Rattle.std.specs.List.{All, concat};
-ghost use Rattle.hound.specs.{Accepts, Asked, Checkpoints, Error, Finishes, accepted_as_seen, field, found_in, start_of, i16_bytes, whole_containers, IsIoError, IsNotBegun, IsNotRepaired, Stays, MediumState, Repair, Repairs, SurvivesLoss, container_in, Begun, Call, Known, Left, Recorded, made, marked, new_file, publish, seen, write, int_container, Around, within, HasPublished, Kept, KeptWithin, accepted_by_all, canonical, data_start, AcceptsEach, Ascends, WritesToBatch, containers_in, fits, remaining, signed_bytes_of, ReadsFrames, IsSixteen, Ran, asked_by, containers_of, WhereKeeps, WhereTells, WriterState, IsWhole, accepted_samples, data_length, WavSpecEx};
+ghost use Rattle.hound.specs.{Accepts, AcceptsBytes, AreKnown, Asked, Begins, ReadsAs, IsSameFile, Takes, Checkpoints, Error, Finishes, accepted_as_seen, field, found_in, start_of, i16_bytes, whole_containers, IsIoError, IsNotBegun, IsNotRepaired, Stays, MediumState, Repair, Repairs, SurvivesLoss, container_in, Begun, Call, Known, Left, Recorded, answered, made, marked, new_file, publish, seen, write, int_container, Around, within, HasPublished, Kept, KeptWithin, accepted_by_all, canonical, data_start, AcceptsEach, Ascends, WritesToBatch, containers_in, fits, remaining, signed_bytes_of, ReadsFrames, IsSixteen, Ran, asked_by, containers_of, WhereKeeps, WhereTells, WriterState, IsWhole, accepted_samples, data_length, WavSpecEx};
 ghost use Rattle.hound.specs.declared.session.Begin.TheVariants.{New};
 ghost use Rattle.hound.specs.declared.session.End.TheVariants.{Drop, Finalize};
 ghost use Rattle.hound.specs.declared.session.Step.TheVariants.{Whole};
@@ -11,8 +11,8 @@ use hound::{
     Begin, Durable, End, Error, Medium, Placed, Repair, Sample, SampleWriter16, Source, Step,
     WavSpecEx, WavWriter, a_batch_is_its_values, a_block_is_its_samples, a_durable_medium_ascends,
     a_repair_loses_no_published_sample, a_run_leaves_its_calls, a_write_is_marked_by_its_ok,
-    calls_are_a_run, i16s_are_kept, repair_to_end, run_session, sessions_leave_one_file,
-    what_a_loss_leaves, what_is_kept, what_is_known,
+    an_ok_flush_is_kept, calls_are_a_run, i16s_are_kept, repair_to_end, run_session,
+    sessions_leave_one_file, what_a_loss_leaves, what_is_kept, what_is_known,
 };
 use hound_types::Twelve;
 use std::alloc::Global;
@@ -110,7 +110,7 @@ pub fn record_twelve_through_a_loss<M: Source + Medium>(
         Err((durable, error)) => return Err((durable.into_inner(), error)),
     };
     let (durable, _) = writer.finalize_into();
-    what_a_loss_leaves(&durable);
+    what_a_loss_leaves::<M>();
     Ok(durable.into_inner())
 }
 
@@ -187,7 +187,7 @@ pub fn record_checkpoints<M: Source + Medium>(
     };
     let published = publish_blocks(&mut writer, blocks);
     let durable = writer.drop_into();
-    what_a_loss_leaves(&durable);
+    what_a_loss_leaves::<M>();
     Ok((durable.into_inner(), published))
 }
 
@@ -223,14 +223,20 @@ pub fn record_safely<M: Source + Medium>(
 }
 
 /// Records blocks of twelve-bit samples as [`record`] does, drops the writer, whatever its end did,
-/// and repairs the file: no sample is missing that a flush has published (`none_lost`). An error is
-/// that of the constructor, or of the repair of what was left (`err`).
+/// and repairs the file, as `repair_to_end` repairs what was left (`repaired`): no sample is missing that
+/// a flush has published (`none_lost`). An error is that of the constructor, or of the repair of what was
+/// left (`err`).
 pub fn record_twelve_and_repair<M: Source + Medium>(
     medium: M,
     spec_ex: WavSpecEx,
     blocks: &[&[Twelve]],
 ) -> result::Result<(M, Repair), (M, Error)>
     requires { WhereTells M.tells ((M.state medium).place ≡ 0) }
+    ensures repaired { IfOk result (λ done. (left cut : M)
+        × Left M.Placed spec_ex (new_file (M.state medium))
+        (all_asked ⟦<Twelve as Sample>⟧.container spec_ex blocks.now) left
+        × WhereTells M.tells (Stays (M.state left) (M.state cut)
+        × Repairs false (M.state cut) done.1 (M.state done.0))) }
     ensures none_lost { IfOk result (λ done. WhereKeeps M.tells M.keeps ((left : M)
         × (kept : Kept M.Placed spec_ex (new_file (M.state medium))
         (all_asked ⟦<Twelve as Sample>⟧.container spec_ex blocks.now) left)
@@ -299,8 +305,11 @@ pub fn pack_one<M: Source + Medium>(
         ≡ canonical spec_ex (containers_of spec_ex (Whole value ∷ [])))) }
     ensures err { IfErr result (λ refused.
         IsNotBegun M.Placed spec_ex medium refused.0 refused.1
-        ⊎ Left M.Placed spec_ex (new_file (M.state medium))
-        (made (asked_by spec_ex (Whole value)) ∷ made publish ∷ []) refused.0) }
+        ⊎ ((first last : WriterState M) × Begins M.Placed spec_ex (M.state medium) first
+        × ((Takes M.Placed (Whole value) (Err refused.1) first last
+        × (end : Result Unit Error) × Finishes M.Placed last end refused.0)
+        ⊎ (Takes M.Placed (Whole value) (Ok tt) first last
+        × Finishes M.Placed last (Err refused.1) refused.0)))) }
 {
     let steps = [Step::Whole(value)];
     calls_are_a_run::<M>(&steps);
@@ -329,8 +338,8 @@ fn record_singles<S: Sample + Copy, M: Medium>(writer: &mut WavWriter<M>, single
 }
 
 /// Writes a batch, which is accepted by one call; where there is no room for it, or no memory, the
-/// writer stays as it was (`recorded`). At an Ok it accepted what its values would have been accepted
-/// as one by one (`same`).
+/// writer stays as it was (`recorded`), and else the result is that of this call (`calls`). At an Ok it
+/// accepted what its values would have been accepted as one by one (`same`).
 pub fn record_batch<M: Medium>(
     alloc: Global,
     writer: &mut WavWriter<M>,
@@ -347,6 +356,9 @@ pub fn record_batch<M: Medium>(
         × Recorded M.Placed s file known writer.new)
         ⊎ Recorded M.Placed s file
         (known ++ marked (write (whole_containers s (i16_bytes batch.now))) (is_ok result) ∷ []) writer.new }
+    ensures calls { IsErrAnd result (IsNoBatch writer.old (length batch.now))
+        ⊎ ((mid : WriterState M) × IsSameFile writer.old mid
+        × AcceptsBytes M.Placed (i16_bytes batch.now) result mid writer.new) }
 {
     if batch.len() > u32::MAX as usize {
         return Err(Error::TooLong);
@@ -414,7 +426,8 @@ pub fn record_at_once<S: Sample + Copy, M: Medium>(
 
 /// Publishes what was accepted, and continues with samples, whatever becomes of them: until the next
 /// flush the file counts exactly the samples that were accepted before this one, over a medium without
-/// a past too (`lasts`). An error is that of the flush, and then nothing is written after it (`calls`).
+/// a past too (`lasts`), and whoever reads it finds exactly these (`reads`). An error is that of the
+/// flush, and then nothing is written after it (`calls`).
 pub fn publish_and_continue<S: Sample + Copy, M: Medium>(
     writer: &mut WavWriter<M>,
     samples: &[S],
@@ -423,6 +436,10 @@ pub fn publish_and_continue<S: Sample + Copy, M: Medium>(
         → Recorded M.Placed s file (seen before) writer.old →
         field (start_of s file - 4) (M.state writer.new.medium).contents
         ≡ length (concat (found_in file ++ accepted_as_seen before)))) }
+    ensures reads { WhereTells M.tells (OnOk result ((s : WavSpecEx) (file : Begun) (known : List Known)
+        → Recorded M.Placed s file known writer.old → (calls : List Call) × AreKnown known calls
+        × ReadsAs s (start_of s file) (found_in file ++ accepted_by_all calls)
+        (M.state writer.new.medium).contents)) }
     ensures calls { MatchResult result (λ _. (mid : WriterState M) × (answer : Result Unit Error)
         × Checkpoints M.Placed (Ok tt) writer.old mid
         × Accepts M.Placed (containers_in S.container mid.spec_ex samples.now) answer mid writer.new)
@@ -430,6 +447,7 @@ pub fn publish_and_continue<S: Sample + Copy, M: Medium>(
 {
     what_is_kept::<M>();
     what_is_known();
+    an_ok_flush_is_kept::<M>();
     writer.flush()?;
     let _ = writer.write_samples(samples);
     Ok(())
@@ -449,6 +467,20 @@ pub fn write_if_short<M: Medium>(batch: &mut SampleWriter16<'_, M>, value: i32) 
     }
     batch.write_sample(value);
     true
+}
+
+/// Publishes over a medium that may lose its power, and the writer stays in use: whatever sectors keep what
+/// was written since the medium was flushed, what is left counts, and has lost no sample that a flush has
+/// published.
+pub fn publish_durably<M: Medium>(writer: &mut WavWriter<Durable<M>>) -> hound::Result<()>
+    ensures { let durable = ⟦<Durable<M> as Placed>⟧ in WhereKeeps M.tells M.keeps (
+        (s : WavSpecEx) (file : Begun) (known : List Known) → Recorded durable s file known writer.old →
+        KeptWithin durable s file (known ++ answered publish result ∷ []) writer.new.medium
+        (within writer.new.medium)) }
+{
+    what_is_kept::<Durable<M>>();
+    what_a_loss_leaves::<M>();
+    writer.flush()
 }
 
 /// Ends a recording over a durable medium, and takes the medium out: the result is that of the end

@@ -1,8 +1,9 @@
 // The reader of a file's samples.
-ghost use Rattle.std.specs.Prelude.{◌≡◌, ℕ, ◌*◌, ◌/◌, ⊤, drop, IsTrue, IfOk, IfErr, IfSome, MatchResult};
+ghost use Rattle.std.specs.Prelude.{◌≡◌, ℕ, ◌*◌, ◌/◌, ◌%◌, ⊤, Some, drop, IsTrue, IfOk, IfErr, IfSome, MatchResult};
 ghost use Rattle.hound_number.specs.{WhereKnown};
 ghost use Rattle.hound_spec.specs.declared.spec.WavSpecEx.{WavSpecEx};
-ghost use Rattle.hound_walk.specs.{Readable, Unreadable, IsRefusal, OpensAs, FailsAs};
+ghost use Rattle.hound_walk.specs.{Readable, Unreadable, IsRefusal, IsSoundSpec, OpensAs, FailsAs, TakesAll, UnreadableAfter, unread};
+ghost use Rattle.hound_reader.specs.Opening.{FindsSamples, IsNotOpened, OpensSource};
 ghost use Rattle.hound_walk.specs.declared.cause.Cause.{Cause};
 ghost use Rattle.hound_medium.specs.{Shifts, WhereTells};
 ghost use Rattle.hound_reader.specs.Reader.{AnswersNext, HasWholeFrames, samples_left, ReadsBlock};
@@ -14,7 +15,7 @@ use crate::samples::{WavIntoSamples, WavSamples};
 use hound_medium::{Placed, Source};
 use hound_sample::{ItemError, Sample};
 use hound_spec::{Error, Result, WavSpec, WavSpecEx};
-use hound_walk::{error_of, read_until_samples};
+use hound_walk::{Counted, FileHead, HeadError, error_of, read_until_samples};
 use std::io::ErrorKind;
 use std::marker::{Brand, Model, PhantomData};
 use std::{io, result};
@@ -87,17 +88,35 @@ impl<R: io::Read + Drop> WavReader<R> {
         ensures unreadable { IfSome (R.remaining reader) (λ xs. (c : Cause) → Unreadable xs c →
             MatchResult result (λ _. ⊥) (λ e. FailsAs e c)) }
     {
-        // No item returns this one: an `IoError` comes after a read that failed or ended.
-        let fault = io::Error::from(ErrorKind::Other);
         match read_until_samples(&mut reader) {
-            Ok((head, num_samples)) => Ok(WavReader {
-                reader: SavingReader { reader, fault },
-                spec_ex: head.spec_ex,
-                num_samples,
-                samples_read: 0,
-                bytes_read: 0,
-            }),
+            Ok((head, num_samples)) => Ok(WavReader::over(reader, head.spec_ex, num_samples)),
             Err(e) => Err(error_of(e)),
+        }
+    }
+
+    // A reader of this input, which is at the data. Nothing was read of them.
+    fn over(reader: R, spec_ex: WavSpecEx, num_samples: u32) -> WavReader<R>
+        requires sound { IsSoundSpec spec_ex }
+        requires frames { num_samples % spec_ex.spec.channels ≡ 0 }
+        ensures view { result ≡ record {
+          reader = reader;
+          spec_ex = spec_ex;
+          num_samples = num_samples;
+          samples_read = 0;
+          bytes_read = 0;
+        } }
+        ensures sound { HasWholeFrames result }
+    {
+        WavReader {
+            reader: SavingReader {
+                reader,
+                // No item returns this one: an `IoError` comes after a read that failed or ended.
+                fault: io::Error::from(ErrorKind::Other),
+            },
+            spec_ex,
+            num_samples,
+            samples_read: 0,
+            bytes_read: 0,
         }
     }
 
@@ -283,5 +302,40 @@ impl<R: io::Read + Drop> WavReader<R> {
     #[inline(always)]
     pub(crate) fn last_fault(&self) -> &io::Error {
         &self.reader.fault
+    }
+}
+
+// Walks over a source up to its samples, and returns it, since it has counted the reads that failed.
+fn find_samples<S: Source>(source: S) -> (S, result::Result<(FileHead, u32), HeadError>)
+    ensures sound { IfOk result.1 (λ r. IsSoundSpec r.0.spec_ex) }
+    ensures frames { IfOk result.1 (λ r. r.1 % r.0.spec_ex.spec.channels ≡ 0) }
+    ensures finds { WhereTells S.tells (FindsSamples result.1 (S.state source) (S.state result.0)) }
+    ensures taken { WhereTells S.tells (IfErr result.1 (TakesAll UnreadableAfter
+        (Some (unread (S.state source))) (Some (unread (S.state result.0))))) }
+{
+    let mut input = Counted { source };
+    let answer = read_until_samples(&mut input);
+    (input.source, answer)
+}
+
+impl<R: Source> WavReader<R> {
+    /// Takes exactly what is before the data, as [`WavReader::new`] does, and returns the source at an
+    /// error (own).
+    ///
+    /// The errors are those of `new`, in the same order. Where contracts know the bytes of the source, an
+    /// error is one of the causes that the bytes have, and takes as many of them as its cause does, or it
+    /// is an `IoError` of a read that the source has counted as failed.
+    pub fn try_new(source: R) -> result::Result<WavReader<R>, (R, Error)>
+        ensures fresh { IfOk result (λ r. (r.samples_read ≡ 0) × (r.bytes_read ≡ 0)) }
+        ensures sound { IfOk result (λ r. HasWholeFrames r) }
+        ensures told { IfErr result (λ refused. IsRefusal refused.1 (λ _. ⊤)) }
+        ensures opens { WhereTells R.tells (MatchResult result (OpensSource (R.state source) R.state)
+            (λ refused. IsNotOpened (R.state source) (R.state refused.0) refused.1)) }
+    {
+        let (source, found) = find_samples(source);
+        match found {
+            Ok((head, num_samples)) => Ok(WavReader::over(source, head.spec_ex, num_samples)),
+            Err(stop) => Err((source, error_of(stop))),
+        }
     }
 }

@@ -9,6 +9,8 @@ mod documented;
 #[cfg(test)]
 mod durable;
 #[cfg(test)]
+mod lent;
+#[cfg(test)]
 mod memory;
 #[cfg(test)]
 mod passes;

@@ -1,5 +1,5 @@
 -- A list of calls of a writer, from its constructor on.
-use Rattle.std.specs.Prelude.{◌≡◌, ℕ, ⊤, Bool, List, [], ◌∷◌, ◌++◌, length, Option, None, Some, IfSome, Result}
+use Rattle.std.specs.Prelude.{◌≡◌, ℕ, ⊤, Bool, List, [], ◌∷◌, ◌++◌, length, Result}
 use Rattle.hound_spec.specs.declared.error.Error.{Error}
 use Rattle.hound_spec.specs.declared.spec.WavSpecEx.{WavSpecEx}
 use Rattle.hound_spec.specs.{data_start}
@@ -28,23 +28,38 @@ abbrev pub asked_by_all : List Call → List Asked
 asked_by_all [] = []
 asked_by_all (call ∷ calls) = call.asked ∷ asked_by_all calls
 
--- What a caller knows of a call: what it asked, and, where the caller has seen the result, its mark.
+-- What a caller has seen of a result: nothing, its mark, or the result itself.
+pub data Seen : Type 0 where
+  unseen : Seen
+  mark_seen : Bool → Seen
+  result_seen : Result (Unit {0}) Error → Seen
+
+-- this was seen of a result
+abbrev pub IsSeen : Seen → Result (Unit {0}) Error → Type 0
+IsSeen unseen answer = ⊤
+IsSeen (mark_seen mark) answer = mark_of answer ≡ mark
+IsSeen (result_seen result) answer = answer ≡ result
+
+-- What a caller knows of a call: what it asked, and what was seen of its result.
 pub record Known : Type 0 where
   pub asked : Asked
-  pub mark : Option Bool
+  pub of_result : Seen
 
 -- a call whose result wasn't seen
 abbrev pub made : Asked → Known
-made asked = record { asked = asked; mark = None }
+made asked = record { asked = asked; of_result = unseen }
 
 -- a call whose result has this mark
 abbrev pub marked : Asked → Bool → Known
-marked asked mark = record { asked = asked; mark = Some mark }
+marked asked mark = record { asked = asked; of_result = mark_seen mark }
+
+-- a call with this result
+abbrev pub answered : Asked → Result (Unit {0}) Error → Known
+answered asked answer = record { asked = asked; of_result = result_seen answer }
 
 -- this is known of a call
 abbrev pub IsKnown : Known → Call → Type 0
-IsKnown known call =
-    (call.asked ≡ known.asked) × IfSome known.mark (λ mark. mark_of call.answer ≡ mark)
+IsKnown known call = (call.asked ≡ known.asked) × IsSeen known.of_result call.answer
 
 -- these are known of calls, in their order
 abbrev pub AreKnown : List Known → List Call → Type 0

@@ -79,7 +79,7 @@ impl<W: Medium> WavWriter<W> {
     ghost use Rattle.hound_medium.specs.{WhereTells};
     ghost use Rattle.hound_writer.specs.Accepting.{Accepts, mark_of, container_in, containers_in};
     ghost use Rattle.hound_writer.specs.Beginning.{Begins, IsNotBegun};
-    ghost use Rattle.hound_writer.specs.Calls.{Ends, Extends, Recorded, made, marked, new_file, publish, write};
+    ghost use Rattle.hound_writer.specs.Calls.{Ends, Extends, Recorded, answered, made, marked, new_file, publish, write};
     ghost use Rattle.hound_spec.specs.declared.spec.WavSpecEx.{WavSpecEx};
     ghost use Rattle.hound_writer.specs.Publishing.{Checkpoints, Finishes};
     ghost use Rattle.hound_writer.specs.Writer.{IsValid, sample_count};
@@ -210,6 +210,7 @@ impl<W: Medium> WavWriter<W> {
         ensures checkpoints { Checkpoints W.Placed result self.old self.new }
         ensures recorded { Extends W.Placed (λ _. made publish) self.old self.new }
         ensures marked { Extends W.Placed (λ _. marked publish (mark_of result)) self.old self.new }
+        ensures answered { Extends W.Placed (λ _. answered publish result) self.old self.new }
     {
         self.output.publish_all(true, &mut self.fault)
     }
@@ -223,6 +224,7 @@ impl<W: Medium> WavWriter<W> {
         ensures left { (end : W) × Ends W.Placed (made publish) self end }
         ensures marked { (end : W)
             × Ends W.Placed (marked publish (mark_of result)) self end }
+        ensures answered { (end : W) × Ends W.Placed (answered publish result) self end }
     {
         let (_, result) = self.finalize_into();
         result
@@ -245,6 +247,7 @@ impl<W: Medium> WavWriter<W> {
         ensures finishes { Finishes W.Placed self result.1 result.0 }
         ensures left { Ends W.Placed (made publish) self result.0 }
         ensures marked { Ends W.Placed (marked publish (mark_of result.1)) self result.0 }
+        ensures answered { Ends W.Placed (answered publish result.1) self result.0 }
     {
         let WavWriter {
             mut output,

@@ -2,6 +2,4 @@ use Rattle.hound.proofs.Within.{left_within}
 use Rattle.hound.proofs.laws.what_a_loss_leaves.Goals as goal
 
 pub returns : goal.returns
-returns g c tells keeps s file known end publishes left =
-    left_within {g = g.M.Placed} (g.met.M.Medium.replays) tells keeps s file known end
-    c.args.durable.now publishes left
+returns g c tells keeps = left_within {g = g.M.Placed} (g.met.M.Medium.replays) tells keeps

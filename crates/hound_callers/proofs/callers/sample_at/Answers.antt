@@ -1,7 +1,9 @@
-use Rattle.std.proofs.Common.{◌≡◌, ◌⊎◌, ℕ, List, [], Option, None, Some, Result, Ok, Err, IfErr, MatchResult, ap, inr, refl, subst, sym}
+use Rattle.std.proofs.Common.{◌≡◌, ◌⊎◌, ℕ, List, [], Option, None, Some, Result, Ok, Err, MatchResult, ap, inr, refl, subst, sym, rules}
 use Rattle.std.specs.Option.{option_transpose}
-use Rattle.hound.specs.{Error, IsIoError, IsMeaningOf, Seeks, container_at, lent_reader, meaning_at, samples_before, unread}
+use Rattle.hound.specs.{Error, IsIoError, IsMeaningOf, IsNext, ReadRefusal, ReaderState, Seeks, container_at, lent_reader, meaning_at, samples_before, unread}
+use Rattle.hound.specs.declared.SampleFormat.{SampleFormat}
 use Rattle.hound.specs.declared.Error.TheVariants.{IoError}
+use Rattle.hound_callers.specs.Recording.{as_item}
 use Rattle.hound_callers.proofs.callers.sample_at.Goals as goal
 
 -- an item is the meaning of a container, as a result, or an `IoError`
@@ -13,10 +15,20 @@ found meaning container (Some (Ok value)) is = ap Some is
 found meaning container (Some (Err (IoError e))) is = tt
 found meaning container (Some (Err _)) is = absurd is
 
--- what holds anyway holds at an error
-at_err : {T E P : Type 0} (Q : E → Type 0) (r : Result T E) → P → IfErr r (λ e. Q e ⊎ P)
-at_err Q (Ok x) here = tt
-at_err Q (Err e) here = inr here
+-- an item after a seek as a result
+of_item : {R A : Type 0} (left : R → Option (List ℕ)) (refusal : SampleFormat → ℕ → ℕ → Option ReadRefusal)
+    (meaning : SampleFormat → ℕ → ℕ → List ℕ → A) (P : Error → Type 0) (S : ReaderState R → Type 0)
+    (next : Option (Result A Error)) (mid last : ReaderState R) {given : ReaderState R}
+    → last ≡ given → S mid → IsNext left refusal meaning next mid last
+    → MatchResult (option_transpose next)
+    (λ sample. (m : ReaderState R) × S m × IsNext left refusal meaning (as_item sample) m given)
+    (λ e. P e ⊎ ((m : ReaderState R) × S m × IsNext left refusal meaning (Some (Err e)) m given))
+of_item left refusal meaning P S None mid last same sought is =
+    (mid, sought, subst (IsNext left refusal meaning None mid) same is)
+of_item left refusal meaning P S (Some (Ok value)) mid last same sought is =
+    (mid, sought, subst (IsNext left refusal meaning (Some (Ok value)) mid) same is)
+of_item left refusal meaning P S (Some (Err e)) mid last same sought is =
+    inr (mid, sought, subst (IsNext left refusal meaning (Some (Err e)) mid) same is)
 
 pub returns-clause-sample : goal.returns-clause-sample
 returns-clause-sample g c told inside none =
@@ -36,8 +48,13 @@ returns-clause-sample g c told inside none =
     (subst (Seeks state c.args.time reader) (sym c.samples.ensures.reader) seeks) inside none
     c.next.ensures.steps.1))
 
-pub returns-clause-err : goal.returns-clause-err
-returns-clause-err g c told = at_err _ c.transpose.result (
-  c.seek.new.self,
-  record { counts = c.in_ok-seek.ensures.counts; source = c.in_ok-seek.ensures.source told },
-)
+pub returns-clause-item : goal.returns-clause-item
+returns-clause-item g c told =
+    let left = g.R.Read.remaining in
+    let refusal = g.S.Sample.refusal in
+    let meaning = g.S.Sample.meaning in
+    let next = subst (λ first. IsNext left refusal meaning c.next.result first
+    (lent_reader c.next.new.self)) c.samples.ensures.reader c.next.ensures.steps.1 in
+    rw c.transpose.ensures (of_item left refusal meaning _ (Seeks g.R.Placed.state c.args.time c.args.reader.now)
+    c.next.result c.seek.new.self (lent_reader c.next.new.self) (search rules)
+    (record { counts = c.in_ok-seek.ensures.counts; source = c.in_ok-seek.ensures.source told }) next)

@@ -1,6 +1,7 @@
-use Rattle.std.proofs.Common.{◌≡◌, ◌∙◌, ℕ, ◌+◌, ◌*◌, List, [], ◌∷◌, length, map, drop, take, Option, Some, Result, Ok, ap, arith, subst, sym}
+use Rattle.std.proofs.Common.{◌≡◌, ◌∙◌, ℕ, ◌+◌, ◌*◌, List, [], ◌∷◌, length, map, drop, take, Option, Some, Result, Ok, Err, IfErr, ap, arith, inl, inr, rules, subst, sym}
 use Rattle.std.proofs.lemmas.List.{length-take-le}
-use Rattle.hound.specs.{Error, GivesItems, GivesItemsOfBytes, ReaderState, ReadRefusal, Seeks, IsWhereCounted, items_of, samples_before}
+use Rattle.std.proofs.lemmas.Result.{IfErr-weaker}
+use Rattle.hound.specs.{Error, GivesItems, GivesItemsOfBytes, IsIoError, ReaderState, ReadRefusal, ReadsBlock, Seeks, IsWhereCounted, items_of, one_more, samples_before}
 use Rattle.hound.specs.declared.SampleFormat.{SampleFormat}
 use Rattle.hound_callers.proofs.reading.read_from.Goals as goal
 
@@ -60,3 +61,24 @@ returns-clause-rest g c told bytes is =
       ap (λ s. count * s.bytes_per_sample) seeks.counts.spec_ex,
     ) in
     ap left c.into_inner.ensures ∙ block ∙ ap (λ n. Some (drop n bytes)) all
+
+pub returns-in_err-seek-clause-err : goal.returns-in_err-seek-clause-err
+returns-in_err-seek-clause-err g c told =
+    let state = g.R.Placed.state in
+    let last = c.seek.new.self in
+    let failed : IfErr c.from_residual.result (λ e. IsIoError e
+    × ((state last.reader).faults ≡ one_more (state c.args.reader.reader).faults)) = search rules in
+    IfErr-weaker c.from_residual.result _ _ (λ e (io, one). inl (io, last, one)) failed
+
+pub returns-in_err-result-clause-err : goal.returns-in_err-result-clause-err
+returns-in_err-result-clause-err g c told =
+    let read = c.read_samples-count in
+    let mid = c.seek.new.self in
+    let seeks : Seeks g.R.Placed.state c.args.time c.args.reader mid = record {
+      counts = c.in_ok-seek.ensures.counts;
+      source = c.in_ok-seek.ensures.source told;
+    } in
+    let failed : IfErr c.from_residual-in_err-result.result (λ e. ReadsBlock g.R.Read.remaining g.S.Sample.refusal
+    g.S.Sample.meaning read.result.0 (Err e) c.args.block.now read.new.samples mid read.new.self) = search rules in
+    IfErr-weaker c.from_residual-in_err-result.result _ _
+    (λ e reads. inr (mid, read.new.self, seeks, read.result.0, reads)) failed

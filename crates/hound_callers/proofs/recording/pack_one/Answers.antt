@@ -1,35 +1,49 @@
-use Rattle.std.proofs.Common.{◌≡◌, ℤ, [], ◌∷◌, true, Ok, arith, inr, length, of_z, refl, rules, subst, to_z, w32}
+use Rattle.std.proofs.Common.{◌≡◌, ℤ, [], ◌∷◌, true, Ok, Err, Result, arith, inl, inr, length, of_z, refl, rules, subst, sym, to_z, w32}
 use Rattle.std.proofs.Math.Facts.{to_z-of_z}
-use Rattle.hound.specs.{Ghosts, Begun, Call, Left, WavSpecEx, canonical, Finishes, Ran, Takes, asked_by, containers_of, made, new_file, publish}
+use Rattle.hound.specs.{Ghosts, Call, Error, WriterState, canonical, Finishes, Ran, Takes, asked_by, containers_of}
 use Rattle.hound.specs.declared.session.Begin.TheVariants.{New}
 use Rattle.hound.specs.declared.session.End.TheVariants.{Finalize}
 use Rattle.hound.specs.declared.session.Step.TheVariants.{Whole}
 use Rattle.hound.proofs.Running.{is_ok}
 use Rattle.hound_callers.proofs.recording.pack_one.Goals as goal
 
--- what is left of the calls of a value is so of one that is the same
-as_value : {M : Type 0} (kind : Ghosts M) (s : WavSpecEx) (file : Begun) (end : M) (v w : ℤ) → v ≡ w
-    → Left kind s file (made (asked_by s (Whole v)) ∷ made publish ∷ []) end
-    → Left kind s file (made (asked_by s (Whole w)) ∷ made publish ∷ []) end
-as_value kind s file end v w same left =
-    subst (λ v. Left kind s file (made (asked_by s (Whole v)) ∷ made publish ∷ []) end)
-    same left
+-- what a value is taken as is so of one that is the same
+as_value : {M : Type 0} (kind : Ghosts M) (answer : Result (Unit {0}) Error) (a b : WriterState M)
+    (v w : ℤ) → v ≡ w → Takes kind (Whole v) answer a b → Takes kind (Whole w) answer a b
+as_value kind answer a b v w same takes = subst (λ v. Takes kind (Whole v) answer a b) same takes
 
 pub returns-in-Err-clause-err : goal.returns-in-Err-clause-err
 returns-in-Err-clause-err g c =
     let M = g.M.Placed in
-    inr (as_value M c.args.spec_ex (new_file (M.state c.args.medium)) _
-    (to_z w32 (of_z w32 c.args.value)) c.args.value (to_z-of_z {w = w32} (search rules))
-    (c.drop_into.ensures.left c.args.spec_ex _ _
-    (c.write_sample.ensures.recorded c.args.spec_ex _ [] c.in_ok-writer.ensures.recorded)))
+    let (end, finishes) = c.drop_into.ensures.finishes in
+    inr (
+      c.in_ok-writer.writer,
+      c.write_sample.new.self,
+      c.in_ok-writer.ensures.begins,
+      inl (
+        as_value M _ _ _ (to_z w32 (of_z w32 c.args.value)) c.args.value (to_z-of_z {w = w32} (search rules))
+            c.in-Err.ensures.accepts,
+        end,
+        finishes,
+      ),
+    )
 
 pub returns-in_default-Err-clause-err : goal.returns-in_default-Err-clause-err
 returns-in_default-Err-clause-err g c =
     let M = g.M.Placed in
-    inr (as_value M c.args.spec_ex (new_file (M.state c.args.medium)) _
-    (to_z w32 (of_z w32 c.args.value)) c.args.value (to_z-of_z {w = w32} (search rules))
-    (c.finalize_into.ensures.left c.args.spec_ex _ _
-    (c.write_sample.ensures.recorded c.args.spec_ex _ [] c.in_ok-writer.ensures.recorded)))
+    inr (
+      c.in_ok-writer.writer,
+      c.write_sample.new.self,
+      c.in_ok-writer.ensures.begins,
+      inr (
+        as_value M _ _ _ (to_z w32 (of_z w32 c.args.value)) c.args.value (to_z-of_z {w = w32} (search rules))
+            (subst (λ r. Takes M (Whole (to_z w32 (of_z w32 c.args.value))) r c.in_ok-writer.writer
+            c.write_sample.new.self) (is_ok c.write_sample.result c.in_default.not-Err) c.write_sample.ensures.accepts),
+        subst (λ e. Finishes M c.write_sample.new.self (Err e) c.finalize_into.result.0) (sym c.in_default-Err.error-is)
+            (subst (λ r. Finishes M c.write_sample.new.self r c.finalize_into.result.0) c.in_default-Err.is-1
+            c.finalize_into.ensures.finishes),
+      ),
+    )
 
 pub returns-in_default-Ok : goal.returns-in_default-Ok
 returns-in_default-Ok g c =

@@ -1,5 +1,5 @@
-use Rattle.std.proofs.Common.{List, [], ◌∷◌, ◌++◌, true, refl, subst, append_assoc}
-use Rattle.hound.specs.{Ghosts, Begun, Known, Left, Recorded, WavSpecEx, WriterState, containers_in, made, marked, publish, seen, write}
+use Rattle.std.proofs.Common.{[], ◌∷◌, ◌++◌, Ok, true, subst, append_assoc}
+use Rattle.hound.specs.{Recorded, answered, containers_in, made, marked, publish, seen, write}
 use Rattle.hound_callers.proofs.recording.publish_and_continue.Goals as goal
 
 pub returns-clause-lasts : goal.returns-clause-lasts
@@ -16,6 +16,17 @@ returns-clause-lasts g c told s file before recorded =
     (c.what_is_kept.ensures.so_far s file known w all) in
     c.what_is_known.ensures.lasts s file before (call ∷ []) holds.left.recorded.calls (M.state w.medium)
     holds.at_end holds.left.recorded.are_known ((λ same. cc), tt)
+
+pub returns-clause-reads : goal.returns-clause-reads
+returns-clause-reads g c told s file known recorded =
+    let M = g.M.Placed in
+    let w = c.write_samples.new.self in
+    let call = made (write (containers_in g.S.Sample.container s c.args.samples.now)) in
+    let all : Recorded M s file (known ++ (answered publish (Ok tt) ∷ (call ∷ []))) w =
+    subst (λ l. Recorded M s file l w)
+    (append_assoc known (answered publish (Ok tt) ∷ []) (call ∷ []))
+    (c.write_samples.ensures.recorded s file _ (c.in_ok-flush.ensures.answered s file _ recorded)) in
+    c.an_ok_flush_is_kept.ensures.now told s file known (call ∷ []) w all ((λ same. cc), tt)
 
 pub returns-clause-calls : goal.returns-clause-calls
 returns-clause-calls g c = (

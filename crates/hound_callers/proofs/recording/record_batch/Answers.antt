@@ -1,7 +1,7 @@
-use Rattle.std.proofs.Common.{◌≡◌, ◌/◌, ℕ, List, Result, Ok, Err, OnOk, length, refl, sym, ap, subst, ◌∙◌, rules}
+use Rattle.std.proofs.Common.{◌≡◌, ◌⊎◌, ◌/◌, ℕ, List, Result, Ok, Err, OnOk, inr, length, refl, sym, ap, subst, ◌∙◌, rules}
 use Rattle.std.proofs.lemmas.List.{take_all}
 use Rattle.std.specs.List.{flat_map}
-use Rattle.hound.specs.{Accepts, batch_bytes, batch_writer, containers, i16_bytes, signed_bytes_of, accepted_samples, data_length, Error}
+use Rattle.hound.specs.{Accepts, AcceptsBytes, Ghosts, IsSameFile, WriterState, batch_bytes, batch_writer, containers, i16_bytes, signed_bytes_of, accepted_samples, data_length, Error}
 use Rattle.hound_callers.proofs.recording.record_batch.Goals as goal
 
 -- at an Ok two values are those of each of these, if two that are equal to them are
@@ -33,3 +33,24 @@ returns-clause-same g c told =
     (subst (λ (x : List ℕ × Result (Unit {0}) Error).
     Accepts W (Ok (list x.0)) x.1 (batch_writer values) last)
     (λ i. (bytes i, is i)) c.flush.ensures.accepts) went)
+
+-- what a call did to a writer that is this one
+calls_of : {M : Type 0} (kind : Ghosts M) (P : Type 0) (first mid last : WriterState M) {given : WriterState M}
+    (bytes wanted : List ℕ) (r : Result (Unit {0}) Error) → last ≡ given → bytes ≡ wanted → IsSameFile first mid
+    → AcceptsBytes kind bytes r mid last
+    → P ⊎ ((m : WriterState M) × IsSameFile first m × AcceptsBytes kind wanted r m given)
+calls_of kind P first mid last bytes wanted r same is stays accepts = inr (
+  mid,
+  stays,
+  subst (λ (x : List ℕ × WriterState _). AcceptsBytes kind x.0 r mid x.1) (λ i. (is i, same i)) accepts,
+)
+
+pub returns-clause-calls : goal.returns-clause-calls
+returns-clause-calls g c =
+    let batch = c.args.batch.now in
+    let values = c.loop-value.values in
+    let bytes : batch_bytes values ≡ i16_bytes batch =
+    c.loop-value.invariant.written
+    ∙ ap (flat_map (signed_bytes_of 2)) (take_all _ batch c.loop-value-test.false) in
+    calls_of g.M.Placed _ c.args.writer.now (batch_writer values) c.flush.new.self.0 (batch_bytes values)
+    (i16_bytes batch) c.flush.result (search rules) bytes c.loop-value.invariant.stays c.flush.ensures.accepts

@@ -1,4 +1,4 @@
-use Rattle.std.proofs.Common.{◌∷◌, [], IsOk, take, arith, refl, sym, subst, length-take}
+use Rattle.std.proofs.Common.{◌∷◌, [], IsOk, take, arith, sym, subst, length-take}
 use Rattle.std.specs.List.{All}
 use Rattle.hound.specs.{made, publish, WavSpecEx}
 use Rattle.hound_types.specs.contracts.twelve.TwelveSample.TheImpl.{ghosts}
@@ -14,7 +14,7 @@ returns g c = (
       let first = take c.publish_blocks-published.result c.args.blocks.now in
       let (more, stops, recorded) =
       c.publish_blocks-published.ensures.published s _ c.in-Ok.ensures.recorded in
-      let kept = c.what_a_loss_leaves.ensures told keeps s _ _ (made publish) refl
+      let kept = c.what_a_loss_leaves.ensures told keeps s _ _ _
       (c.drop_into-durable.ensures.left s _ _ recorded) in (
         c.new.result,
         c.drop_into-durable.result,

@@ -24,6 +24,13 @@ returns g c =
     let file = new_file (M.state c.args.medium) in
     let left = c.drop_into-medium.ensures.left s file _ c.in_ok-writer.ensures in
     record {
+      repaired = if_told c.repair_to_end.result _ c.repair_to_end.ensures.repaired
+          (λ done repairs. (
+            medium,
+            c.go.new.self,
+            left,
+            λ told. ((c.go.ensures told).stays, repairs told),
+          ));
       none_lost = if_told c.repair_to_end.result _ c.repair_to_end.ensures.repaired
           (λ done repairs told keeps.
           let kept = c.what_is_kept.ensures.kept told keeps s file _ medium left in (

@@ -1,4 +1,4 @@
-use Rattle.std.proofs.Common.{refl, sym}
+use Rattle.std.proofs.Common.{sym}
 use Rattle.hound_callers.proofs.recording.record_twelve_through_a_loss.Goals as goal
 
 pub returns : goal.returns
@@ -7,7 +7,7 @@ returns g c told keeps = (
   c.finalize_into-durable.result.0,
   c.new.ensures.within,
   sym c.into_inner-2.ensures,
-  c.what_a_loss_leaves.ensures told keeps _ _ _ _ refl
+  c.what_a_loss_leaves.ensures told keeps _ _ _ _
       (c.finalize_into-durable.ensures.left _ _ _ c.in-Ok.ensures),
 )
 

@@ -9,8 +9,8 @@ use Rattle.hound_repair.proofs.Mending.{half_after, put_ok, repairs_kept}
 use Rattle.hound_repair.proofs.mend.repair_with.Goals as goal
 
 -- a file that isn't found isn't repaired
-not_found : {M : Type 0} (looks : Bool) (state : M → MediumState) (old : M) (r : Result (M × Repair) (M × Error)) (e : M × Error)
-    → r ≡ Err e → IsNotFound (state old) (state e.0) e.1 → RepairsMedium looks state old r
+not_found : {M : Type 0} (looks : Bool) (state : M → MediumState) (old : M)
+    (r : Result (M × Repair) (M × Error)) (e : M × Error) → r ≡ Err e → IsNotFound (state old) (state e.0) e.1 → RepairsMedium looks state old r
 not_found looks state old r e is not = subst (RepairsMedium looks state old) (sym is) (record {
   why = elim not.why [
     | inl fault ↦ inl (fault.0, fault.1, fault.2, not.puts, fault.3)
@@ -20,8 +20,8 @@ not_found looks state old r e is not = subst (RepairsMedium looks state old) (sy
 
 pub returns-in_err-medium-clause-repaired : goal.returns-in_err-medium-clause-repaired
 returns-in_err-medium-clause-repaired g c told =
-    not_found (may_be_chunks c.args.rest) g.M.Placed.state c.args.medium c.from_residual.result c.in_err-medium.field-0.0
-    (search rules) (c.in_err-medium.ensures.finds told)
+    not_found (may_be_chunks c.args.rest) g.M.Placed.state c.args.medium c.from_residual.result
+    c.in_err-medium.field-0.0 (search rules) (c.in_err-medium.ensures.finds told)
 
 pub returns-then-ne-clause-repaired : goal.returns-then-ne-clause-repaired
 returns-then-ne-clause-repaired g c told =

@@ -10,7 +10,8 @@ returns-in-Ok-clause-found g c = grind (arith, common_steps, known_weaker)
 
 pub returns-in-Ok-clause-readable : goal.returns-in-Ok-clause-readable
 returns-in-Ok-clause-readable g c =
-    opens_ok _ _ c.in-Ok.head.spec_ex c.in-Ok.num_samples c.in-Ok.head.data_start c.in-Ok.ensures.found
+    rw c.over.ensures.view
+    (opens_ok _ _ c.in-Ok.head.spec_ex c.in-Ok.num_samples c.in-Ok.head.data_start c.in-Ok.ensures.found)
 
 pub returns-in-Err-clause-refused : goal.returns-in-Err-clause-refused
 returns-in-Err-clause-refused g c =

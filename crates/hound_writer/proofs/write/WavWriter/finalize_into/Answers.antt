@@ -1,6 +1,6 @@
 use Rattle.std.proofs.Common.{refl, rules}
 use Rattle.hound_writer.specs.Accepting.{mark_of}
-use Rattle.hound_writer.specs.Calls.{made, marked, publish}
+use Rattle.hound_writer.specs.Calls.{answered, made, marked, publish}
 use Rattle.hound_writer.proofs.PublishLater.{finishes_of}
 use Rattle.hound_writer.proofs.Recording.{left_by}
 use Rattle.hound_writer.proofs.write.WavWriter.finalize_into.Goals as goal
@@ -22,5 +22,12 @@ pub returns-clause-marked : goal.returns-clause-marked
 returns-clause-marked g c s file known so_far =
     let W = g.W.Placed in
     left_by W (marked publish (mark_of c.publish_all-result.result))
+    c.publish_all-result.result s file known c.args.self c.into_medium.result (refl, refl)
+    (returns-clause-finishes g c) so_far
+
+pub returns-clause-answered : goal.returns-clause-answered
+returns-clause-answered g c s file known so_far =
+    let W = g.W.Placed in
+    left_by W (answered publish c.publish_all-result.result)
     c.publish_all-result.result s file known c.args.self c.into_medium.result (refl, refl)
     (returns-clause-finishes g c) so_far

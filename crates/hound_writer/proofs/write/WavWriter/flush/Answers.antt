@@ -1,6 +1,6 @@
 use Rattle.std.proofs.Common.{refl, rules}
 use Rattle.hound_writer.specs.Accepting.{mark_of}
-use Rattle.hound_writer.specs.Calls.{made, marked, publish}
+use Rattle.hound_writer.specs.Calls.{answered, made, marked, publish}
 use Rattle.hound_writer.proofs.Recording.{recorded_flush}
 use Rattle.hound_writer.proofs.write.WavWriter.flush.Goals as goal
 
@@ -14,4 +14,10 @@ pub returns-clause-marked : goal.returns-clause-marked
 returns-clause-marked g c s file known so_far =
     let W = g.W.Placed in
     recorded_flush W (marked publish (mark_of c.publish_all.result))
+    c.publish_all.result s file known _ _ (refl, refl) so_far (search rules)
+
+pub returns-clause-answered : goal.returns-clause-answered
+returns-clause-answered g c s file known so_far =
+    let W = g.W.Placed in
+    recorded_flush W (answered publish c.publish_all.result)
     c.publish_all.result s file known _ _ (refl, refl) so_far (search rules)
