@@ -52,7 +52,8 @@
 //!
 //! Writing:
 //!
-//! - A pad byte, which the RIFF size counts, follows odd data.
+//! - A pad byte, which the RIFF size counts, follows odd data. Where a full disk has no room for it, the sizes still
+//!   count the samples of an earlier checkpoint.
 //! - Up to 4096 samples are buffered, and 64 KiB more by [`WavWriter::create`] and [`WavWriter::append`]: a
 //!   program that is killed loses what came after its last `flush`, as far as it was there. The header is in the
 //!   file when `create` returns. A fault is reported by the call that meets it; the samples that were accepted stay
