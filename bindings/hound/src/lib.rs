@@ -52,7 +52,8 @@
 //!
 //! Writing:
 //!
-//! - A pad byte, which the RIFF size counts, follows odd data.
+//! - A pad byte, which the RIFF size counts, follows odd data. Where a full disk has no room for it, the sizes still
+//!   count the samples of an earlier checkpoint.
 //! - Up to 4096 samples are buffered, and 64 KiB more by [`WavWriter::create`] and [`WavWriter::append`]: a
 //!   program that is killed loses what came after its last `flush`, as far as it was there. The header is in the
 //!   file when `create` returns. A fault is reported by the call that meets it; the samples that were accepted stay
@@ -62,10 +63,11 @@
 //! - After a write that failed, the next call that writes makes a checkpoint first, and `finalize` tries once more. A
 //!   file is cut off where a block failed; over another writer a part of that block may stay after the data. Readers
 //!   don't count it, as with hound, but [`repair_file`] takes it for samples.
-//! - The file has whole frames alone. `flush` and `finalize` in an unfinished frame store and count those before it,
-//!   then they return `UnfinishedSample`; later samples finish it. hound counts the samples of such a frame, and then
-//!   readers reject the file. They are lost at a drop.
-//! - A writer that panics counts as one that failed. A drop tries to write then, too, and swallows a panic.
+//! - Only whole frames are stored. `flush` and `finalize` in an unfinished frame store and count those before it, then
+//!   they return `UnfinishedSample`. Later samples finish it; at a drop its samples are lost. hound counts them, and
+//!   then readers reject the file.
+//! - A writer that panics counts as one that failed: a drop tries to write, and catches a second panic, with which old
+//!   versions of Rust end the program, as with hound.
 //! - A file that its sizes can't count, which hound makes with wrong sizes, is an `IoError`. So is appending to one
 //!   that is shorter than its header counts (`UnexpectedEof`), if `seek` finds its length: hound counts zeros then.
 //! - A spec that can't be written is `Unsupported`; nothing is written, and an existing file stays as it is. hound

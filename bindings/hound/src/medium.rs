@@ -9,7 +9,7 @@ pub(crate) struct Medium<W> {
     pub(crate) place: Option<u64>, // where the writer is, if that is known
     pub(crate) recorder: Recorder,
     pub(crate) sync: fn(&mut W) -> io::Result<()>,
-    pub(crate) cut: fn(&mut W, u64),
+    pub(crate) cut: fn(&mut W, u64), // takes off what a block that failed has left, if that can be done
     pub(crate) width: usize, // the bytes of a sample, and of a frame
     pub(crate) frame: usize,
     has_panicked: bool, // in an effect of a checkpoint

@@ -144,7 +144,7 @@ impl<W: Write + Seek> Core<W> {
 
     // Writes all whole frames, and the sizes that count those that are written, also where a fault left out others.
     fn publish(&mut self, flushes: bool) -> Result<()> {
-        let room = self.buffer.len() - self.count;
+        let room = self.buffer.len() - self.count; // what these leave of it
         let spilled = self.spill();
         self.buffer.truncate(room);
         let published = self.medium.checkpoint();

@@ -1,17 +1,20 @@
 //! A writer of which each call fails in turn, once or from there on, a write after half of its bytes: after an Ok
 //! `finalize` the original reads the accepted samples, exactly; after an error those of the last `flush` that was Ok, and
 //! maybe more of the accepted. The package keeps this; of the original it is counted. (An append that can't begin leaves the
-//! file as it was.)   faults
+//! file as it was.) And writers that are full at each length: the package counts no fewer samples than the original, but
+//! for those of an odd number of bytes after which a pad byte has no room.   faults
 use dropin::{both, Tally};
 use std::cell::RefCell;
 use std::collections::BTreeMap;
 use std::io::{self, BufWriter, Cursor, Read, Seek, SeekFrom, Write};
 use std::rc::Rc;
 
-/// A file in memory, the calls up to now, which of them fails first, and whether all after it do.
+/// A file in memory, the calls up to now, which of them fails first, and whether all after it do, or how many bytes there
+/// may be.
 #[derive(Default)]
 struct Disk {
     file: Cursor<Vec<u8>>,
+    room: Option<usize>,
     calls: u32,
     fails: u32,
     goes_on: bool,
@@ -34,8 +37,13 @@ impl Faulty {
 impl Write for Faulty {
     fn write(&mut self, bytes: &[u8]) -> io::Result<usize> {
         self.call()?;
+        let mut disk = self.0.borrow_mut();
         let count = if bytes.len() > 3 { bytes.len() / 2 } else { bytes.len() };
-        self.0.borrow_mut().file.write(&bytes[..count])
+        let room = disk.room.map_or(count, |room| room.saturating_sub(disk.file.position() as usize));
+        match count.min(room) {
+            0 => Err(io::Error::new(io::ErrorKind::Other, "full")),
+            count => disk.file.write(&bytes[..count]),
+        }
     }
     fn flush(&mut self) -> io::Result<()> {
         self.call()
@@ -135,8 +143,38 @@ fn outcome(record: &Record, file: &[u8]) -> (bool, &'static str) {
     }
 }
 
+/// How many bytes of samples the header counts.
+fn counted(file: &[u8], start: usize) -> usize {
+    file.get(start - 4..start).map_or(0, |length| u32::from_le_bytes(length.try_into().unwrap()) as usize)
+}
+
+fn full(tally: &mut Tally) {
+    for (bits, is_float) in [(8, false), (16, false), (24, false), (32, false), (32, true)] {
+        let plan = Plan { channels: 1, bits, is_float, burst: 50, appends: false, is_buffered: false };
+        let (start, width) = (if bits > 16 { 68 } else { 44 }, usize::from(bits / 8));
+        for room in 0..1000 {
+            let [original, package] = [by_original::run as fn(&Faulty, Plan) -> Record, by_package::run].map(|run| {
+                let disk = Faulty(Rc::new(RefCell::new(Disk { room: Some(room), ..Disk::default() })));
+                run(&disk, plan);
+                let disk = disk.0.borrow();
+                counted(disk.file.get_ref(), start)
+            });
+            if package >= original {
+                tally.same();
+            } else if original % 2 == 1 && package + width == original && start + original < room {
+                tally.listed("a full file without a pad byte: the last sample isn't counted");
+            } else if original % 2 == 1 && package < original && start + original == room {
+                tally.listed("a full file without a pad byte: the samples after the last checkpoint aren't counted");
+            } else {
+                tally.unexplained(|| format!("{bits} bits {is_float}, full at {room}: {original} bytes, and {package}"));
+            }
+        }
+    }
+}
+
 fn main() {
     let mut tally = Tally::default();
+    full(&mut tally);
     for (name, run) in [("original", by_original::run as fn(&Faulty, Plan) -> Record), ("package", by_package::run)] {
         let mut outcomes = BTreeMap::new();
         let formats = [(1, 8, false), (1, 16, false), (1, 24, false), (1, 32, true), (2, 16, false), (3, 8, false), (5, 24, false)];
