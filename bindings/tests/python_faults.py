@@ -3,7 +3,7 @@
 the system fail. After each the file is read by hand, repaired, and read again: it counts only samples that it
 holds, those from before and each that was reported are there, and none was invented. Where one call failed,
 the file is the one from before, byte for byte, but for a recording. So it is where a signal handler raises at a
-bytecode of a recorder, or threads share it; and a reader whose reads fail loses nothing. Wrong versions have to be found.
+bytecode, or threads share a recorder; and a reader whose reads fail loses nothing. Wrong versions have to be found.
 
 usage: python_faults.py [KILLS [short]]    (200 kills where no number is given; short: fewer of the other runs)
 
@@ -264,6 +264,16 @@ def record(work, path, case, first, count, times):
             print(end, flush=True)
 
 
+def perform(work, path, case, first, end):
+    """Does a task once to a file: these frames come newly, or the file has them."""
+    if work == "repair":
+        hound.repair(path, durable=True)
+    elif work == "write":
+        hound.write(path, samples_of(case, 0, end), 44100, case.channels)
+    else:
+        hound.append(path, samples_of(case, first, end - first), "overwrite" in work, "durable" in work)
+
+
 def program(control, work, path, number, first, count, times):
     """The program that is killed, or whose calls fail: it prints how many frames it has reported."""
     CONTROLS[control]()
@@ -274,12 +284,7 @@ def program(control, work, path, number, first, count, times):
             record(work, path, case, end, int(count), int(times))
         for turn in range(0 if "record" in work else int(times)):
             first, end = end, end + int(count)
-            if work == "repair":
-                hound.repair(path, durable=True)
-            elif work == "write":
-                hound.write(path, samples_of(case, 0, end), 44100, case.channels)
-            else:
-                hound.append(path, samples_of(case, first, end - first), "overwrite" in work, "durable" in work)
+            perform(work, path, case, first, end)
             print(end, flush=True)
     except (OSError, hound.HoundError):
         sys.exit(3)
@@ -511,6 +516,27 @@ def interrupt(folder, step):
     return runs
 
 
+def interrupt_changes(folder, step):
+    """The same of other calls, which do all or nothing."""
+    path, runs = os.path.join(folder, "changed.wav"), 0
+    works = [(work, case) for case in CASES for work in ("append", "durable", "overwrite", "repair")]
+    for number, (work, case) in enumerate(works + [("write", CASES[0]), ("write", CASES[1])]):
+        one = task(work, case, 100, 51)
+        for at in itertools.count(1 + number % step, step):
+            leave(path, one.before)
+            with Interruption(at) as interruption, contextlib.suppress(Interrupted):
+                perform(work, path, case, 100, 151)
+            with open(path, "rb") as file:
+                contents = file.read()
+            if contents not in (one.before, one.done):
+                raise Wrong(f"{one}, interrupted at {at}, {interruption.place}: the file is neither the old nor the new one")
+            runs += 1
+            if interruption.place is None:
+                break
+    print(f"signal handlers that raise in an append, a repair or a write: {runs} runs, none wrong", flush=True)
+    return runs
+
+
 def share(folder, turns):
     """Threads that share a recorder: one writes, two flush."""
     path, blocks = os.path.join(folder, "shared.wav"), 200
@@ -593,9 +619,10 @@ def find_control(control, tried, *arguments):
 
 def tasks(is_short):
     """The tasks whose calls are killed or fail."""
-    works = [(work, case) for case in CASES for work in ("append", "durable", "overwrite", "repair")]
+    works = [(work, case) for case in CASES[:6] for work in ("append", "durable", "overwrite", "repair")]
     works += [("write", CASES[0]), ("write", CASES[1])]
-    works += [(work, case) for case in CASES[2:5] + CASES[6:] for work in ("record", "durable record")]
+    works += [(work, case) for case in CASES[2:5] for work in ("record", "durable record")]
+    works += [(work, case) for case in CASES[6:] for work in ("durable", "repair", "durable record")]
     if is_short:
         works = [("durable", CASES[1]), ("overwrite", CASES[0]), ("repair", CASES[1]), ("write", CASES[0])]
         works += [("durable record", CASES[2]), ("durable", CASES[6]), ("record", CASES[8])]
@@ -622,6 +649,7 @@ def find_controls(folder):
             raise Wrong(f"the wrong version '{control}' isn't found")
     find_control("effects forgotten", interrupt, folder, 7)
     find_control("blocks forgotten", interrupt, folder, 7)
+    find_control("nothing undone", interrupt_changes, folder, 7)
     find_control("nobody waits", share, folder, 20)
     find_control("all held is returned", feed, 20)
 
@@ -636,7 +664,9 @@ def main():
         folder = os.path.realpath(folder)
         find_controls(folder)
         runs = order(folder) + kill(folder, count)
-        runs += interrupt(folder, 59 if is_short else 3) + share(folder, 8 if is_short else 80) + feed(20 if is_short else 200)
+        step = 97 if is_short else 3
+        runs += interrupt(folder, step) + interrupt_changes(folder, step)
+        runs += share(folder, 8 if is_short else 80) + feed(20 if is_short else 200)
         for one in tasks(is_short):
             done, wrong = each_call(folder, one, ["KILL", "ENOSPC", "EIO +"], CHANGES if is_short else None)
             if wrong:

@@ -561,7 +561,8 @@ def _image(descriptor: int) -> Iterator[Tuple[Any, int, int]]:
     counted, with a pad byte or none, and an ID3v1 tag at the end. The others are zeros, and take no memory.
     """
     used = os.fstat(descriptor).st_size
-    memory, loaded = _memory(used + 1), set()  # type: mmap.mmap, Set[int]
+    memory = _memory(used + 1)
+    loaded: Set[int] = set()
 
     def load(count: int, place: int) -> bytes:
         end = min(place + count, used)
