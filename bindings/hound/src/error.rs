@@ -37,19 +37,7 @@ impl fmt::Display for Error {
 }
 
 // As hound's, whose `source` is none.
-#[allow(deprecated)]
 impl error::Error for Error {
-    fn description(&self) -> &str {
-        match self {
-            Error::IoError(error) => error.description(),
-            Error::FormatError(reason) => reason,
-            Error::TooWide => "the sample has more bits than the destination type",
-            Error::UnfinishedSample => "the number of samples written is not a multiple of the number of channels",
-            Error::Unsupported => "the wave format of the file is not supported",
-            Error::InvalidSampleFormat => "the sample format differs from the destination format",
-        }
-    }
-
     fn cause(&self) -> Option<&dyn error::Error> {
         if let Error::IoError(error) = self { Some(error) } else { None }
     }

@@ -75,6 +75,8 @@
 //! - Files of 24 bits in four bytes are appended to.
 //! - `write_sample_unchecked` is checked, and safe: rustc warns of an `unsafe` around it.
 //!
+//! `Error::description`, which is deprecated, has no text of its own.
+//!
 //! `WavReader<R>`, `WavIntoSamples<R, S>` and `WavWriter<W>` aren't covariant in `R` and `W`.
 #![forbid(unsafe_code)]
 #![warn(missing_docs)]

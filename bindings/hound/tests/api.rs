@@ -769,7 +769,6 @@ fn errors_and_formats_are_as_those_of_hound() {
     let error = Error::IoError(io::Error::new(io::ErrorKind::Other, "full"));
     assert!(error.source().is_none() && error.cause().unwrap().to_string() == "full");
     assert!(Error::TooWide.source().is_none() && Error::TooWide.cause().is_none());
-    assert_eq!(Error::TooWide.description(), "the sample has more bits than the destination type");
     assert_eq!((SampleFormat::Float as u8, SampleFormat::Int as u8), (0, 1));
 }
 
