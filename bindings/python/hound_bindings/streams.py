@@ -106,7 +106,8 @@ class Reader(_OneAtATime):
         self._state = _Next(0, [])
         try:
             self._read1 = getattr(self._source, "read1", self._source.read)
-            self._start = self._source.tell() if self._source.seekable() else None
+            can_seek = self._source.seekable() and not disk.is_pipe(self._source)
+            self._start = self._source.tell() if can_seek else None
             self._find_data()
         except BaseException:
             self.close()
@@ -403,7 +404,7 @@ class Writer(_OneAtATime):
             disk.put(descriptor, bytes(effect.bytes)[: effect.length], effect.place)
         elif self._durable and not synced:
             # In one call of C: no signal handler runs before the sync's end is in the list.
-            synced.extend(itertools.chain((None,), map(os.fsync, (descriptor,))))
+            synced.extend(itertools.chain((None,), disk.sync_once(descriptor)))
 
 
 # The Writers, and their files: so a collected cycle of both closes the Writer before its file.
@@ -449,11 +450,11 @@ def create(
         file = disk.File(path, os.O_WRONLY | os.O_CREAT | (os.O_EXCL if exclusive else 0))
         try:
             if durable:
-                os.fsync(folder)
+                disk.sync(folder)
             if os.fstat(file.descriptor).st_size:
                 os.ftruncate(file.descriptor, 0)
             if durable:
-                os.fsync(file.descriptor)
+                disk.sync(file.descriptor)
             disk.put(file.descriptor, header[:length], 0)
             return Writer(file, spec, recorder, durable)
         except BaseException:
@@ -467,7 +468,7 @@ def append_to(path: Path, durable: bool = False) -> Writer:
     file, recorder = disk.File(path, os.O_RDWR), _Recorder()
     try:
         if durable:
-            os.fsync(file.descriptor)
+            disk.sync(file.descriptor)
             disk.sync_folder(path)
         found, _, _ = _end_of_data(file.descriptor, False)
         _checked(_recorder_append(ctypes.byref(found), ctypes.byref(recorder)))
