@@ -333,10 +333,11 @@ class Writer(_OneAtATime):
                 self._out = ctypes.create_string_buffer(length)
             _checked(_encode[given.form.kind](ctypes.byref(self._spec), given.start, given.count, self._out, length))
         self._cut_off()
-        if _recorder_place(ctypes.byref(self._state.recorder), given.count) == -Cause.NEEDS_CHECKPOINT:
+        place = _recorder_place(ctypes.byref(self._state.recorder), given.count)
+        if place == -Cause.NEEDS_CHECKPOINT:
             self._checkpoint()
-        recorder = self._state.recorder
-        place = _checked(_recorder_place(ctypes.byref(recorder), given.count))
+            place = _recorder_place(ctypes.byref(self._state.recorder), given.count)
+        recorder, place = self._state.recorder, _checked(place)
         try:
             self._state = _Recording(recorder, _Block(place, given.count), [])
             disk.put(self._file.descriptor, memoryview(self._out)[:length], place)
@@ -391,8 +392,11 @@ class Writer(_OneAtATime):
         _checked(code)
 
     def _next_effect(self, ok: bool) -> int:
+        """Takes the next effect; a sync only if the file is durable."""
         recorder, effect = _Recorder.from_buffer_copy(self._state.recorder), _Effect()
         code = _checkpoint_next(ctypes.byref(recorder), ok, ctypes.byref(effect))
+        while code == 1 and not (effect.length or self._durable):
+            code = _checkpoint_next(ctypes.byref(recorder), True, ctypes.byref(effect))
         self._state = _Recording(recorder, effect if code == 1 else None, [])
         return code
 
@@ -402,7 +406,7 @@ class Writer(_OneAtATime):
         descriptor, (_, effect, synced) = self._file.descriptor, self._state
         if effect.length:
             disk.put(descriptor, bytes(effect.bytes)[: effect.length], effect.place)
-        elif self._durable and not synced:
+        elif not synced:
             # In one call of C: no signal handler runs before the sync's end is in the list.
             synced.extend(itertools.chain((None,), disk.sync_once(descriptor)))
 
