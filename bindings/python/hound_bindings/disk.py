@@ -11,7 +11,7 @@ from typing import Any, Iterator, Optional, Union
 
 try:
     import fcntl
-except ImportError:  # A system without such locks, as Windows.
+except ImportError:  # It is Windows, or is like it.
     fcntl = None  # type: ignore[assignment]
 
 __all__ = ["File", "folder_of", "is_pipe", "put", "read_at", "replace", "sync", "sync_folder", "sync_once"]
@@ -73,10 +73,10 @@ def sync(descriptor: Optional[int]) -> None:
 def folder_of(path: Any) -> Iterator[Optional[int]]:
     """The descriptor of the folder that has a file's name, also where the path is a link; None where the system opens
     no folders."""
-    if not hasattr(os, "O_DIRECTORY"):
+    if not fcntl:
         yield None
         return
-    folder = os.open(os.path.dirname(os.path.realpath(path)), os.O_RDONLY | os.O_DIRECTORY)
+    folder = os.open(os.path.dirname(os.path.realpath(path)), os.O_RDONLY)
     try:
         yield folder
     finally:

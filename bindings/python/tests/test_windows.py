@@ -89,8 +89,7 @@ class Windows(test_streams.Case):
 
     def test_the_package_has_what_windows_has(self):
         self.assertIsNone(hound.disk.fcntl)
-        for name in "pread", "O_DIRECTORY":
-            self.assertRaises(AttributeError, lambda: getattr(hound.disk.os, name))
+        self.assertRaises(AttributeError, lambda: hound.disk.os.pread)
         self.assertRaises(PermissionError, lambda: hound.disk.os.open(os.path.dirname(self.path), os.O_RDONLY))
 
     def test_durable_files(self):
