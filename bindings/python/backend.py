@@ -6,8 +6,12 @@ import base64
 import hashlib
 import os
 import platform
+import re
+import shutil
+import struct
 import subprocess
 import sysconfig
+import tempfile
 import zipfile
 
 HERE = os.path.dirname(os.path.abspath(__file__))
@@ -15,7 +19,7 @@ NAME, VERSION = "hound_bindings", "0.1.0"
 IS_SDIST = os.path.exists(os.path.join(HERE, "PKG-INFO"))
 BINDINGS = HERE if IS_SDIST else os.path.dirname(HERE)
 LICENSE = os.path.join(HERE if IS_SDIST else os.path.dirname(BINDINGS), "LICENSE")
-CARRIED = os.path.join(BINDINGS, "lib", f"{platform.machine()}-{platform.system()}".lower())
+HEADER, SOURCE = os.path.join(BINDINGS, "c", "hound.h"), os.path.join(BINDINGS, "lib", "hound_c.c")
 METADATA = f"""Metadata-Version: 2.1
 Name: {NAME}
 Version: {VERSION}
@@ -25,36 +29,86 @@ Requires-Python: >=3.8
 """
 
 
+def system():
+    """The system, its processor, and whether this Python has 32 bits, as on some computers of 64 bits."""
+    return platform.system(), platform.machine().lower(), struct.calcsize("P") == 4
+
+
+def compiler():
+    """The words that begin a call of the C compiler: those of CC, or the first compiler that is here."""
+    # On Windows clang may be the one that exports nothing unless it is marked.
+    named, usual = os.environ.get("CC"), ["cc", "gcc", "cl" if system()[0] == "Windows" else "clang"]
+    for words in [named] if named else usual:
+        if shutil.which(words.split()[0]):
+            return words.split()
+    raise SystemExit(f"no C compiler is there ({named or ', '.join(usual)}): set CC to one")
+
+
+def is_msvc(words):
+    """Whether a compiler takes the options of cl."""
+    return os.path.basename(words[0]).lower() in ("cl", "cl.exe", "clang-cl", "clang-cl.exe")
+
+
+def compiling(words, library):
+    """The command that compiles ../lib/hound_c.c."""
+    name, machine, has_32_bits = system()
+    include = os.path.dirname(HEADER)
+    if is_msvc(words):
+        with open(HEADER) as file:
+            exports = re.findall(r"^int(?:32|64)_t (hound_\w+)\(", file.read(), flags=re.M)
+        return [
+            *words, "/nologo", "/O2", "/LD", f"/I{include}", SOURCE, f"/Fo{library}.obj", f"/Fe{library}",
+            "/link", *(f"/EXPORT:{export}" for export in exports),
+        ]  # fmt: skip
+    options = ["-shared", "-std=c99", "-O3", "-I", include]
+    options += ["-static-libgcc"] if name == "Windows" else ["-fPIC"]
+    if name == "Darwin":
+        options += ["-arch", machine]
+    if has_32_bits and re.fullmatch("x86(_64)?|amd64|i[3-6]86", machine):
+        options += ["-m32", "-msse2", "-mfpmath=sse"]
+    return [*words, *options, SOURCE, "-o", library]
+
+
 def shared_library(folder):
     """Makes the shared library in a folder, and returns its path."""
-    named, library = os.environ.get("HOUND_C_LIB"), os.path.join(folder, "libhound_c.so")
-    archive = os.path.join(named or CARRIED, "libhound_c.a")
-    if not named and (os.environ.get("HOUND_C_SOURCE") or not os.path.exists(archive)):
-        source, include = os.path.join(BINDINGS, "lib", "hound_c.c"), os.path.join(BINDINGS, "c")
-        parts = ["-std=c99", "-O3", "-fPIC", "-I", include, source]
-    elif os.path.exists(archive):
-        parts = ["-Wl,--whole-archive", archive, "-Wl,--no-whole-archive"]
-    else:
+    name, machine, has_32_bits = system()
+    library = os.path.join(folder, "hound_c.dll" if name == "Windows" else "libhound_c.so")
+    named = os.environ.get("HOUND_C_LIB")
+    archive = os.path.join(named or os.path.join(BINDINGS, "lib", f"{machine}-{name.lower()}"), "libhound_c.a")
+    is_carried = not (has_32_bits or os.environ.get("HOUND_C_SOURCE")) and os.path.exists(archive)
+    if named and not os.path.exists(archive):
         raise SystemExit(f"{archive} isn't there: HOUND_C_LIB has to name the folder that holds it")
-    compiler = os.environ.get("CC", "cc")
-    try:
-        subprocess.run([*compiler.split(), "-shared", *parts, "-o", library], check=True)
-    except FileNotFoundError:
-        raise SystemExit(f"no C compiler is there ({compiler}): set CC to one") from None
+    words = compiler()
+    if named or is_carried:
+        command = [*words, "-shared", "-Wl,--whole-archive", archive, "-Wl,--no-whole-archive", "-o", library]
+    else:
+        command = compiling(words, library)
+    subprocess.run(command, check=True)
     return library
+
+
+def wheel_tag():
+    """What the wheel is for: this system, and the processor that its library is for."""
+    name, machine, has_32_bits = system()
+    if name == "Darwin":  # Python may have the code for two processors, and be for older systems.
+        major, minor = (platform.mac_ver()[0].split(".") + ["0"])[:2]
+        return f"py3-none-macosx_{major}_{minor if major == '10' else '0'}_{machine}"
+    tag = "py3-none-" + sysconfig.get_platform().replace("-", "_").replace(".", "_")
+    if name == "Linux" and has_32_bits:
+        return tag.replace("x86_64", "i686").replace("aarch64", "armv7l")
+    return tag
 
 
 def build_wheel(wheel_directory, config_settings=None, metadata_directory=None):
     """Writes the wheel, and returns its file name."""
-    tag = "py3-none-" + sysconfig.get_platform().replace("-", "_").replace(".", "_")
-    library = shared_library(wheel_directory)
-    files = {}
+    tag, files = wheel_tag(), {}
     for name in ("__init__.py", "disk.py", "streams.py", "py.typed"):
         with open(os.path.join(HERE, NAME, name), "rb") as file:
             files[f"{NAME}/{name}"] = file.read()
-    with open(library, "rb") as file:
-        files[f"{NAME}/libhound_c.so"] = file.read()
-    os.remove(library)
+    with tempfile.TemporaryDirectory() as folder:
+        library = shared_library(folder)
+        with open(library, "rb") as file:
+            files[f"{NAME}/{os.path.basename(library)}"] = file.read()
     info = f"{NAME}-{VERSION}.dist-info"
     with open(LICENSE, "rb") as file:
         files[f"{info}/LICENSE"] = file.read()

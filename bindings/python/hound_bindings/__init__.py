@@ -4,7 +4,8 @@ A file is a path; `info`, `read` and `read_into` take its bytes, too. Samples ar
 anything with a buffer, such as a numpy array; two dimensions are frames by channels.
 
 A file that is recorded to, appended to, repaired or replaced is locked (`flock`): what another program, or a Writer of
-this one, has locked is a BlockingIOError. Programs without such locks may not change a file during a call.
+this one, has locked is a BlockingIOError. Programs without such locks may not change a file during a call. Windows has
+none, and of what is `durable` it syncs files, but no folders.
 """
 import array
 import contextlib
@@ -143,7 +144,8 @@ class _Repair(ctypes.Structure):
     _fields_ = [("spec", _Spec), ("frames", ctypes.c_uint32), ("left_over", ctypes.c_uint32), ("state", ctypes.c_uint32)]
 
 
-_LIBRARY = ctypes.CDLL(os.environ.get("HOUND_C_LIBRARY") or os.path.join(os.path.dirname(__file__), "libhound_c.so"))
+_NAME = "hound_c.dll" if os.name == "nt" else "libhound_c.so"
+_LIBRARY = ctypes.CDLL(os.environ.get("HOUND_C_LIBRARY") or os.path.join(os.path.dirname(__file__), _NAME))
 _POINTER, _SIZE, _U64, _I64 = ctypes.c_void_p, ctypes.c_size_t, ctypes.c_uint64, ctypes.c_int64
 _SPARE = ctypes.create_string_buffer(16)
 
@@ -279,7 +281,9 @@ _MAP_NORESERVE = getattr(mmap, "MAP_NORESERVE", 0x4000 if sys.platform == "linux
 
 
 def _memory(size: int) -> mmap.mmap:
-    """So much memory, whose pages cost nothing until they are written."""
+    """So much memory, whose pages cost nothing until they are written, but that Windows reserves it."""
+    if not hasattr(mmap, "MAP_PRIVATE"):
+        return mmap.mmap(-1, size)
     return mmap.mmap(-1, size, flags=mmap.MAP_PRIVATE | mmap.MAP_ANONYMOUS | _MAP_NORESERVE)
 
 
@@ -473,7 +477,7 @@ def write(
             device.write(content)
             if durable:
                 device.flush()
-                os.fsync(device.fileno())
+                disk.sync(device.fileno())
         return len(content)
     with _locked_if_there(path):
         pass  # What may not be replaced is an error before anything is written.
@@ -483,17 +487,17 @@ def write(
             with io.open(part, "xb", buffering=0) as file:
                 disk.put(file.fileno(), content, 0)
                 if durable:
-                    os.fsync(file.fileno())
-            with _locked_if_there(path):
+                    disk.sync(file.fileno())
+            with _locked_if_there(path) as older:
                 if os.path.exists(name):
                     shutil.copymode(name, part)
-                os.replace(part, name)
+                disk.replace(part, name, older)
         except BaseException:
             with contextlib.suppress(OSError):
                 os.unlink(part)
             raise
         if durable:
-            os.fsync(folder)
+            disk.sync(folder)
     return len(content)
 
 
@@ -517,7 +521,7 @@ def _change(
 
     def sync() -> None:
         if durable:
-            os.fsync(descriptor)
+            disk.sync(descriptor)
 
     def put_sizes(head: bytes) -> None:
         for content, place in _sizes(head):

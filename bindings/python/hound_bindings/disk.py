@@ -1,27 +1,43 @@
-"""Files on disk: how they are opened, locked, read and written. What fails there is an OSError."""
+"""Files on disk: how they are opened, locked, read, written and synced. What fails there is an OSError.
+
+Windows has no `os.pread`, `os.pwrite` and `fcntl`, opens no folders, and replaces no open file.
+"""
 import contextlib
 import errno
 import io
 import os
-from typing import Any, Iterator, Union
+import stat
+from typing import Any, Iterator, Optional, Union
 
 try:
     import fcntl
-except ImportError:  # A system without such locks, as Windows.
+except ImportError:  # It is Windows, or is like it.
     fcntl = None  # type: ignore[assignment]
 
-__all__ = ["File", "folder_of", "put", "read_at", "sync_folder"]
+__all__ = ["File", "folder_of", "is_pipe", "put", "read_at", "replace", "sync", "sync_folder", "sync_once"]
 
 _IS_LOCKED = "another program records to, appends to or repairs this file"
+# Without it Windows changes the bytes of lines' ends.
+_BINARY = getattr(os, "O_BINARY", 0)
 # How many bytes are read at once, so that a file which is shorter than its header says needs no memory for the rest.
 _PIECE = 1 << 20
 
 
+def _pread(descriptor: int, count: int, place: int) -> bytes:
+    os.lseek(descriptor, place, os.SEEK_SET)
+    return os.read(descriptor, count)
+
+
+def _pwrite(descriptor: int, content: Any, place: int) -> int:
+    os.lseek(descriptor, place, os.SEEK_SET)
+    return os.write(descriptor, content)
+
+
 def read_at(descriptor: int, count: int, place: int) -> bytes:
     """So many bytes from a place on, and fewer only at the end of the file."""
-    content = bytearray()
+    content, read = bytearray(), getattr(os, "pread", _pread)
     while len(content) < count:
-        piece = os.pread(descriptor, min(count - len(content), _PIECE), place + len(content))
+        piece = read(descriptor, min(count - len(content), _PIECE), place + len(content))
         if not piece:
             break
         content += piece
@@ -30,18 +46,36 @@ def read_at(descriptor: int, count: int, place: int) -> bytes:
 
 def put(descriptor: int, content: Any, place: int) -> None:
     """Writes all of this at a place of a file."""
+    write = getattr(os, "pwrite", _pwrite)
     with memoryview(content) as left:
         done = 0
         while done < len(left):
-            count = os.pwrite(descriptor, left[done:], place + done)
+            count = write(descriptor, left[done:], place + done)
             if count == 0:
                 raise OSError(errno.EIO, "the system wrote none of the bytes that it was given")
             done += count
 
 
+def sync_once(descriptor: int) -> Iterator[Any]:
+    """Syncs a file or a folder when its one item is taken, in one call of C. On macOS a disk stores what was written
+    only by F_FULLFSYNC."""
+    full_sync = getattr(fcntl, "F_FULLFSYNC", None)
+    return map(os.fsync, (descriptor,)) if full_sync is None else map(fcntl.fcntl, (descriptor,), (full_sync,))
+
+
+def sync(descriptor: Optional[int]) -> None:
+    """Stores what a file has, or the names in a folder, if the system opens folders."""
+    if descriptor is not None:
+        next(sync_once(descriptor))
+
+
 @contextlib.contextmanager
-def folder_of(path: Any) -> Iterator[int]:
-    """The descriptor of the folder that has a file's name, also where the path is a link."""
+def folder_of(path: Any) -> Iterator[Optional[int]]:
+    """The descriptor of the folder that has a file's name, also where the path is a link; None where the system opens
+    no folders."""
+    if not fcntl:
+        yield None
+        return
     folder = os.open(os.path.dirname(os.path.realpath(path)), os.O_RDONLY)
     try:
         yield folder
@@ -50,14 +84,24 @@ def folder_of(path: Any) -> Iterator[int]:
 
 
 def sync_folder(path: Any) -> None:
-    """Stores the name of a file."""
+    """Stores the name of a file, if the system opens folders."""
     with folder_of(path) as folder:
-        os.fsync(folder)
+        sync(folder)
+
+
+def is_pipe(file: Any) -> bool:
+    """Whether a file is a pipe or a terminal: Python on Windows says that these can be sought in, too."""
+    try:
+        mode = os.fstat(file.fileno()).st_mode
+    except (AttributeError, OSError):  # It isn't one of the system.
+        return False
+    return stat.S_ISFIFO(mode) or stat.S_ISCHR(mode)
 
 
 class File:
     """The file at a path, open and locked: no other program that uses this package records to it, appends to it
-    or repairs it, and no other `File` of this program is at it. Where the system has no such locks, it isn't locked."""
+    or repairs it, and no other `File` of this program is at it. Where the system has no such locks, as on Windows, it
+    isn't locked."""
 
     def __init__(self, path: Union[str, "os.PathLike[str]"], flags: int) -> None:
         self.path = path
@@ -65,10 +109,10 @@ class File:
         # each time, so that none seems to be at its path: there is a last attempt.
         for is_last in (False,) * 9 + (True,):
             self.is_closed = False
-            self._file = io.open(path, "rb", buffering=0, opener=lambda path, _: os.open(path, flags, 0o666))
+            self._file = io.open(path, "rb", buffering=0, opener=lambda path, _: os.open(path, flags | _BINARY, 0o666))
             try:
                 self._lock()
-                if is_last or self._is_at_path():
+                if is_last or not fcntl or self._is_at_path():
                     return
             except BaseException:
                 self.close()
@@ -107,3 +151,10 @@ class File:
             if fcntl and is_unlocked and not self._file.closed:
                 fcntl.flock(self.descriptor, fcntl.LOCK_UN)
         self._file.close()
+
+
+def replace(part: str, name: str, older: Optional[File]) -> None:
+    """Renames a file to the name of an older one, which is locked; or which is closed first where nothing is locked."""
+    if older and not fcntl:
+        older.close()
+    os.replace(part, name)

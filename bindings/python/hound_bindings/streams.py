@@ -106,7 +106,8 @@ class Reader(_OneAtATime):
         self._state = _Next(0, [])
         try:
             self._read1 = getattr(self._source, "read1", self._source.read)
-            self._start = self._source.tell() if self._source.seekable() else None
+            can_seek = self._source.seekable() and not disk.is_pipe(self._source)
+            self._start = self._source.tell() if can_seek else None
             self._find_data()
         except BaseException:
             self.close()
@@ -332,10 +333,11 @@ class Writer(_OneAtATime):
                 self._out = ctypes.create_string_buffer(length)
             _checked(_encode[given.form.kind](ctypes.byref(self._spec), given.start, given.count, self._out, length))
         self._cut_off()
-        if _recorder_place(ctypes.byref(self._state.recorder), given.count) == -Cause.NEEDS_CHECKPOINT:
+        place = _recorder_place(ctypes.byref(self._state.recorder), given.count)
+        if place == -Cause.NEEDS_CHECKPOINT:
             self._checkpoint()
-        recorder = self._state.recorder
-        place = _checked(_recorder_place(ctypes.byref(recorder), given.count))
+            place = _recorder_place(ctypes.byref(self._state.recorder), given.count)
+        recorder, place = self._state.recorder, _checked(place)
         try:
             self._state = _Recording(recorder, _Block(place, given.count), [])
             disk.put(self._file.descriptor, memoryview(self._out)[:length], place)
@@ -390,8 +392,11 @@ class Writer(_OneAtATime):
         _checked(code)
 
     def _next_effect(self, ok: bool) -> int:
+        """Takes the next effect; a sync only if the file is durable."""
         recorder, effect = _Recorder.from_buffer_copy(self._state.recorder), _Effect()
         code = _checkpoint_next(ctypes.byref(recorder), ok, ctypes.byref(effect))
+        while code == 1 and not (effect.length or self._durable):
+            code = _checkpoint_next(ctypes.byref(recorder), True, ctypes.byref(effect))
         self._state = _Recording(recorder, effect if code == 1 else None, [])
         return code
 
@@ -401,9 +406,9 @@ class Writer(_OneAtATime):
         descriptor, (_, effect, synced) = self._file.descriptor, self._state
         if effect.length:
             disk.put(descriptor, bytes(effect.bytes)[: effect.length], effect.place)
-        elif self._durable and not synced:
+        elif not synced:
             # In one call of C: no signal handler runs before the sync's end is in the list.
-            synced.extend(itertools.chain((None,), map(os.fsync, (descriptor,))))
+            synced.extend(itertools.chain((None,), disk.sync_once(descriptor)))
 
 
 # The Writers, and their files: so a collected cycle of both closes the Writer before its file.
@@ -449,11 +454,11 @@ def create(
         file = disk.File(path, os.O_WRONLY | os.O_CREAT | (os.O_EXCL if exclusive else 0))
         try:
             if durable:
-                os.fsync(folder)
+                disk.sync(folder)
             if os.fstat(file.descriptor).st_size:
                 os.ftruncate(file.descriptor, 0)
             if durable:
-                os.fsync(file.descriptor)
+                disk.sync(file.descriptor)
             disk.put(file.descriptor, header[:length], 0)
             return Writer(file, spec, recorder, durable)
         except BaseException:
@@ -467,7 +472,7 @@ def append_to(path: Path, durable: bool = False) -> Writer:
     file, recorder = disk.File(path, os.O_RDWR), _Recorder()
     try:
         if durable:
-            os.fsync(file.descriptor)
+            disk.sync(file.descriptor)
             disk.sync_folder(path)
         found, _, _ = _end_of_data(file.descriptor, False)
         _checked(_recorder_append(ctypes.byref(found), ctypes.byref(recorder)))

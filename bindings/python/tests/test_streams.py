@@ -120,6 +120,30 @@ class Streams(Case):
             self.assertEqual(source.read(10), b"rest")
         thread.join()
 
+    def test_a_pipe_that_says_that_it_can_be_sought_in(self):
+        """As Python says of each one on Windows, where a seek does nothing."""
+
+        class Pipe(io.FileIO):
+            def seekable(self):
+                return True
+
+            def tell(self):
+                return 0
+
+            def seek(self, place, whence=0):
+                return place
+
+        content = by_hand(SAMPLES.tobytes(), b"LIST" + struct.pack("<I", 1000) + bytes(1000))
+        for opened in Pipe, lambda pipe: io.BufferedReader(Pipe(pipe), 64):
+            inner, outer = os.pipe()
+            os.write(outer, content + b"rest")
+            os.close(outer)
+            with opened(inner) as source:
+                reader = hound.open(source)
+                self.assertEqual((reader.read(2), reader.read()), (SAMPLES[:4], SAMPLES[4:]))
+                self.assertRaises(io.UnsupportedOperation, lambda: reader.seek(0))
+                self.assertEqual(source.read(10), b"rest")
+
     def test_a_file_within_another(self):
         source = io.BytesIO(b"before" + made_by_wave(SAMPLES))
         source.seek(6)
@@ -396,6 +420,23 @@ class Recordings(Case):
         with Calls() as calls:
             hound.append_to(self.path, durable=True).close()
         self.assertEqual(calls.made[:2], ["sync", "sync of the folder"])
+
+    def test_a_sync_on_macos(self):
+        """It is F_FULLFSYNC: after an `fsync` the disk may still lose what was written."""
+        full = unittest.mock.patch("fcntl.F_FULLFSYNC", 51, create=True)
+        wrong = unittest.mock.patch("os.fsync", side_effect=AssertionError)
+        with full, wrong, unittest.mock.patch("fcntl.fcntl") as control:
+            with hound.create(self.path, 8000, 2, 16, durable=True) as writer:
+                writer.write(SAMPLES)
+            self.assertEqual([call[0][1] for call in control.call_args_list], [51] * 4)
+            hound.append(self.path, SAMPLES, durable=True)
+            hound.write(self.path, SAMPLES, 8000, durable=True)
+            self.assertEqual([call[0][1] for call in control.call_args_list], [51] * 9)
+            control.side_effect = OSError(errno.EIO, "a fault")
+            writer = hound.append_to(self.path)
+            writer._durable = True
+            self.assertRaises(OSError, writer.flush)
+            self.fails(Cause.SYNC_FAILED, writer.close)
 
     def test_calls_that_fail(self):
         """A write that fails loses only its block, a checkpoint is made again, and a sync that failed ends all."""

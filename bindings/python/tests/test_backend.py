@@ -1,0 +1,120 @@
+"""What `pip install` builds on this computer, and which command it calls on others."""
+import os
+import subprocess
+import sys
+import tempfile
+import unittest
+from unittest import mock
+
+sys.path.insert(0, os.path.dirname(os.path.dirname(os.path.abspath(__file__))))
+import backend  # noqa: E402
+
+
+def on(name, machine, has_32_bits=False):
+    return mock.patch("backend.system", lambda: (name, machine, has_32_bits))
+
+
+def compilers(*names):
+    """These compilers are here, and no others."""
+    return mock.patch("shutil.which", lambda name: name if name in names else None)
+
+
+class Backend(unittest.TestCase):
+    def setUp(self):
+        folder = tempfile.TemporaryDirectory()
+        self.addCleanup(folder.cleanup)
+        self.folder = folder.name
+        environment = mock.patch.dict(os.environ)
+        environment.start()
+        self.addCleanup(environment.stop)
+        for name in "CC", "HOUND_C_LIB", "HOUND_C_SOURCE":
+            os.environ.pop(name, None)
+
+    def command(self):
+        """The command that would be called."""
+        with mock.patch("subprocess.run") as run:
+            library = backend.shared_library(self.folder)
+        words = run.call_args[0][0]
+        self.assertIn(library, words[words.index("-o") + 1] if "-o" in words else " ".join(words))
+        return words, os.path.basename(library)
+
+    def test_the_compiler_is_the_first_that_is_here(self):
+        for name, here, wanted in (
+            ("Linux", ("gcc", "cc", "clang"), "cc"),
+            ("Linux", ("clang", "gcc"), "gcc"),
+            ("Darwin", ("clang",), "clang"),
+            ("Windows", ("clang", "cl", "gcc"), "gcc"),
+            ("Windows", ("clang", "cl"), "cl"),
+        ):
+            with on(name, "riscv64"), compilers(*here):
+                self.assertEqual(self.command()[0][0], wanted)
+        os.environ["CC"] = "mine -g"
+        with compilers("cc", "mine"):
+            self.assertEqual(self.command()[0][:2], ["mine", "-g"])
+
+    def test_no_compiler_is_here(self):
+        for named, name, sought in (
+            ("", "Linux", "cc, gcc, clang"),
+            ("", "Windows", "cc, gcc, cl"),
+            ("mine -g", "Linux", "mine -g"),
+        ):
+            os.environ["CC"] = named
+            with on(name, "riscv64"), compilers(), self.assertRaisesRegex(SystemExit, rf"\({sought}\): set CC to one"):
+                backend.shared_library(self.folder)
+
+    def test_the_library_is_carried_or_compiled(self):
+        for machine, has_32_bits, is_carried in (
+            ("x86_64", False, True),
+            ("aarch64", False, True),
+            ("x86_64", True, False),
+            ("aarch64", True, False),
+            ("riscv64", False, False),
+        ):
+            with on("Linux", machine, has_32_bits):
+                words, library = self.command()
+            self.assertEqual(library, "libhound_c.so")
+            self.assertEqual([word.endswith("libhound_c.a") for word in words].count(True), is_carried)
+            self.assertEqual([word.endswith("hound_c.c") for word in words].count(True), not is_carried)
+            self.assertEqual({"-m32", "-msse2", "-mfpmath=sse"} <= set(words), machine == "x86_64" and has_32_bits)
+
+    def test_windows_and_macos(self):
+        with on("Windows", "amd64"), compilers("cl"):
+            words, library = self.command()
+        self.assertEqual(library, "hound_c.dll")
+        exports = [word for word in words if word.startswith("/EXPORT:hound_")]
+        self.assertEqual((len(set(exports)), words[-len(exports) - 1]), (36, "/link"))
+        with on("Windows", "amd64"), compilers("gcc"):
+            self.assertEqual(self.command()[1], "hound_c.dll")
+        with on("Darwin", "arm64"):
+            words, library = self.command()
+        self.assertEqual((words[words.index("-arch") + 1], library), ("arm64", "libhound_c.so"))
+
+    def test_tags(self):
+        for system, platform, version, tag in (
+            (("Linux", "x86_64", False), "linux-x86_64", "", "linux_x86_64"),
+            (("Linux", "x86_64", True), "linux-x86_64", "", "linux_i686"),
+            (("Linux", "i686", True), "linux-i686", "", "linux_i686"),
+            (("Linux", "aarch64", True), "linux-aarch64", "", "linux_armv7l"),
+            (("Windows", "amd64", False), "win-amd64", "", "win_amd64"),
+            (("Windows", "amd64", True), "win32", "", "win32"),
+            (("Darwin", "arm64", False), "macosx-10.9-universal2", "14.5.1", "macosx_14_0_arm64"),
+            (("Darwin", "x86_64", False), "macosx-10.9-universal2", "10.15.7", "macosx_10_15_x86_64"),
+            (("Darwin", "x86_64", False), "macosx-11-x86_64", "11", "macosx_11_0_x86_64"),
+        ):
+            mac = mock.patch("platform.mac_ver", return_value=(version, (), ""))
+            with on(*system), mac, mock.patch("sysconfig.get_platform", return_value=platform):
+                self.assertEqual(backend.wheel_tag(), f"py3-none-{tag}")
+
+    def test_32_bits_on_a_computer_of_64(self):
+        try:
+            with on("Linux", "x86_64", True):
+                library = backend.shared_library(self.folder)
+        except subprocess.CalledProcessError:
+            self.skipTest("no compiler for i386 is here")
+        with open(library, "rb") as file:
+            head = file.read(20)
+        self.assertEqual((head[:5], head[18:]), (b"\x7fELF\1", b"\3\0"))  # of 32 bits, for i386
+
+
+if __name__ == "__main__":
+    unittest.main()

@@ -1,0 +1,164 @@
+"""The tests of the package with no more of the system's modules than Python has of them on Windows, where no folder can
+be opened, no open file be replaced, and no file be synced that is only read."""
+import contextlib
+import ctypes  # noqa: F401
+import errno
+import fcntl
+import inspect
+import mmap
+import os
+import re
+import secrets  # noqa: F401
+import shutil  # noqa: F401
+import sys
+import tempfile
+import types
+import unittest
+import unittest.mock
+
+# What the package may use of these modules.
+NAMES = {
+    os: (
+        "O_CREAT O_EXCL O_RDONLY O_RDWR O_WRONLY PathLike SEEK_SET close environ fsdecode fspath fstat fsync ftruncate"
+        " getpid lseek name path read stat unlink write"
+    ),
+    mmap: "mmap",
+}
+# What tests use of this system that Windows hasn't, or that this file has in another way.
+UNIX = "pread|pwrite|Calls|fcntl|fork|mkfifo|set_blocking|subprocess|BlockingIOError|_folder_|synced|may_not_replace"
+O_BINARY = 1 << 40
+
+
+class OnWindows(types.ModuleType):
+    """What Windows has of a module of this system."""
+
+    def __init__(self, module, **others):
+        super().__init__(module.__name__)
+        self.module, self.names = module, NAMES[module].split()
+        vars(self).update(others)
+
+    def __getattr__(self, name):
+        if name not in self.names:
+            raise AttributeError(f"{self.__name__}.{name} isn't there on Windows")
+        return getattr(self.module, name)
+
+
+def denied(path):
+    return PermissionError(errno.EACCES, os.strerror(errno.EACCES), path)
+
+
+def open_file(path, flags, mode=0o777):
+    if os.path.isdir(path):
+        raise denied(path)
+    if not flags & O_BINARY:
+        raise AssertionError(f"{path} isn't opened as binary")
+    return os.open(path, flags & ~O_BINARY, mode)
+
+
+def replace(old, new):
+    for descriptor in os.listdir("/proc/self/fd"):
+        if os.path.realpath(f"/proc/self/fd/{descriptor}") == os.path.realpath(new):
+            raise denied(new)
+    os.replace(old, new)
+
+
+def imported():
+    """Imports the package as on Windows."""
+    windows = {"fcntl": None, "mmap": OnWindows(mmap)}
+    windows["os"] = OnWindows(os, O_BINARY=O_BINARY, open=open_file, replace=replace)
+    here = {name: sys.modules[name] for name in windows}
+    sys.modules.update(windows)
+    try:
+        import hound_bindings
+    finally:
+        sys.modules.update(here)
+    return hound_bindings
+
+
+hound = imported()
+import test_files  # noqa: E402
+import test_streams  # noqa: E402
+from test_streams import SAMPLES, content_of, made_by_wave  # noqa: E402
+
+
+class Windows(test_streams.Case):
+    def setUp(self):
+        folder = tempfile.TemporaryDirectory()
+        self.addCleanup(folder.cleanup)
+        self.path = os.path.join(folder.name, "a.wav")
+
+    def test_the_package_has_what_windows_has(self):
+        self.assertIsNone(hound.disk.fcntl)
+        self.assertRaises(AttributeError, lambda: hound.disk.os.pread)
+        self.assertRaises(PermissionError, lambda: hound.disk.os.open(os.path.dirname(self.path), os.O_RDONLY))
+
+    def test_durable_files(self):
+        """Only their folders aren't synced."""
+        one, synced = SAMPLES, []
+
+        def sync(descriptor):
+            self.assertNotEqual(fcntl.fcntl(descriptor, fcntl.F_GETFL) & os.O_ACCMODE, os.O_RDONLY)
+            synced.append(os.fstat(descriptor).st_size)
+
+        patch = unittest.mock.patch("os.fsync", sync)
+        patch.start()
+        self.addCleanup(patch.stop)
+        for _ in range(2):  # The second file replaces the first one.
+            hound.write(self.path, one[:2], 8000, 2, durable=True)
+        hound.append(self.path, one[2:6], durable=True)
+        with hound.append_to(self.path, durable=True) as writer:
+            writer.write(one[6:])
+        self.assertEqual(synced, [48, 48, 56, 56, 56, 64, 64])
+        self.assertEqual(content_of(self.path), made_by_wave(one))
+        with hound.create(self.path, 8000, 2, 16, durable=True) as writer:
+            writer.write(one)
+            self.assertRaises(PermissionError, lambda: hound.write(self.path, one, 8000))  # It is open.
+        self.assertEqual(content_of(self.path), made_by_wave(one))
+        self.assertEqual(os.listdir(os.path.dirname(self.path)), ["a.wav"])
+
+    def test_short_writes_continue(self):
+        write = os.write
+        with unittest.mock.patch("os.write", lambda file, content: write(file, content[:3])):
+            hound.write(self.path, SAMPLES[:4], 8000, 2)
+            with hound.append_to(self.path) as writer:
+                writer.write(SAMPLES[4:])
+        self.assertEqual(content_of(self.path), made_by_wave(SAMPLES))
+
+    def test_writes_that_fail(self):
+        """An append leaves the file as it was, and a recording has the other blocks."""
+        write, made = os.write, []
+
+        def put(file, content):
+            made.append(content)
+            if len(made) == failing:
+                raise OSError(errno.ENOSPC, "a fault")
+            return write(file, content)
+
+        for failing in 1, 2, 3:
+            hound.write(self.path, SAMPLES[:4], 8000, 2)
+            accepted = SAMPLES[:4]
+            with unittest.mock.patch("os.write", put), hound.append_to(self.path) as writer:
+                made.clear()
+                for first in 4, 6, 8:
+                    with contextlib.suppress(OSError):
+                        writer.write(SAMPLES[first : first + 2])
+                        accepted += SAMPLES[first : first + 2]
+            self.assertEqual(len(accepted), 8)
+            self.assertEqual(content_of(self.path), made_by_wave(accepted))
+            with unittest.mock.patch("os.write", put):
+                made.clear()
+                if failing < 3:
+                    self.assertRaises(OSError, lambda: hound.append(self.path, SAMPLES))
+                    self.assertEqual(content_of(self.path), made_by_wave(accepted))
+
+
+def load_tests(loader, tests, _):
+    for case in test_files.Files, test_streams.Streams, test_streams.Recordings:
+        for name in loader.getTestCaseNames(case):
+            if not re.search(UNIX, inspect.getsource(getattr(case, name))):
+                tests.addTest(case(name))
+    return tests
+
+
+if __name__ == "__main__":
+    unittest.main()
