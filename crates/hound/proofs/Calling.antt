@@ -34,6 +34,28 @@ last_of (one ∷ two ∷ list) some =
     let (first, last, parts) = last_of (two ∷ list) (omega arith) in
     (one ∷ first, last, ap (λ l. one ∷ l) parts)
 
+module _ {W : Type 0} (kind : Ghosts W) where
+  -- calls that go on where others ended
+  pub lead_join : (first later : List Call) (a b c : WriterState W) → Lead kind first a b
+      → Lead kind later b c → Lead kind (first ++ later) a c
+  lead_join [] [] a b c (memory, is) (other, then) =
+      (other, then ∙ ap (λ (w : WriterState W). with_memory w other) is)
+  lead_join [] (call ∷ later) a b c (memory, is) (other, mid, at, does, rest) = (
+    other,
+    mid,
+    at ∙ ap (λ (w : WriterState W). length (kind.state w.medium).past) is,
+    subst (λ (w : WriterState W). Does kind call.asked call.answer (with_memory w other) mid) is does,
+    rest,
+  )
+  lead_join (call ∷ first) later a b c (memory, mid, at, does, rest) then =
+      (memory, mid, at, does, lead_join first later mid b c rest then)
+
+  -- they began where the writer was then
+  pub lead_begins : (later : List Call) (b c : WriterState W) → Lead kind later b c
+      → begins_at later (kind.state c.medium).past ≡ length (kind.state b.medium).past
+  lead_begins [] b c (memory, is) = ap (λ (w : WriterState W). length (kind.state w.medium).past) is
+  lead_begins (call ∷ later) b c (memory, mid, at, does, rest) = at
+
 module _ {W : Type 0} (kind : Ghosts W) (told : IsTrue kind.tells) where
   -- what calls that accepted these led to
   pub record Went (list : List (List ℕ)) (old new : WriterState W) : Type 0 where

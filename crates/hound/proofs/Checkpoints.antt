@@ -139,24 +139,29 @@ ok_holds s file before after calls m end are none =
           (publish_none after last after_are none) frames,
     )
 
--- so it is in each state since the flush returned
-pub ok_holds_at_each : (s : WavSpecEx) (file : Begun) (before after : List Known) (calls : List Call)
-    (m : MediumState) → Keeps s file calls m
-    → AreKnown (before ++ (answered publish (Ok tt) ∷ after)) calls
-    → AllByRecursion (λ (one : Known). one.asked ≡ publish → ⊥) after
-    → (first last : List Call) × AreKnown before first × AreKnown after last
-    × ((k : ℕ) → begins_at last m.past ≤ k → k ≤ length m.past →
-    ReadsAs s (start_of s file) (found_in file ++ accepted_by_all first) (moment m.start m.past k))
-ok_holds_at_each s file before after calls m keeps are none =
-    let (first, last, flush, parts, published, before_are, after_are, frames) =
-    ok_among s file before after calls m keeps.at_end are in
-    let all = sym (append-nil last) in (
+-- So it is in each state since the flush returned, if the calls after it began there and publish nothing.
+pub ok_holds_at_each : (s : WavSpecEx) (file : Begun) (known : List Known) (calls later : List Call)
+    (m : MediumState) → Keeps s file (calls ++ later) m
+    → AreKnown (known ++ answered publish (Ok tt) ∷ []) calls
+    → AllByRecursion (λ (call : Call). call.asked ≡ publish → ⊥) later
+    → (before : List Call) × AreKnown known before
+    × ((k : ℕ) → begins_at later m.past ≤ k → k ≤ length m.past →
+    ReadsAs s (start_of s file) (found_in file ++ accepted_by_all before) (moment m.start m.past k))
+ok_holds_at_each s file known calls later m keeps are none =
+    let (first, last, flush, parts, before_are, is, after_are) = among known [] (answered publish (Ok tt)) calls are in
+    let all : calls ++ later ≡ first ++ (flush ∷ later) =
+    ap (λ l. l ++ later) (parts ∙ ap (λ l. first ++ (flush ∷ l)) (none_known last after_are))
+    ∙ append_assoc first (flush ∷ []) later in
+    let end = append-nil later in
+    let frames = subst (λ answer. SaysFrames s (found_in file ++ accepted_by_all first) answer) is.1
+    (keeps.at_end.says first later flush all is.0) in (
       first,
-      last,
       before_are,
-      after_are,
-      λ k from to. holds_at_each s file calls m keeps first last [] flush k
-          (parts ∙ ap (λ l. first ++ (flush ∷ l)) all) published
-          (publish_none after last after_are none)
-          (subst (λ l. begins_at l m.past ≤ k) all from) to frames,
+      λ k from to. holds_at_each s file (calls ++ later) m keeps first later [] flush k
+          (all ∙ ap (λ l. first ++ (flush ∷ l)) (sym end)) (is.0, ap mark_of is.1) none
+          (subst (λ l. begins_at l m.past ≤ k) (sym end) from) to frames,
     )
+  where
+    none_known : (list : List Call) → AreKnown [] list → list ≡ []
+    none_known [] are = refl
+    none_known (call ∷ list) are = absurd are

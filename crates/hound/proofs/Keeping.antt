@@ -25,7 +25,7 @@ use Rattle.hound_writer.proofs.Publishing.{reads_all}
 use Rattle.hound_writer.proofs.Heads.{head_inside, head_with}
 use Rattle.hound_writer.proofs.Samples.{concat-samples, length-written, length_written}
 use Rattle.hound.specs.Headline.{CanonicalAtEnd, HeadAtEach, Holds, HoldsAtEnd, IfBegun, Keeps, Kept, LastsToEnd, NoFault, Promises, SaidByFlushes, SaysFrames, SurvivesAtEnd, accepted_by_all, begins_at}
-use Rattle.hound.proofs.Calling.{Went, begin, counted, front_stays, in_order, length-concat-append, made, stays_flushed, stored, went}
+use Rattle.hound.proofs.Calling.{Went, begin, counted, front_stays, in_order, lead_join, length-concat-append, made, stays_flushed, stored, went}
 use Rattle.hound.proofs.Later.{no_fault_parts, same_moment}
 use Rattle.hound_writer.proofs.Answers.{all_marked, where_marked}
 use Rattle.hound.proofs.Losing.{moments_grow}
@@ -432,6 +432,25 @@ module _ {W : Type 0} (kind : Ghosts W) where
                   (λ m. replays m told kept);
             });
       }
+
+  -- further calls keep what all of them promise
+  pub kept_on : ((m : W)
+      → WhereKeeps kind.tells kind.keeps ((kind.state m).contents ≡ overlay (kind.state m).start (kind.state m).past))
+      → (s : WavSpecEx) (file : Begun) (known : List Known) (mid w : WriterState W) (later : List Call)
+      → Recorded kind s file known mid → Lead kind later mid w
+      → WhereKeeps kind.tells kind.keeps ((calls : List Call) × AreKnown known calls
+      × Keeps s file (calls ++ later) (kind.state w.medium))
+  unfolding Recorded
+  kept_on replays s file known mid w later r lead told kept =
+      let first = first_of s file r.first r.opens in
+      let all = lead_join kind r.calls later r.first mid w r.lead lead in (
+        r.calls,
+        r.are_known,
+        record {
+          at_end = holds_at_end s file (r.calls ++ later) r.first w first all told;
+          promises = keeps_promises s file (r.calls ++ later) r.first w first all told kept (λ m. replays m told kept);
+        },
+      )
 
   -- an append leaves what is before its data
   pub front_left : IsTrue kind.tells → (s : WavSpecEx) (old : MediumState) (start : ℕ)

@@ -1,7 +1,7 @@
 // The recorders of `hound_callers`, each run once.
 use hound::{Durable, Journal, Step, Tape, WavReader, WavSpecEx, WavWriter};
 use hound_callers::{
-    append_blocks, append_by_effects, finish_durable, opened_meanwhile, pack_one,
+    append_blocks, append_by_effects, finish, finish_durable, opened_meanwhile, pack_one,
     publish_and_continue, record_at_once, record_batch, record_by_effects, record_mixed,
     record_safely, record_steps, record_twelve, record_twelve_and_repair,
     record_twelve_through_a_loss, write_if_short,
@@ -260,7 +260,7 @@ fn continues(alloc: Global) -> hound::Result<bool> {
     let mut writer = WavWriter::new(journal, sixteen(1))?;
     writer.write_samples(&[300i16, -301])?;
     publish_and_continue(&mut writer, &[7i16])?;
-    let (journal, result) = writer.finalize_into();
+    let (journal, result) = finish(writer);
     result?;
     let taken = journal.taken();
     let before = opened_meanwhile(alloc, &journal, taken.saturating_sub(8))?;

@@ -1,8 +1,8 @@
 -- What a recorder asks of its writer, and what it sees; the checkpoints of a session.
-use Rattle.std.specs.Prelude.{◌≡◌, ◌⊎◌, ℕ, suc, ◌*◌, ◌%◌, ◌==◌, Bool, true, false, List, [], ◌∷◌, ◌++◌, Option, None, Some, Result, Ok, Err, IsOk, ◌<◌, drop, length, take}
+use Rattle.std.specs.Prelude.{◌≡◌, ◌⊎◌, ℕ, suc, ◌*◌, ◌%◌, ◌==◌, Bool, true, false, List, [], ◌∷◌, ◌++◌, Option, None, Some, Result, Ok, Err, IsOk, ◌<◌, ◌≤◌, drop, length, take}
 use Rattle.std.specs.Borrow.{Bor}
 use Rattle.std.specs.List.{All, flat_map}
-use Rattle.hound.specs.{Ghosts, Accepts, Asked, Begun, Call, Checkpoints, Error, HasPublished, HasRoom, IsWhole, KeptWithin, Known, MediumState, ReadsAs, Refusal, WavSpecEx, WriterState, accepted_samples, containers_in, accepted_by_all, if_marked, made, marked, publish, seen, write}
+use Rattle.hound.specs.{Ghosts, Accepts, AreKnown, Asked, Begun, Call, Checkpoints, Error, HasPublished, HasRoom, IsWhole, KeptWithin, Known, MediumState, ReadsAs, Refusal, WavSpecEx, WriterState, accepted_samples, containers_in, accepted_by_all, found_in, if_marked, made, marked, moment, publish, seen, start_of, write}
 use Rattle.hound.specs.declared.Error.TheVariants.{OutOfMemory, TooLong}
 
 -- a block is written, and if it is to be published a flush follows
@@ -92,3 +92,10 @@ IsPublished state asked old new = (list : List (List ℕ)) × (asked ≡ Ok list
 abbrev pub as_item : {A : Type 0} → Option A → Option (Result A Error)
 as_item None = None
 as_item (Some value) = Some (Ok value)
+
+-- in each state of this medium, once so many bytes were written, the file is read as its samples and those
+-- that calls accepted of which these are known
+abbrev pub ReadsSince : WavSpecEx → Begun → List Known → ℕ → MediumState → Type 0
+ReadsSince s file known from medium = (calls : List Call) × AreKnown known calls
+    × ((k : ℕ) → from ≤ k → k ≤ length medium.past → ReadsAs s (start_of s file)
+    (found_in file ++ accepted_by_all calls) (moment medium.start medium.past k))

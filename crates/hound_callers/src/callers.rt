@@ -1,14 +1,14 @@
 // Functions of a user of the library, whose contracts follow from its public ones.
 ghost use Rattle.std.specs.Prelude.{◌≡◌, ℕ, ◌/◌, ◌<◌, ◌++◌, ◌⊎◌, false, true, List, length, map, ◌∷◌, None, Some, Ok, Err, Result, IfErr, IfOk, IfSome, MatchResult, OnOk};
-ghost use Rattle.hound.specs.{AreKnown, Begun, Call, Checkpoints, Known, ReadsAs, Recorded, found_in, start_of, IsSameFile, ReaderState, RepairsMedium, Seeks, containers, AreContainers, canonical, HasPublished, IsLeftAfter, Keeps, accepted_by_all, begins_at, container_in, one_more, samples_left, OpensAs, ReadsFrames, IsIoError, IsNext, IsSixteen, MediumState, WhereTells, Error, IsWritable, IsWhole, sample_count, WavSpecEx, container_at, meaning_at, refusal_at, samples_before, unread};
+ghost use Rattle.hound.specs.{AreKnown, Begun, Call, Checkpoints, Finishes, Known, ReadsAs, Recorded, found_in, start_of, IsSameFile, ReaderState, RepairsMedium, Seeks, containers, AreContainers, canonical, HasPublished, IsLeftAfter, Keeps, accepted_by_all, begins_at, container_in, one_more, samples_left, OpensAs, ReadsFrames, IsIoError, IsNext, IsSixteen, MediumState, WhereTells, Error, IsWritable, IsWhole, sample_count, WavSpecEx, container_at, meaning_at, refusal_at, samples_before, unread};
 ghost use Rattle.hound.specs.declared.Error.TheVariants.{OutOfMemory};
 ghost use Rattle.hound_callers.specs.Recording.{IsNoBatch, IsPublished, WritesAndFlushes, as_item};
 
 use hound::{
     Error, Medium, Repair, Sample, Source, WavReader, WavWriter, a_look_finds_what_a_repair_does,
     a_repair_loses_no_published_sample, a_seek_leads_to_its_frame, a_writer_holds_its_calls,
-    an_iterator_gives_what_it_hints, find_damage, items_are_of_the_file, one_answer, repair,
-    repair_to_end, written_is_read,
+    an_iterator_gives_what_it_hints, an_ok_flush_is_kept, find_damage, items_are_of_the_file,
+    one_answer, repair, repair_to_end, written_is_read,
 };
 use std::alloc::Global;
 use std::{io, result};
@@ -30,6 +30,19 @@ pub fn publish<M: Medium>(writer: &mut WavWriter<M>) -> hound::Result<u32>
     a_writer_holds_its_calls::<M>();
     writer.flush()?;
     Ok(writer.len())
+}
+
+/// Ends a recording, and returns its medium: the result is that of the end (`finishes`). At an Ok whoever
+/// reads the file finds exactly the samples that it had and those that the calls so far accepted (`reads`).
+pub fn finish<M: Medium>(writer: WavWriter<M>) -> (M, hound::Result<()>)
+    ensures finishes { Finishes M.Placed writer result.1 result.0 }
+    ensures reads { WhereTells M.tells (OnOk result.1 ((s : WavSpecEx) (file : Begun) (known : List Known)
+        → Recorded M.Placed s file known writer → (calls : List Call) × AreKnown known calls
+        × ReadsAs s (start_of s file) (found_in file ++ accepted_by_all calls) (M.state result.0).contents)) }
+{
+    let (medium, result) = writer.finalize_into();
+    an_ok_flush_is_kept::<M>();
+    (medium, result)
 }
 
 /// Writes a sample and publishes it: the file is then read as the samples before and this one

@@ -10,8 +10,8 @@ mod recorder;
 mod recording;
 
 pub use callers::{
-    give_up_batch, look_and_repair, open_written, publish, record_checkpoint, repair_recording,
-    sample_at, samples_of,
+    finish, give_up_batch, look_and_repair, open_written, publish, record_checkpoint,
+    repair_recording, sample_at, samples_of,
 };
 pub use editing::append_blocks;
 pub use example::record_and_read;

@@ -5,7 +5,7 @@ ghost use Rattle.hound.specs.{Accepts, AcceptsBytes, AreKnown, Asked, Begins, Re
 ghost use Rattle.hound.specs.declared.session.Begin.TheVariants.{New};
 ghost use Rattle.hound.specs.declared.session.End.TheVariants.{Drop, Finalize};
 ghost use Rattle.hound.specs.declared.session.Step.TheVariants.{Whole};
-ghost use Rattle.hound_callers.specs.Recording.{HaveContainers, IsNoBatch, IsPublished, IsStopped, PublishesBlocks, StopsAt, WritesAndFlushes, all_asked, block_asks, containers_by, published_calls, recorder_asks};
+ghost use Rattle.hound_callers.specs.Recording.{HaveContainers, IsNoBatch, IsPublished, IsStopped, PublishesBlocks, ReadsSince, StopsAt, WritesAndFlushes, all_asked, block_asks, containers_by, published_calls, recorder_asks};
 
 use hound::{
     Begin, Durable, End, Error, Medium, Placed, Repair, Sample, SampleWriter16, Source, Step,
@@ -426,8 +426,9 @@ pub fn record_at_once<S: Sample + Copy, M: Medium>(
 
 /// Publishes what was accepted, and continues with samples, whatever becomes of them: until the next
 /// flush the file counts exactly the samples that were accepted before this one, over a medium without
-/// a past too (`lasts`), and whoever reads it finds exactly these (`reads`). An error is that of the
-/// flush, and then nothing is written after it (`calls`).
+/// a past too (`lasts`), and whoever reads it finds exactly these (`reads`), also in each state since the
+/// flush returned, wherever the writing stops. An error is that of the flush, and then nothing is written
+/// after it (`calls`).
 pub fn publish_and_continue<S: Sample + Copy, M: Medium>(
     writer: &mut WavWriter<M>,
     samples: &[S],
@@ -442,7 +443,10 @@ pub fn publish_and_continue<S: Sample + Copy, M: Medium>(
         (M.state writer.new.medium).contents)) }
     ensures calls { MatchResult result (λ _. (mid : WriterState M) × (answer : Result Unit Error)
         × Checkpoints M.Placed (Ok tt) writer.old mid
-        × Accepts M.Placed (containers_in S.container mid.spec_ex samples.now) answer mid writer.new)
+        × Accepts M.Placed (containers_in S.container mid.spec_ex samples.now) answer mid writer.new
+        × WhereKeeps M.tells M.keeps ((s : WavSpecEx) (file : Begun) (known : List Known)
+        → Recorded M.Placed s file known writer.old
+        → ReadsSince s file known (length (M.state mid.medium).past) (M.state writer.new.medium)))
         (λ e. Checkpoints M.Placed (Err e) writer.old writer.new) }
 {
     what_is_kept::<M>();

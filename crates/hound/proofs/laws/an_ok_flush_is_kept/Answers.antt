@@ -1,6 +1,7 @@
-use Rattle.std.proofs.Common.{[]}
+use Rattle.std.proofs.Common.{[], arith}
+use Rattle.hound.proofs.Calling.{lead_begins}
 use Rattle.hound.proofs.Checkpoints.{ok_holds, ok_holds_at_each}
-use Rattle.hound.proofs.Keeping.{left_holds, left_kept, left_so_far}
+use Rattle.hound.proofs.Keeping.{kept_on, left_holds, left_so_far}
 use Rattle.hound.proofs.laws.an_ok_flush_is_kept.Goals as goal
 
 pub returns-clause-now : goal.returns-clause-now
@@ -11,12 +12,14 @@ returns-clause-now g c told s file before after w recorded none =
     ok_holds s file before after calls.calls (M.state w.medium) holds.at_end calls.are_known none
 
 pub returns-clause-at_each : goal.returns-clause-at_each
-returns-clause-at_each g c told keeps s file before after w recorded none =
+returns-clause-at_each g c told keeps s file known mid w later recorded lead none =
     let M = g.M.Placed in
-    let kept = left_kept M (g.met.M.Medium.replays) s file _ w.medium
-    (left_so_far M s file _ w recorded) told keeps in
-    let calls = kept.left.recorded in
-    ok_holds_at_each s file before after calls.calls (M.state w.medium) kept.promised calls.are_known none
+    let (all, are, kept) = kept_on M (g.met.M.Medium.replays) s file _ mid w later recorded lead told keeps in
+    let (calls, calls_are, reads) = ok_holds_at_each s file known all later (M.state w.medium) kept are none in (
+      calls,
+      calls_are,
+      λ k from to. reads k (omega (arith, from, lead_begins M later mid w lead)) to,
+    )
 
 pub returns-clause-at_end : goal.returns-clause-at_end
 returns-clause-at_end g c told s file known medium left =

@@ -1,5 +1,5 @@
-use Rattle.std.proofs.Common.{[], ◌∷◌, ◌++◌, Ok, true, subst, append_assoc}
-use Rattle.hound.specs.{Recorded, answered, containers_in, made, marked, publish, seen, write}
+use Rattle.std.proofs.Common.{[], ◌∷◌, ◌++◌, Ok, true, length, refl, subst, append_assoc}
+use Rattle.hound.specs.{Call, Recorded, answered, containers_in, made, marked, publish, seen, write}
 use Rattle.hound_callers.proofs.recording.publish_and_continue.Goals as goal
 
 pub returns-clause-lasts : goal.returns-clause-lasts
@@ -29,9 +29,20 @@ returns-clause-reads g c told s file known recorded =
     c.an_ok_flush_is_kept.ensures.now told s file known (call ∷ []) w all ((λ same. cc), tt)
 
 pub returns-clause-calls : goal.returns-clause-calls
-returns-clause-calls g c = (
-  c.flush.new.self,
-  c.write_samples.result,
-  c.in_ok-flush.ensures.checkpoints,
-  c.write_samples.ensures.accepts,
-)
+returns-clause-calls g c =
+    let M = g.M.Placed in
+    let mid = c.flush.new.self in
+    let w = c.write_samples.new.self in
+    let call : Call = record {
+      asked = write (containers_in g.S.Sample.container mid.spec_ex c.args.samples.now);
+      answer = c.write_samples.result;
+      began = length (M.state mid.medium).past;
+    } in (
+      mid,
+      c.write_samples.result,
+      c.in_ok-flush.ensures.checkpoints,
+      c.write_samples.ensures.accepts,
+      λ told keeps s file known recorded. c.an_ok_flush_is_kept.ensures.at_each told keeps s file known mid w
+          (call ∷ []) (c.in_ok-flush.ensures.answered s file known recorded)
+          (mid.batch_memory, w, refl, c.write_samples.ensures.accepts, (w.batch_memory, refl)) ((λ same. cc), tt),
+    )
