@@ -538,7 +538,8 @@ def interrupt_changes(folder, step):
 
 
 def share(folder, turns):
-    """Threads that share a recorder: one writes, two flush."""
+    """Threads that share a recorder: one writes, two flush, and each runs for a short time."""
+    sys.setswitchinterval(1e-5)
     path, blocks = os.path.join(folder, "shared.wav"), 200
     for turn in range(turns):
         case, durable = CASES[(0, 2, 6, 8)[turn % 4]], turn % 2 == 1
@@ -567,6 +568,7 @@ def share(folder, turns):
         if errors:
             raise Wrong(f"threads that share a recorder, {case.name}: {errors[0]!r}")
         look(path, case, 50 * blocks, 50 * blocks, f"threads that share a recorder, {case.name}")
+    sys.setswitchinterval(0.005)
     print(f"threads that share a recorder: {turns} runs, none wrong", flush=True)
     return turns
 
@@ -650,7 +652,7 @@ def find_controls(folder):
     find_control("effects forgotten", interrupt, folder, 7)
     find_control("blocks forgotten", interrupt, folder, 7)
     find_control("nothing undone", interrupt_changes, folder, 7)
-    find_control("nobody waits", share, folder, 20)
+    find_control("nobody waits", share, folder, 400)  # until a run is wrong
     find_control("all held is returned", feed, 20)
 
 
