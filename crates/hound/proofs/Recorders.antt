@@ -11,6 +11,8 @@ use Rattle.hound_writer.specs.{Begun, Directed, IsOrdered, IsSound, CountsAtMost
 use Rattle.hound_writer.specs.declared.recorder.Recorder.{Recorder}
 use Rattle.hound_writer.specs.declared.effects.Effect.TheVariants.{Size, Sync}
 use Rattle.hound_writer.proofs.Directing.{at_none}
+pub use Rattle.hound_writer.proofs.Acting.{one_place, same_next}
+pub use Rattle.hound_writer.proofs.Directing.{readable_frames}
 use Rattle.hound_writer.proofs.Samples.{length_written}
 use Rattle.hound_writer.proofs.Sizes.{riff_length}
 use Rattle.hound_writer.proofs.AtMost.{inside}
@@ -58,16 +60,18 @@ module _ (s : WavSpecEx) (file : Begun) (known : List Known) (w : WriterState Lo
       }
 
 module _ (s : WavSpecEx) (file : Begun) (known : List Known) (r : Recorder) where
-  pub directed_kept : (m : MediumState) → Directed s file known r true m → r.number ≡ 0
+  pub directed_kept : (m : MediumState) → Directed s file known r m → r.number ≡ 0
       → (log : Log) × (log.state ≡ m) × Kept log_kind s file known log
-  directed_kept m d none =
+  directed_kept m directed none =
+      let d = directed.in_step in
       let (done, same) = at_none r d.result d.writer.medium d.log none d.performed in
       (d.writer.medium, ap log_kind.state (sym same) ∙ d.state, kept s file known d.writer d.recorded)
 
-  pub directed_survives : (m : MediumState) → Directed s file known r true m → r.number ≡ 0
+  pub directed_survives : (m : MediumState) → Directed s file known r m → r.number ≡ 0
       → IsSynced (handed_in file)
       → (log : Log) × (log.state ≡ m) × KeptWithin log_kind s file known log m
-  directed_survives m d none synced =
+  directed_survives m directed none synced =
+      let d = directed.in_step in
       let (done, same) = at_none r d.result d.writer.medium d.log none d.performed in
       let here : d.writer.medium.state ≡ m = ap log_kind.state (sym same) ∙ d.state in
       let (high, order, low) = d.order synced in (

@@ -225,13 +225,13 @@ pub fn a_checkpoint_publishes()
 /// loss of power loses no sample of a checkpoint, and what it leaves counts (`survives`).
 pub fn a_recording_is_kept()
     ensures kept { (s : WavSpecEx) (file : Begun) (known : List Known) (r : Recorder) (m : MediumState)
-        → Directed s file known r true m → r.number ≡ 0
+        → Directed s file known r m → r.number ≡ 0
         → (log : Log) × (log.state ≡ m) × Kept log_kind s file known log }
     ensures survives { (s : WavSpecEx) (file : Begun) (known : List Known) (r : Recorder) (m : MediumState)
-        → Directed s file known r true m → r.number ≡ 0 → IsSynced (handed_in file)
+        → Directed s file known r m → r.number ≡ 0 → IsSynced (handed_in file)
         → (log : Log) × (log.state ≡ m) × KeptWithin log_kind s file known log m }
-    ensures ascends { (s : WavSpecEx) (file : Begun) (known : List Known) (r : Recorder) (ok : Bool)
-        (m : MediumState) → Directed s file known r ok m → IsSynced (handed_in file)
+    ensures ascends { (s : WavSpecEx) (file : Begun) (known : List Known) (r : Recorder) (m : MediumState)
+        → Directed s file known r m → IsSynced (handed_in file)
         → Ascends m.past m.flushed (length m.past) }
 {}
 

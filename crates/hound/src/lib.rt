@@ -87,8 +87,8 @@ pub use hound_reader::{
     written_is_read,
 };
 pub use hound_repair::{
-    Repair, RepairState, a_half_mended_file_is_repaired, a_look_finds_what_a_repair_does,
-    a_repair_keeps_stored_samples, a_second_repair_writes_nothing, find_damage,
+    Damage, Repair, RepairState, a_look_finds_what_a_repair_does, a_repair_keeps_stored_samples,
+    a_second_repair_writes_nothing, a_stopped_repair_is_done_again, effects_mend, find_damage,
     find_damage_in_file, repair, repair_file, repair_file_to_end, repair_to_end,
 };
 pub use hound_sample::{
@@ -100,8 +100,8 @@ pub use hound_spec::{
 };
 pub use hound_walk::{one_answer, read_wave_header, written_is_head};
 pub use hound_writer::{
-    Effect, Recorder, RecorderError, SampleWriter16, WavWriter, a_block_is_its_samples,
-    a_recorder_directs, one_append_answer,
+    Action, Effect, FileState, FoundFile, Recorder, RecorderError, Report, SampleWriter16,
+    WavWriter, a_block_is_its_samples, a_recorder_directs, one_append_answer,
 };
 pub use laws::{
     a_batch_is_its_values, a_checkpoint_holds, a_checkpoint_publishes, a_recording_is_kept,

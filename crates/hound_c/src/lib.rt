@@ -6,32 +6,32 @@
 //! they were proved.
 #![tactic(auto)]
 
-ghost use Rattle.std.specs.Prelude.{◌≡◌, ◌*◌, ℕ, ℤ, List, None, false, length, not, pos, take, true};
+ghost use Rattle.std.specs.Prelude.{◌≡◌, ◌*◌, ℕ, ℤ, List, None, false, length, pos, take, true};
 ghost use Rattle.std.specs.Option.{option_len, option_map_or};
-ghost use Rattle.std.specs.Result.{result_unwrap_or};
-ghost use Rattle.std.specs.Ordering.{int_eq};
+ghost use Rattle.std.specs.Result.{result_ok, result_unwrap_or};
 ghost use Rattle.hound_number.specs.{bytes_of};
-ghost use Rattle.hound_walk.specs.{IsAt, Readable, Unreadable};
+ghost use Rattle.hound_walk.specs.{Readable, Unreadable};
 ghost use Rattle.hound_sample.specs.{int_container, pattern_container, float_refusal, int_meaning, int_refusal, pattern};
 ghost use Rattle.hound_spec.specs.declared.spec.SampleFormat.TheVariants.{Float, Int};
 ghost use Rattle.hound_walk.specs.declared.cause.Cause.{Cause};
-ghost use Rattle.hound_writer.specs.Recorder.{AppendsRecorder, BeginsRecorder, NextEffect, Places, Reports};
-ghost use Rattle.hound_slices.specs.{AppendsInPlace, AreAsked, AsksOn, Decodes, Encodes, FindsHead, FindsInFile, GivesHeader, GivesSizes, IsDamageFault, IsExplicit, ReadsInto, Records, RepairsFile, Returns, ScalesToFloats, ScalesToIntegers, Sizes, Steps, WritesFile, effect_of, fault_code, spec_from_c, walk_of};
+ghost use Rattle.hound_writer.specs.{Advances, AsksForBlock, AsksForCheckpoint, BeginsRecorder, Resumes};
+ghost use Rattle.hound_slices.specs.{AnswersPart, AppendsInPlace, BeginsRepairer, Decodes, Encodes, FindsHead, FindsInFile, GivesHeader, GivesSizes, IsDamageFault, IsExplicit, ReadsInto, Records, RepairsFile, Returns, ScalesToFloats, ScalesToIntegers, Sizes, StepsRepairer, WritesFile, effect_of, fault_code, found_file, mends, overwrites, recorder_for_c, report_of, spec_from_c};
 ghost use Rattle.hound_slices.specs.declared.fault.Fault.{Fault as AnyFault};
 ghost use Rattle.hound_slices.specs.declared.fault.Fault.TheVariants.{Head};
 
 use hound_repair::Rest;
 use hound_sample::FloatBits;
 use hound_slices::{
-    Fault, HoundEffect, HoundInfo, HoundRepair, HoundSpec, HoundWalk, append_block, code_of,
-    code_of_fault, decode_block, effect_for_c, encode_block, file_size, find_file_damage,
-    find_samples, info_for_c, part_of, read_block, repair_file, repair_for_c, scale_to_floats,
-    scale_to_integers, spec_from_c, value_of_8, value_of_16, value_of_24, value_of_32, walk_for_c,
-    walk_of, write_file, write_header, write_sizes,
+    Fault, HoundInfo, HoundRecorder, HoundRepair, HoundRepairer, HoundSpec, HoundWalk,
+    append_block, begin_repairer, code_of, code_of_fault, decode_block, effect_for_c, encode_block,
+    file_size, find_file_damage, find_samples, found_file, info_for_c, mends, overwrites,
+    part_read, read_block, recorder_for_c, repair_file, report_of, scale_to_floats,
+    scale_to_integers, spec_from_c, step_repairer, value_of_8, value_of_16, value_of_24,
+    value_of_32, walk_for_c, walk_of, write_file, write_header, write_sizes,
 };
 use hound_spec::SampleFormat;
 use hound_walk::{Step, count_samples, take_part};
-use hound_writer::Recorder;
+use hound_writer::{Recorder, Report};
 
 /// What is before the data: 0, or why it can't be read.
 #[unsafe(no_mangle)]
@@ -50,19 +50,25 @@ pub extern "C" fn hound_info(file: &[u8], info: &mut HoundInfo) -> i32
     }
 }
 
-/// Takes the part of a file that a walk asks for: 1 if the walk asks for another part, 0 if the data
-/// begin there, or why there are none.
+/// Takes the part of a file that a walk asked for: 1 if the walk asks for a part, 0 if the data begin there, or
+/// why there are none. A read that failed changes nothing.
 #[unsafe(no_mangle)]
-pub extern "C" fn hound_walk_next(walk: &mut HoundWalk, bytes: &[u8], info: &mut HoundInfo) -> i32
-    ensures steps { (file : List ℕ) → IsAt file (walk_of walk.old) → AreAsked bytes.now walk.old file
-        → Steps file result walk.new info.new }
-    ensures on { result ≡ pos 1 → AsksOn walk.old walk.new }
+pub extern "C" fn hound_walk_next(walk: &mut HoundWalk, info: &mut HoundInfo) -> i32
+    ensures answers { AnswersPart (report_of walk.old.effect) result walk.old walk.new info.new }
     ensures found { result ≡ pos 0 → FindsHead walk.old info.new }
     ensures stays { (result ≡ pos 1 → ⊥) → walk.new ≡ walk.old }
     ensures kept { (result ≡ pos 0 → ⊥) → info.new ≡ info.old }
 {
     let asked = walk_of(*walk);
-    match take_part(asked, part_of(asked, bytes)) {
+    match report_of(walk.effect) {
+        Report::Pending => {
+            *walk = walk_for_c(asked);
+            return 1;
+        }
+        Report::Failed => return code_of_fault(Fault::NotPerformed),
+        Report::Done => (),
+    }
+    match take_part(asked, part_read(walk)) {
         Ok(Step::Next(next)) => {
             *walk = walk_for_c(next);
             1
@@ -191,7 +197,7 @@ pub extern "C" fn hound_find_damage(file: &[u8], found: &mut HoundRepair) -> i32
 {
     match find_file_damage(file) {
         Ok(repair) => {
-            *found = repair_for_c(repair);
+            *found = repair;
             0
         }
         Err(fault) => code_of_fault(fault),
@@ -212,6 +218,25 @@ pub extern "C" fn hound_repair_to_end(file: &mut [u8], used: usize, found: &mut 
     ensures { Returns result (RepairsFile false used file.old file.new found.old found.new) }
 {
     code_of(repair_file(file, used, Rest::IsSamples, found))
+}
+
+/// Begins to look at a file of so many bytes, or to repair it, which the caller reads and writes.
+#[unsafe(no_mangle)]
+pub extern "C" fn hound_repairer_begin(length: u64, mode: u32, repairer: &mut HoundRepairer)
+    ensures { BeginsRepairer length mode repairer.new }
+{
+    *repairer = begin_repairer(length, mode);
+}
+
+/// Takes how the effect was reported: 1 for the next effect, 0 if all is done, or why there is none.
+#[unsafe(no_mangle)]
+pub extern "C" fn hound_repairer_next(repairer: &mut HoundRepairer, found: &mut HoundRepair) -> i32
+    ensures { Returns result (StepsRepairer repairer.old repairer.new found.old found.new) }
+{
+    match step_repairer(repairer, found) {
+        Ok(asks) => asks as i32,
+        Err(fault) => code_of_fault(fault),
+    }
 }
 
 /// Decodes samples of a spec, of eight bits.
@@ -334,75 +359,83 @@ pub extern "C" fn hound_from_f32(
     code_of(scale_to_integers(samples, bits, out, clipped))
 }
 
-/// Begins to record a new file, whose header the caller writes.
+/// Begins to record a new file, whose header the caller has written.
 #[unsafe(no_mangle)]
-pub extern "C" fn hound_recorder_begin(spec: &HoundSpec, recorder: &mut Recorder) -> i32
+pub extern "C" fn hound_recorder_begin(spec: &HoundSpec, recorder: &mut HoundRecorder) -> i32
     ensures { Records result (λ _. 0) (λ begun. BeginsRecorder (spec_from_c spec.now) begun
-        × (recorder.new ≡ result_unwrap_or begun recorder.old)) }
+        × (recorder.new ≡ option_map_or recorder_for_c (result_ok begun) recorder.old)) }
 {
     match Recorder::begin(spec_from_c(*spec)) {
         Ok(begun) => {
-            *recorder = begun;
+            *recorder = recorder_for_c(begun);
             0
         }
         Err(error) => code_of_fault(Fault::Recorder(error)),
     }
 }
 
-/// Begins to append to a file that was walked.
+/// Begins to append to a file that was found.
 #[unsafe(no_mangle)]
-pub extern "C" fn hound_recorder_append(info: &HoundInfo, recorder: &mut Recorder) -> i32
+pub extern "C" fn hound_recorder_resume(
+    found: &HoundRepair,
+    allowed: u32,
+    recorder: &mut HoundRecorder,
+) -> i32
     ensures { Records result (λ _. 0)
-        (λ begun. AppendsRecorder (spec_from_c info.now.spec) info.now.data_start info.now.samples begun
-        × (recorder.new ≡ result_unwrap_or begun recorder.old)) }
+        (λ begun. Resumes (found_file found.now) (mends allowed) (overwrites allowed) begun
+        × (recorder.new ≡ option_map_or recorder_for_c (result_ok begun) recorder.old)) }
 {
-    match Recorder::append(spec_from_c(info.spec), info.data_start, info.samples) {
+    match Recorder::resume(found_file(found), mends(allowed), overwrites(allowed)) {
         Ok(begun) => {
-            *recorder = begun;
+            *recorder = recorder_for_c(begun);
             0
         }
         Err(error) => code_of_fault(Fault::Recorder(error)),
     }
 }
 
-/// Where the next so many samples go.
+/// Requests that a block of so many samples is written.
 #[unsafe(no_mangle)]
-pub extern "C" fn hound_recorder_place(recorder: &Recorder, samples: u64) -> i64
-    ensures { Records result (λ place. place) (Places recorder.now samples) }
+pub extern "C" fn hound_recorder_write(recorder: &mut HoundRecorder, samples: u64) -> i32
+    ensures asks { Records result (λ _. 0)
+        (AsksForBlock (report_of recorder.old.effect) samples recorder.old.recorder recorder.new.recorder) }
+    ensures none { recorder.new.effect ≡ effect_of None }
 {
-    match recorder.place(samples) {
-        Ok(place) => place as i64,
-        Err(error) => code_of_fault(Fault::Recorder(error)) as i64,
-    }
-}
-
-/// Reports how the write of so many samples at their place ended.
-#[unsafe(no_mangle)]
-pub extern "C" fn hound_recorder_wrote(recorder: &mut Recorder, samples: u64, ok: i32) -> i32
-    ensures { Records result (λ _. 0) (Reports samples (not (int_eq ok (pos 0))) recorder.old recorder.new) }
-{
-    match recorder.wrote(samples, ok != 0) {
+    let report = report_of(recorder.effect);
+    recorder.effect = effect_for_c(None);
+    match recorder.recorder.write(report, samples) {
         Ok(()) => 0,
         Err(error) => code_of_fault(Fault::Recorder(error)),
     }
 }
 
-/// The next effect of a checkpoint: 1, or 0 if it is done.
+/// Requests a checkpoint.
 #[unsafe(no_mangle)]
-pub extern "C" fn hound_checkpoint_next(
-    recorder: &mut Recorder,
-    ok: i32,
-    effect: &mut HoundEffect,
-) -> i32
-    ensures { Records result option_len (λ next. NextEffect (not (int_eq ok (pos 0))) recorder.old recorder.new next
-        × (effect.new ≡ option_map_or effect_of (result_unwrap_or next None) effect.old)) }
+pub extern "C" fn hound_recorder_checkpoint(recorder: &mut HoundRecorder)
+    ensures asks { AsksForCheckpoint (report_of recorder.old.effect) recorder.old.recorder recorder.new.recorder }
+    ensures none { recorder.new.effect ≡ effect_of None }
 {
-    match recorder.next(ok != 0) {
-        Ok(Some(next)) => {
-            *effect = effect_for_c(next);
-            1
+    let report = report_of(recorder.effect);
+    recorder.effect = effect_for_c(None);
+    recorder.recorder.checkpoint(report);
+}
+
+/// The next effect of what was requested: 1, or 0 if all of it is done.
+#[unsafe(no_mangle)]
+pub extern "C" fn hound_recorder_next(recorder: &mut HoundRecorder) -> i32
+    ensures { Records result option_len (λ next.
+        Advances (report_of recorder.old.effect) recorder.old.recorder recorder.new.recorder next
+        × (recorder.new.effect ≡ effect_of (result_unwrap_or next None))) }
+{
+    let report = report_of(recorder.effect);
+    match recorder.recorder.next(report) {
+        Ok(next) => {
+            recorder.effect = effect_for_c(next);
+            if next.is_some() { 1 } else { 0 }
         }
-        Ok(None) => 0,
-        Err(error) => code_of_fault(Fault::Recorder(error)),
+        Err(error) => {
+            recorder.effect = effect_for_c(None);
+            code_of_fault(Fault::Recorder(error))
+        }
     }
 }

@@ -1,2 +1,4 @@
 pub mod Publishing
 pub mod Performing
+pub mod Driving
+pub mod Resuming

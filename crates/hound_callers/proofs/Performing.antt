@@ -2,13 +2,15 @@
 use Rattle.std.proofs.lemmas.Bool.{false≢true}
 use Rattle.std.proofs.lemmas.Grind.{flat_map-append, common_steps}
 use Rattle.std.proofs.lemmas.List.{append-nil, map-append}
-use Rattle.std.proofs.Common.{◌≡◌, ◌<◌, ◌≤◌, ◌+◌, ◌-◌, ◌*◌, ◌/◌, ◌%◌, ℕ, Bool, true, false, List, [], ◌∷◌, ◌++◌, drop, drop-cons, get_or, length, length-take, take, inl, inr, OnErr, OnOk, Option, Some, Result, Ok, Err, IsErr, is_ok, refl, sym, ◌∙◌, ap, append_assoc, arith}
+use Rattle.std.proofs.Common.{◌≡◌, ◌<◌, ◌≤◌, ◌+◌, ◌-◌, ◌*◌, ◌/◌, ◌%◌, ℕ, Bool, true, false, List, [], ◌∷◌, ◌++◌, drop, drop-cons, get_or, length, length-take, take, inl, inr, OnErr, OnOk, Result, Ok, Err, IsErr, is_ok, refl, sym, ◌∙◌, ap, subst, append_assoc, arith}
 use Rattle.std.proofs.Math.Nat.{div-add-mod', mul-div_cancel, mul-mod_left}
+use Rattle.std.specs.Prelude.{◌==◌, if◌then◌else◌}
 use Rattle.std.specs.Borrow.{Bor}
 use Rattle.std.specs.List.{AllByRecursion, flat_map}
 use Rattle.hound.proofs.Knowing.{accepted as accepted_of_known, lasts, length-concat, reads_all}
-use Rattle.hound.specs.{AreBytes, Asked, Begun, Directed, Effect, KeptWithin, Known, Log, MediumState, Places, Recorder, RecorderError, WavSpecEx, accepted_as_seen, accepted_by_all, advanced, effects_of, field, found_in, if_marked, length_with, log_kind, marked, nth, overlay, publish, seen, start_of}
-use Rattle.hound.specs.declared.RecorderError.TheVariants.{NotWritable, UnfinishedFrame, TooLong, NeedsCheckpoint, SyncFailed}
+use Rattle.hound.specs.{Abandons, AreBytes, AsksForBlock, Asked, Begun, Directed, KeptWithin, Known, Log, MediumState, GivesUp, TakesBlock, Recorder, RecorderError, WavSpecEx, accepted_as_seen, accepted_by_all, field, found_in, if_marked, length_with, log_kind, marked, overlay, publish, seen, start_of}
+use Rattle.hound.specs.declared.Report.TheVariants.{Pending}
+use Rattle.hound.specs.declared.RecorderError.TheVariants.{NotWritable, UnfinishedFrame, TooLong, Truncated, CutOff, HasChunksAfterData, NeedsCheckpoint, SyncFailed}
 use Rattle.hound_callers.specs.Recorder.{IsReady, IsRefused, ReadsBlocks, Saves, Stops, StopsAt, StopsIn, samples_of}
 use Rattle.hound_callers.specs.Recording.{published_calls}
 use Rattle.hound_callers.proofs.Publishing.{accepted, last_call}
@@ -16,12 +18,6 @@ use Rattle.hound_callers.proofs.Publishing.{accepted, last_call}
 -- a file in this state
 abbrev pub log_of : (m : MediumState) → m.contents ≡ overlay m.start m.past → AreBytes m.contents → Log
 log_of m replays small = record { state = m; replays = replays; small = small }
-
--- the recorder once it returned an effect: there are no more than six
-pub next_number : (r fn new : Recorder) (effect : Effect) (next : Option Effect) → next ≡ Some effect
-    → next ≡ nth (effects_of r) r.number → r ≡ record fn { number = r.number } → new ≡ advanced r next
-    → (new ≡ record fn { number = new.number }) × (new.number ≡ r.number + 1) × (r.number ≤ 5)
-next_number r fn new effect next is at same then = grind (arith, common_steps)
 
 pub not_ok : {T E : Type 0} (r : Result T E) → IsErr r → is_ok r ≡ false
 not_ok (Ok x) err = absurd (false≢true err)
@@ -31,18 +27,42 @@ not_ok (Err e) err = refl
 pub whole_samples : (n width : ℕ) → n % width ≡ 0 → n ≡ n / width * width
 whole_samples n width whole = omega (arith, div-add-mod' n width, whole)
 
--- a recorder that met no failure has no place for a block
-pub no_place : (r : Recorder) (block : Bor (List ℕ)) (error : RecorderError)
+-- what was under way was given up, and nothing was
+pub given_up : (old end : Recorder) → Abandons Pending old end → GivesUp old end
+given_up old end (mid, told, (same, ok), gives) = subst (λ m. GivesUp m end) same gives
+
+nothing_given : (old end : Recorder) → old.task ≡ 0 → Abandons Pending old end → end ≡ old
+nothing_given old end idle gives =
+    only old.task idle (given_up old end gives) ∙ (λ i. record old { task = sym idle i })
+  where
+    only : (n : ℕ) → n ≡ 0 → end ≡ (if n == 3 then record old { condition = 1; task = 0; has_rest = 1 }
+        else record old { task = 0 }) → end ≡ record old { task = 0 }
+    only n none is = rw none at is
+
+-- a recorder that met no failure doesn't take a block
+pub not_taken : (r new : Recorder) (block : Bor (List ℕ)) (error : RecorderError)
     → length block.now % r.bytes_per_sample ≡ 0 → IsReady r
-    → Places r (length block.now / r.bytes_per_sample) (Err error) → IsRefused r block
-no_place r block SyncFailed whole ready high = grind (arith, common_steps)
-no_place r block NeedsCheckpoint whole ready high = grind (arith, common_steps)
-no_place r block NotWritable whole ready small = grind (arith, common_steps)
-no_place r block TooLong whole ready (clean, none, long) =
-    let size : length_with r (length block.now / r.bytes_per_sample) ≡ r.data_length + length block.now =
-    omega (arith, whole_samples (length block.now) r.bytes_per_sample whole) in
-    inr (rw size at long)
-no_place r block UnfinishedFrame whole ready never = absurd never.2
+    → AsksForBlock Pending (length block.now / r.bytes_per_sample) r new (Err error)
+    → (new ≡ r) × IsRefused r block
+not_taken r new block error whole ready (end, gives, takes) =
+    by error (subst (λ x. TakesBlock (length block.now / r.bytes_per_sample) x new (Err error))
+    (nothing_given r end ready.2 gives) takes)
+  where
+    by : (error : RecorderError) → TakesBlock (length block.now / r.bytes_per_sample) r new (Err error)
+        → (new ≡ r) × IsRefused r block
+    by SyncFailed (same, high) = absurd (omega (arith, high, ready.1))
+    by UnfinishedFrame (same, inl none) = absurd (let some = ready.5 in omega (arith, some, none))
+    by UnfinishedFrame (same, inr torn) = (same, inr (inl torn))
+    by TooLong (same, (clean, none, long)) =
+        let size : length_with r (length block.now / r.bytes_per_sample) ≡ r.data_length + length block.now =
+        omega (arith, whole_samples (length block.now) r.bytes_per_sample whole) in
+        (same, inr (inr (rw size at long)))
+    by NotWritable (same, (clean, none, inl low)) = absurd (let start = ready.4 in omega (arith, start, low))
+    by NotWritable (same, (clean, none, inr thin)) = absurd (let wide = ready.6 in omega (arith, wide, thin))
+    by NeedsCheckpoint (same, (low, some)) = absurd (omega (arith, some))
+    by Truncated (same, (clean, none, never)) = absurd never
+    by CutOff (same, (clean, none, never)) = absurd never
+    by HasChunksAfterData (same, (clean, none, never)) = absurd never
 
 -- what holds at an Ok, or at an Err
 pub on_ok : {T E P : Type 0} (r : Result T E) → (is_ok r ≡ true → P) → OnOk r P
@@ -55,7 +75,7 @@ on_err (Err e) here = here refl
 
 -- a block of which nothing was written
 pub stopped_before : (s : WavSpecEx) (file : Begun) (known : List Known) (r : Recorder) (block : Bor (List ℕ))
-    (m : MediumState) → IsRefused r block → IsReady r → Directed s file known r true m
+    (m : MediumState) → IsRefused r block → IsReady r → Directed s file known r m
     → Stops s file known block r m
 stopped_before s file known r block m refused ready directed =
     ([], inl (refused, refl), ready.0, rw append-nil directed)
@@ -117,10 +137,10 @@ reads_saved s file blocks r left more log m kept here stops none some frames =
 -- blocks that a recorder directed were saved, by what is kept of all that one directed
 pub saves : (s : WavSpecEx) (file : Begun) (blocks : List (Bor (List ℕ))) (n : ℕ) (r : Recorder) (m : MediumState)
     → n ≤ length blocks
-    → ((known : List Known) (r : Recorder) (m : MediumState) → Directed s file known r true m → r.number ≡ 0
+    → ((known : List Known) (r : Recorder) (m : MediumState) → Directed s file known r m → r.number ≡ 0
     → (log : Log) × (log.state ≡ m) × KeptWithin log_kind s file known log m)
     → (more : List (Asked × Bool)) × StopsAt s r (drop n blocks) more × (r.number ≡ 0)
-    × Directed s file (seen (published_calls (samples_of s) (take n blocks) ++ more)) r true m
+    × Directed s file (seen (published_calls (samples_of s) (take n blocks) ++ more)) r m
     → Saves s file blocks n m
 saves s file blocks n r m within keeps (more, stops, none, directed) =
     let (log, here, kept) = keeps _ r m directed none in (

@@ -1,26 +1,60 @@
 -- What callers do that perform a recorder's effects themselves.
-use Rattle.std.specs.Prelude.{◌≡◌, ◌⊎◌, ℕ, ◌+◌, ◌*◌, ◌%◌, ◌<◌, ◌≤◌, Bool, true, false, List, [], ◌∷◌, ◌++◌, length, take, drop, codes, Result, Err}
+use Rattle.std.specs.Prelude.{◌≡◌, ◌⊎◌, ℕ, ◌+◌, ◌*◌, ◌/◌, ◌%◌, ◌<◌, ◌≤◌, ◌==◌, if◌then◌else◌, Bool, true, false, List, [], ◌∷◌, ◌++◌, length, take, drop, codes, Result, Ok, Err, is_ok}
+use Rattle.std.specs.declared.io.Error.{Error as IoFault}
 use Rattle.std.specs.Borrow.{Bor}
 use Rattle.std.specs.List.{AllByRecursion, flat_map}
-use Rattle.hound.specs.{AppendsRecorder, Asked, Begun, Directed, Error, IsRefusal, KeptWithin, Known, Log, MediumState, ReadsAs, Readable, Recorder, RecorderError, Refusal, Unreadable, WavSpecEx, found_in, greatest_u32, if_marked, log_kind, publish, riff_size, seen, start_of, whole_containers, write}
+use Rattle.hound.specs.{Action, AppendsRecorder, Asked, Begun, Directed, Error, IsRefusal, KeptWithin, Known, Log, MediumState, Performs, Places, PutsAt, ReadsAs, Readable, Recorder, RecorderError, Refusal, Report, Unreadable, WavSpecEx, found_in, greatest_u32, if_marked, length_with, log_kind, padded, publish, riff_size, seen, start_of, whole_containers, write}
+use Rattle.hound.specs.declared.Action.TheVariants.{Perform, WriteBlock}
+use Rattle.hound.specs.declared.RecorderError.TheVariants.{Truncated, HasChunksAfterData}
+use Rattle.hound.specs.declared.Report.TheVariants.{Done, Failed}
 use Rattle.hound.specs.declared.Error.TheVariants.{FormatError, Unsupported}
 use Rattle.hound_callers.specs.Recording.{published_calls}
 
--- a recorder of which nothing failed, with no checkpoint under way
-abbrev pub IsReady : Recorder → Type 0
-IsReady r = (r.number ≡ 0) × (r.condition ≡ 0) × (20 ≤ r.data_start) × (1 ≤ r.bytes_per_sample)
+-- how an action ended, by whether all of it was done
+abbrev pub report_for : Bool → Report
+report_for true = Done
+report_for false = Failed
 
--- the recorder once so many bytes more were written
-abbrev pub longer : Recorder → ℕ → Recorder
-longer r more = record r { data_length = r.data_length + more }
+-- what a caller does for an action, which reports this: a medium is neither read nor cut off
+abbrev pub DoesAction : Action → List ℕ → Report → MediumState → MediumState → Type 0
+DoesAction (Perform effect) block report old new = (result : Result (Unit {0}) IoFault)
+    × (report ≡ report_for (is_ok result)) × Performs effect result old new
+DoesAction (WriteBlock at len) block report old new = (result : Result (Unit {0}) IoFault)
+    × (report ≡ report_for (is_ok result)) × PutsAt true at block result old new
+DoesAction _ block report old new = (report ≡ Failed) × (new ≡ old)
+
+-- a recorder of which nothing failed, with nothing under way
+abbrev pub IsReady : Recorder → Type 0
+IsReady r = (r.number ≡ 0) × (r.condition ≡ 0) × (r.task ≡ 0) × (r.has_rest ≡ 0)
+    × (20 ≤ r.data_start) × (1 ≤ r.channels) × (1 ≤ r.bytes_per_sample)
+
+-- such a recorder was requested a checkpoint, or for a block of so many bytes, which has a place
+abbrev pub IsAsked : Recorder → ℕ → Type 0
+IsAsked r n = (r.number ≡ 0) × (r.condition ≡ 0) × (r.has_rest ≡ 0)
+    × ((r.task ≡ 1) ⊎ ((r.task ≡ 2) × (n ≡ r.samples * r.bytes_per_sample)
+    × ((place : ℕ) × Places r r.samples (Ok place))))
+
+-- the recorder once that is done
+abbrev pub once_done : Recorder → Recorder
+once_done r = record r {
+  data_length = if r.task == 1 then r.data_length else length_with r r.samples;
+  number = 0;
+  condition = 0;
+  task = 0;
+}
 
 -- the samples of a block
 abbrev pub samples_of : WavSpecEx → Bor (List ℕ) → Result (List (List ℕ)) Refusal
 samples_of s block = whole_containers s block.now
 
--- a recorder can't take this block: its samples aren't whole, or the sizes would pass 32 bits
+-- what was requested, with a block of these bytes
+abbrev pub asked_as : WavSpecEx → Recorder → List ℕ → Asked
+asked_as s r bytes = if r.task == 1 then publish else write (whole_containers s bytes)
+
+-- a recorder can't take this block: it is no whole frames, or the sizes would pass 32 bits
 abbrev pub IsRefused : Recorder → Bor (List ℕ) → Type 0
 IsRefused r block = (length block.now % r.bytes_per_sample ≡ 0 → ⊥)
+    ⊎ (length block.now / r.bytes_per_sample % r.channels ≡ 0 → ⊥)
     ⊎ (greatest_u32 < riff_size r.data_start (r.data_length + length block.now))
 
 -- the calls of a block that wasn't saved, and their marks: none, a write that failed, or a checkpoint that did
@@ -37,20 +71,27 @@ StopsAt s r (block ∷ blocks) calls = StopsIn s r block calls
 -- after these calls the saving of a block has stopped
 abbrev pub Stops : WavSpecEx → Begun → List Known → Bor (List ℕ) → Recorder → MediumState → Type 0
 Stops s file known block r m = (calls : List (Asked × Bool)) × StopsIn s r block calls
-    × (r.number ≡ 0) × Directed s file (known ++ seen calls) r true m
+    × (r.number ≡ 0) × Directed s file (known ++ seen calls) r m
 
--- the error of contents whose data are cut off
-abbrev pub IsCutOffError : Error → Type 0
-IsCutOffError (FormatError text) = text.now ≡ codes "the data are cut off"
-IsCutOffError _ = ⊥
+-- an error of the format with this text
+abbrev pub SaysFormat : List ℕ → Error → Type 0
+SaysFormat said (FormatError text) = text.now ≡ said
+SaysFormat said _ = ⊥
+
+-- the error for one of a recorder
+abbrev pub IsErrorOf : RecorderError → Error → Type 0
+IsErrorOf Truncated e = SaysFormat (codes "the data are cut off") e
+IsErrorOf HasChunksAfterData e = SaysFormat (codes "more follows the data") e
+IsErrorOf _ e = e ≡ Unsupported
 
 -- Why a file with these contents isn't recorded further: they can't be read, no recorder begins with
--- them, or they lack data that the header counts.
+-- them, they lack data that the header counts, or more than a pad byte follows.
 abbrev pub IsNotResumed : List ℕ → Error → Type 0
 IsNotResumed contents e = IsRefusal e (Unreadable contents)
     ⊎ ((s : WavSpecEx) × (samples start : ℕ) × Readable contents s samples start
-    × (((error : RecorderError) × AppendsRecorder s start samples (Err error) × (e ≡ Unsupported))
-    ⊎ ((length contents < start + samples * s.bytes_per_sample) × IsCutOffError e)))
+    × (((error : RecorderError) × AppendsRecorder s start (samples * s.bytes_per_sample) (Err error) × (e ≡ Unsupported))
+    ⊎ ((length contents < start + samples * s.bytes_per_sample) × SaysFormat (codes "the data are cut off") e)
+    ⊎ ((start + padded (samples * s.bytes_per_sample) < length contents) × SaysFormat (codes "more follows the data") e)))
 
 -- the file is read as its samples and then these blocks, if they are whole frames
 abbrev pub ReadsBlocks : WavSpecEx → Begun → List (Bor (List ℕ)) → List ℕ → Type 0
@@ -64,7 +105,7 @@ ReadsBlocks s file blocks contents =
 abbrev pub Saves : WavSpecEx → Begun → List (Bor (List ℕ)) → ℕ → MediumState → Type 0
 Saves s file blocks n m = (more : List (Asked × Bool)) × (r : Recorder) × (log : Log) × (log.state ≡ m)
     × StopsAt s r (drop n blocks) more
-    × Directed s file (seen (published_calls (samples_of s) (take n blocks) ++ more)) r true m
+    × Directed s file (seen (published_calls (samples_of s) (take n blocks) ++ more)) r m
     × KeptWithin log_kind s file (seen (published_calls (samples_of s) (take n blocks) ++ more)) log m
     × (AllByRecursion (λ (one : Known). one.asked ≡ publish → ⊥) (seen more) → 0 < n →
     ReadsBlocks s file (take n blocks) m.contents)

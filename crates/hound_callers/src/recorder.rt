@@ -1,12 +1,13 @@
 // Recorders whose caller performs the effects, on a medium.
-ghost use Rattle.std.specs.Prelude.{◌≡◌, ◌⊎◌, ◌≤◌, ℕ, List, [], ◌++◌, ◌∷◌, Bool, IfErr, IfOk, OnErr, OnOk, drop, is_ok, length, take, true};
-ghost use Rattle.hound.specs.{Asked, Begun, Directed, IsIoError, IsNotBegun, IsSynced, Known, Performs, PutsAt, Readable, Recorder, WavSpecEx, one_more, WhereKeeps, WhereTells, new_file, publish, resumed_file, seen};
-ghost use Rattle.hound_callers.specs.Recorder.{IsNotResumed, IsReady, Saves, Stops, StopsAt, longer, samples_of};
+ghost use Rattle.std.specs.Prelude.{◌≡◌, ◌⊎◌, ◌≤◌, ℕ, List, [], ◌++◌, ◌∷◌, Bool, IfErr, IfOk, OnErr, OnOk, drop, is_ok, length, take};
+ghost use Rattle.hound.specs.{Asked, Begun, Directed, IsIoError, IsNotBegun, IsSynced, Known, Performs, PutsAt, Readable, Recorder, WavSpecEx, one_more, WhereKeeps, WhereTells, new_file, resumed_file, seen};
+ghost use Rattle.hound.specs.declared.Report.TheVariants.{Pending};
+ghost use Rattle.hound_callers.specs.Recorder.{DoesAction, IsAsked, IsErrorOf, IsNotResumed, IsReady, Saves, Stops, StopsAt, asked_as, once_done, samples_of};
 ghost use Rattle.hound_callers.specs.Recording.{published_calls};
 
 use hound::{
-    Effect, Error, Medium, Recorder, RecorderError, WavReader, WavSpecEx, a_recorder_directs,
-    a_recording_is_kept, header_of, put_all,
+    Action, Effect, Error, FileState, FoundFile, Medium, Recorder, RecorderError, Report,
+    WavReader, WavSpecEx, a_recorder_directs, a_recording_is_kept, header_of, put_all,
 };
 use std::{io, result};
 
@@ -20,7 +21,7 @@ fn write_at<M: Medium>(medium: &mut M, place: u64, bytes: &[u8]) -> io::Result<(
 }
 
 // Performs an effect.
-fn perform<M: Medium>(medium: &mut M, effect: Effect) -> io::Result<()>
+fn perform_effect<M: Medium>(medium: &mut M, effect: Effect) -> io::Result<()>
     ensures { WhereKeeps M.tells M.keeps
         (Performs effect result (M.state medium.old) (M.state medium.new)) }
 {
@@ -31,21 +32,37 @@ fn perform<M: Medium>(medium: &mut M, effect: Effect) -> io::Result<()>
     }
 }
 
-// Performs the effects of a checkpoint, up to one that fails.
-fn perform_checkpoint<M: Medium>(
+// Performs an action, the write of a block with these bytes, and reports how it ended. A medium isn't cut off.
+fn perform<M: Medium>(medium: &mut M, action: Action, block: &[u8]) -> Report
+    ensures ended { result ≡ Pending → ⊥ }
+    ensures does { WhereKeeps M.tells M.keeps
+        (DoesAction action block.now result (M.state medium.old) (M.state medium.new)) }
+{
+    let done = match action {
+        Action::Perform(effect) => perform_effect(medium, effect).is_ok(),
+        Action::WriteBlock(place, _) => write_at(medium, place, block).is_ok(),
+        Action::Read(..) | Action::Cut(_) => false,
+    };
+    if done { Report::Done } else { Report::Failed }
+}
+
+// Performs one action after the other of what was requested, up to its end or a failure.
+fn perform_all<M: Medium>(
     medium: &mut M,
     recorder: &mut Recorder,
+    block: &[u8],
 ) -> result::Result<(), RecorderError>
-    requires { IsReady recorder.old }
-    ensures same { OnOk result (recorder.new ≡ recorder.old) }
+    requires { IsAsked recorder.old (length block.now) }
+    ensures done { OnOk result (recorder.new ≡ once_done recorder.old) }
     ensures directed { WhereKeeps M.tells M.keeps ((s : WavSpecEx) (file : Begun) (known : List Known)
-        → Directed s file known recorder.old true (M.state medium.old) → (recorder.new.number ≡ 0)
-        × Directed s file (known ++ seen ((publish, is_ok result) ∷ [])) recorder.new true (M.state medium.new)) }
+        → Directed s file known recorder.old (M.state medium.old) → (recorder.new.number ≡ 0)
+        × Directed s file (known ++ seen ((asked_as s recorder.old block.now, is_ok result) ∷ []))
+        recorder.new (M.state medium.new)) }
 {
     a_recorder_directs();
-    let mut ok = true;
-    while let Some(effect) = recorder.next(ok)? {
-        ok = perform(medium, effect).is_ok();
+    let mut report = Report::Pending;
+    while let Some(action) = recorder.next(report)? {
+        report = perform(medium, action, block);
     }
     Ok(())
 }
@@ -57,13 +74,13 @@ fn save_block<M: Medium>(
     block: &[u8],
 ) -> result::Result<(), RecorderError>
     requires { IsReady recorder.old }
-    ensures counted { OnOk result (recorder.new ≡ longer recorder.old (length block.now)) }
+    ensures counted { OnOk result (IsReady recorder.new) }
     ensures saved { OnOk result (WhereKeeps M.tells M.keeps ((s : WavSpecEx) (file : Begun) (known : List Known)
-        → Directed s file known recorder.old true (M.state medium.old)
-        → Directed s file (known ++ seen (published_calls (samples_of s) (block.entry ∷ []))) recorder.new true
+        → Directed s file known recorder.old (M.state medium.old)
+        → Directed s file (known ++ seen (published_calls (samples_of s) (block.entry ∷ []))) recorder.new
         (M.state medium.new))) }
     ensures stopped { OnErr result (WhereKeeps M.tells M.keeps ((s : WavSpecEx) (file : Begun) (known : List Known)
-        → Directed s file known recorder.old true (M.state medium.old)
+        → Directed s file known recorder.old (M.state medium.old)
         → Stops s file known block.entry recorder.new (M.state medium.new))) }
 {
     a_recorder_directs();
@@ -71,14 +88,10 @@ fn save_block<M: Medium>(
     if block.len() % width != 0 {
         return Err(RecorderError::UnfinishedFrame);
     }
-    let samples = (block.len() / width) as u64;
-    let place = recorder.place(samples)?;
-    let written = write_at(medium, place, block).is_ok();
-    recorder.wrote(samples, written)?;
-    if !written {
-        return Err(RecorderError::NeedsCheckpoint);
-    }
-    perform_checkpoint(medium, recorder)
+    recorder.write(Report::Pending, (block.len() / width) as u64)?;
+    perform_all(medium, recorder, block)?;
+    recorder.checkpoint(Report::Pending);
+    perform_all(medium, recorder, block)
 }
 
 // Saves blocks until a call fails or a block doesn't fit, and returns how many were saved.
@@ -86,10 +99,10 @@ fn save_blocks<M: Medium>(medium: &mut M, recorder: &mut Recorder, blocks: &[&[u
     requires ready { IsReady recorder.old }
     ensures within { result ≤ length blocks.now }
     ensures saved { WhereKeeps M.tells M.keeps ((s : WavSpecEx) (file : Begun)
-        → Directed s file [] recorder.old true (M.state medium.old) → (more : List (Asked × Bool))
+        → Directed s file [] recorder.old (M.state medium.old) → (more : List (Asked × Bool))
         × StopsAt s recorder.new (drop result blocks.now) more × (recorder.new.number ≡ 0)
         × Directed s file (seen (published_calls (samples_of s) (take result blocks.now) ++ more))
-        recorder.new true (M.state medium.new)) }
+        recorder.new (M.state medium.new)) }
 {
     for i in 0..blocks.len() {
         if save_block(medium, recorder, blocks[i]).is_err() {
@@ -125,9 +138,20 @@ pub fn record_by_effects<M: Medium>(
     Ok(save_blocks(medium, &mut recorder, blocks))
 }
 
+// The error for one of a recorder.
+fn error_of(error: RecorderError) -> Error
+    ensures { IsErrorOf error result }
+{
+    match error {
+        RecorderError::Truncated => Error::FormatError("the data are cut off"),
+        RecorderError::HasChunksAfterData => Error::FormatError("more follows the data"),
+        _ => Error::Unsupported,
+    }
+}
+
 /// Appends blocks to a file with these contents, as [`record_by_effects`] records a new one. At an error
-/// the file is as it was (`refused`): the contents can't be read, or aren't appended to, or lack data that
-/// the header counts, or the medium failed (`why`).
+/// the file is as it was (`refused`): the contents can't be read, or aren't appended to, or don't end with
+/// the data that the header counts, or the medium failed (`why`).
 pub fn append_by_effects<M: Medium>(
     medium: &mut M,
     contents: &[u8],
@@ -148,14 +172,22 @@ pub fn append_by_effects<M: Medium>(
     a_recording_is_kept();
     let reader = WavReader::new(contents)?;
     let (spec_ex, samples) = (reader.spec_ex(), reader.len());
-    let start = (contents.len() - reader.into_inner().len()) as u64;
-    let Ok(mut resumed) = Recorder::append(spec_ex, start, samples) else {
+    let data_start = (contents.len() - reader.into_inner().len()) as u64;
+    let Some(data_length) = samples.checked_mul(spec_ex.bytes_per_sample as u32) else {
         return Err(Error::Unsupported);
     };
-    let end = start + resumed.data_length as u64;
-    if end > contents.len() as u64 {
-        return Err(Error::FormatError("the data are cut off"));
-    }
-    medium.go(end)?;
+    let found = FoundFile {
+        spec_ex,
+        data_start,
+        data_length,
+        length: contents.len() as u64,
+        frames: samples / spec_ex.spec.channels as u32,
+        state: FileState::HasChunksAfterData,
+    };
+    let mut resumed = match Recorder::resume(found, false, false) {
+        Ok(resumed) => resumed,
+        Err(error) => return Err(error_of(error)),
+    };
+    medium.go(data_start + resumed.data_length as u64)?;
     Ok(save_blocks(medium, &mut resumed, blocks))
 }

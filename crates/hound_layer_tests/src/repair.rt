@@ -1,8 +1,8 @@
 // Files that were cut off, repaired in memory.
 use hound_medium::{Journal, Tape};
 use hound_repair::{
-    Repair, RepairState, a_half_mended_file_is_repaired, a_repair_keeps_stored_samples,
-    a_second_repair_writes_nothing, find_damage, repair, repair_to_end,
+    Repair, RepairState, a_repair_keeps_stored_samples, a_second_repair_writes_nothing,
+    a_stopped_repair_is_done_again, find_damage, repair, repair_to_end,
 };
 use std::alloc::Global;
 use std::io::Cursor;
@@ -120,7 +120,7 @@ fn a_repair_that_fails_is_repaired_again(rt: HostRuntime) -> Result<(), Fail> {
         }
     }
     assert_eq!(rt; failed > 100, true);
-    a_half_mended_file_is_repaired();
+    a_stopped_repair_is_done_again();
     a_repair_keeps_stored_samples();
     a_second_repair_writes_nothing();
     Ok(())

@@ -88,21 +88,20 @@ frames_same_data f start len all c some all_is none =
       | inr every ↦ ap (λ k. k / f) (every f all ∙ sym (every f len))
     ]
 
--- and that they are the frames that were found
-pub frames_mended : (looks : Bool) (contents : List ℕ) (found : Repair) (len start : ℕ)
+-- and that they are the frames that were found, where the data are followed by a missing pad byte alone
+pub frames_padded : (looks : Bool) (contents new : List ℕ) (found : Repair) (len start : ℕ)
     → IsFoundAt looks contents found len start → (found.state ≡ HasChunksAfterData → ⊥)
     → 1 ≤ frame_length found.spec_ex
-    → frames_held found.spec_ex
-    (shown_length start (found_length found) (mended start (found_length found) contents))
-    (held start (mended start (found_length found) contents)) ≡ found.frames
-frames_mended looks contents found len start at apart some =
+    → drop start new ≡ drop start contents ++ missing_pad (found_length found) (held start contents)
+    → frames_held found.spec_ex (shown_length start (found_length found) new) (held start new)
+    ≡ found.frames
+frames_padded looks contents new found len start at apart some rest =
     let s = found.spec_ex in
     let f = frame_length s in
     let all = found_length found in
     let n = held start contents in
     let all_is = length_of looks contents found len start at apart in
     let frames = frames_are looks contents found len start at apart in
-    let rest = rest_mended start all contents (head_behind contents s len start at.head) (head_inside contents s len start at.head) in
     let again = frames_again f (shown_length start len contents) n some in
     elim (pad_cases all n) [
       | inl none ↦
@@ -115,6 +114,19 @@ frames_mended looks contents found len start at apart some =
           let long = ap length ends ∙ length-append (drop start contents) (0 ∷ []) in
           grind (arith, common_steps, again, shown, long, pad, all_is, frames)
     ]
+
+-- as in a mended file
+pub frames_mended : (looks : Bool) (contents : List ℕ) (found : Repair) (len start : ℕ)
+    → IsFoundAt looks contents found len start → (found.state ≡ HasChunksAfterData → ⊥)
+    → 1 ≤ frame_length found.spec_ex
+    → frames_held found.spec_ex
+    (shown_length start (found_length found) (mended start (found_length found) contents))
+    (held start (mended start (found_length found) contents)) ≡ found.frames
+frames_mended looks contents found len start at apart some =
+    let s = found.spec_ex in
+    let all = found_length found in
+    frames_padded looks contents (mended start all contents) found len start at apart some
+    (rest_mended start all contents (head_behind contents s len start at.head) (head_inside contents s len start at.head))
 
 module _ (looks again : Bool) (old mid next new : MediumState) (found other : Repair)
     (first : Repairs looks old found mid)

@@ -1,10 +1,8 @@
 -- Chunks after the data, one by one.
 use Rattle.std.proofs.lemmas.Grind.{common_steps}
-use Rattle.std.proofs.Common.{◌≡◌, ℕ, min, inl, inr, suc, ◌+◌, ◌-◌, ◌≤◌, ◌<◌, Bool, true, false, if◌then◌else◌, ◌&&◌, ◌||◌, nat_lt, nat_le, List, [], ◌∷◌, ◌++◌, Option, None, Some, length, drop, take, refl, sym, ap, arith, length-drop, length-take, eqb-true}
+use Rattle.std.proofs.Common.{◌≡◌, ℕ, min, suc, ◌+◌, ◌≤◌, ◌<◌, Bool, true, false, if◌then◌else◌, ◌&&◌, ◌||◌, nat_lt, nat_le, List, [], ◌∷◌, Option, None, Some, length, drop, take, refl, sym, ap, arith, length-drop, length-take, eqb-true}
 use Rattle.std.specs.Prelude.{◌==◌, bytes_eq}
-use Rattle.std.proofs.lemmas.Bool.{cases_lt}
 use Rattle.std.specs.List.{list_all, list_any}
-use Rattle.std.proofs.lemmas.List.{take-take, take_all, take_at}
 use Rattle.hound_spec.specs.{padded}
 use Rattle.hound_repair.specs.Held.{are_at_most, are_chunks, chunk_content, has_known_tag, has_tag, if_some, known_tags, said_length}
 
@@ -74,15 +72,6 @@ pub tag_is : (bytes tag : List ℕ) → tag ≡ take 4 bytes
 unfolding has_known_tag
 tag_is bytes tag is = ap (λ t. list_any (λ known. bytes_eq known t) known_tags) is
 
--- so do the first bytes of a header, where there are fewer than eight too
-pub tag_of_front : (bytes : List ℕ) (n : ℕ) → n ≡ min (length bytes) 8
-    → has_known_tag (take n bytes) ≡ has_known_tag bytes
-unfolding has_known_tag
-tag_of_front bytes n is = tag_is bytes (take 4 (take n bytes)) (elim (cases_lt (length bytes) 8) [
-  | inl few ↦ ap (take 4) (take_all n bytes (omega (arith, is, few)))
-  | inr many ↦ take-take 4 n bytes (omega (arith, is, many))
-])
-
 -- how many bytes the content of a chunk takes, by its header and how many bytes there are
 abbrev pub content_by : List ℕ → ℕ → Option ℕ
 content_by header left =
@@ -90,16 +79,7 @@ content_by header left =
     else if has_tag header && nat_le (8 + said_length header) left
     then Some (padded (said_length header)) else None
 
-content_is : (bytes header : List ℕ) (left n : ℕ) → left ≡ length bytes → n ≡ min left 8
+pub content_is : (bytes header : List ℕ) (left n : ℕ) → left ≡ length bytes → n ≡ min left 8
     → header ≡ take n bytes → content_by header left ≡ chunk_content bytes
 unfolding chunk_content
 content_is bytes header left n all count is = grind (arith, common_steps)
-
--- a header that was read into the front of a buffer says what begins at its place
-pub header_read : (place end n : ℕ) (given old after contents now : List ℕ) → end ≡ length contents
-    → n ≡ min (end - place) 8 → length old ≡ n → length given ≡ length old → now ≡ contents
-    → given ≡ take (length old) (drop place now)
-    → (end - place ≡ length (drop place contents))
-    × (has_known_tag (take n (given ++ after)) ≡ has_known_tag (drop place contents))
-    × (content_by (take n (given ++ after)) (end - place) ≡ chunk_content (drop place contents))
-header_read place end n given old after contents now ends count size long same is = grind (arith, common_steps, length-drop, take_at, tag_of_front, content_is)

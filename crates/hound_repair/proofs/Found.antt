@@ -4,7 +4,8 @@ use Rattle.hound_spec.specs.declared.error.Error.{Error}
 use Rattle.hound_medium.specs.{MediumState}
 use Rattle.hound_walk.proofs.Unique.{heads_agree}
 use Rattle.hound_writer.specs.{IsIoError}
-use Rattle.hound_repair.specs.Repairing.{Finds, IsFoundAt, IsNotRepaired, Repairs}
+use Rattle.hound_repair.specs.Repairing.{Finds, IsFoundAt, Repairs}
+use Rattle.hound_repair.specs.Steps.{IsNotRepaired}
 use Rattle.hound_repair.specs.declared.sizes.Repair.{Repair}
 use Rattle.hound_repair.proofs.Keeping.{only_io}
 

@@ -16,7 +16,8 @@ use Rattle.hound_writer.proofs.Heads.{head_behind, head_inside}
 use Rattle.hound_writer.specs.{IsStored, IsIoError, AppendFault, NamesFault, PutsNothing}
 use Rattle.hound_repair.specs.Held.{data_held, ends_with_pad, frame_length, held, shown_length}
 use Rattle.hound_spec.specs.declared.error.Error.{Error}
-use Rattle.hound_repair.specs.Repairing.{IsNoPad, IsNotRepaired, IsRepairFault, LeavesFor, LeavesHalf, ReadsFrames, Repairs, repair_fault}
+use Rattle.hound_repair.specs.Repairing.{IsNoPad, IsRepairFault, LeavesFor, ReadsFrames, Repairs, repair_fault}
+use Rattle.hound_repair.specs.Steps.{IsNotRepaired, LeavesPartly}
 use Rattle.hound_repair.specs.declared.sizes.Repair.{Repair}
 use Rattle.hound_repair.specs.declared.sizes.RepairState.{RepairState}
 use Rattle.hound_repair.specs.declared.sizes.RepairState.TheVariants.{HasChunksAfterData}
@@ -158,7 +159,7 @@ only_io looks old new e s len start head none not = by not.why
   where
     by : ((fault : AppendFault) × IsRepairFault old.contents fault × NamesFault e fault
         × PutsNothing old new × (new.faults ≡ old.faults))
-        ⊎ (IsIoError e × LeavesHalf looks old new × (new.faults ≡ one_more old.faults))
+        ⊎ (IsIoError e × LeavesPartly looks old new × (new.faults ≡ one_more old.faults))
         → IsIoError e
     by (inr (io, leaves, faults)) = io
     by (inl (fault, inl (cause, is, refused), names, puts, faults)) =

@@ -6,8 +6,12 @@ pub mod Mending
 pub mod Resuming
 pub mod RightSizes
 pub mod Joining
-pub mod Halves
 pub mod Keeping
 pub mod Again
 pub mod InPlace
-mod Found
+pub mod Stepping
+pub mod Performing
+pub mod Stopped
+pub mod ByEffects
+pub mod Found
+pub mod Lost

@@ -1,44 +1,27 @@
 -- What a head is found as, by what the file holds.
 use Rattle.std.proofs.lemmas.Grind.{common_steps}
-use Rattle.std.proofs.Common.{◌≡◌, ℕ, ◌+◌, ◌≤◌, ◌<◌, ◌^◌, true, false, not, min, ◌⊎◌, Option, Some, inl, Err, refl, arith}
+use Rattle.std.proofs.Common.{◌≡◌, ℕ, ◌+◌, ◌<◌, true, false, List, Option, Some, Err, inl, inr, refl, sym, ◌∙◌, arith}
 use Rattle.std.proofs.lemmas.Bool.Decides.{nat_tests}
-use Rattle.std.proofs.lemmas.Bool.{cases_lt}
-use Rattle.std.proofs.Math.Nat.{lt-div-mul-add, le-mul_of_pos_right}
 use Rattle.hound_spec.specs.declared.error.Error.{Error}
-use Rattle.hound_spec.specs.declared.error.Error.TheVariants as errors
 use Rattle.hound_spec.specs.declared.spec.WavSpecEx.{WavSpecEx}
-use Rattle.hound_spec.specs.{greatest_u32, riff_size, is_pair}
-use Rattle.hound_medium.specs.{MediumState}
-use Rattle.hound_walk.specs.declared.cause.HeadError.{HeadError}
+use Rattle.hound_spec.specs.{is_pair}
+use Rattle.hound_walk.specs.declared.cause.Cause.{Cause}
 use Rattle.hound_walk.specs.declared.cause.Cause.TheVariants.{Unsupported}
-use Rattle.hound_walk.specs.{IsSoundSpec, ReportsError, FindsData}
-use Rattle.hound_writer.specs.{AppendFault, by_bytes, FailsCheck, NamesFault}
-use Rattle.hound_writer.proofs.Appending.{no_head, walk_puts_nothing}
 use Rattle.hound_walk.specs.declared.chunks.FileHead.{FileHead}
-use Rattle.hound_repair.specs.Damages.{IsNotMeasured}
-use Rattle.hound_repair.specs.Held.{data_held, ends_with_pad, right_length}
-use Rattle.hound_repair.specs.Repairing.{IsNotFound, IsRepairFault, repair_fault, size_fault}
+use Rattle.hound_walk.specs.{Head}
+use Rattle.hound_walk.proofs.Unique.{head_no_fault, heads_agree}
+use Rattle.hound_writer.specs.{AppendFault, by_bytes, FailsCheck, NamesFault, too_long}
+use Rattle.hound_repair.specs.Held.{data_held, ends_with_pad, held, shown_length}
+use Rattle.hound_repair.specs.Repairing.{IsRepairFault, repair_fault, size_fault}
+use Rattle.hound_repair.specs.Damages.{IsUnmeasured}
+use Rattle.hound_repair.specs.Steps.{refused_for, unrepaired_for}
+use Rattle.hound_repair.specs.declared.steps.Refusal.{Refusal}
+use Rattle.hound_repair.specs.declared.steps.Refusal.TheVariants as refusals
 
 -- where two bytes and more follow the data length all that is held is data
 pub no_pad : (f len n : ℕ) → len + 1 < n → data_held f len n ≡ n
 unfolding data_held ends_with_pad
 no_pad f len n more = grind (arith, nat_tests)
-
--- more than 2^33 bytes are too many
-too_many : (s : WavSpecEx) (len start n : ℕ) → IsSoundSpec s → len ≤ 2 ^ 32 → 20 ≤ start
-    → 2 ^ 33 ≤ n → greatest_u32 < riff_size start (right_length s len n)
-too_many s len start n sound small after many = grind (arith, common_steps, no_pad, lt-div-mul-add, le-mul_of_pos_right)
-
--- so what is counted up to there is all, where the RIFF size fits
-pub is_all : (s : WavSpecEx) (len start n m : ℕ) → IsSoundSpec s → len ≤ 2 ^ 32 → 20 ≤ start
-    → m ≡ min n (2 ^ 33) → riff_size start (right_length s len m) ≤ greatest_u32 → m ≡ n
-is_all s len start n m sound small after is fits = grind (arith, common_steps, cases_lt, too_many)
-
--- and the check fails for both or for none
-pub same_fault : (s : WavSpecEx) (len start n m : ℕ) → IsSoundSpec s → len ≤ 2 ^ 32 → 20 ≤ start
-    → m ≡ min n (2 ^ 33) → size_fault s len start m ≡ size_fault s len start n
-unfolding size_fault
-same_fault s len start n m sound small after is = grind (arith, common_steps, cases_lt, too_many, nat_tests)
 
 -- a spec that is written leaves the check of the size
 pub written : (s : WavSpecEx) (len start n : ℕ)
@@ -59,24 +42,35 @@ pub fails_for : (T : Type 0) (e : Error) (o : Option AppendFault) → FailsCheck
     → (fault : AppendFault) × (o ≡ Some fault) × NamesFault e fault
 fails_for T e o fails = grind (arith, common_steps)
 
--- a walk that found no head
-pub walk_fails : (error : HeadError) (e : Error) (old new : MediumState) → old.place ≡ 0
-    → ReportsError error e → FindsData (Err error) old new → IsNotFound old new e
-walk_fails error e old new begins told finds = record {
-  puts = walk_puts_nothing (Err error) old new finds;
-  why = no_head (IsRepairFault old.contents) error e old new (λ cause is. inl (cause, refl, is))
-      begins told finds;
-}
+-- a head that is there and isn't repaired fails a check
+unfit : (head : FileHead) (file : List ℕ) (fault : AppendFault)
+    → Head file head.spec_ex head.data_length head.data_start → IsRepairFault file fault
+    → repair_fault head.spec_ex (shown_length head.data_start head.data_length file) head.data_start
+    (held head.data_start file) ≡ Some fault
+unfit head file fault is (inl (cause, same, refused)) =
+    absurd (head_no_fault file head.spec_ex head.data_length head.data_start cause is refused)
+unfit head file fault is (inr (s, len, start, other, some)) =
+    let agree = heads_agree file s head.spec_ex len head.data_length start head.data_start other is in
+    (λ i. repair_fault (sym agree.0 i) (shown_length (sym agree.2 i) (sym agree.1 i) file) (sym agree.2 i) (held (sym agree.2 i) file))
+    ∙ some
 
--- a check that fails has one of two errors
-one_of_two : (s : WavSpecEx) (len start n : ℕ) (fault : AppendFault) (e : Error)
-    → repair_fault s len start n ≡ Some fault → NamesFault e fault
-    → (e ≡ errors.Unsupported) ⊎ (e ≡ errors.TooLong)
+-- by its samples, if its bytes decide it
+by_samples : (s : WavSpecEx) (len start n : ℕ) (cause : Cause)
+    → repair_fault s len start n ≡ Some (by_bytes cause)
+    → repair_fault s len start n ≡ Some (by_bytes Unsupported)
 unfolding repair_fault size_fault
-one_of_two s len start n fault e is names = grind (arith, common_steps)
+by_samples s len start n cause is = grind (arith, common_steps)
 
--- so has a head that isn't gone by, where no read can fail
-pub no_other : (head : FileHead) (old new : MediumState) (e : Error) → old.faults ≡ 0
-    → new.faults ≡ 0 → IsNotMeasured head old new e
-    → (e ≡ errors.Unsupported) ⊎ (e ≡ errors.TooLong)
-no_other head old new e none still not = grind (arith, common_steps, one_of_two)
+-- so its fault is one of two
+pub unmeasured : (head : FileHead) (file : List ℕ) (why : Refusal)
+    → Head file head.spec_ex head.data_length head.data_start → IsRepairFault file (refused_for why)
+    → IsUnmeasured head file (unrepaired_for why)
+unmeasured head file refusals.TooLong is fault = (too_long, refl, unfit head file too_long is fault)
+unmeasured head file refusals.Unsupported is fault =
+    (by_bytes Unsupported, refl, unfit head file (by_bytes Unsupported) is fault)
+unmeasured head file (refusals.Head cause) is fault = (
+  by_bytes Unsupported,
+  refl,
+  by_samples head.spec_ex (shown_length head.data_start head.data_length file) head.data_start
+      (held head.data_start file) cause (unfit head file (by_bytes cause) is fault),
+)

@@ -1,25 +1,17 @@
 -- What mending a file leaves.
 use Rattle.std.proofs.lemmas.Grind.{common_steps}
-use Rattle.std.proofs.Common.{◌≡◌, ℕ, ◌+◌, ◌-◌, ◌≤◌, List, [], ◌∷◌, ◌++◌, length, Bool, Result, Ok, ◌∙◌, arith, eqb-true, length-drop, length-take}
+use Rattle.std.proofs.Common.{◌≡◌, ℕ, ◌-◌, List, ◌++◌, length, Bool, ◌∙◌, arith, eqb-true}
 use Rattle.std.proofs.lemmas.Bool.{and_parts}
-use Rattle.std.specs.declared.io.Error.{Error as IoFault}
-use Rattle.hound_spec.specs.{riff_size}
 use Rattle.hound_medium.specs.{MediumState}
-use Rattle.hound_medium.proofs.Overlays.{overlay_at_end}
 use Rattle.hound_walk.specs.{IsSoundSpec}
-use Rattle.hound_writer.specs.{PutsNothing, IsPatched, Patches, with_sizes}
-use Rattle.hound_repair.specs.Damages.{FindsDamage, IsSoundDamage, PutsPad, PutsSizes, repair_of}
+use Rattle.hound_writer.specs.{PutsNothing, with_sizes}
+use Rattle.hound_repair.specs.Damages.{FindsDamage, IsSoundDamage, repair_of}
 use Rattle.hound_repair.specs.Held.{held, mended, missing_pad}
-use Rattle.hound_repair.specs.Repairing.{HalfMended, IsFoundAt, Repairs, found_length}
+use Rattle.hound_repair.specs.Repairing.{IsFoundAt, Repairs, found_length}
 use Rattle.hound_repair.specs.declared.look.Damage.{Damage}
 use Rattle.hound_repair.specs.declared.sizes.Repair.{Repair}
 use Rattle.hound_repair.specs.declared.sizes.RepairState.TheVariants.{CutOff}
 use Rattle.hound_repair.proofs.RightSizes.{right_sizes_put, right_sizes_there}
-
--- a file is half mended before its pad byte is written
-pub before_pad : (start n k : ℕ) (old new : List ℕ) → k ≤ 4
-    → IsPatched (start - 4) (riff_size start n) old n k new → HalfMended start n old new
-before_pad start n k old new within half = grind (arith, common_steps)
 
 -- the sizes and the missing bytes are what mends a file
 pub mended_by : (d : Damage) → IsSoundDamage d → (c pad new : List ℕ)
@@ -27,24 +19,6 @@ pub mended_by : (d : Damage) → IsSoundDamage d → (c pad new : List ℕ)
     → new ≡ with_sizes (d.head.data_start - 4) d.sizes.riff_size d.sizes.data_length c ++ pad
     → new ≡ mended d.head.data_start d.sizes.data_length c
 mended_by d sound c pad new held_is missing is = grind (arith, common_steps)
-
-module _ (d : Damage) (sound : IsSoundDamage d) (a b : MediumState)
-    (ends : d.head.data_start + d.held ≡ length a.contents) where
-  abbrev start : ℕ
-  start = d.head.data_start
-
-  abbrev n : ℕ
-  n = d.sizes.data_length
-
-  held_is : d.held ≡ held start a.contents
-  held_is = omega (arith, ends, length-drop start a.contents)
-
-  -- the sizes were put, and then the pad byte
-  pub put_both : {T E : Type 0} (keeps : Bool) (x : Unit {0}) (result : Result T E)
-      (c : MediumState) → missing_pad n d.held ≡ 0 ∷ []
-      → Patches {E = IoFault} (start - 4) d.sizes.riff_size n (Ok x) a b
-      → PutsPad keeps (start + d.held) result b c → PutsSizes d result a c
-  put_both keeps x result c missing patches pads = grind (arith, common_steps, overlay_at_end, length-take)
 
 -- a file that wasn't cut off is left as it is
 pub repairs_kept : (looks : Bool) (old new : MediumState) (found : Repair) (len start : ℕ)
@@ -89,7 +63,3 @@ module _ (looks : Bool) (old mid new : MediumState) (d : Damage) (sound : IsSoun
       repairs_cut looks old new (repair_of d) d.head.data_length d.head.data_start finds.found sound.spec cut
       (contents ∙ (λ i. mended d.head.data_start (length_is d sound cut i) (finds.puts.stays.contents i)))
       flushed (faults ∙ finds.faults)
-
-  pub half_after : (c : List ℕ) → HalfMended d.head.data_start d.sizes.data_length mid.contents c
-      → HalfMended d.head.data_start (found_length (repair_of d)) old.contents c
-  half_after c half = grind (arith, common_steps)

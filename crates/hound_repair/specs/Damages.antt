@@ -1,14 +1,14 @@
 -- What the private parts of a repair find and do, and what a repair of a file in memory leaves.
-use Rattle.std.specs.Prelude.{◌≡◌, ℕ, ◌≤◌, ◌^◌, ◌⊎◌, Bool, IsTrue, false, [], ◌∷◌, ◌++◌, length, take, Some, Result, OnOk, MatchResult, true, List, drop, Option, None}
-use Rattle.hound_spec.specs.declared.error.Error.{Error}
-use Rattle.hound_spec.specs.{IsPair, riff_size}
-use Rattle.hound_medium.specs.{placed, overlay, MediumState, faults_after, one_more, unknown}
+use Rattle.std.specs.Prelude.{◌≡◌, ℕ, ◌+◌, ◌≤◌, ◌^◌, Bool, false, [], ◌∷◌, length, take, Some, true, List, drop, Option, None, if◌then◌else◌}
+use Rattle.hound_spec.specs.{riff_size}
+use Rattle.hound_medium.specs.{MediumState, unknown}
 use Rattle.hound_walk.specs.declared.chunks.FileHead.{FileHead}
 use Rattle.hound_walk.specs.{IsDataPlace, IsSoundSpec}
-use Rattle.hound_writer.specs.{IsIoError, AppendFault, NamesFault, PutsNothing, by_bytes, too_long}
-use Rattle.hound_repair.specs.Held.{frames_held, held, mended, right_length, shown_length, torn_bytes, missing_pad}
-use Rattle.hound_repair.specs.Repairing.{HalfMended, IsFoundAt, frames_found, repair_fault, torn_found, Repairs, found_length}
+use Rattle.hound_writer.specs.{AppendFault, PutsNothing, by_bytes, too_long}
+use Rattle.hound_repair.specs.Held.{frames_held, held, right_length, shown_length, torn_bytes, missing_pad}
+use Rattle.hound_repair.specs.Repairing.{IsFoundAt, frames_found, repair_fault, torn_found, Repairs, found_length}
 use Rattle.hound_repair.specs.declared.look.Damage.{Damage}
+use Rattle.hound_repair.specs.declared.look.SeenHead.{SeenHead}
 use Rattle.hound_repair.specs.declared.look.Rest.{Rest}
 use Rattle.hound_repair.specs.declared.look.Rest.TheVariants.{MayBeChunks, IsSamples}
 use Rattle.hound_repair.specs.declared.sizes.Repair.{Repair}
@@ -23,9 +23,22 @@ abbrev pub may_be_chunks : Rest → Bool
 may_be_chunks MayBeChunks = true
 may_be_chunks IsSamples = false
 
+-- a head, and whether a single byte after its data is a sample
+abbrev pub seen_head : FileHead → Bool → SeenHead
+seen_head head more = record {
+  spec_ex = head.spec_ex;
+  data_length = head.data_length;
+  data_start = head.data_start;
+  has_more = more;
+}
+
+-- the data length that a file with this head shows
+abbrev pub shown_of : SeenHead → ℕ
+shown_of head = head.data_length + (if head.has_more then 1 else 0)
+
 -- the sizes are those of a file with this head that shows this data length, and holds so many bytes
 -- from the data on
-pub record AreRightSizes (head : FileHead) (shown n : ℕ) (sizes : Sizes) : Type 0 where
+pub record AreRightSizes (head : SeenHead) (shown n : ℕ) (sizes : Sizes) : Type 0 where
   pub riff : sizes.riff_size ≡ riff_size head.data_start sizes.data_length
   pub length_is : sizes.data_length ≡ right_length head.spec_ex shown n
   pub frames : sizes.frames ≡ frames_held head.spec_ex shown n
@@ -36,14 +49,14 @@ pub record IsSoundDamage (d : Damage) : Type 0 where
   pub spec : IsSoundSpec d.head.spec_ex
   pub place : IsDataPlace d.head.data_start
   pub few : d.held ≤ 2 ^ 33
-  pub sizes : AreRightSizes d.head d.shown d.held d.sizes
+  pub sizes : AreRightSizes d.head (shown_of d.head) d.held d.sizes
 
 -- what is reported of a file as it was found
 abbrev pub repair_of : Damage → Repair
 repair_of d = record {
   spec_ex = d.head.spec_ex;
-  frames = frames_found d.state d.head.spec_ex d.head.data_length d.shown d.held;
-  left_over = torn_found d.state d.head.spec_ex d.head.data_length d.shown d.held;
+  frames = frames_found d.state d.head.spec_ex d.head.data_length (shown_of d.head) d.held;
+  left_over = torn_found d.state d.head.spec_ex d.head.data_length (shown_of d.head) d.held;
   state = d.state;
 }
 
@@ -55,44 +68,10 @@ pub record FindsDamage (looks : Bool) (old : MediumState) (d : Damage) (new : Me
     pub puts : PutsNothing old new
     pub faults : new.faults ≡ old.faults
 
--- A head that isn't gone by, for a check that it fails, or since the medium failed, which is called only
--- if the samples are written.
-pub record IsNotMeasured (head : FileHead) (old new : MediumState) (e : Error) : Type 0 where
-  pub puts : PutsNothing old new
-  pub why : ((fault : AppendFault)
-      × (repair_fault head.spec_ex (shown_length head.data_start head.data_length old.contents)
-      head.data_start (held head.data_start old.contents) ≡ Some fault) × NamesFault e fault
-      × (new.faults ≡ old.faults))
-      ⊎ (IsIoError e × (new.faults ≡ one_more old.faults)
-      × IsPair head.spec_ex.spec.sample_format head.spec_ex.spec.bits_per_sample
-      head.spec_ex.bytes_per_sample)
-
--- A pad byte was written at the end, or a fault came before it or after it.
-pub record PutsPad {T E : Type 0} (keeps : Bool) (end : ℕ) (result : Result T E)
-    (old new : MediumState) : Type 0 where
-  pub count : ℕ
-  pub within : count ≤ 1
-  pub whole : OnOk result (count ≡ 1)
-  pub contents : new.contents ≡ overlay old.contents (placed end (take count (0 ∷ [])))
-  pub start : new.start ≡ old.start
-  pub past : IsTrue keeps → new.past ≡ old.past ++ placed end (take count (0 ∷ []))
-  pub flushed : MatchResult result (λ _. new.flushed ≡ length new.past)
-      (λ _. new.flushed ≡ old.flushed)
-  pub faults : new.faults ≡ faults_after result old.faults
-
 -- nothing was written and no call failed: at most the place has changed
 pub record IsSame (old new : MediumState) : Type 0 where
   pub puts : PutsNothing old new
   pub faults : new.faults ≡ old.faults
-
--- The sizes were put and the pad byte where it was missing, or a fault came before.
-pub record PutsSizes {T E : Type 0} (d : Damage) (result : Result T E) (old new : MediumState) :
-    Type 0 where
-  pub contents : OnOk result
-      (new.contents ≡ mended d.head.data_start d.sizes.data_length old.contents)
-  pub half : HalfMended d.head.data_start d.sizes.data_length old.contents new.contents
-  pub flushed : OnOk result (new.flushed ≡ length new.past)
-  pub faults : new.faults ≡ faults_after result old.faults
 
 -- bytes as a medium that is at its beginning
 abbrev pub as_medium : List ℕ → MediumState

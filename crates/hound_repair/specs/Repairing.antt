@@ -1,14 +1,14 @@
 -- What a file is found as, and what repairing it leaves.
-use Rattle.std.specs.Prelude.{◌≡◌, ℕ, ◌+◌, ◌-◌, ◌*◌, ◌/◌, ◌%◌, ◌≤◌, ◌<◌, ◌⊎◌, Bool, true, false, ◌&&◌, not, nat_lt, if◌then◌else◌, ⊤, List, ◌++◌, length, take, drop, Option, Some, None, Result, MatchResult}
+use Rattle.std.specs.Prelude.{◌≡◌, ℕ, ◌+◌, ◌-◌, ◌*◌, ◌/◌, ◌%◌, ◌≤◌, ◌⊎◌, Bool, true, false, ◌&&◌, not, nat_lt, if◌then◌else◌, ⊤, List, length, take, drop, Option, Some, None, Result}
 use Rattle.hound_spec.specs.declared.error.Error.{Error}
 use Rattle.hound_spec.specs.declared.spec.WavSpecEx.{WavSpecEx}
 use Rattle.hound_spec.specs.{greatest_u32, riff_size, is_pair}
-use Rattle.hound_medium.specs.{moment, MediumState, faults_after, one_more}
+use Rattle.hound_medium.specs.{MediumState, faults_after, one_more}
 use Rattle.hound_sample.specs.{containers}
 use Rattle.hound_walk.specs.declared.cause.Cause.{Cause}
 use Rattle.hound_walk.specs.declared.cause.Cause.TheVariants.{Unsupported}
 use Rattle.hound_walk.specs.{Head, Readable, Refused}
-use Rattle.hound_writer.specs.{IsIoError, AppendFault, by_bytes, too_long, NamesFault, PutsNothing, IsPatched, field}
+use Rattle.hound_writer.specs.{IsIoError, AppendFault, by_bytes, too_long, NamesFault, PutsNothing, field}
 use Rattle.hound_repair.specs.Held.{is_followed, are_right, frame_length, frames_held, held, mended, right_length, shown_length, torn_bytes}
 use Rattle.hound_repair.specs.declared.sizes.Repair.{Repair}
 use Rattle.hound_repair.specs.declared.sizes.RepairState.{RepairState}
@@ -130,65 +130,6 @@ pub record Repairs (looks : Bool) (old : MediumState) (found : Repair) (new : Me
     pub leaves : LeavesFor found.state found start old new
     pub sizes : UnlessFollowed found.state (HasRightSizes found start new.contents)
     pub faults : new.faults ≡ old.faults
-
--- The contents while a file is mended, for data of this length: the sizes are written, the RIFF size
--- first, and after both the pad byte where it is missing. k low bytes of the data length are new.
-pub record HalfMended (start data_length : ℕ) (old new : List ℕ) : Type 0 where
-  pub sizes : List ℕ
-  pub k : ℕ
-  pub within : k ≤ 4
-  pub half : IsPatched (start - 4) (riff_size start data_length) old data_length k sizes
-  pub pad : List ℕ
-  pub one : length pad ≤ 1
-  pub is : new ≡ sizes ++ pad
-  pub last : 1 ≤ length pad → new ≡ mended start data_length old
-
--- the file is half mended in each intermediate state
-abbrev pub HalfMendedAtEach : ℕ → ℕ → MediumState → MediumState → Type 0
-HalfMendedAtEach start data_length old new =
-    (k : ℕ) → length old.past ≤ k → k ≤ length new.past →
-    HalfMended start data_length old.contents (moment new.start new.past k)
-
--- where a pad byte was written at the end, all bytes before it were flushed first
-abbrev pub FlushesBeforePad : MediumState → MediumState → Type 0
-FlushesBeforePad old new =
-    length old.contents < length new.contents → length new.past ≤ new.flushed + 1
-
--- In each intermediate state of a repair nothing was written, or the file is half mended, for the
--- frames that were found in it. The sizes are flushed before a pad byte is written.
-abbrev pub MendsAtEach : Bool → MediumState → MediumState → Type 0
-MendsAtEach looks old new =
-    (new.past ≡ old.past)
-    ⊎ ((found : Repair) × (len : ℕ) × (start : ℕ) × IsFoundAt looks old.contents found len start
-    × (found.state ≡ CutOff) × FlushesBeforePad old new
-    × HalfMendedAtEach start (found_length found) old new)
-
--- what is left where the medium failed: all, or a file that is half mended
-abbrev pub LeavesHalf : Bool → MediumState → MediumState → Type 0
-LeavesHalf looks old new = PutsNothing old new
-    ⊎ ((found : Repair) × (len : ℕ) × (start : ℕ) × IsFoundAt looks old.contents found len start
-    × (found.state ≡ CutOff) × HalfMended start (found_length found) old.contents new.contents)
-
--- A file that isn't repaired, for a fault that its bytes have, and then nothing was written; or since
--- the medium failed.
-pub record IsNotRepaired (looks : Bool) (old new : MediumState) (e : Error) : Type 0 where
-  pub why : ((fault : AppendFault) × IsRepairFault old.contents fault × NamesFault e fault
-      × PutsNothing old new × (new.faults ≡ old.faults))
-      ⊎ (IsIoError e × LeavesHalf looks old new × (new.faults ≡ one_more old.faults))
-
--- what a repair of a medium leaves, by its result
-abbrev pub RepairsMedium : {M : Type 0} → Bool → (M → MediumState) → M
-    → Result (M × Repair) (M × Error) → Type 0
-RepairsMedium looks state old result =
-    MatchResult result (λ done. Repairs looks (state old) done.1 (state done.0))
-    (λ refused. IsNotRepaired looks (state old) (state refused.0) refused.1)
-
--- what each of its intermediate states is
-abbrev pub MendsMedium : {M : Type 0} → Bool → (M → MediumState) → M
-    → Result (M × Repair) (M × Error) → Type 0
-MendsMedium looks state old result =
-    MatchResult result (λ done. MendsAtEach looks (state old) (state done.0))
-    (λ refused. MendsAtEach looks (state old) (state refused.0))
 
 -- the first of these samples, as many as whole frames have
 abbrev pub whole_frames : WavSpecEx → List (List ℕ) → List (List ℕ)

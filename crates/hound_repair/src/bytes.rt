@@ -4,12 +4,13 @@ ghost use Rattle.hound_walk.specs.{Head, IsDataPlace, IsSoundSpec};
 ghost use Rattle.hound_writer.specs.{with_sizes};
 ghost use Rattle.hound_repair.specs.Damages.{FindsDamage, IsSoundDamage, IsUnmeasured, IsUnrepaired, RepairsBytes, as_medium, may_be_chunks};
 ghost use Rattle.hound_repair.specs.Repairing.{IsFoundAt};
+ghost use Rattle.hound_repair.specs.Steps.{unrepaired_for};
 
-use crate::look::{Damage, Rest, measure};
+use crate::look::{Damage, Rest};
 use crate::read_at::Window;
 use crate::sizes::{Repair, RepairState};
+use crate::steps::{LookError, Refusal, after_head, look_on};
 use hound_number::le_u32;
-use hound_spec::Error;
 use hound_walk::FileHead;
 use std::result;
 
@@ -36,6 +37,16 @@ pub fn set_sizes(bytes: &mut [u8], place: usize, riff_size: u32, data_length: u3
     bytes[place..place + 4].copy_from_slice(&le_u32(data_length));
 }
 
+// Why a file with a head isn't repaired.
+fn unrepaired_for(why: Refusal) -> Unrepaired
+    ensures { result ≡ unrepaired_for why }
+{
+    match why {
+        Refusal::TooLong => Unrepaired::TooLong,
+        _ => Unrepaired::Unsupported,
+    }
+}
+
 // Looks at the file with this head that takes all of these bytes; `rest` says what follows its data.
 fn measure_bytes(bytes: &[u8], head: FileHead, rest: Rest) -> result::Result<Damage, Unrepaired>
     requires sound { IsSoundSpec head.spec_ex }
@@ -46,12 +57,12 @@ fn measure_bytes(bytes: &[u8], head: FileHead, rest: Rest) -> result::Result<Dam
         FindsDamage (may_be_chunks rest) (as_medium bytes.now) damage (as_medium bytes.now)) }
     ensures fault { IfErr result (IsUnmeasured head bytes.now) }
 {
+    let length = bytes.len() as u64;
     let mut window = Window { bytes };
-    match measure(&mut window, head, rest) {
+    match look_on(&mut window, length, rest, after_head(length, head)) {
         Ok(damage) => Ok(damage),
-        Err(Error::Unsupported) => Err(Unrepaired::Unsupported),
-        Err(Error::TooLong) => Err(Unrepaired::TooLong),
-        Err(_) => unreachable!(),
+        Err(LookError::Refused(why)) => Err(unrepaired_for(why)),
+        Err(LookError::Failed(_)) => unreachable!(),
     }
 }
 

@@ -1,13 +1,18 @@
 // What holds of every repair.
-ghost use Rattle.std.specs.Prelude.{◌≡◌, ◌≤◌, ℕ, Bool, IsTrue, List, None, length};
+ghost use Rattle.std.specs.Prelude.{◌≡◌, ◌-◌, ◌/◌, ◌≤◌, ℕ, Bool, IsTrue, List, None, Result, length};
 ghost use Rattle.std.specs.List.{concat, AllByRecursion};
-ghost use Rattle.hound_medium.specs.{MediumState};
+ghost use Rattle.hound_medium.specs.{MediumState, Span};
+ghost use Rattle.hound_durable.specs.{SurvivesLoss};
 ghost use Rattle.hound_walk.specs.{Head, IsSoundSpec};
 ghost use Rattle.hound_spec.specs.declared.error.Error.{Error};
 ghost use Rattle.hound_spec.specs.declared.spec.WavSpecEx.{WavSpecEx};
 ghost use Rattle.hound_writer.specs.{IsIoError, IsStored};
+ghost use Rattle.std.specs.declared.io.Error.{Error as IoFault};
+ghost use Rattle.hound_writer.specs.{Log, Performed, field};
+ghost use Rattle.hound_repair.specs.declared.look.Damage.{Damage};
+ghost use Rattle.hound_repair.specs.Steps.{IsLookedAt, IsNotRepaired, Mends, PartlyMended, mending};
 ghost use Rattle.hound_repair.specs.Held.{frame_length, held, shown_length};
-ghost use Rattle.hound_repair.specs.Repairing.{Finds, HalfMended, IsFoundAt, IsNoPad, IsNotRepaired, ReadsFrames, Repairs, found_length, repair_fault};
+ghost use Rattle.hound_repair.specs.Repairing.{Finds, IsFoundAt, IsNoPad, ReadsFrames, Repairs, found_length, repair_fault};
 ghost use Rattle.hound_repair.specs.declared.sizes.Repair.{Repair};
 ghost use Rattle.hound_repair.specs.declared.sizes.RepairState.TheVariants.{HasChunksAfterData, Whole};
 
@@ -55,17 +60,43 @@ pub fn a_look_finds_what_a_repair_does()
         IsIoError e }
 {}
 
-/// A repair that was cut off can be done again: an Ok repair of a file that is half mended finds the
-/// same frames, by either call.
+/// The effects of a repair, done one after the other up to the first that fails, leave what
+/// [`repair`](crate::repair) leaves, or a file that is partly mended (`leaves`), as in each intermediate
+/// state (`moments`), and after a loss of power (`lost`) where the file was flushed at first and each size
+/// is within one sector.
+pub fn effects_mend()
+    ensures leaves { (looks : Bool) (d : Damage) (old new : Log) (result : Result (Unit {0}) IoFault)
+        → IsLookedAt looks old.state.contents d → Performed (mending d) result old new
+        → Mends d.head.data_start d.sizes.data_length result old.state.contents new.state }
+    ensures moments { (looks : Bool) (d : Damage) (old new : Log) (result : Result (Unit {0}) IoFault)
+        → IsLookedAt looks old.state.contents d → Performed (mending d) result old new
+        → Span (λ _. PartlyMended d.head.data_start d.sizes.data_length old.state.contents) 0 old.state new.state }
+    ensures lost { (looks : Bool) (d : Damage) (old new : Log) (result : Result (Unit {0}) IoFault)
+        (sector : ℕ) (left : List ℕ) → IsLookedAt looks old.state.contents d
+        → old.state.flushed ≡ length old.state.past → 8 ≤ sector
+        → (d.head.data_start - 4) / sector ≡ (d.head.data_start - 1) / sector
+        → Performed (mending d) result old new
+        → SurvivesLoss sector new.state.start new.state.past new.state.flushed (length new.state.past) left →
+        PartlyMended d.head.data_start d.sizes.data_length old.state.contents left }
+{}
+
+/// Wherever the effects of a repair stop, another repair finds the same frames, by either call (`same`),
+/// and fails no check (`fault`).
 ///
-/// So does one of the file in each intermediate state of a repair, by
-/// [`repair_to_end`](crate::repair_to_end). A data length that is half written may lead to bytes
-/// that look like chunks, and then [`repair`](crate::repair) reports these.
-pub fn a_half_mended_file_is_repaired()
-    ensures { (looks again : Bool) (old mid new : MediumState) (found other : Repair) (len start : ℕ)
-        → IsFoundAt looks old.contents found len start
+/// A data length that is half written may lead to bytes that look like chunks, and then
+/// [`repair`](crate::repair) reports these; [`repair_to_end`](crate::repair_to_end) doesn't look for them.
+pub fn a_stopped_repair_is_done_again()
+    ensures same { (looks again : Bool) (old : List ℕ) (mid new : MediumState) (found other : Repair) (len start : ℕ)
+        → IsFoundAt looks old found len start
         → (found.state ≡ HasChunksAfterData → ⊥) → 1 ≤ frame_length found.spec_ex
-        → HalfMended start (found_length found) old.contents mid.contents
+        → PartlyMended start (found_length found) old mid.contents
         → Repairs again mid other new → (IsTrue again → other.state ≡ HasChunksAfterData → ⊥) →
         (other.spec_ex ≡ found.spec_ex) × (other.frames ≡ found.frames) }
+    ensures fault { (looks : Bool) (old : List ℕ) (mid : MediumState) (found : Repair) (len start : ℕ)
+        → IsFoundAt looks old found len start
+        → (found.state ≡ HasChunksAfterData → ⊥) → 1 ≤ frame_length found.spec_ex
+        → PartlyMended start (found_length found) old mid.contents →
+        Head mid.contents found.spec_ex (field (start - 4) mid.contents) start
+        × (repair_fault found.spec_ex (shown_length start (field (start - 4) mid.contents) mid.contents)
+        start (held start mid.contents) ≡ None) }
 {}

@@ -12,13 +12,18 @@ mod look;
 mod mend;
 mod read_at;
 mod sizes;
+mod steps;
 
 pub use bytes::{Unrepaired, find_damage_in_bytes, repair_bytes, set_sizes};
 pub use file::{find_damage_in_file, repair_file, repair_file_to_end};
 pub use laws::{
-    a_half_mended_file_is_repaired, a_look_finds_what_a_repair_does, a_repair_keeps_stored_samples,
-    a_second_repair_writes_nothing,
+    a_look_finds_what_a_repair_does, a_repair_keeps_stored_samples, a_second_repair_writes_nothing,
+    a_stopped_repair_is_done_again, effects_mend,
 };
-pub use look::{Rest, find_damage};
+pub use look::{Damage, Rest, SeenHead, find_damage, seen_head};
 pub use mend::{repair, repair_to_end};
 pub use sizes::{Repair, RepairState};
+pub use steps::{
+    Failure, Look, LookStep, Refusal, RepairError, RepairStep, Repairing, Stage, Task, repair_next,
+    take_asked,
+};

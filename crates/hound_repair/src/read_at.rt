@@ -1,12 +1,11 @@
 // Bytes that are read at places: those of a source, or of a file in memory.
-ghost use Rattle.std.specs.Prelude.{◌≡◌, ◌+◌, ◌≤◌, ◌^◌, Bool, true, IfOk, OnOk, length, take, drop, min};
+ghost use Rattle.std.specs.Prelude.{◌≡◌, ◌+◌, ◌≤◌, ◌^◌, Bool, true, IfOk, length, take, drop, min};
 ghost use Rattle.hound_medium.specs.{MediumState, WhereTells};
 ghost use Rattle.hound_repair.specs.Held.{held};
 ghost use Rattle.hound_repair.specs.Damages.{as_medium};
 ghost use Rattle.hound_repair.specs.Repairing.{Looks};
 
 use hound_medium::Source;
-use hound_number::early_end;
 use std::io;
 
 // More than any RIFF size says: bytes are counted up to here.
@@ -20,12 +19,12 @@ pub(crate) trait ReadAt {
     /// The bytes, and how many calls failed.
     ghost state: { Self → MediumState };
 
-    /// Fills a buffer with the bytes at a place.
-    fn read_at(&mut self, place: u64, buf: &mut [u8]) -> io::Result<()>
-        requires { WhereTells tells (place + length buf.old ≤ length (state self.old).contents) }
+    /// Fills a buffer with the bytes at a place, fewer only at their end, and returns how many.
+    fn part_at(&mut self, place: u64, buf: &mut [u8]) -> io::Result<usize>
         ensures looks { WhereTells tells (Looks result (state self.old) (state self.new)) }
-        ensures bytes { WhereTells tells (OnOk result
-            (buf.new ≡ take (length buf.old) (drop place (state self.old).contents))) };
+        ensures within { IfOk result (λ n. n ≤ length buf.old) }
+        ensures bytes { WhereTells tells (IfOk result (λ n.
+            take n buf.new ≡ take (length buf.old) (drop place (state self.old).contents))) };
 
     /// How many bytes there are from a place on, up to 2^33, which no RIFF size can say.
     fn held_from(&mut self, start: u64) -> io::Result<u64>
@@ -42,17 +41,17 @@ impl<S: Source> ReadAt for S {
 
     ghost state = { λ s. S.state s };
 
-    fn read_at(&mut self, place: u64, buf: &mut [u8]) -> io::Result<()> {
+    fn part_at(&mut self, place: u64, buf: &mut [u8]) -> io::Result<usize> {
         self.go(place)?;
         let mut at = 0;
         while at < buf.len() {
             match self.get(&mut buf[at..]) {
-                Ok(0) => return Err(early_end()),
+                Ok(0) => return Ok(at),
                 Ok(count) => at += count,
                 Err(error) => return Err(error),
             }
         }
-        Ok(())
+        Ok(at)
     }
 
     // It halves the range that the end is in, so it reads a byte some thirty times.
@@ -84,10 +83,14 @@ impl ReadAt for Window<'_> {
 
     ghost state = { λ w. as_medium w.bytes.now };
 
-    fn read_at(&mut self, place: u64, buf: &mut [u8]) -> io::Result<()> {
+    fn part_at(&mut self, place: u64, buf: &mut [u8]) -> io::Result<usize> {
+        if place >= self.bytes.len() as u64 {
+            return Ok(0);
+        }
         let start = place as usize;
-        buf.copy_from_slice(&self.bytes[start..start + buf.len()]);
-        Ok(())
+        let count = buf.len().min(self.bytes.len() - start);
+        buf[..count].copy_from_slice(&self.bytes[start..start + count]);
+        Ok(count)
     }
 
     fn held_from(&mut self, start: u64) -> io::Result<u64> {

@@ -6,8 +6,8 @@ ghost use Rattle.hound_repair.specs.Held.{data_held};
 ghost use Rattle.hound_repair.specs.Damages.{AreRightSizes};
 ghost use Rattle.hound_repair.specs.Repairing.{size_fault};
 
+use crate::look::SeenHead;
 use hound_spec::{Error, Result, WavSpecEx, riff_size};
-use hound_walk::FileHead;
 use std::fmt;
 
 /// What a file was found as.
@@ -66,7 +66,7 @@ pub(crate) struct Sizes {
 /// The right sizes of a file with this head that shows this data length, and holds so many bytes from
 /// the data on.
 #[tactic(auto, using(crate::proofs::Dividing::whole_le, crate::proofs::Dividing::times_le), unfolding(crate::specs::Repairing::size_fault, crate::specs::Held::data_held, crate::specs::Held::ends_with_pad))]
-pub(crate) fn right_sizes(head: FileHead, shown: u64, held: u64) -> Result<Sizes>
+pub(crate) fn right_sizes(head: SeenHead, shown: u64, held: u64) -> Result<Sizes>
     requires sound { IsSoundSpec head.spec_ex }
     requires start { IsDataPlace head.data_start }
     requires small { shown ≤ 2 ^ 32 }

@@ -5,9 +5,9 @@ use Rattle.hound_walk.specs.declared.cause.Cause.TheVariants.{Ended, Format, Uns
 use Rattle.hound_walk.specs.declared.cause.Reason.{Reason}
 use Rattle.hound_walk.specs.declared.cause.Reason.TheVariants.{NoRiffTag, NoWaveTag, NoDataChunk, NoFmtChunk, FmtSize, UnexpectedFmtSize, ZeroChannels, BitsExceedWidth, Inconsistent, BitsNotWholeBytes, ZeroBits, BitsNot8Or16, ExSize, BitsNot32, ExtensibleSize, DataLength, FrameLength}
 use Rattle.hound_writer.specs.declared.recorder.RecorderError.{RecorderError}
-use Rattle.hound_writer.specs.declared.recorder.RecorderError.TheVariants.{NotWritable, TooLong as TooLongToRecord, UnfinishedFrame as HalfFrame, NeedsCheckpoint, SyncFailed}
+use Rattle.hound_writer.specs.declared.recorder.RecorderError.TheVariants.{NotWritable, TooLong as TooLongToRecord, UnfinishedFrame as HalfFrame, Truncated as LacksSamples, NeedsCheckpoint, SyncFailed, CutOff, HasChunksAfterData}
 use Rattle.hound_slices.specs.declared.fault.Fault.{Fault}
-use Rattle.hound_slices.specs.declared.fault.Fault.TheVariants.{Head, OtherFormat, TooWide, NotWritable, Truncated, TooLong, UnfinishedFrame, NoRoom, Recorder}
+use Rattle.hound_slices.specs.declared.fault.Fault.TheVariants.{Head, OtherFormat, TooWide, NotWritable, Truncated, TooLong, UnfinishedFrame, NoRoom, NotPerformed, Recorder}
 
 abbrev pub reason_code : Reason → ℤ
 reason_code NoRiffTag = negsuc 9
@@ -39,11 +39,15 @@ fault_code Truncated = negsuc 5
 fault_code TooLong = negsuc 6
 fault_code UnfinishedFrame = negsuc 7
 fault_code NoRoom = negsuc 8
+fault_code NotPerformed = negsuc 30
 fault_code (Recorder NotWritable) = negsuc 4
 fault_code (Recorder TooLongToRecord) = negsuc 6
 fault_code (Recorder HalfFrame) = negsuc 7
+fault_code (Recorder LacksSamples) = negsuc 5
 fault_code (Recorder NeedsCheckpoint) = negsuc 26
 fault_code (Recorder SyncFailed) = negsuc 27
+fault_code (Recorder CutOff) = negsuc 28
+fault_code (Recorder HasChunksAfterData) = negsuc 29
 
 -- the bytes have no data to be read, for a cause that P holds for
 abbrev pub IsHeadFault : (Cause → Type 0) → Fault → Type 0

@@ -1,12 +1,36 @@
--- What C gets of a recorder.
-use Rattle.std.specs.Prelude.{[], ◌∷◌}
-use Rattle.hound_number.specs.{bytes_of}
-use Rattle.hound_writer.specs.declared.effects.Effect.{Effect}
-use Rattle.hound_writer.specs.declared.effects.Effect.TheVariants.{Sync, Pad, Size}
-use Rattle.hound_slices.specs.declared.spec.HoundEffect.{HoundEffect}
+-- Recorders as C has them.
+use Rattle.std.specs.Prelude.{ℕ, ◌/◌, ◌%◌, ◌==◌, if◌then◌else◌, Bool, None}
+use Rattle.hound_writer.specs.declared.recorder.Recorder.{Recorder}
+use Rattle.hound_writer.specs.declared.resuming.FileState.{FileState}
+use Rattle.hound_writer.specs.declared.resuming.FileState.TheVariants.{Whole, CutOff, HasChunksAfterData}
+use Rattle.hound_writer.specs.declared.resuming.FoundFile.{FoundFile}
+use Rattle.hound_slices.specs.Effects.{effect_of}
+use Rattle.hound_slices.specs.Writing.{spec_from_c}
+use Rattle.hound_slices.specs.declared.recording.HoundRecorder.{HoundRecorder}
+use Rattle.hound_slices.specs.declared.spec.HoundRepair.{HoundRepair}
 
--- C's form of an effect: a sync writes no bytes
-abbrev pub effect_of : Effect → HoundEffect
-effect_of Sync = record { place = 0; length = 0; bytes = 0 ∷ 0 ∷ 0 ∷ 0 ∷ [] }
-effect_of (Pad at) = record { place = at; length = 1; bytes = 0 ∷ 0 ∷ 0 ∷ 0 ∷ [] }
-effect_of (Size at size) = record { place = at; length = 4; bytes = bytes_of 4 size }
+-- a recorder whose caller has nothing to do
+abbrev pub recorder_for_c : Recorder → HoundRecorder
+recorder_for_c r = record { effect = effect_of None; recorder = r }
+
+-- how a file was found, by its number
+abbrev pub file_state : ℕ → FileState
+file_state n = if n == 0 then Whole else if n == 1 then CutOff else HasChunksAfterData
+
+-- the file that C's is
+abbrev pub found_file : HoundRepair → FoundFile
+found_file c = record {
+  spec_ex = spec_from_c c.spec;
+  data_start = c.data_start;
+  data_length = c.data_length;
+  length = c.length;
+  frames = c.frames;
+  state = file_state c.state;
+}
+
+-- what is allowed: the sum of 1 if a recording may be mended, and 2 if chunks may be overwritten
+abbrev pub mends : ℕ → Bool
+mends allowed = allowed % 2 == 1
+
+abbrev pub overwrites : ℕ → Bool
+overwrites allowed = allowed / 2 % 2 == 1

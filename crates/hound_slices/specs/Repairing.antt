@@ -1,7 +1,8 @@
 -- What repairing does.
 use Rattle.std.specs.Prelude.{◌≡◌, ◌⊎◌, ℕ, Bool, ◌<◌, ◌≤◌, List, length, take, true, Result, Ok, Err}
 use Rattle.hound_walk.specs.declared.cause.Cause.TheVariants.{Unsupported}
-use Rattle.hound_walk.specs.{Refused}
+use Rattle.hound_spec.specs.declared.spec.WavSpecEx.{WavSpecEx}
+use Rattle.hound_walk.specs.{Head, Refused}
 use Rattle.hound_writer.specs.{by_bytes, too_long}
 use Rattle.hound_repair.specs.{HasUnfitHead, IsFoundAt, LacksRoom, RepairsBytes}
 use Rattle.hound_repair.specs.declared.sizes.Repair.{Repair}
@@ -9,7 +10,7 @@ use Rattle.hound_repair.specs.declared.sizes.RepairState.{RepairState}
 use Rattle.hound_repair.specs.declared.sizes.RepairState.TheVariants.{Whole, CutOff, HasChunksAfterData}
 use Rattle.hound_slices.specs.Writing.{IsExplicit, spec_from_c}
 use Rattle.hound_slices.specs.declared.fault.Fault.{Fault}
-use Rattle.hound_slices.specs.declared.fault.Fault.TheVariants.{Head, NotWritable, TooLong, NoRoom}
+use Rattle.hound_slices.specs.declared.fault.Fault.TheVariants.{Head as NoHead, NotWritable, TooLong, NoRoom}
 use Rattle.hound_slices.specs.declared.spec.HoundRepair.{HoundRepair}
 
 -- the number of how a file was found
@@ -26,15 +27,19 @@ pub record IsReported (found : Repair) (c : HoundRepair) : Type 0 where
   pub left_over : c.left_over ≡ found.left_over
   pub state : c.state ≡ state_code found.state
 
+-- the head of a file, and its length, as C has them
+abbrev pub HasHeadOf : List ℕ → HoundRepair → Type 0
+HasHeadOf bytes c = (s : WavSpecEx) × Head bytes s c.data_length c.data_start × (c.length ≡ length bytes)
+
 -- what was found in a file, looked at as a whole, as C has it
 abbrev pub FindsInFile : List ℕ → HoundRepair → Type 0
-FindsInFile bytes c = (found : Repair) × IsReported found c
+FindsInFile bytes c = (found : Repair) × IsReported found c × HasHeadOf bytes c
     × ((len : ℕ) × (start : ℕ) × IsFoundAt true bytes found len start)
 
 -- why a file isn't looked at: it has no head for this cause, or it has one of samples that aren't
 -- written, or whose sizes don't fit
 abbrev pub IsDamageFault : List ℕ → Fault → Type 0
-IsDamageFault bytes (Head cause) = Refused bytes cause
+IsDamageFault bytes (NoHead cause) = Refused bytes cause
 IsDamageFault bytes NotWritable = HasUnfitHead bytes (by_bytes Unsupported)
 IsDamageFault bytes TooLong = HasUnfitHead bytes too_long
 IsDamageFault bytes _ = ⊥
@@ -50,5 +55,6 @@ IsFileFault looks used old fault = IsDamageFault (take used old) fault
 abbrev pub RepairsFile : Bool → ℕ → List ℕ → List ℕ → HoundRepair → HoundRepair → Result ℕ Fault → Type 0
 RepairsFile looks used old new was now (Ok n) = (used ≤ length old) × (n ≤ length new)
     × (found : Repair) × RepairsBytes looks used n found old new × IsReported found now
+    × HasHeadOf (take used old) now
 RepairsFile looks used old new was now (Err fault) = (new ≡ old) × (now ≡ was)
     × IsFileFault looks used old fault

@@ -1,5 +1,5 @@
--- The walk of a caller who hands in the bytes before the data.
-use Rattle.std.specs.Prelude.{◌≡◌, ℕ, ◌+◌, ◌*◌, ◌≤◌, ◌<◌, ℤ, pos, List, take, Option, Some, None, ◌==◌, nat_lt, if◌then◌else◌}
+-- The walk of a caller who reads the file.
+use Rattle.std.specs.Prelude.{◌≡◌, ℕ, ◌+◌, ◌*◌, ◌≤◌, ◌<◌, ℤ, pos, List, min, take, Option, Some, None, ◌==◌, nat_lt, if◌then◌else◌}
 use Rattle.hound_spec.specs.{greatest_u16}
 use Rattle.hound_spec.specs.declared.spec.WavSpecEx.{WavSpecEx}
 use Rattle.hound_walk.specs.{IsAt, Readable, Unreadable, part_bytes, part_length, part_start, parts_left}
@@ -7,9 +7,13 @@ use Rattle.hound_walk.specs.declared.cause.Cause.{Cause}
 use Rattle.hound_walk.specs.declared.parts.HeadWalk.{HeadWalk}
 use Rattle.hound_walk.specs.declared.parts.Part.{Part}
 use Rattle.hound_walk.specs.declared.parts.Part.TheVariants.{Front, Header, Last, Fmt}
+use Rattle.hound_writer.specs.declared.effects.Action.TheVariants.{Read}
+use Rattle.hound_writer.specs.declared.effects.Report.{Report}
+use Rattle.hound_writer.specs.declared.effects.Report.TheVariants.{Pending, Done, Failed as NotDone}
 use Rattle.hound_slices.specs.Codes.{fault_code}
+use Rattle.hound_slices.specs.Effects.{effect_of}
 use Rattle.hound_slices.specs.Writing.{IsExplicit, spec_from_c}
-use Rattle.hound_slices.specs.declared.fault.Fault.TheVariants.{Head}
+use Rattle.hound_slices.specs.declared.fault.Fault.TheVariants.{Head, NotPerformed}
 use Rattle.hound_slices.specs.declared.spec.HoundSpec.{HoundSpec}
 use Rattle.hound_slices.specs.declared.spec.HoundInfo.{HoundInfo}
 use Rattle.hound_slices.specs.declared.spec.HoundWalk.{HoundWalk}
@@ -36,14 +40,14 @@ walk_of c = record { found = found_of c.spec; taken = c.taken; part = part_of c.
 abbrev pub part_end : HeadWalk → ℕ
 part_end walk = part_start walk.part walk.taken + part_length walk.part
 
--- the place and the length that C gets are those of the part that its walk needs
+-- the effect that C gets is to read the part that its walk needs
 abbrev pub Asks : HoundWalk → Type 0
-Asks c = (c.place ≡ part_start (walk_of c).part c.taken) × (c.length ≡ part_length (walk_of c).part)
+Asks c = c.effect ≡ effect_of (Some (Read (part_start (walk_of c).part c.taken) (part_length (walk_of c).part)))
 
 -- A walk asks on: for a later part, and there are fewer to come.
 pub record AsksOn (old new : HoundWalk) : Type 0 where
   pub asks : Asks new
-  pub ahead : part_end (walk_of old) ≤ new.place
+  pub ahead : part_end (walk_of old) ≤ new.effect.place
   pub nearer : parts_left (walk_of new).part new.taken < parts_left (walk_of old).part old.taken
 
 -- The data begin where the last part ended.
@@ -59,7 +63,24 @@ pub record Steps (file : List ℕ) (number : ℤ) (new : HoundWalk) (info : Houn
   pub refused : (number ≡ pos 1 → ⊥) → (number ≡ pos 0 → ⊥)
       → (cause : Cause) × (number ≡ fault_code (Head cause)) × Unreadable file cause
 
--- the bytes are the part of the file that a walk asks for, or begin with it
-abbrev pub AreAsked : List ℕ → HoundWalk → List ℕ → Type 0
-AreAsked bytes walk file =
-    take (part_length (walk_of walk).part) bytes ≡ part_bytes (walk_of walk) file
+-- the bytes that were read of the part that a walk asks for
+abbrev pub bytes_of_part : HoundWalk → List ℕ
+bytes_of_part c =
+    take (min (min c.effect.length 40) (part_length (walk_of c).part)) c.effect.bytes
+
+-- they are the part of the file that it asks for
+abbrev pub AreAsked : HoundWalk → List ℕ → Type 0
+AreAsked c file = bytes_of_part c ≡ part_bytes (walk_of c) file
+
+-- A walk whose part isn't read asks for it, as before.
+pub record AsksAgain (number : ℤ) (old new : HoundWalk) : Type 0 where
+  pub one : number ≡ pos 1
+  pub same : walk_of new ≡ walk_of old
+  pub asks : Asks new
+
+-- what comes of a part, by how its read has ended
+abbrev pub AnswersPart : Report → ℤ → HoundWalk → HoundWalk → HoundInfo → Type 0
+AnswersPart Pending number old new info = AsksAgain number old new
+AnswersPart NotDone number old new info = number ≡ fault_code NotPerformed
+AnswersPart Done number old new info = (number ≡ pos 1 → AsksOn old new)
+    × ((file : List ℕ) → IsAt file (walk_of old) → AreAsked old file → Steps file number new info)

@@ -24,6 +24,8 @@ pub enum Fault {
     UnfinishedFrame,
     /// The file doesn't fit into the caller's memory.
     NoRoom,
+    /// A read or a write was reported as failed.
+    NotPerformed,
     /// A recorder returns this error.
     Recorder(RecorderError),
 }
@@ -44,11 +46,15 @@ pub fn code_of_fault(fault: Fault) -> i32
         Fault::TooLong => -7,
         Fault::UnfinishedFrame => -8,
         Fault::NoRoom => -9,
+        Fault::NotPerformed => -31,
         Fault::Recorder(RecorderError::NotWritable) => -5,
         Fault::Recorder(RecorderError::TooLong) => -7,
         Fault::Recorder(RecorderError::UnfinishedFrame) => -8,
+        Fault::Recorder(RecorderError::Truncated) => -6,
         Fault::Recorder(RecorderError::NeedsCheckpoint) => -27,
         Fault::Recorder(RecorderError::SyncFailed) => -28,
+        Fault::Recorder(RecorderError::CutOff) => -29,
+        Fault::Recorder(RecorderError::HasChunksAfterData) => -30,
     }
 }
 

@@ -5,10 +5,12 @@
 #![tactic(auto)]
 
 mod appending;
+mod effect;
 mod fault;
 mod head;
 mod reading;
 mod recording;
+mod repairer;
 mod repairing;
 mod scaling;
 mod spec;
@@ -17,15 +19,15 @@ mod walking;
 mod writing;
 
 pub use appending::append_block;
+pub use effect::{HoundEffect, effect_for_c, report_of};
 pub use fault::{Fault, code_of, code_of_fault};
 pub use head::find_samples;
 pub use reading::{decode_block, read_block};
-pub use recording::effect_for_c;
-pub use repairing::{find_file_damage, repair_file, repair_for_c};
+pub use recording::{HoundRecorder, found_file, mends, overwrites, recorder_for_c};
+pub use repairer::{HoundRepairer, begin_repairer, step_repairer};
+pub use repairing::{find_file_damage, repair_file};
 pub use scaling::{scale_to_floats, scale_to_integers};
-pub use spec::{
-    HoundEffect, HoundInfo, HoundRepair, HoundSpec, HoundWalk, info_for_c, spec_from_c,
-};
+pub use spec::{HoundInfo, HoundRepair, HoundSpec, HoundWalk, info_for_c, spec_from_c};
 pub use value::{value_of_8, value_of_16, value_of_24, value_of_32};
-pub use walking::{part_of, walk_for_c, walk_of};
+pub use walking::{part_read, walk_for_c, walk_of};
 pub use writing::{encode_block, file_size, write_file, write_header, write_sizes};

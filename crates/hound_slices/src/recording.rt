@@ -1,23 +1,64 @@
-// Recorders, whose caller writes the file.
+// Recorders, as C has them.
 ghost use Rattle.std.specs.Prelude.{◌≡◌};
-ghost use Rattle.hound_slices.specs.Recording.{effect_of};
+ghost use Rattle.hound_slices.specs.Recording.{file_state, found_file, mends, overwrites, recorder_for_c};
 
-use crate::spec::HoundEffect;
-use hound_number::le_u32;
-use hound_writer::Effect;
+use crate::effect::{HoundEffect, effect_for_c};
+use crate::spec::{HoundRepair, spec_from_c};
+use hound_writer::{FileState, FoundFile, Recorder};
 
-/// An effect, for C.
-pub fn effect_for_c(effect: Effect) -> HoundEffect
-    ensures { result ≡ effect_of effect }
+/// A recorder, and what its caller is to do.
+#[repr(C)]
+#[derive(Clone, Copy)]
+pub struct HoundRecorder {
+    pub effect: HoundEffect,
+    pub recorder: Recorder,
+}
+
+/// A recorder whose caller has nothing to do, for C.
+pub fn recorder_for_c(recorder: Recorder) -> HoundRecorder
+    ensures { result ≡ recorder_for_c recorder }
 {
-    let (place, length, bytes) = match effect {
-        Effect::Sync => (0, 0, [0; 4]),
-        Effect::Pad(place) => (place, 1, [0; 4]),
-        Effect::Size(place, size) => (place, 4, le_u32(size)),
-    };
-    HoundEffect {
-        place,
-        length,
-        bytes,
+    HoundRecorder {
+        effect: effect_for_c(None),
+        recorder,
     }
+}
+
+// How a file was found, by its number.
+fn file_state(state: u32) -> FileState
+    ensures { result ≡ file_state state }
+{
+    match state {
+        0 => FileState::Whole,
+        1 => FileState::CutOff,
+        _ => FileState::HasChunksAfterData,
+    }
+}
+
+/// The file that C's is.
+pub fn found_file(found: &HoundRepair) -> FoundFile
+    ensures { result ≡ found_file found.now }
+{
+    FoundFile {
+        spec_ex: spec_from_c(found.spec),
+        data_start: found.data_start,
+        data_length: found.data_length,
+        length: found.length,
+        frames: found.frames,
+        state: file_state(found.state),
+    }
+}
+
+/// Whether a recording that was cut off may be mended.
+pub fn mends(allowed: u32) -> bool
+    ensures { result ≡ mends allowed }
+{
+    allowed % 2 == 1
+}
+
+/// Whether chunks after the data may be overwritten.
+pub fn overwrites(allowed: u32) -> bool
+    ensures { result ≡ overwrites allowed }
+{
+    allowed / 2 % 2 == 1
 }

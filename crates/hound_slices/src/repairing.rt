@@ -1,15 +1,16 @@
 // Files that are repaired.
-ghost use Rattle.std.specs.Prelude.{◌≡◌, ◌<◌, ◌≤◌, IfErr, IfOk, length, true, ℕ};
-ghost use Rattle.hound_slices.specs.Repairing.{IsDamageFault, IsReported, RepairsFile, state_code};
-ghost use Rattle.hound_repair.specs.{IsFoundAt, may_be_chunks};
+ghost use Rattle.std.specs.Prelude.{◌≡◌, ◌<◌, ◌≤◌, IfErr, IfOk, length};
+ghost use Rattle.hound_slices.specs.Repairing.{FindsInFile, IsDamageFault, IsReported, RepairsFile, state_code};
+ghost use Rattle.hound_repair.specs.{may_be_chunks};
 
 use crate::fault::Fault;
 use crate::head::find_head;
 use crate::spec::{HoundRepair, spec_for_c};
 use hound_repair::{Repair, RepairState, Rest, Unrepaired, find_damage_in_bytes, repair_bytes};
+use hound_walk::FileHead;
 
 // The number of how a file was found.
-fn state_code(state: RepairState) -> u32
+pub(crate) fn state_code(state: RepairState) -> u32
     ensures { result ≡ state_code state }
 {
     match state {
@@ -19,28 +20,34 @@ fn state_code(state: RepairState) -> u32
     }
 }
 
-/// What was found, for C.
-pub fn repair_for_c(repair: Repair) -> HoundRepair
+// What was found of a file of so many bytes with this head, for C.
+pub(crate) fn repair_for_c(repair: Repair, head: FileHead, length: u64) -> HoundRepair
     requires { 0 < repair.spec_ex.bytes_per_sample }
-    ensures { IsReported repair result }
+    ensures reported { IsReported repair result }
+    ensures start { result.data_start ≡ head.data_start }
+    ensures counted { result.data_length ≡ head.data_length }
+    ensures length { result.length ≡ length }
 {
     HoundRepair {
         spec: spec_for_c(repair.spec_ex),
         frames: repair.frames,
         left_over: repair.left_over,
         state: state_code(repair.state),
+        data_start: head.data_start,
+        length,
+        data_length: head.data_length,
+        unused: 0,
     }
 }
 
 /// Looks at a file, and returns what a repair would report.
-pub fn find_file_damage(file: &[u8]) -> Result<Repair, Fault>
-    ensures found { IfOk result (λ found. (len : ℕ) × (start : ℕ) × IsFoundAt true file.now found len start) }
-    ensures width { IfOk result (λ found. 0 < found.spec_ex.bytes_per_sample) }
+pub fn find_file_damage(file: &[u8]) -> Result<HoundRepair, Fault>
+    ensures found { IfOk result (FindsInFile file.now) }
     ensures fault { IfErr result (IsDamageFault file.now) }
 {
     let head = find_head(file)?;
     match find_damage_in_bytes(file, head) {
-        Ok(repair) => Ok(repair),
+        Ok(repair) => Ok(repair_for_c(repair, head, file.len() as u64)),
         Err(Unrepaired::Unsupported) => Err(Fault::NotWritable),
         Err(Unrepaired::TooLong) => Err(Fault::TooLong),
         Err(Unrepaired::NoRoom) => unreachable!(),
@@ -64,7 +71,7 @@ pub fn repair_file(
     let head = find_head(&file[..used])?;
     match repair_bytes(file, used, head, rest) {
         Ok((repair, length)) => {
-            *found = repair_for_c(repair);
+            *found = repair_for_c(repair, head, used as u64);
             Ok(length)
         }
         Err(Unrepaired::Unsupported) => Err(Fault::NotWritable),

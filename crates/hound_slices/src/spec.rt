@@ -2,6 +2,7 @@
 ghost use Rattle.std.specs.Prelude.{◌≡◌, ◌<◌};
 ghost use Rattle.hound_slices.specs.Writing.{IsExplicit, spec_from_c};
 
+use crate::effect::HoundEffect;
 use hound_spec::{SampleFormat, WavSpec, WavSpecEx};
 use hound_walk::FileHead;
 
@@ -29,9 +30,8 @@ pub struct HoundInfo {
 #[repr(C)]
 #[derive(Clone, Copy)]
 pub struct HoundWalk {
-    pub place: u64,
+    pub effect: HoundEffect,
     pub spec: HoundSpec,
-    pub length: u32,
     pub taken: u32,
     pub part: u32,
     pub fmt_length: u32,
@@ -45,15 +45,10 @@ pub struct HoundRepair {
     pub frames: u32,
     pub left_over: u32,
     pub state: u32,
-}
-
-/// What a caller does to its file: it syncs it, or writes so many of these bytes at a place.
-#[repr(C)]
-#[derive(Clone, Copy)]
-pub struct HoundEffect {
-    pub place: u64,
-    pub length: u32,
-    pub bytes: [u8; 4],
+    pub data_start: u64,
+    pub length: u64,
+    pub data_length: u32,
+    pub unused: u32,
 }
 
 /// The spec that C's is.

@@ -1,14 +1,16 @@
-// The walk of a caller who hands in the bytes before the data.
-ghost use Rattle.std.specs.Prelude.{◌≡◌, take};
-ghost use Rattle.hound_walk.specs.{IsSoundOption, part_length};
-ghost use Rattle.hound_slices.specs.Walks.{Asks, found_of, walk_of};
+// The walk of a caller who reads the file.
+ghost use Rattle.std.specs.Prelude.{◌≡◌};
+ghost use Rattle.hound_walk.specs.{IsSoundOption};
+ghost use Rattle.hound_slices.specs.Walks.{Asks, bytes_of_part, found_of, walk_of};
 
+use crate::effect::effect_for_c;
 use crate::spec::{HoundSpec, HoundWalk, spec_for_c, spec_from_c};
 use hound_spec::WavSpecEx;
 use hound_walk::{HeadWalk, Part};
+use hound_writer::Action;
 
 // The spec that was found so far, if C's is one of a file.
-fn found_of(spec: HoundSpec) -> Option<WavSpecEx>
+pub(crate) fn found_of(spec: HoundSpec) -> Option<WavSpecEx>
     ensures is { result ≡ found_of spec }
     ensures sound { IsSoundOption result }
 {
@@ -42,15 +44,16 @@ pub fn walk_of(walk: HoundWalk) -> HeadWalk
     }
 }
 
-/// The part that a walk asks for, of bytes that begin with it.
-pub fn part_of(walk: HeadWalk, bytes: &[u8]) -> &[u8]
-    ensures { result.now ≡ take (part_length walk.part) bytes.now }
+/// The bytes of the part that C's walk asks for, as they were read.
+pub fn part_read(walk: &HoundWalk) -> &[u8]
+    ensures { result.now ≡ bytes_of_part walk.now }
 {
-    &bytes[..bytes.len().min(walk.length())]
+    let read = walk.effect.length.min(40) as usize;
+    &walk.effect.bytes[..read.min(walk_of(*walk).length())]
 }
 
 // C's form of a spec that was found, or of none.
-fn found_for_c(found: Option<WavSpecEx>) -> HoundSpec
+pub(crate) fn found_for_c(found: Option<WavSpecEx>) -> HoundSpec
     requires sound { IsSoundOption found }
     ensures is { found_of result ≡ found }
 {
@@ -79,9 +82,8 @@ pub fn walk_for_c(walk: HeadWalk) -> HoundWalk
         Part::Fmt(length) => (3, length),
     };
     HoundWalk {
-        place: walk.start(),
+        effect: effect_for_c(Some(Action::Read(walk.start(), walk.length() as u32))),
         spec: found_for_c(walk.found),
-        length: walk.length() as u32,
         taken: walk.taken,
         part,
         fmt_length,

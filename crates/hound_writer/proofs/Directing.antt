@@ -20,14 +20,15 @@ use Rattle.hound_writer.specs.Beginning.{Begins}
 use Rattle.hound_writer.specs.Calls.{Asked, Begun, Does, Known, Opens, Recorded, handed_in, marked, new_file, publish, write}
 use Rattle.hound_writer.specs.Effects.{Log, Performed, Performs, checkpoint, log_kind, nth}
 use Rattle.hound_writer.specs.Parts.{IsPublishResult, PutsAt, of_fields}
-use Rattle.hound_writer.specs.Recorder.{AppendsRecorder, BeginsRecorder, HasData, HasFailed, NextEffect, Places, Reports, effects_of, length_with}
-use Rattle.hound_writer.specs.Recording.{Directed, IsIdle, IsOrdered, IsRecorderOf, IsSynced, Opened, Resumed, block_known, resumed_file}
+use Rattle.hound_writer.specs.Recorder.{AppendsRecorder, BeginsRecorder, HasData, HasFailed, NextEffect, Places, Reports, effects_of, length_with, recorder_of}
+use Rattle.hound_writer.specs.Recording.{InStep, IsIdle, IsOrdered, IsRecorderOf, IsSynced, Opened, Resumed, block_known, resumed_file}
 use Rattle.hound_writer.specs.Writer.{WriterState, HasRoom, IsSound, accepted_samples, sample_count}
 use Rattle.hound_writer.specs.declared.effects.Effect.{Effect}
 use Rattle.hound_writer.specs.declared.effects.Effect.TheVariants.{Sync}
 use Rattle.hound_writer.specs.declared.recorder.Recorder.{Recorder}
 use Rattle.hound_writer.specs.declared.recorder.RecorderError.{RecorderError}
-use Rattle.hound_writer.specs.declared.recorder.RecorderError.TheVariants.{NotWritable, UnfinishedFrame, TooLong, NeedsCheckpoint, SyncFailed}
+use Rattle.hound_writer.specs.declared.recorder.RecorderError.TheVariants.{NotWritable, UnfinishedFrame, TooLong, Truncated, CutOff, HasChunksAfterData, NeedsCheckpoint, SyncFailed}
+use Rattle.hound_writer.specs.declared.resuming.FoundFile.{FoundFile}
 use Rattle.hound_writer.proofs.Accepting.{accepts_all, accepts_none, sound_more, still}
 use Rattle.hound_writer.proofs.Appending.{follows, sound_head, at_most_on}
 use Rattle.hound_writer.proofs.Beginning.{header_file, sound_begin, at_most_begin}
@@ -119,7 +120,7 @@ at_rest : (s : WavSpecEx) (file : Begun) (known : List Known) (r : Recorder) (w 
     → Recorded log_kind s file known w → IsIdle w → IsRecorderOf r w → r.number ≡ 0
     → (IsSynced (handed_in file) → (high : ℕ) × IsOrdered high w.medium.state
     × (r.condition ≡ 0 → high ≤ r.data_start + r.data_length))
-    → Directed s file known r true w.medium.state
+    → InStep s file known r true w.medium.state
 at_rest s file known r w recorded idle is none order = record {
   writer = w;
   recorded = recorded;
@@ -141,9 +142,9 @@ has_room r w samples more is none long (far, wide, fits) =
     rw none (subst (λ (x : ℕ × ℕ). riff_size x.0 x.1 ≤ greatest_u32) (λ i. (is.0 i, sum i)) fits)
 
 -- a new file whose header was written
-pub directed_new : (s : WavSpecEx) (old : MediumState) (log : Log) (r : Recorder) → Opened s old log.state
-    → BeginsRecorder s (Ok r) → Directed s (new_file old) [] r true log.state
-directed_new s old log r opens (writable, is) =
+pub step_new : (s : WavSpecEx) (old : MediumState) (log : Log) (r : Recorder) → Opened s old log.state
+    → BeginsRecorder s (Ok r) → InStep s (new_file old) [] r true log.state
+step_new s old log r opens (writable, is) =
     let start = length (header s 0 0) in
     let w = of_fields log s start 0 [] [] in
     let here = length-header s 0 0 in
@@ -176,37 +177,47 @@ readable_length : (s : WavSpecEx) (samples start : ℕ) (contents : List ℕ)
     → (r : Readable contents s samples start) → r.len ≡ samples * s.bytes_per_sample
 readable_length s samples start contents r = grind (arith, common_steps, count_bytes)
 
-pub directed_resumed : (s : WavSpecEx) (samples start : ℕ) (old : MediumState) (log : Log) (r : Recorder)
-    → Resumed s samples start old log.state → AppendsRecorder s start samples (Ok r)
-    → Directed s (resumed_file s samples start old) [] r true log.state
-directed_resumed s samples start old log r is (frames, pair, channels, (far, wide, fits), same) =
-    let len = samples * s.bytes_per_sample in
+pub readable_frames : (s : WavSpecEx) (samples start : ℕ) (contents : List ℕ)
+    → Readable contents s samples start → samples % s.spec.channels ≡ 0
+readable_frames s samples start contents r = let no = r.frames in grind (arith, common_steps)
+
+pub step_resumed : (f : FoundFile) (samples : ℕ) (old : MediumState) (log : Log)
+    → Resumed f samples old log.state → f.data_start + f.data_length ≤ f.length
+    → AppendsRecorder f.spec_ex f.data_start f.data_length (Ok (recorder_of f.spec_ex f.data_start f.data_length))
+    → InStep f.spec_ex (resumed_file f.spec_ex samples f.data_start old) []
+    (recorder_of f.spec_ex f.data_start f.data_length) true log.state
+step_resumed f samples old log is enough (channels, pair, frames, (far, wide, fits), same) =
+    let s = f.spec_ex in
+    let start = f.data_start in
+    let len = f.data_length in
+    let counted : len ≡ samples * s.bytes_per_sample = is.counted in
     let w = of_fields log s start len [] [] in
     let head : Head old.contents s len start =
-    subst (λ n. Head old.contents s n start) (readable_length s samples start old.contents is.readable)
-    is.readable.head in
-    let check = no_fault s samples start is.sound.1 frames pair (rw same at fits) in
+    subst (λ n. Head old.contents s n start)
+    (readable_length s samples start old.contents is.readable ∙ sym counted) is.readable.head in
+    let check : head_fault s len start ≡ None = rw counted (no_fault s samples start is.sound.1
+    (readable_frames s samples start old.contents is.readable) pair (rw counted at fits)) in
     let after = head_behind old.contents s len start head in
     let sound : IsSound w = sound_head log s len start is.sound after check in
     let stays = is.goes.stays.contents in
     let file = λ (told : IsTrue true).
     follows log_kind.state log s len start old is.sound after head check is.goes in
-    let count : len / s.bytes_per_sample ≡ samples = mul-div_cancel samples is.sound.1 in
+    let count : len / s.bytes_per_sample ≡ samples = rw counted (mul-div_cancel samples is.sound.1) in
     let found : accepted_samples log_kind.state w ≡ containers s.bytes_per_sample samples (drop start old.contents) =
     rw count at (samples_out log_kind.state w refl sound)
     ∙ ap (λ c. containers s.bytes_per_sample samples (drop start c)) stays in
     let at_most = at_most_on s len start old.contents log.state.contents head stays in
     let kind = is.sound in
-    let held : start + len ≤ length log.state.contents = rw stays is.held in
+    let held : start + len ≤ length log.state.contents = rw (stays, sym is.all) enough in
     let begun = resumed_file s samples start old in
     let opens : Opens log_kind s begun w = search rules in
-    at_rest s begun [] r w (recorded_first log_kind s begun w opens)
+    at_rest s begun [] (recorder_of s start len) w (recorded_first log_kind s begun w opens)
     (record { none = refl; sound = sound; at_most = at_most })
-    (rw same (refl, refl, refl)) (ap (λ (x : Recorder). x.number) same)
+    (refl, refl, refl) refl
     (λ synced. (
       start + len,
       in_order_none (start + len) log.state (is.goes.flushed ∙ synced ∙ sym (ap length is.goes.stays.past)),
-      λ _. rw same (omega arith),
+      λ _. omega arith,
     ))
 
 -- no effect is under way
@@ -227,13 +238,13 @@ reported old new w end samples more (Err e) is none long same =
     rw same ((is.0, is.1, is.2), none, λ clean. absurd (omega (arith, clean)))
 
 -- a block that was written where the recorder said, or a beginning of it
-pub directed_block : (s : WavSpecEx) (file : Begun) (known : List Known) (old new : Recorder)
+pub step_block : (s : WavSpecEx) (file : Begun) (known : List Known) (old new : Recorder)
     (m : MediumState) (end : Log) (samples place : ℕ) (bytes : List ℕ) (result : Result (Unit {0}) IoFault)
-    → Directed s file known old true m → Places old samples (Ok place)
+    → InStep s file known old true m → Places old samples (Ok place)
     → length bytes ≡ samples * old.bytes_per_sample → PutsAt true place bytes result m end.state
     → Reports samples (is_ok result) old new (Ok tt)
-    → Directed s file (known ++ block_known bytes (is_ok result) s ∷ []) new true end.state
-directed_block s file known old new m end samples place bytes result d (clean, none, has, there) long puts (places, is) =
+    → InStep s file (known ++ block_known bytes (is_ok result) s ∷ []) new true end.state
+step_block s file known old new m end samples place bytes result d (clean, none, has, there) long puts (places, is) =
     let w = d.writer in
     let (done, same) = at_none old d.result w.medium d.log none d.performed in
     let here : m ≡ w.medium.state = sym d.state ∙ ap log_kind.state same in
@@ -298,31 +309,15 @@ all_ok (Ok x) effects (suc k) ok first last is so did = refl
 all_ok (Err e) effects (suc k) ok first last is so did =
     absurd (false≢true (is (omega arith) ∙ so (omega arith)))
 
--- where none is under way, what is reported of the last one is ignored
-pub directed_first : (s : WavSpecEx) (file : Begun) (known : List Known) (r : Recorder) (ok : Bool)
-    (m : MediumState) → Directed s file known r true m → r.number ≡ 0 → Directed s file known r ok m
-directed_first s file known r ok m d none = record {
-  writer = d.writer;
-  recorded = d.recorded;
-  idle = d.idle;
-  is = d.is;
-  order = d.order;
-  log = d.log;
-  state = d.state;
-  result = d.result;
-  last = λ some. absurd (omega (arith, some, none));
-  performed = d.performed;
-}
-
 -- an effect that the recorder returned was performed
-pub directed_effect : (s : WavSpecEx) (file : Begun) (known : List Known) (old new : Recorder) (ok : Bool)
+pub step_effect : (s : WavSpecEx) (file : Begun) (known : List Known) (old new : Recorder) (ok : Bool)
     (m : MediumState) (end : Log) (effect : Effect) (result : Result (Unit {0}) IoFault)
-    → Directed s file known old ok m → NextEffect ok old new (Ok (Some effect))
-    → Performs effect result m end.state → Directed s file known new (is_ok result) end.state
-directed_effect s file known old new ok m end effect result d (low, so, has, at, is) did =
+    → InStep s file known old ok m → NextEffect ok old new (Ok (Some effect))
+    → Performs effect result m end.state → InStep s file known new (is_ok result) end.state
+step_effect s file known old new ok m end effect result d (low, so, has, at, is) did =
     let one : suc old.number ≡ old.number + 1 = omega arith in
     let before = rw (all_ok d.result (effects_of old) old.number ok d.writer.medium d.log d.last so d.performed) at d.performed in
-    subst (λ r. Directed s file known r (is_ok result) end.state) (sym is) (record {
+    subst (λ r. InStep s file known r (is_ok result) end.state) (sym is) (record {
       writer = d.writer;
       recorded = d.recorded;
       idle = d.idle;
@@ -338,10 +333,10 @@ directed_effect s file known old new ok m end effect result d (low, so, has, at,
 
 -- a checkpoint that has ended
 ended : (s : WavSpecEx) (file : Begun) (known : List Known) (old : Recorder) (ok : Bool) (m : MediumState)
-    (condition : ℕ) (d : Directed s file known old ok m)
+    (condition : ℕ) (d : InStep s file known old ok m)
     → (is_ok d.result ≡ true → None ≡ nth (effects_of old) old.number)
     → (condition ≡ 0 → is_ok d.result ≡ true)
-    → Directed s file (known ++ marked publish (is_ok d.result) ∷ [])
+    → InStep s file (known ++ marked publish (is_ok d.result) ∷ [])
     (record old { number = 0; condition = condition }) true m
 ended s file known old ok m condition d all clean =
     let w = d.writer in
@@ -352,7 +347,7 @@ ended s file known old ok m condition d all clean =
     let next = record w { medium = d.log } in
     let recorded = recorded_more log_kind (marked publish (is_ok d.result)) publish call.answer s file known w
     next (refl, call.mark) d.recorded call.does in
-    subst (Directed s file (known ++ marked publish (is_ok d.result) ∷ []) (record old { number = 0; condition = condition }) true)
+    subst (InStep s file (known ++ marked publish (is_ok d.result) ∷ []) (record old { number = 0; condition = condition }) true)
     d.state
     (at_rest s file (known ++ marked publish (is_ok d.result) ∷ []) (record old { number = 0; condition = condition }) next
     recorded call.idle d.is refl (λ synced.
@@ -363,49 +358,52 @@ ended s file known old ok m condition d all clean =
     order whole in
     (top, now, λ is. small (clean is))))
 
-pub directed_save : (s : WavSpecEx) (file : Begun) (known : List Known) (old new : Recorder) (ok : Bool)
-    (m : MediumState) → Directed s file known old ok m → NextEffect ok old new (Ok None)
-    → Directed s file (known ++ marked publish true ∷ []) new true m
-directed_save s file known old new ok m d (low, so, has, at, is) =
+pub step_save : (s : WavSpecEx) (file : Begun) (known : List Known) (old new : Recorder) (ok : Bool)
+    (m : MediumState) → InStep s file known old ok m → NextEffect ok old new (Ok None)
+    → InStep s file (known ++ marked publish true ∷ []) new true m
+step_save s file known old new ok m d (low, so, has, at, is) =
     let done = all_ok d.result (effects_of old) old.number ok d.writer.medium d.log d.last so d.performed in
-    subst (λ (x : Bool × Recorder). Directed s file (known ++ marked publish x.0 ∷ []) x.1 true m)
+    subst (λ (x : Bool × Recorder). InStep s file (known ++ marked publish x.0 ∷ []) x.1 true m)
     (λ i. (is_ok (done i), sym is i))
     (ended s file known old ok m 0 d (λ _. at) (λ _. ap is_ok done))
 
 -- it has ended in an error: an effect has failed
 cut_off : (s : WavSpecEx) (file : Begun) (known : List Known) (old new : Recorder) (ok : Bool)
-    (m : MediumState) (condition : ℕ) → 0 < condition → Directed s file known old ok m → HasFailed ok old
+    (m : MediumState) (condition : ℕ) → 0 < condition → InStep s file known old ok m → HasFailed ok old
     → new ≡ record old { number = 0; condition = condition }
-    → (new.number ≡ 0) × Directed s file (known ++ marked publish false ∷ []) new true m
+    → (new.number ≡ 0) × InStep s file (known ++ marked publish false ∷ []) new true m
 cut_off s file known old new ok m condition some d (low, begun, failed) is =
     let result_is : is_ok d.result ≡ false = d.last begun ∙ failed in (
       ap (λ (x : Recorder). x.number) is,
-      subst (λ (x : Bool × Recorder). Directed s file (known ++ marked publish x.0 ∷ []) x.1 true m)
+      subst (λ (x : Bool × Recorder). InStep s file (known ++ marked publish x.0 ∷ []) x.1 true m)
           (λ i. (result_is i, sym is i))
           (ended s file known old ok m condition d (λ fine. absurd (false≢true (sym result_is ∙ fine)))
           (λ none. absurd (omega (arith, some, none)))),
     )
 
-pub directed_cut : (s : WavSpecEx) (file : Begun) (known : List Known) (old new : Recorder) (ok : Bool)
-    (m : MediumState) (error : RecorderError) → Directed s file known old ok m → old.condition ≤ 1
+pub step_cut : (s : WavSpecEx) (file : Begun) (known : List Known) (old new : Recorder) (ok : Bool)
+    (m : MediumState) (error : RecorderError) → InStep s file known old ok m → old.condition ≤ 1
     → NextEffect ok old new (Err error)
-    → (new.number ≡ 0) × Directed s file (known ++ marked publish false ∷ []) new true m
-directed_cut s file known old new ok m SyncFailed d low (is, inl high) = absurd (omega (arith, low, high))
-directed_cut s file known old new ok m SyncFailed d low (is, inr (has, sync)) =
+    → (new.number ≡ 0) × InStep s file (known ++ marked publish false ∷ []) new true m
+step_cut s file known old new ok m SyncFailed d low (is, inl high) = absurd (omega (arith, low, high))
+step_cut s file known old new ok m SyncFailed d low (is, inr (has, sync)) =
     cut_off s file known old new ok m 2 (omega arith) d has is
-directed_cut s file known old new ok m NeedsCheckpoint d low (is, has, other) =
+step_cut s file known old new ok m NeedsCheckpoint d low (is, has, other) =
     cut_off s file known old new ok m 1 (omega arith) d has is
-directed_cut s file known old new ok m NotWritable d low (is, _, never) =
+step_cut s file known old new ok m NotWritable d low (is, _, never) =
     let sound = d.idle.sound in let fields = d.is in grind (arith, common_steps)
-directed_cut s file known old new ok m TooLong d low (is, _, never) =
+step_cut s file known old new ok m TooLong d low (is, _, never) =
     let sound = d.idle.sound in let none = d.idle.none in let fields = d.is in grind (arith, common_steps)
-directed_cut s file known old new ok m UnfinishedFrame d low (is, _, never) = absurd never
+step_cut s file known old new ok m UnfinishedFrame d low (is, _, never) = absurd never
+step_cut s file known old new ok m Truncated d low (is, _, never) = absurd never
+step_cut s file known old new ok m CutOff d low (is, _, never) = absurd never
+step_cut s file known old new ok m HasChunksAfterData d low (is, _, never) = absurd never
 
 -- within a checkpoint, too, places ascend
-pub directed_ascends : (s : WavSpecEx) (file : Begun) (known : List Known) (r : Recorder) (ok : Bool)
-    (m : MediumState) → Directed s file known r ok m → IsSynced (handed_in file)
+pub step_ascends : (s : WavSpecEx) (file : Begun) (known : List Known) (r : Recorder) (ok : Bool)
+    (m : MediumState) → InStep s file known r ok m → IsSynced (handed_in file)
     → Ascends m.past m.flushed (length m.past)
-directed_ascends s file known r ok m d synced =
+step_ascends s file known r ok m d synced =
     let (high, order, low) = d.order synced in
     let (last, ordered) = taken_ordered (effects_of r) r.number high (r.data_start + r.data_length)
     (effects_ordered (r.condition == 0) r.data_start r.data_length high (omega (arith, d.idle.sound.after_head, d.is.0))

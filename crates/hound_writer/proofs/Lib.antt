@@ -28,4 +28,5 @@ pub mod Recording
 pub mod Fresh
 pub mod Checkpoint
 pub mod Directing
+pub mod Acting
 pub mod Ordering

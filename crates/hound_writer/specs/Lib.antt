@@ -12,7 +12,9 @@ unfoldable pub use Rattle.hound_writer.specs.Writer.{with_sizes}
 pub use Rattle.hound_writer.specs.Publishing.{Checkpoints, Finishes, IsHalfPublished, IsOldOrNew, IsOutside, LeavesWriter, OncePutBefore, Publishes, PublishesAtEach, PublishesTo, PutsFrom, PutsLast, ReadsAs, place_after}
 pub use Rattle.hound_writer.specs.Effects.{Log, Performed, Performs, checkpoint, log_kind, nth, pad_effects, size_effects}
 pub use Rattle.hound_writer.specs.Recorder.{AppendsRecorder, BeginsRecorder, HasData, HasFailed, HasNoData, NextEffect, Places, Reports, advanced, effects_of, length_with, recorder_of}
-pub use Rattle.hound_writer.specs.Recording.{Directed, IsIdle, IsOrdered, IsRecorderOf, IsSynced, Opened, Resumed, block_known, resumed_file}
+pub use Rattle.hound_writer.specs.Resuming.{ContinuesAfter, Resumes, ResumesAfter, ends_whole, found_frame, kept_as, kept_length, rest_follows, resumed_recorder}
+pub use Rattle.hound_writer.specs.Machine.{Abandons, Advances, AsksForBlock, AsksForCheckpoint, EffectEnds, EndsEffect, GivesUp, GoesOn, HasEnded, IsClear, IsSaved, SavesFirst, Settles, TakesBlock, ThenGoesOn, end_of, saved_of}
+pub use Rattle.hound_writer.specs.Recording.{Directed, InStep, IsIdle, IsOrdered, IsRecorderOf, IsSynced, Opened, Resumed, block_known, cut_known, resumed_file}
 pub mod Accepting
 pub mod Appending
 pub mod Batch
@@ -23,4 +25,6 @@ pub mod Writer
 pub mod Publishing
 pub mod Effects
 pub mod Recorder
+pub mod Resuming
+pub mod Machine
 pub mod Recording

@@ -9,20 +9,24 @@ use Rattle.hound_writer.specs.declared.recorder.Recorder.{Recorder}
 use Rattle.hound_writer.specs.declared.recorder.RecorderError.{RecorderError}
 use Rattle.hound_writer.specs.declared.recorder.RecorderError.TheVariants.{NotWritable, UnfinishedFrame, TooLong, NeedsCheckpoint, SyncFailed}
 
--- a recorder of a file whose data begin here and have so many bytes, in samples of this width
-abbrev pub recorder_of : ℕ → ℕ → ℕ → Recorder
-recorder_of start len width = record {
+-- a recorder that has nothing to do, of a file whose data begin here and have so many bytes
+abbrev pub recorder_of : WavSpecEx → ℕ → ℕ → Recorder
+recorder_of s start len = record {
   data_start = start;
   data_length = len;
   number = 0;
-  bytes_per_sample = width;
+  samples = 0;
+  bytes_per_sample = s.bytes_per_sample;
+  channels = s.spec.channels;
   condition = 0;
+  task = 0;
+  has_rest = 0;
 }
 
 -- what the call for a new file does
 abbrev pub BeginsRecorder : WavSpecEx → Result Recorder RecorderError → Type 0
 BeginsRecorder s (Ok recorder) = IsWritable s
-    × (recorder ≡ recorder_of (data_start s) 0 s.bytes_per_sample)
+    × (recorder ≡ recorder_of s (data_start s) 0)
 BeginsRecorder s (Err error) = (IsWritable s → ⊥) × (error ≡ NotWritable)
 
 -- a file has so many bytes of data where a recorder's begin
@@ -35,16 +39,16 @@ HasNoData r len NotWritable = (r.data_start < 20) ⊎ (r.bytes_per_sample ≡ 0)
 HasNoData r len TooLong = greatest_u32 < riff_size r.data_start len
 HasNoData r len _ = ⊥
 
--- what the call for a file that has samples does
+-- what the call for a file that has so many bytes of data does: they are whole frames
 abbrev pub AppendsRecorder : WavSpecEx → ℕ → ℕ → Result Recorder RecorderError → Type 0
-AppendsRecorder s start samples (Ok recorder) = (samples % s.spec.channels ≡ 0)
-    × IsPair s.spec.sample_format s.spec.bits_per_sample s.bytes_per_sample × (1 ≤ s.spec.channels)
-    × HasData recorder recorder.data_length
-    × (recorder ≡ recorder_of start (samples * s.bytes_per_sample) s.bytes_per_sample)
-AppendsRecorder s start samples (Err UnfinishedFrame) = (1 ≤ s.spec.channels)
-    × (samples % s.spec.channels ≡ 0 → ⊥)
-AppendsRecorder s start samples (Err TooLong) = greatest_u32 < riff_size start (samples * s.bytes_per_sample)
-AppendsRecorder s start samples (Err error) = (error ≡ NotWritable) × ((s.spec.channels ≡ 0) ⊎ (start < 20)
+AppendsRecorder s start len (Ok recorder) = (1 ≤ s.spec.channels)
+    × IsPair s.spec.sample_format s.spec.bits_per_sample s.bytes_per_sample
+    × (len % (s.spec.channels * s.bytes_per_sample) ≡ 0)
+    × HasData recorder len × (recorder ≡ recorder_of s start len)
+AppendsRecorder s start len (Err UnfinishedFrame) = (1 ≤ s.spec.channels)
+    × (len % (s.spec.channels * s.bytes_per_sample) ≡ 0 → ⊥)
+AppendsRecorder s start len (Err TooLong) = greatest_u32 < riff_size start len
+AppendsRecorder s start len (Err error) = (error ≡ NotWritable) × ((s.spec.channels ≡ 0) ⊎ (start < 20)
     ⊎ (IsPair s.spec.sample_format s.spec.bits_per_sample s.bytes_per_sample → ⊥))
 
 -- how many bytes of data there are after so many samples more

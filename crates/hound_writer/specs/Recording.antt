@@ -1,5 +1,5 @@
 -- A recording whose caller writes the samples and performs the effects, as a recorder directs.
-use Rattle.std.specs.Prelude.{◌≡◌, ℕ, ◌+◌, ◌*◌, ◌<◌, ◌≤◌, Bool, true, List, [], length, take, drop, Result, Ok, is_ok}
+use Rattle.std.specs.Prelude.{◌≡◌, ℕ, ◌+◌, ◌*◌, ◌<◌, ◌≤◌, Bool, true, false, List, [], ◌∷◌, length, take, drop, Result, Ok, Err, is_ok}
 use Rattle.std.specs.declared.io.Error.{Error as IoFault}
 use Rattle.hound_durable.specs.{Ascends, IsBelow}
 use Rattle.hound_medium.specs.{Goes, MediumState, PutsAll}
@@ -8,25 +8,28 @@ use Rattle.hound_spec.specs.declared.spec.WavSpecEx.{WavSpecEx}
 use Rattle.hound_spec.specs.{header}
 use Rattle.hound_walk.specs.{IsSoundSpec, Readable}
 use Rattle.hound_writer.specs.Accepting.{whole_containers}
-use Rattle.hound_writer.specs.Calls.{Begun, Known, Recorded, appended, handed_in, marked, write}
+use Rattle.hound_writer.specs.Calls.{Begun, Known, Recorded, appended, handed_in, marked, publish, write}
 use Rattle.hound_writer.specs.Effects.{Log, Performed, log_kind}
 use Rattle.hound_writer.specs.Parts.{CountsAtMost}
-use Rattle.hound_writer.specs.Recorder.{effects_of}
+use Rattle.hound_writer.specs.Machine.{saved_of}
+use Rattle.hound_writer.specs.Recorder.{Places, effects_of}
 use Rattle.hound_writer.specs.Writer.{WriterState, IsSound}
 use Rattle.hound_writer.specs.declared.recorder.Recorder.{Recorder}
+use Rattle.hound_writer.specs.declared.recorder.RecorderError.{RecorderError}
+use Rattle.hound_writer.specs.declared.resuming.FoundFile.{FoundFile}
 
 -- A new file is recorded: its header was written, with both sizes 0.
 pub record Opened (s : WavSpecEx) (old new : MediumState) : Type 0 where
   pub begins : old.place ≡ 0
   pub puts : PutsAll {T = Unit {0}} {E = IoFault} true (header s 0 0) (Ok tt) old new
 
--- A file is recorded further: a walk found this spec, and so many samples from this place on, and all
--- of them are there; the caller went to their end.
-pub record Resumed (s : WavSpecEx) (samples start : ℕ) (old new : MediumState) : Type 0 where
-  pub sound : IsSoundSpec s
-  pub readable : Readable old.contents s samples start
-  pub held : start + samples * s.bytes_per_sample ≤ length old.contents
-  pub goes : Goes {T = Unit {0}} {E = IoFault} (start + samples * s.bytes_per_sample) (Ok tt) old new
+-- A file is recorded further: it was found with so many samples, and the caller went to their end.
+pub record Resumed (f : FoundFile) (samples : ℕ) (old new : MediumState) : Type 0 where
+  pub sound : IsSoundSpec f.spec_ex
+  pub readable : Readable old.contents f.spec_ex samples f.data_start
+  pub counted : f.data_length ≡ samples * f.spec_ex.bytes_per_sample
+  pub all : f.length ≡ length old.contents
+  pub goes : Goes {T = Unit {0}} {E = IoFault} (f.data_start + f.data_length) (Ok tt) old new
 
 -- the file of a recording that was resumed
 abbrev pub resumed_file : WavSpecEx → ℕ → ℕ → MediumState → Begun
@@ -54,11 +57,11 @@ abbrev pub IsRecorderOf : Recorder → WriterState Log → Type 0
 IsRecorderOf r w = (r.data_start ≡ w.data_start) × (r.data_length ≡ w.bytes_written)
     × (r.bytes_per_sample ≡ w.spec_ex.bytes_per_sample)
 
--- What a caller has that did as its recorder said: calls of a writer led to this file, of which these
--- are known, a write or a checkpoint each; and of a checkpoint under way the effects so far were
--- performed, the last one Ok or not. If all was synced in the file as it was handed in, what was written
--- since the last sync is at ascending places, before that of the next samples unless a write has failed.
-pub record Directed (s : WavSpecEx) (file : Begun) (known : List Known) (r : Recorder) (ok : Bool)
+-- A file is in step with its recorder: calls of a writer led to it, of which these are known, a write or
+-- a checkpoint each; and of a checkpoint under way the effects so far were performed, the last one Ok
+-- or not. If all was synced in the file as it was handed in, what was written since the last sync is at
+-- ascending places, before that of the next samples unless a write has failed.
+pub record InStep (s : WavSpecEx) (file : Begun) (known : List Known) (r : Recorder) (ok : Bool)
     (m : MediumState) : Type 0 where
   pub writer : WriterState Log
   pub recorded : Recorded log_kind s file known writer
@@ -75,3 +78,20 @@ pub record Directed (s : WavSpecEx) (file : Begun) (known : List Known) (r : Rec
 -- what is known of a write of a block, by whether it succeeded
 abbrev pub block_known : List ℕ → Bool → WavSpecEx → Known
 block_known bytes ok s = marked (write (whole_containers s bytes)) ok
+
+-- What a caller has that did as its recorder said, and has reported it: the file is in step with the
+-- recorder, and all that is written are whole frames. So is the block that is requested, and it has a
+-- place; once it is handed out, no checkpoint comes before; and after one that failed the rest is cut off.
+pub record Directed (s : WavSpecEx) (file : Begun) (known : List Known) (r : Recorder) (m : MediumState) : Type 0 where
+  pub in_step : InStep s file known r true m
+  pub channels : r.channels ≡ s.spec.channels
+  pub whole : (frames : ℕ) × (r.data_length ≡ frames * r.channels * r.bytes_per_sample)
+  pub block : (frames : ℕ) × (r.samples ≡ frames * r.channels)
+  pub placed : 1 < r.task → r.task < 4 → (place : ℕ) × Places (saved_of r) r.samples (Ok place)
+  pub ready : r.task ≡ 3 → (r.number ≡ 0) × (r.condition ≡ 0)
+  pub rest : 3 < r.task → (r.task ≡ 4) × (0 < r.has_rest)
+
+-- what is known of a checkpoint, where it ended in an error
+abbrev pub cut_known : Result (Unit {0}) RecorderError → List Known
+cut_known (Ok x) = []
+cut_known (Err error) = marked publish false ∷ []

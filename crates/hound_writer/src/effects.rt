@@ -1,4 +1,4 @@
-// What a recorder does at a checkpoint, one effect after the other.
+// What the caller of a machine does to its file, one effect after the other.
 ghost use Rattle.std.specs.Prelude.{◌≡◌, ◌≤◌, Option};
 ghost use Rattle.hound_spec.specs.{riff_size, greatest_u32};
 ghost use Rattle.hound_writer.specs.Effects.{checkpoint, nth, size_effects};
@@ -16,6 +16,35 @@ pub enum Effect {
 
     /// To write this size at this place, in four bytes, little-endian.
     Size(u64, u32),
+}
+
+/// What a machine asks its caller to do to the file.
+#[derive(Clone, Copy)]
+pub enum Action {
+    /// To read so many bytes at this place, fewer only where the file ends.
+    Read(u64, u32),
+
+    /// To sync it, or to write a few bytes.
+    Perform(Effect),
+
+    /// To write the caller's block, of so many bytes, at this place.
+    WriteBlock(u64, u32),
+
+    /// To cut the file off at this place, unless it is no longer than that.
+    Cut(u64),
+}
+
+/// How what the caller was asked to do has ended.
+#[derive(Clone, Copy, Debug, PartialEq, Eq)]
+pub enum Report {
+    /// It hasn't ended, or nobody knows.
+    Pending,
+
+    /// All of it is done.
+    Done,
+
+    /// It has failed, or a part of it isn't done.
+    Failed,
 }
 
 /// The effect with this number, from 0, of a checkpoint of a file whose data begin at this place and

@@ -1,5 +1,5 @@
 // What holds for all bytes that are to be appended to, and for all samples that are written.
-ghost use Rattle.std.specs.Prelude.{◌≡◌, ◌≤◌, ◌*◌, ℕ, Bool, true, false, List, [], ◌∷◌, ◌++◌, None, Some, Err, Ok, Result, is_ok, length};
+ghost use Rattle.std.specs.Prelude.{◌≡◌, ◌⊎◌, ◌<◌, ◌≤◌, ◌*◌, ℕ, Bool, true, List, [], ◌∷◌, ◌++◌, None, Some, Ok, Err, Result, is_ok, length};
 ghost use Rattle.std.specs.declared.io.Error.{Error as IoFault};
 ghost use Rattle.hound_medium.specs.{MediumState, WhereTells};
 ghost use Rattle.hound_spec.specs.declared.spec.WavSpecEx.{WavSpecEx};
@@ -8,12 +8,16 @@ ghost use Rattle.hound_writer.specs.Appending.{HasOneAppendAnswer};
 ghost use Rattle.hound_writer.specs.Calls.{Begun, Known, marked, new_file, publish};
 ghost use Rattle.hound_writer.specs.Effects.{Log, Performs};
 ghost use Rattle.hound_writer.specs.Parts.{PutsAt};
-ghost use Rattle.hound_writer.specs.Recorder.{AppendsRecorder, BeginsRecorder, NextEffect, Places, Reports};
-ghost use Rattle.hound_writer.specs.Recording.{Directed, Opened, Resumed, block_known, resumed_file};
+ghost use Rattle.hound_writer.specs.Machine.{GivesUp, GoesOn, HasEnded, TakesBlock, end_of};
+ghost use Rattle.hound_writer.specs.Recorder.{BeginsRecorder};
+ghost use Rattle.hound_writer.specs.Recording.{Directed, Opened, Resumed, block_known, cut_known, resumed_file};
+ghost use Rattle.hound_writer.specs.Resuming.{Resumes};
 ghost use Rattle.hound_writer.specs.Writer.{WriterState, IsWhole, accepted_samples, data_length};
+ghost use Rattle.hound_writer.specs.declared.effects.Action.TheVariants.{Perform, WriteBlock};
 ghost use Rattle.hound_writer.specs.declared.effects.Effect.{Effect};
 ghost use Rattle.hound_writer.specs.declared.recorder.Recorder.{Recorder};
 ghost use Rattle.hound_writer.specs.declared.recorder.RecorderError.{RecorderError};
+ghost use Rattle.hound_writer.specs.declared.resuming.FoundFile.{FoundFile};
 
 use hound_medium::Medium;
 use hound_sample::Sample;
@@ -38,38 +42,49 @@ pub fn a_block_is_its_samples<S: Sample, M: Medium>()
         (accepted_samples M.state b ≡ accepted_samples M.state c) × (data_length b ≡ data_length c)) }
 {}
 
-/// A caller that does what a [`Recorder`](crate::Recorder) says makes calls of a writer, whatever
-/// fails: it begins a recorder of a new file, whose header it wrote (`new`), or of one that a walk
-/// found (`resumed`); it writes whole samples where [`place`](crate::Recorder::place) says, and
-/// reports the result (`wrote`); and it performs what [`next`](crate::Recorder::next) returns, and
-/// reports that (`performed`; whatever at the first call, `first`), until there is no more (`saved`)
-/// or one has failed (`failed`).
+/// A caller that does what a [`Recorder`](crate::Recorder) says makes calls of a writer, whatever fails. It
+/// begins a recorder of a new file, whose header it wrote (`new`), or of one that was found (`resumed`), and
+/// asks for blocks and checkpoints (`asked`). It performs the effects that
+/// [`next`](crate::Recorder::next) returns (`performed`), writes the block at its place (`handed`, `wrote`),
+/// cuts off what follows, or not (`cut`), and reports each result, until there is no more (`saved`). An error
+/// comes only of what it reports, or once a sync has failed (`failed`).
 ///
-/// Each write is a call for its samples, and each checkpoint a `flush`. The clauses take the contracts of
+/// Each block is a call for its samples, and each checkpoint a `flush`. The clauses take the contracts of
 /// the recorder's methods, and those of hound_c, as they are.
 pub fn a_recorder_directs()
     ensures new { (s : WavSpecEx) (old : MediumState) (log : Log) (r : Recorder) → Opened s old log.state
-        → BeginsRecorder s (Ok r) → Directed s (new_file old) [] r true log.state }
-    ensures resumed { (s : WavSpecEx) (samples start : ℕ) (old : MediumState) (log : Log) (r : Recorder)
-        → Resumed s samples start old log.state → AppendsRecorder s start samples (Ok r)
-        → Directed s (resumed_file s samples start old) [] r true log.state }
-    ensures wrote { (s : WavSpecEx) (file : Begun) (known : List Known) (old new : Recorder)
-        (m : MediumState) (end : Log) (samples place : ℕ) (bytes : List ℕ) (result : Result Unit IoFault)
-        → Directed s file known old true m → Places old samples (Ok place)
-        → length bytes ≡ samples * old.bytes_per_sample → PutsAt true place bytes result m end.state
-        → Reports samples (is_ok result) old new (Ok tt)
-        → Directed s file (known ++ block_known bytes (is_ok result) s ∷ []) new true end.state }
-    ensures first { (s : WavSpecEx) (file : Begun) (known : List Known) (r : Recorder) (ok : Bool)
-        (m : MediumState) → Directed s file known r true m → r.number ≡ 0 → Directed s file known r ok m }
-    ensures performed { (s : WavSpecEx) (file : Begun) (known : List Known) (old new : Recorder) (ok : Bool)
+        → BeginsRecorder s (Ok r) → Directed s (new_file old) [] r log.state }
+    ensures resumed { (f : FoundFile) (samples : ℕ) (mends overwrites : Bool) (old : MediumState) (log : Log)
+        (r : Recorder) → Resumed f samples old log.state → Resumes f mends overwrites (Ok r)
+        → r.data_length ≡ f.data_length
+        → Directed f.spec_ex (resumed_file f.spec_ex samples f.data_start old) [] r log.state }
+    ensures asked { (s : WavSpecEx) (file : Begun) (known : List Known) (old end new : Recorder)
+        (m : MediumState) (samples : ℕ) → Directed s file known old m → GivesUp old end
+        → Directed s file known (record end { task = 1 }) m
+        × (TakesBlock samples end new (Ok tt) → Directed s file known new m) }
+    ensures performed { (s : WavSpecEx) (file : Begun) (known : List Known) (old mid new : Recorder)
         (m : MediumState) (end : Log) (effect : Effect) (result : Result Unit IoFault)
-        → Directed s file known old ok m → NextEffect ok old new (Ok (Some effect))
-        → Performs effect result m end.state → Directed s file known new (is_ok result) end.state }
-    ensures saved { (s : WavSpecEx) (file : Begun) (known : List Known) (old new : Recorder) (ok : Bool)
-        (m : MediumState) → Directed s file known old ok m → NextEffect ok old new (Ok None)
-        → Directed s file (known ++ marked publish true ∷ []) new true m }
-    ensures failed { (s : WavSpecEx) (file : Begun) (known : List Known) (old new : Recorder) (ok : Bool)
-        (m : MediumState) (error : RecorderError) → Directed s file known old ok m → old.condition ≤ 1
-        → NextEffect ok old new (Err error)
-        → (new.number ≡ 0) × Directed s file (known ++ marked publish false ∷ []) new true m }
+        (told : Result Unit RecorderError) → Directed s file known old m
+        → GoesOn old mid (Ok (Some (Perform effect))) → Performs effect result m end.state
+        → HasEnded (is_ok result) mid new told → Directed s file (known ++ cut_known told) new end.state }
+    ensures wrote { (s : WavSpecEx) (file : Begun) (known : List Known) (old new : Recorder)
+        (m : MediumState) (end : Log) (bytes : List ℕ) (result : Result Unit IoFault)
+        (told : Result Unit RecorderError) → Directed s file known old m → old.task ≡ 3 → old.has_rest ≡ 0
+        → length bytes ≡ old.samples * old.bytes_per_sample → PutsAt true (end_of old) bytes result m end.state
+        → HasEnded (is_ok result) old new told
+        → Directed s file (known ++ block_known bytes (is_ok result) s ∷ []) new end.state }
+    ensures cut { (s : WavSpecEx) (file : Begun) (known : List Known) (old new : Recorder) (m : MediumState)
+        (ok : Bool) (told : Result Unit RecorderError) → Directed s file known old m → 0 < old.has_rest
+        → HasEnded ok old new told → Directed s file known new m }
+    ensures handed { (s : WavSpecEx) (file : Begun) (known : List Known) (old new : Recorder)
+        (m : MediumState) (place len : ℕ) → Directed s file known old m
+        → GoesOn old new (Ok (Some (WriteBlock place len))) → (place ≡ end_of new)
+        × (Directed s file known new m
+        ⊎ ((0 < old.number) × Directed s file (known ++ marked publish true ∷ []) new m)) }
+    ensures saved { (s : WavSpecEx) (file : Begun) (known : List Known) (old new : Recorder)
+        (m : MediumState) → Directed s file known old m → old.task ≡ 1 → GoesOn old new (Ok None)
+        → Directed s file (known ++ marked publish true ∷ []) new m }
+    ensures failed { (s : WavSpecEx) (file : Begun) (known : List Known) (old new : Recorder)
+        (m : MediumState) (error : RecorderError) → Directed s file known old m → old.condition ≤ 1
+        → GoesOn old new (Err error) → ⊥ }
 {}

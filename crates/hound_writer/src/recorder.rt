@@ -1,4 +1,4 @@
-// A recorder, whose caller writes the file.
+// A recorder, whose caller writes the file: what it keeps, and the parts of its calls.
 ghost use Rattle.std.specs.Prelude.{◌≡◌, ◌+◌, ◌≤◌, Err, IfErr, IfOk, IfSome, Ok};
 ghost use Rattle.hound_writer.specs.Effects.{nth};
 ghost use Rattle.hound_writer.specs.Recorder.{AppendsRecorder, BeginsRecorder, HasData, HasNoData, NextEffect, Places, Reports, effects_of, length_with, recorder_of};
@@ -18,6 +18,15 @@ pub enum RecorderError {
     /// The sizes of the file would pass 32 bits.
     TooLong,
 
+    /// The file lacks samples that its header counts.
+    Truncated,
+
+    /// The recording was cut off, and isn't to be mended.
+    CutOff,
+
+    /// Chunks or a tag follow the data, and aren't to be overwritten.
+    HasChunksAfterData,
+
     /// A write failed, or a checkpoint isn't done: one has to be, before samples are written.
     NeedsCheckpoint,
 
@@ -25,7 +34,9 @@ pub enum RecorderError {
     SyncFailed,
 }
 
-/// What a recorder keeps of a file that its caller writes.
+/// What a recorder keeps of a file that its caller writes. The caller asks for blocks and checkpoints
+/// ([`write`](Recorder::write), [`checkpoint`](Recorder::checkpoint)), and performs one action after
+/// the other that [`next`](Recorder::next) returns, each time with a report of the last one.
 #[repr(C)]
 #[derive(Clone, Copy)]
 pub struct Recorder {
@@ -35,27 +46,44 @@ pub struct Recorder {
     /// How many bytes of data are written.
     pub data_length: u32,
 
-    /// How many effects of a checkpoint were returned; 0 if none is under way.
+    /// How many effects of a checkpoint are done; 0 if none is under way.
     pub number: u32,
+
+    /// How many samples the block has that is requested.
+    pub samples: u32,
 
     /// How many bytes a sample has.
     pub bytes_per_sample: u16,
 
+    /// How many samples a frame has.
+    pub channels: u16,
+
     /// 1 since a write failed, until a checkpoint is done, and 2 since a sync failed.
     pub condition: u16,
+
+    /// What is under way: 0 nothing, 1 a checkpoint, 2 a block after the checkpoint that it needs, 3 the
+    /// write of a block, and 4 the end of one that failed.
+    pub task: u16,
+
+    /// 1 if bytes may follow the data that are to be cut off.
+    pub has_rest: u16,
 }
 
 impl Recorder {
     // A recorder of a file without data.
-    fn empty(data_start: u64, bytes_per_sample: u16) -> Recorder
-        ensures { result ≡ recorder_of data_start 0 bytes_per_sample }
+    fn empty(spec_ex: WavSpecEx, data_start: u64) -> Recorder
+        ensures { result ≡ recorder_of spec_ex data_start 0 }
     {
         Recorder {
             data_start,
             data_length: 0,
             number: 0,
-            bytes_per_sample,
+            samples: 0,
+            bytes_per_sample: spec_ex.bytes_per_sample,
+            channels: spec_ex.spec.channels,
             condition: 0,
+            task: 0,
+            has_rest: 0,
         }
     }
 
@@ -67,27 +95,27 @@ impl Recorder {
             return Err(RecorderError::NotWritable);
         }
         let data_start = header_length(spec_ex);
-        Ok(Recorder::empty(data_start as u64, spec_ex.bytes_per_sample))
+        Ok(Recorder::empty(spec_ex, data_start as u64))
     }
 
-    /// A recorder that appends to a file whose data begin at this place and have so many samples.
-    pub fn append(
+    // A recorder that appends to a file whose data begin at this place and have so many bytes.
+    pub(crate) fn append(
         spec_ex: WavSpecEx,
         data_start: u64,
-        samples: u32,
+        data_length: u64,
     ) -> Result<Recorder, RecorderError>
-        ensures { AppendsRecorder spec_ex data_start samples result }
+        ensures { AppendsRecorder spec_ex data_start data_length result }
     {
         let spec = spec_ex.spec;
         let width = spec_ex.bytes_per_sample;
         if !is_pair(spec.sample_format, spec.bits_per_sample, width) || spec.channels == 0 {
             return Err(RecorderError::NotWritable);
         }
-        if samples % spec.channels as u32 != 0 {
+        if data_length % (spec.channels as u64 * width as u64) != 0 {
             return Err(RecorderError::UnfinishedFrame);
         }
-        let mut recorder = Recorder::empty(data_start, width);
-        recorder.data_length = recorder.check_length(samples as u64 * width as u64)?;
+        let mut recorder = Recorder::empty(spec_ex, data_start);
+        recorder.data_length = recorder.check_length(data_length)?;
         Ok(recorder)
     }
 
@@ -126,16 +154,16 @@ impl Recorder {
         self.check_length(self.data_length as u64 + few * self.bytes_per_sample as u64)
     }
 
-    /// The place where the next so many samples are written.
-    pub fn place(&self, samples: u64) -> Result<u64, RecorderError>
+    // The place where the next so many samples are written.
+    pub(crate) fn place(&self, samples: u64) -> Result<u64, RecorderError>
         ensures { Places self.now samples result }
     {
         self.length_with(samples)?;
         Ok(self.data_start + self.data_length as u64)
     }
 
-    /// Reports whether the write of so many samples succeeded, at their place.
-    pub fn wrote(&mut self, samples: u64, ok: bool) -> Result<(), RecorderError>
+    // Takes in whether the write of so many samples succeeded, at their place.
+    pub(crate) fn wrote(&mut self, samples: u64, ok: bool) -> Result<(), RecorderError>
         ensures { Reports samples ok self.old self.new result }
     {
         let data_length = self.length_with(samples)?;
@@ -162,9 +190,9 @@ impl Recorder {
         checkpoint_effect(self.data_start, self.data_length, number - 1)
     }
 
-    /// The next effect of a checkpoint of all that is written, or none if it is done; `ok` is whether
-    /// the last one succeeded, and is ignored at the first.
-    pub fn next(&mut self, ok: bool) -> Result<Option<Effect>, RecorderError>
+    // The next effect of a checkpoint of all that is written, or none if it is done; `ok` is whether the
+    // last one succeeded, and is ignored at the first.
+    pub(crate) fn next_effect(&mut self, ok: bool) -> Result<Option<Effect>, RecorderError>
         ensures { NextEffect ok self.old self.new result }
     {
         if self.condition > 1 {

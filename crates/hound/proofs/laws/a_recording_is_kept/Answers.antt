@@ -1,4 +1,5 @@
-use Rattle.hound_writer.proofs.Directing.{directed_ascends}
+use Rattle.std.proofs.Common.{true}
+use Rattle.hound_writer.proofs.Directing.{step_ascends}
 use Rattle.hound.proofs.Recorders.{directed_kept, directed_survives}
 use Rattle.hound.proofs.laws.a_recording_is_kept.Goals as goal
 
@@ -9,4 +10,4 @@ pub returns-clause-survives : goal.returns-clause-survives
 returns-clause-survives c = directed_survives
 
 pub returns-clause-ascends : goal.returns-clause-ascends
-returns-clause-ascends c = directed_ascends
+returns-clause-ascends c s file known r m d synced = step_ascends s file known r true m d.in_step synced

@@ -1,5 +1,5 @@
 use Rattle.std.proofs.Common.{◌≡◌, ◌∙◌, ◌⊎◌, ℕ, Bool, true, Result, Ok, Err, inl, inr, ap, refl, rules, subst, sym}
-use Rattle.hound.specs.{AppendFault, Error, HalfMended, IsFoundAt, IsIoError, IsNotRepaired, IsRepairFault, LeavesFor, LeavesHalf, MediumState, NamesFault, PutsNothing, Repair, Repairs, RepairsMedium, faults_after, found_length, mended, one_more}
+use Rattle.hound.specs.{AppendFault, Error, IsFoundAt, IsIoError, IsNotRepaired, IsRepairFault, LeavesFor, LeavesPartly, MediumState, NamesFault, PartlyMended, PutsNothing, Repair, Repairs, RepairsMedium, faults_after, found_length, mended, one_more}
 use Rattle.hound.specs.declared.RepairState.{RepairState}
 use Rattle.hound.specs.declared.RepairState.TheVariants.{CutOff, HasChunksAfterData, Whole}
 use Rattle.hound_callers.proofs.callers.look_and_repair.Goals as goal
@@ -48,7 +48,7 @@ module _ (looks : Bool) (old mid new : MediumState) (puts : PutsNothing old mid)
     faults = is.faults ∙ faults;
   }
 
-  half : LeavesHalf looks mid new → LeavesHalf looks old new
+  half : LeavesPartly looks mid new → LeavesPartly looks old new
   half (inl none) = inl (both old mid new puts none)
   half (inr (found, len, start, is, state, mends)) = inr (
     found,
@@ -56,7 +56,7 @@ module _ (looks : Bool) (old mid new : MediumState) (puts : PutsNothing old mid)
     start,
     subst (λ c. IsFoundAt looks c found len start) same is,
     state,
-    subst (λ c. HalfMended start (found_length found) c new.contents) same mends,
+    subst (λ c. PartlyMended start (found_length found) c new.contents) same mends,
   )
 
   not_repaired : (e : Error) → IsNotRepaired looks mid new e → IsNotRepaired looks old new e
@@ -64,10 +64,10 @@ module _ (looks : Bool) (old mid new : MediumState) (puts : PutsNothing old mid)
     where
       why : ((fault : AppendFault) × IsRepairFault mid.contents fault × NamesFault e fault
           × PutsNothing mid new × (new.faults ≡ mid.faults))
-          ⊎ (IsIoError e × LeavesHalf looks mid new × (new.faults ≡ one_more mid.faults))
+          ⊎ (IsIoError e × LeavesPartly looks mid new × (new.faults ≡ one_more mid.faults))
           → ((fault : AppendFault) × IsRepairFault old.contents fault × NamesFault e fault
           × PutsNothing old new × (new.faults ≡ old.faults))
-          ⊎ (IsIoError e × LeavesHalf looks old new × (new.faults ≡ one_more old.faults))
+          ⊎ (IsIoError e × LeavesPartly looks old new × (new.faults ≡ one_more old.faults))
       why (inl (fault, here, names, none, all)) = inl (
         fault,
         subst (λ c. IsRepairFault c fault) same here,

@@ -1,17 +1,12 @@
-use Rattle.std.proofs.Common.{◌≡◌, ◌-◌, ◌∙◌, List, ℕ, Result, Ok, Err, ap, arith, inl, inr, length, length-drop, refl, rules}
+use Rattle.std.proofs.lemmas.Grind.{common_steps}
+use Rattle.std.proofs.Common.{◌≡◌, ◌-◌, ◌*◌, ◌/◌, ◌∙◌, List, ℕ, false, ap, arith, inl, length, length-drop, refl, sym}
 use Rattle.std.specs.Borrow.{Bor}
 use Rattle.hound.proofs.Knowing.{head_inside}
-use Rattle.hound.specs.{AppendsRecorder, Readable, Recorder, RecorderError, WavSpecEx, resumed_file}
-use Rattle.hound.specs.declared.Error.TheVariants.{Unsupported}
+use Rattle.hound.specs.{FoundFile, IsSoundSpec, Readable, resumed_file}
+use Rattle.hound.specs.declared.FileState.TheVariants.{HasChunksAfterData}
 use Rattle.hound_callers.proofs.Performing.{log_of, saves}
+use Rattle.hound_callers.proofs.Resuming.{kept_all, not_resumed, too_long}
 use Rattle.hound_callers.proofs.recorder.append_by_effects.Goals as goal
-
--- why a recorder isn't made
-not_made : (s : WavSpecEx) (start samples : ℕ) (r : Result Recorder RecorderError) → AppendsRecorder s start samples r
-    → ((x : Recorder) → r ≡ Ok x → ⊥)
-    → (error : RecorderError) × AppendsRecorder s start samples (Err error) × (Unsupported ≡ Unsupported)
-not_made s start samples (Ok x) is none = absurd (none x refl)
-not_made s start samples (Err error) is none = (error, is, refl)
 
 pub returns-in_default-clause-why : goal.returns-in_default-clause-why
 returns-in_default-clause-why g c =
@@ -26,11 +21,11 @@ returns-in_default-clause-why g c =
       ap (λ (x : Bor (List ℕ)). length x.now) c.into_inner.ensures ∙ ap length rest ∙ length-drop h bytes,
     ) in
     let here : Readable bytes s samples start = rw (c.spec_ex-spec_ex.ensures, c.len-samples.ensures, is) readable in
-    let why = not_made s start samples c.append.result c.append.ensures c.in_default.not-Ok in
-    inl (inr (s, samples, start, here, inl why))
+    let why = c.in_default.ensures in
+    inl (too_long s bytes samples start 0 here (omega (arith, why)))
 
-pub returns-then-end-contents-clause-why : goal.returns-then-end-contents-clause-why
-returns-then-end-contents-clause-why g c =
+pub returns-in-Err-clause-why : goal.returns-in-Err-clause-why
+returns-in-Err-clause-why g c =
     let s = c.spec_ex-spec_ex.result in
     let samples = c.len-samples.result in
     let bytes = c.args.contents.now in
@@ -42,17 +37,27 @@ returns-then-end-contents-clause-why g c =
       ap (λ (x : Bor (List ℕ)). length x.now) c.into_inner.ensures ∙ ap length rest ∙ length-drop h bytes,
     ) in
     let here : Readable bytes s samples start = rw (c.spec_ex-spec_ex.ensures, c.len-samples.ensures, is) readable in
-    let size = ap (λ (x : Recorder). x.data_length) c.in-Ok.ensures.4 in
-    inl (inr (s, samples, start, here, inr (omega (arith, c.if-end-contents.true, size), search rules)))
+    let f : FoundFile = record {
+      spec_ex = s;
+      data_start = start;
+      data_length = c.in-Some.data_length;
+      length = length bytes;
+      frames = samples / s.spec.channels;
+      state = HasChunksAfterData;
+    } in
+    let sound : IsSoundSpec s = rw c.spec_ex-spec_ex.ensures c.in_ok-reader.ensures.sound.0 in
+    let counted : f.data_length ≡ samples * s.bytes_per_sample = grind (arith, common_steps) in
+    inl (not_resumed f bytes samples c.in-Err.error c.error_of.result here counted refl refl refl sound.0 sound.1 c.in-Err.ensures
+    c.error_of.ensures)
 
 pub returns-clause-saved : goal.returns-clause-saved
 returns-clause-saved g c tells keeps =
     let M = g.M.Placed in
     let old = M.state c.args.medium.now in
+    let contents = c.requires.contents tells in
     let s = c.spec_ex-spec_ex.result in
     let samples = c.len-samples.result in
     let bytes = c.args.contents.now in
-    let contents = c.requires.contents tells in
     let (h, readable, rest) = c.in_ok-reader.ensures.found in
     let start = length bytes - length c.into_inner.result.now in
     let is : start ≡ h = omega (
@@ -61,15 +66,26 @@ returns-clause-saved g c tells keeps =
       ap (λ (x : Bor (List ℕ)). length x.now) c.into_inner.ensures ∙ ap length rest ∙ length-drop h bytes,
     ) in
     let here : Readable bytes s samples start = rw (c.spec_ex-spec_ex.ensures, c.len-samples.ensures, is) readable in
-    let size = ap (λ (x : Recorder). x.data_length) c.in-Ok.ensures.4 in
+    let f : FoundFile = record {
+      spec_ex = s;
+      data_start = start;
+      data_length = c.in-Some.data_length;
+      length = length bytes;
+      frames = samples / s.spec.channels;
+      state = HasChunksAfterData;
+    } in
+    let sound : IsSoundSpec s = rw c.spec_ex-spec_ex.ensures c.in_ok-reader.ensures.sound.0 in
+    let counted : f.data_length ≡ samples * s.bytes_per_sample = grind (arith, common_steps) in
+    let size : c.in-Ok.resumed.data_length ≡ f.data_length = kept_all f c.in-Ok.resumed refl c.in-Ok.ensures in
     let mid = c.go.new.self in
     let log = log_of _ (g.met.M.Medium.replays mid tells keeps) (g.met.M.Placed.bytes mid tells) in
-    let begun = c.a_recorder_directs.ensures.resumed s samples start old log c.in-Ok.resumed (record {
-      sound = rw c.spec_ex-spec_ex.ensures c.in_ok-reader.ensures.sound.0;
+    let begun = c.a_recorder_directs.ensures.resumed f samples false false old log c.in-Ok.resumed (record {
+      sound = sound;
       readable = rw contents here;
-      held = rw contents (omega (arith, c.if-end-contents.false, size));
+      counted = counted;
+      all = sym (ap length contents);
       goes = rw size at (c.in_ok-go.ensures tells);
-    }) c.in-Ok.ensures in (
+    }) c.in-Ok.ensures size in (
       s,
       samples,
       start,

@@ -1,61 +1,70 @@
-use Rattle.std.proofs.Common.{◌∷◌, ◌∙◌, ◌/◌, [], ap, false, inl, inr, length, refl, sym, true, append_assoc}
-use Rattle.hound.specs.{Recorder, publish, write}
-use Rattle.hound_callers.specs.Recorder.{samples_of}
-use Rattle.hound_callers.proofs.Performing.{log_of, no_place, on_err, on_ok, stopped_before, whole_samples}
+use Rattle.std.proofs.Common.{◌≡◌, ◌∷◌, ◌++◌, ◌/◌, [], ap, append_assoc, false, inl, inr, length, refl, subst, sym, true}
+use Rattle.hound.specs.{Directed, Recorder, publish, seen, write}
+use Rattle.hound_callers.specs.Recorder.{Stops, samples_of}
+use Rattle.hound_callers.proofs.Performing.{given_up, not_taken, on_err, on_ok, stopped_before}
 use Rattle.hound_callers.proofs.recorder.save_block.Goals as goal
 
 pub returns-then-block-width-ne0-clause-stopped : goal.returns-then-block-width-ne0-clause-stopped
 returns-then-block-width-ne0-clause-stopped g c tells keeps s file known d =
     stopped_before s file known _ c.args.block _ (inl c.if-block-width-ne0.true) c.requires d
 
-pub returns-in_err-place-clause-stopped : goal.returns-in_err-place-clause-stopped
-returns-in_err-place-clause-stopped g c =
-    on_err c.from_residual.result (λ _ tells keeps s file known d.
-    stopped_before s file known _ c.args.block _
-    (no_place c.args.recorder.now c.args.block c.in_err-place.field-0.0 c.if-block-width-ne0.false c.requires c.in_err-place.ensures)
-    c.requires d)
+pub returns-in_err-write-clause-stopped : goal.returns-in_err-write-clause-stopped
+returns-in_err-write-clause-stopped g c = on_err c.from_residual.result (λ err tells keeps s file known d.
+    let r = c.args.recorder.now in
+    let (same, refused) = not_taken r c.write.new.self c.args.block c.in_err-write.field-0.0 c.if-block-width-ne0.false c.requires
+    c.in_err-write.ensures in
+    subst (λ x. Stops s file known c.args.block x (g.M.Placed.state c.args.medium.now)) (sym same)
+    (stopped_before s file known r c.args.block _ refused c.requires d))
 
-pub returns-then-not-written-clause-stopped : goal.returns-then-not-written-clause-stopped
-returns-then-not-written-clause-stopped g c tells keeps s file known d =
-    let new = c.write_at.new.medium in
-    let log = log_of _ (g.met.M.Medium.replays new tells keeps) (g.met.M.Placed.bytes new tells) in
+pub returns-in_err-perform_all-clause-stopped : goal.returns-in_err-perform_all-clause-stopped
+returns-in_err-perform_all-clause-stopped g c = on_err c.from_residual-in_err-perform_all.result (λ err tells keeps s file known d.
+    let M = g.M.Placed in
     let old = c.args.recorder.now in
-    let bytes = c.args.block.now in
-    let mid = c.a_recorder_directs.ensures.wrote s file known old c.wrote.new.self (g.M.Placed.state c.args.medium.now)
-    log (length bytes / old.bytes_per_sample) c.in_ok-place.place bytes c.write_at.result d c.in_ok-place.ensures
-    (whole_samples (length bytes) old.bytes_per_sample c.if-block-width-ne0.false)
-    (rw keeps at (c.write_at.ensures tells)) (rw c.is_ok-written.ensures.value at c.in_ok-wrote.ensures) in (
-      (write (samples_of s c.args.block), false) ∷ [],
-      inr (inl refl),
-      ap (λ (x : Recorder). x.number) (rw c.if-not-written.true at c.in_ok-wrote.ensures.1) ∙ c.requires.0,
-      rw (sym c.if-not-written.ensures.value) at mid,
-    )
+    let (end, gives, takes) = c.in_ok-write.ensures in
+    let first = (c.a_recorder_directs.ensures.asked s file known old end c.write.new.self (M.state c.args.medium.now)
+    (length c.args.block.now / old.bytes_per_sample) d (given_up old end gives)).1 takes in
+    let two : c.write.new.self.task ≡ 2 = ap (λ (x : Recorder). x.task) takes.4 in
+    let (none, stopped) = c.in_err-perform_all.ensures.directed tells keeps s file known first in
+    ((write (samples_of s c.args.block), false) ∷ [], inr (inl refl), none, rw two at stopped))
 
 pub returns-clause-saved : goal.returns-clause-saved
-returns-clause-saved g c = on_ok c.perform_checkpoint.result (λ ok tells keeps s file known d.
-    let new = c.write_at.new.medium in
-    let log = log_of _ (g.met.M.Medium.replays new tells keeps) (g.met.M.Placed.bytes new tells) in
+returns-clause-saved g c = on_ok c.perform_all-2.result (λ ok tells keeps s file known d.
+    let M = g.M.Placed in
     let old = c.args.recorder.now in
-    let bytes = c.args.block.now in
-    let mid = c.a_recorder_directs.ensures.wrote s file known old c.wrote.new.self (g.M.Placed.state c.args.medium.now)
-    log (length bytes / old.bytes_per_sample) c.in_ok-place.place bytes c.write_at.result d c.in_ok-place.ensures
-    (whole_samples (length bytes) old.bytes_per_sample c.if-block-width-ne0.false)
-    (rw keeps at (c.write_at.ensures tells)) (rw c.is_ok-written.ensures.value at c.in_ok-wrote.ensures) in
-    rw (sym c.if-not-written.ensures.value, ok, append_assoc) at (c.perform_checkpoint.ensures.directed tells keeps s file _ mid).1)
+    let (end, gives, takes) = c.in_ok-write.ensures in
+    let first = (c.a_recorder_directs.ensures.asked s file known old end c.write.new.self (M.state c.args.medium.now)
+    (length c.args.block.now / old.bytes_per_sample) d (given_up old end gives)).1 takes in
+    let two : c.write.new.self.task ≡ 2 = ap (λ (x : Recorder). x.task) takes.4 in
+    let written = rw two at (c.in_ok-perform_all.ensures.directed tells keeps s file known first).1 in
+    let mid = c.perform_all.new.recorder in
+    let (last, gave, is) = c.checkpoint.ensures in
+    let second = subst (λ r. Directed s file (known ++ seen ((write (samples_of s c.args.block), true) ∷ [])) r
+    (M.state c.perform_all.new.medium)) (sym is)
+    (c.a_recorder_directs.ensures.asked s file _ mid last c.checkpoint.new.self (M.state c.perform_all.new.medium) 0 written
+    (given_up mid last gave)).0 in
+    let one : c.checkpoint.new.self.task ≡ 1 = ap (λ (x : Recorder). x.task) is in
+    let (none, saved) = c.perform_all-2.ensures.directed tells keeps s file _ second in
+    rw (one, ok, append_assoc) at saved)
 
 pub returns-clause-stopped : goal.returns-clause-stopped
-returns-clause-stopped g c = on_err c.perform_checkpoint.result (λ err tells keeps s file known d.
-    let new = c.write_at.new.medium in
-    let log = log_of _ (g.met.M.Medium.replays new tells keeps) (g.met.M.Placed.bytes new tells) in
+returns-clause-stopped g c = on_err c.perform_all-2.result (λ err tells keeps s file known d.
+    let M = g.M.Placed in
     let old = c.args.recorder.now in
-    let bytes = c.args.block.now in
-    let mid = c.a_recorder_directs.ensures.wrote s file known old c.wrote.new.self (g.M.Placed.state c.args.medium.now)
-    log (length bytes / old.bytes_per_sample) c.in_ok-place.place bytes c.write_at.result d c.in_ok-place.ensures
-    (whole_samples (length bytes) old.bytes_per_sample c.if-block-width-ne0.false)
-    (rw keeps at (c.write_at.ensures tells)) (rw c.is_ok-written.ensures.value at c.in_ok-wrote.ensures) in
-    let (zero, now) = c.perform_checkpoint.ensures.directed tells keeps s file _ mid in (
+    let (end, gives, takes) = c.in_ok-write.ensures in
+    let first = (c.a_recorder_directs.ensures.asked s file known old end c.write.new.self (M.state c.args.medium.now)
+    (length c.args.block.now / old.bytes_per_sample) d (given_up old end gives)).1 takes in
+    let two : c.write.new.self.task ≡ 2 = ap (λ (x : Recorder). x.task) takes.4 in
+    let written = rw two at (c.in_ok-perform_all.ensures.directed tells keeps s file known first).1 in
+    let mid = c.perform_all.new.recorder in
+    let (last, gave, is) = c.checkpoint.ensures in
+    let second = subst (λ r. Directed s file (known ++ seen ((write (samples_of s c.args.block), true) ∷ [])) r
+    (M.state c.perform_all.new.medium)) (sym is)
+    (c.a_recorder_directs.ensures.asked s file _ mid last c.checkpoint.new.self (M.state c.perform_all.new.medium) 0 written
+    (given_up mid last gave)).0 in
+    let one : c.checkpoint.new.self.task ≡ 1 = ap (λ (x : Recorder). x.task) is in
+    let (none, saved) = c.perform_all-2.ensures.directed tells keeps s file _ second in (
       (write (samples_of s c.args.block), true) ∷ (publish, false) ∷ [],
       inr (inr refl),
-      zero,
-      rw (sym c.if-not-written.ensures.value, err, append_assoc) at now,
+      none,
+      rw (one, err, append_assoc) at saved,
     ))

@@ -1,4 +1,4 @@
-use Rattle.std.proofs.Common.{◌≤◌, [], length, take, true}
+use Rattle.std.proofs.Common.{◌≤◌, [], length, take}
 use Rattle.hound.specs.{Begun, Directed, WavSpecEx, WhereKeeps, seen}
 use Rattle.hound_callers.specs.Recorder.{IsReady, samples_of}
 use Rattle.hound_callers.specs.Recording.{published_calls}
@@ -11,6 +11,6 @@ invariant-loop-i g l =
       within : l.i ≤ length l.blocks;
       ready : IsReady l.recorder;
       directed : WhereKeeps M.tells M.keeps ((s : WavSpecEx) (file : Begun)
-          → Directed s file [] l.fn.recorder true (M.state l.fn.medium)
-          → Directed s file (seen (published_calls (samples_of s) (take l.i l.blocks))) l.recorder true (M.state l.medium));
+          → Directed s file [] l.fn.recorder (M.state l.fn.medium)
+          → Directed s file (seen (published_calls (samples_of s) (take l.i l.blocks))) l.recorder (M.state l.medium));
     }

@@ -1,0 +1,583 @@
+-- What a loop does that performs one action after the other, as a recorder says.
+use Rattle.std.proofs.lemmas.Grind.{common_steps}
+use Rattle.std.specs.declared.io.Error.{Error as IoFault}
+use Rattle.std.proofs.lemmas.List.{append-nil}
+use Rattle.std.proofs.Common.{List, [], ◌∷◌, ◌++◌, length, is_ok, ◌≡◌, ◌⊎◌, ◌<◌, ◌≤◌, ◌+◌, ◌*◌, ℕ, Bool, true, false, inl, inr, Option, None, Some, Result, Ok, Err, refl, sym, ◌∙◌, ap, subst, arith}
+use Rattle.std.specs.Prelude.{⊤, ◌==◌, if◌then◌else◌}
+use Rattle.hound.specs.{Action, Asked, Begun, Directed, Effect, Known, Log, MediumState, Performs, PutsAt, WavSpecEx, block_known, cut_known, marked, publish, whole_containers, write, EffectEnds, GoesOn, HasData, HasEnded, IsSaved, NextEffect, Places, Reports, Recorder, RecorderError, Report, Settles, Advances, ThenGoesOn, effects_of, length_with, nth}
+use Rattle.hound.specs.declared.Action.TheVariants.{Cut, Perform, Read, WriteBlock}
+use Rattle.hound.specs.declared.Report.TheVariants.{Done, Failed, Pending}
+use Rattle.hound.specs.declared.RecorderError.TheVariants.{NotWritable, UnfinishedFrame, TooLong, Truncated, CutOff, HasChunksAfterData, NeedsCheckpoint, SyncFailed}
+use Rattle.hound.proofs.Recorders.{one_place, same_next}
+use Rattle.hound_callers.specs.Recorder.{DoesAction, IsAsked, asked_as, once_done, report_for}
+
+-- what a call for what was requested is marked with, if it is over
+abbrev pub told_as : Result (Unit {0}) RecorderError → Option Bool
+told_as (Ok x) = None
+told_as (Err error) = Some false
+
+-- where the loop is: what was requested isn't over, or it has failed, and the rest is to be cut off
+abbrev pub IsWithin : Recorder → Report → Recorder → Option Bool → Type 0
+IsWithin asked report r over =
+    ((asked.task ≡ 1) × (r ≡ record asked { number = r.number }) × (over ≡ None))
+    ⊎ ((asked.task ≡ 2) × (report ≡ Pending) × (r ≡ asked) × (over ≡ None))
+    ⊎ ((asked.task ≡ 2) × (r ≡ record asked { task = 3 }) × (over ≡ None))
+    ⊎ ((asked.task ≡ 2) × (r ≡ record asked { condition = 1; task = 4; has_rest = 1 }) × (over ≡ Some false))
+
+-- an action was reported
+abbrev pub step_of : Report → ℕ
+step_of Pending = 0
+step_of _ = 1
+
+-- how far the loop has come
+abbrev pub come : Recorder → ℕ
+come r = r.number + r.task
+
+-- nothing is reported yet, or the action that the recorder returned
+abbrev pub HasAction : Report → (Action → Type 0) → Recorder → Type 0
+HasAction report does r = (report ≡ Pending)
+    ⊎ ((b : Bool) × (report ≡ report_for b) × (action : Action) × GoesOn r r (Ok (Some action)) × does action)
+
+-- where it is once that is reported
+abbrev pub IsSettled : Recorder → Recorder → Option Bool → Type 0
+IsSettled asked mid over = IsWithin asked Pending mid over
+    ⊎ ((asked.task ≡ 2) × (mid ≡ once_done asked) × (over ≡ Some true))
+
+-- where the loop is doesn't hang on the report, once one is made
+pub settles_as : (b : Bool) (old new : Recorder) (told : Result (Unit {0}) RecorderError)
+    → Settles (report_for b) old new told → HasEnded b old new told
+settles_as true old new told is = is
+settles_as false old new told is = is
+
+one_step : (b : Bool) (report : Report) → report ≡ report_for b → step_of report ≡ 1
+one_step true report is = ap step_of is
+one_step false report is = ap step_of is
+
+pub not_at_rest : (report : Report) → (report ≡ Pending → ⊥) → step_of report ≡ 1
+not_at_rest Pending other = absurd (other refl)
+not_at_rest Done other = refl
+not_at_rest Failed other = refl
+
+not_pending : (b : Bool) → report_for b ≡ Pending → ⊥
+not_pending true is = cc
+not_pending false is = cc
+
+-- What is known while it runs, by whether the call is over, before and after the action that is reported.
+-- These are the law's clauses, for what was requested.
+pub record Laws (asked : Recorder) (report : Report) (before after : Option Bool → Recorder → Type 0)
+    (does : Action → Type 0) : Type 0 where
+  pub same : report ≡ Pending → (over : Option Bool) (r : Recorder) → before over r → after over r
+  pub performed : (r mid : Recorder) (effect : Effect) (told : Result (Unit {0}) RecorderError) → asked.task ≡ 1
+      → before None r → GoesOn r r (Ok (Some (Perform effect))) → does (Perform effect)
+      → Settles report r mid told → after (told_as told) mid
+  pub wrote : (b : Bool) (r mid : Recorder) (at len : ℕ) (told : Result (Unit {0}) RecorderError)
+      → asked.task ≡ 2 → report ≡ report_for b → before None r → r ≡ record asked { task = 3 } → at ≡ r.data_start + r.data_length
+      → does (WriteBlock at len) → HasEnded b r mid told → after (Some b) mid
+  pub cut : (b : Bool) (r mid : Recorder) (at : ℕ) (told : Result (Unit {0}) RecorderError)
+      → before (Some false) r → 0 < r.has_rest → does (Cut at) → HasEnded b r mid told → after (Some false) mid
+  pub handed : (mid r : Recorder) (at len : ℕ) → mid.number ≡ 0 → after None mid
+      → GoesOn mid r (Ok (Some (WriteBlock at len))) → after None r
+  pub saved : (mid r : Recorder) → asked.task ≡ 1 → mid.task ≡ 1 → after None mid → GoesOn mid r (Ok None)
+      → after (Some true) r
+
+-- what a failed effect leaves
+fails : (after last : Recorder) (error : RecorderError) (n : ℕ) → HasData after after.data_length
+    → NextEffect false after last (Err error) → last.number ≡ 0
+fails after last SyncFailed n has (is, _) = ap (λ (x : Recorder). x.number) is
+fails after last NeedsCheckpoint n has (is, _, _) = ap (λ (x : Recorder). x.number) is
+fails after last NotWritable n has (is, _, none) = grind (arith, common_steps)
+fails after last TooLong n has (is, _, none) = grind (arith, common_steps)
+fails after last UnfinishedFrame n has (is, _, never) = absurd never
+fails after last Truncated n has (is, _, never) = absurd never
+fails after last CutOff n has (is, _, never) = absurd never
+fails after last HasChunksAfterData n has (is, _, never) = absurd never
+
+-- what the end of an effect makes of the recorder
+abbrev Shape : Result (Unit {0}) RecorderError → Recorder → Recorder → Type 0
+Shape (Ok x) r mid = mid ≡ record r { number = r.number + 1 }
+Shape (Err error) r mid = mid.number ≡ 0
+
+shape_by : (b : Bool) (r after mid : Recorder) (effect : Effect) (told : Result (Unit {0}) RecorderError)
+    → NextEffect true r after (Ok (Some effect)) → EffectEnds b r after (Ok (Some effect)) mid told → Shape told r mid
+shape_by true r after mid effect told next (ok, is) = rw ok (is ∙ next.4)
+shape_by false r after mid effect told next (last, error, failed, err, is) =
+    let has : HasData after after.data_length = rw next.4 next.2 in
+    rw err (ap (λ (x : Recorder). x.number) is ∙ fails after last error 0 has failed)
+
+shape : (b : Bool) (r mid : Recorder) (effect : Effect) (told : Result (Unit {0}) RecorderError)
+    → r.task ≡ 1 → r.has_rest ≡ 0 → GoesOn r r (Ok (Some (Perform effect))) → HasEnded b r mid told → Shape told r mid
+shape b r mid effect told one rest goes (inl (idle, _, _)) = absurd (omega (arith, one, idle))
+shape b r mid effect told one rest goes (inr (inl (_, cuts, _, _, _))) = absurd (omega (arith, rest, cuts))
+shape b r mid effect told one rest goes (inr (inr (inl (_, cuts, _, _)))) = absurd (omega (arith, rest, cuts))
+shape b r mid effect told one rest goes (inr (inr (inr (inl (three, _, _, _, _))))) = absurd (omega (arith, one, three))
+shape b r mid effect told one rest (some, few, _, _, _, after, next) (inr (inr (inr (inr (_, _, _, (a, step, stepped, ends)))))) =
+    let (is, same) = same_next r after a (Some effect) step next stepped in
+    shape_by b r after mid effect told next
+    (subst (λ (x : Recorder × Result (Option Effect) RecorderError). EffectEnds b r x.0 x.1 mid told)
+    (λ i. (same i, is i)) ends)
+
+few_effects : (r : Recorder) (effect : Effect) → Some effect ≡ nth (effects_of r) r.number → r.number ≤ 5
+few_effects r effect is = grind (arith, common_steps)
+
+pub begins : (asked : Recorder) (n : ℕ) → IsAsked asked n → IsWithin asked Pending asked None
+begins asked n (_, _, _, inl one) = inl (one, refl, refl)
+begins asked n (_, _, _, inr (two, _, _)) = inr (inl (two, refl, refl, refl))
+
+pub begins_few : (asked : Recorder) (n : ℕ) → IsAsked asked n → come asked ≤ 10
+begins_few asked n (none, _, _, inl one) = omega (arith, none, one)
+begins_few asked n (none, _, _, inr (two, _, _)) = omega (arith, none, two)
+
+pub is_made : (report : Report) → (report ≡ Pending → ⊥) → (b : Bool) × (report ≡ report_for b)
+is_made Pending other = absurd (other refl)
+is_made Done other = (true, refl)
+is_made Failed other = (false, refl)
+
+pub one_at_most : (report : Report) → step_of report ≤ 1
+one_at_most Pending = omega arith
+one_at_most Done = omega arith
+one_at_most Failed = omega arith
+
+module _ (asked : Recorder) (n : ℕ) (is_asked : IsAsked asked n) where
+  -- once a block is written, or has failed
+  abbrev Wrote : Bool → Recorder → Type 0
+  Wrote true mid = mid ≡ once_done asked
+  Wrote false mid = mid ≡ record asked { condition = 1; task = 4; has_rest = 1 }
+
+  wrote_shape : (b : Bool) (r x mid : Recorder) → asked.task ≡ 2 → r ≡ record asked { task = 3 }
+      → x ≡ (if b then record r { data_length = length_with r r.samples } else record r { condition = 1 })
+      → mid ≡ record x { task = (if b then 0 else 4); has_rest = (if b then 0 else 1) } → Wrote b mid
+  wrote_shape true r x mid two is counts ended =
+      let (none, clean, rest, what) = is_asked in
+      rw (ended, counts, is) (λ i. record asked {
+        data_length = if sym two i == 1 then asked.data_length else length_with asked asked.samples;
+        number = none i;
+        condition = clean i;
+        task = 0;
+        has_rest = sym rest i;
+      })
+  wrote_shape false r x mid two is counts ended = rw (ended, counts, is) refl
+
+  block_ended : (b : Bool) (r mid : Recorder) (at len : ℕ) (told : Result (Unit {0}) RecorderError)
+      → asked.task ≡ 2 → r ≡ record asked { task = 3 } → GoesOn r r (Ok (Some (WriteBlock at len)))
+      → HasEnded b r mid told → (told ≡ Ok tt) × Wrote b mid × (at ≡ r.data_start + r.data_length)
+  block_ended b r mid at len told two is (some, rest, saved, how, places, long, same) ended = by how ended
+    where
+      three : r.task ≡ 3
+      three = ap (λ (x : Recorder). x.task) is
+
+      told_ok : (x : Recorder) (told : Result (Unit {0}) RecorderError) → Places r r.samples (Ok at)
+          → Reports r.samples b r x told → (told ≡ Ok tt)
+          × (x ≡ (if b then record r { data_length = length_with r r.samples } else record r { condition = 1 }))
+      told_ok x (Ok y) there (_, counts) = (refl, counts)
+      told_ok x (Err error) there (refused, _) = absurd (one_place r r.samples at error there refused)
+
+      by : IsSaved r saved → HasEnded b r mid told
+          → (told ≡ Ok tt) × Wrote b mid × (at ≡ r.data_start + r.data_length)
+      by how (inl (idle, _, _)) = absurd (omega (arith, three, idle))
+      by how (inr (inl (_, cuts, _, _, _))) = absurd (omega (arith, rest, cuts))
+      by how (inr (inr (inl (_, cuts, _, _)))) = absurd (omega (arith, rest, cuts))
+      by how (inr (inr (inr (inr (_, other, _, _))))) = absurd (other three)
+      by (inr (two, _)) (inr (inr (inr (inl _)))) = absurd (omega (arith, three, two))
+      by (inl (clear, one)) (inr (inr (inr (inl (_, _, x, reports, ends))))) =
+          let there : Places r r.samples (Ok at) = subst (λ x. Places x r.samples (Ok at)) one places in
+          let (ok, counts) = told_ok x told there reports in
+          (ok, wrote_shape b r x mid two is counts ends, there.3)
+
+  pub settled_low : (mid : Recorder) (over : Option Bool) → IsSettled asked mid over → mid.condition ≤ 1
+  settled_low mid over (inl (inl (one, is, none))) =
+      let c = ap (λ (x : Recorder). x.condition) is in omega (arith, c, is_asked.1)
+  settled_low mid over (inl (inr (inl (two, _, is, none)))) =
+      let c = ap (λ (x : Recorder). x.condition) is in omega (arith, c, is_asked.1)
+  settled_low mid over (inl (inr (inr (inl (two, is, none))))) =
+      let c = ap (λ (x : Recorder). x.condition) is in omega (arith, c, is_asked.1)
+  settled_low mid over (inl (inr (inr (inr (two, is, lost))))) =
+      let c = ap (λ (x : Recorder). x.condition) is in omega (arith, c)
+  settled_low mid over (inr (two, is, ok)) =
+      let c = ap (λ (x : Recorder). x.condition) is in omega (arith, c)
+
+  -- there are at most six effects
+  few : (r : Recorder) (action : Action) (over : Option Bool) → IsWithin asked Done r over
+      → GoesOn r r (Ok (Some action)) → come r ≤ 10
+  few r (Perform effect) over (inl (one, is, none)) (some, less, rest, same, saves, x, next) =
+      let number = few_effects r effect next.3 in
+      let task = ap (λ (x : Recorder). x.task) is in omega (arith, number, task, one)
+  few r (WriteBlock at len) over (inl (one, is, none)) goes =
+      absurd (let task = ap (λ (x : Recorder). x.task) is in omega (arith, goes.0, task, one))
+  few r (Cut at) over (inl (one, is, none)) goes =
+      absurd (let rest = ap (λ (x : Recorder). x.has_rest) is in omega (arith, goes.1, rest, is_asked.2))
+  few r (Read at len) over within goes = absurd goes
+  few r action over (inr (inl (two, never, is, none))) goes = cc
+  few r action over (inr (inr (inl (two, is, none)))) goes =
+      let number = ap (λ (x : Recorder). x.number) is in
+      let task = ap (λ (x : Recorder). x.task) is in omega (arith, number, task, is_asked.0)
+  few r action over (inr (inr (inr (two, is, lost)))) goes =
+      let number = ap (λ (x : Recorder). x.number) is in
+      let task = ap (λ (x : Recorder). x.task) is in omega (arith, number, task, is_asked.0)
+
+  module _ (report : Report) (before after : Option Bool → Recorder → Type 0) (does : Action → Type 0)
+      (laws : Laws asked report before after does) where
+    -- what is known once the action is reported
+    abbrev After : Recorder → Result (Unit {0}) RecorderError → Recorder → Type 0
+    After r (Ok x) mid = (over : Option Bool) × IsSettled asked mid over × after over mid
+        × ((mid.task ≡ 0) ⊎ (come r + step_of report ≤ come mid))
+    After r (Err error) mid = (mid.number ≡ 0) × after (Some false) mid
+
+    effect_over : (told : Result (Unit {0}) RecorderError) (r mid : Recorder) → step_of report ≡ 1 → asked.task ≡ 1
+        → r ≡ record asked { number = r.number } → Shape told r mid → after (told_as told) mid → After r told mid
+    effect_over (Ok x) r mid step one is shaped known =
+        let number : mid.number ≡ r.number + 1 = ap (λ (x : Recorder). x.number) shaped in
+        let task : mid.task ≡ r.task = ap (λ (x : Recorder). x.task) shaped in (
+          None,
+          inl (inl (one, shaped ∙ (λ i. record (is i) { number = sym number i }), refl)),
+          known,
+          inr (omega (arith, step, number, task)),
+        )
+    effect_over (Err error) r mid step one is shaped known = (shaped, known)
+
+    block_over : (b : Bool) (told : Result (Unit {0}) RecorderError) (r mid : Recorder) → step_of report ≡ 1
+        → asked.task ≡ 2 → r ≡ record asked { task = 3 }
+        → told ≡ Ok tt → Wrote b mid → after (Some b) mid → After r told mid
+    block_over true told r mid step two at ok is known =
+        rw ok (Some true, inr (two, is, refl), known, inl (ap (λ (x : Recorder). x.task) is))
+    block_over false told r mid step two at ok is known =
+        let number = ap (λ (x : Recorder). x.number) is in
+        let task = ap (λ (x : Recorder). x.task) is in
+        let before_number = ap (λ (x : Recorder). x.number) at in
+        let before_task = ap (λ (x : Recorder). x.task) at in
+        rw ok (
+          Some false,
+          inl (inr (inr (inr (two, is, refl)))),
+          known,
+          inr (omega (arith, step, number, task, before_number, before_task)),
+        )
+
+    cut_over : (b : Bool) (r mid : Recorder) (told : Result (Unit {0}) RecorderError) → r.task ≡ 4
+        → 0 < r.has_rest → r.number ≡ 0 → HasEnded b r mid told → after (Some false) mid → After r told mid
+    cut_over b r mid told four rest none (inl (idle, _, _)) known = absurd (omega (arith, four, idle))
+    cut_over b r mid told four rest none (inr (inl (_, _, other, _, _))) known = absurd (other four)
+    cut_over b r mid told four rest none (inr (inr (inl (_, _, is, err)))) known =
+        rw err (ap (λ (x : Recorder). x.number) is ∙ none, known)
+    cut_over b r mid told four rest none (inr (inr (inr (inl (three, _, _, _, _))))) known = absurd (omega (arith, four, three))
+    cut_over b r mid told four rest none (inr (inr (inr (inr (_, _, clear, _))))) known = absurd (omega (arith, rest, clear))
+
+    -- an action was reported
+    over_by : (b : Bool) → report ≡ report_for b → (r mid : Recorder) (over : Option Bool)
+        (told : Result (Unit {0}) RecorderError) (action : Action) → IsWithin asked report r over → before over r
+        → GoesOn r r (Ok (Some action)) → does action → HasEnded b r mid told → Settles report r mid told → After r told mid
+    over_by b reported r mid over told (Perform effect) (inl (one, is, none)) known goes did ended settles =
+        effect_over told r mid (one_step b report reported) one is
+        (shape b r mid effect told (rw is one) (rw is is_asked.2) goes ended)
+        (laws.performed r mid effect told one (subst (λ o. before o r) none known) goes did settles)
+    over_by b reported r mid over told (WriteBlock at len) (inl (one, is, none)) known goes did ended settles =
+        absurd (let task = ap (λ (x : Recorder). x.task) is in omega (arith, goes.0, task, one))
+    over_by b reported r mid over told (Cut at) (inl (one, is, none)) known goes did ended settles =
+        absurd (let rest = ap (λ (x : Recorder). x.has_rest) is in omega (arith, goes.1, rest, is_asked.2))
+    over_by b reported r mid over told (Read at len) within known goes did ended settles = absurd goes
+    over_by b reported r mid over told action (inr (inl (two, pending, is, none))) known goes did ended settles =
+        absurd (not_pending b (sym reported ∙ pending))
+    over_by b reported r mid over told (WriteBlock at len) (inr (inr (inl (two, is, none)))) known goes did ended settles =
+        let (ok, wrote, place) = block_ended b r mid at len told two is goes ended in
+        block_over b told r mid (one_step b report reported) two is ok wrote
+        (laws.wrote b r mid at len told two reported (subst (λ o. before o r) none known) is place did ended)
+    over_by b reported r mid over told (Perform effect) (inr (inr (inl (two, is, none)))) known goes did ended settles =
+        absurd (let task = ap (λ (x : Recorder). x.task) is in omega (arith, goes.1, task))
+    over_by b reported r mid over told (Cut at) (inr (inr (inl (two, is, none)))) known goes did ended settles =
+        absurd (let rest = ap (λ (x : Recorder). x.has_rest) is in omega (arith, goes.1, rest, is_asked.2))
+    over_by b reported r mid over told (Cut at) (inr (inr (inr (two, is, lost)))) known goes did ended settles =
+        cut_over b r mid told (ap (λ (x : Recorder). x.task) is) goes.1
+        (ap (λ (x : Recorder). x.number) is ∙ is_asked.0) ended
+        (laws.cut b r mid at told (subst (λ o. before o r) lost known) goes.1 did ended)
+    over_by b reported r mid over told (Perform effect) (inr (inr (inr (two, is, lost)))) known goes did ended settles =
+        absurd (let rest = ap (λ (x : Recorder). x.has_rest) is in omega (arith, goes.2, rest))
+    over_by b reported r mid over told (WriteBlock at len) (inr (inr (inr (two, is, lost)))) known goes did ended settles =
+        absurd (let rest = ap (λ (x : Recorder). x.has_rest) is in omega (arith, goes.1, rest))
+
+    -- what was reported is taken in
+    pub settled : (r mid : Recorder) (over : Option Bool) (told : Result (Unit {0}) RecorderError)
+        → IsWithin asked report r over → before over r → HasAction report does r → Settles report r mid told → After r told mid
+    settled r mid over told within known (inr (b, reported, action, goes, did)) settles =
+        over_by b reported r mid over told action within known goes did
+        (settles_as b r mid told (subst (λ x. Settles x r mid told) reported settles)) settles
+    settled r mid over told within known (inl pending) settles =
+        let (same, ok) = subst (λ x. Settles x r mid told) pending settles in
+        rw (ok, same) (
+          over,
+          inl (subst (λ x. IsWithin asked x r over) pending within),
+          laws.same pending over r known,
+          inr (let none = ap step_of pending in omega (arith, none)),
+        )
+
+    -- what was requested continues
+    abbrev pub OnWith : Recorder → Recorder → Action → Type 0
+    OnWith mid r action = (over : Option Bool) × ((next : Report) → IsWithin asked next r over) × after over r
+        × GoesOn r r (Ok (Some action)) × (come mid ≤ come r)
+
+    handed_on : (mid r saved : Recorder) (at len : ℕ) → asked.task ≡ 2
+        → record saved { task = 3 } ≡ record asked { task = 3 } → Places saved mid.samples (Ok at)
+        → mid.samples ≡ asked.samples → mid.number ≡ asked.number → mid.task ≤ 3
+        → len ≡ mid.samples * saved.bytes_per_sample
+        → r ≡ record saved { task = 3 } → after None r → OnWith mid r (WriteBlock at len)
+    handed_on mid r saved at len two same there samples number few long is known =
+        let x : Recorder = record asked { task = 3 } in
+        let this : r ≡ x = is ∙ same in
+        let place : at ≡ asked.data_start + asked.data_length =
+        there.3 ∙ ap (λ (x : Recorder). x.data_start + x.data_length) same in
+        let all : len ≡ asked.samples * asked.bytes_per_sample =
+        long ∙ (λ i. samples i * (same i).bytes_per_sample) in
+        let has : HasData asked (length_with asked asked.samples) =
+        subst (λ (x : Recorder × ℕ). HasData x.0 (length_with x.0 x.1)) (λ i. (same i, samples i)) there.2 in
+        let is_number = ap (λ (x : Recorder). x.number) this in
+        let is_task = ap (λ (x : Recorder). x.task) this in (
+          None,
+          (λ _. inr (inr (inl (two, this, refl)))),
+          known,
+          subst (λ r. GoesOn r r (Ok (Some (WriteBlock at len)))) (sym this)
+              (omega arith, is_asked.2, x, inl (inl (omega arith), refl), (is_asked.1, is_asked.0, has, place), all, refl),
+          omega (arith, few, number, is_number, is_task),
+        )
+
+    pub goes_on : (mid r : Recorder) (over : Option Bool) (action : Action) → IsSettled asked mid over → after over mid
+        → GoesOn mid r (Ok (Some action)) → OnWith mid r action
+    goes_on mid r over (Read at len) settled known goes = absurd goes
+    goes_on mid r over (Perform effect) (inl (inl (one, is, none))) known (some, few, rest, same, saves, x, next) =
+        rw same (over, (λ _. inl (one, is, none)), known, (some, few, rest, refl, saves, x, next), omega arith)
+    goes_on mid r over (WriteBlock at len) (inl (inl (one, is, none))) known goes =
+        absurd (let task = ap (λ (x : Recorder). x.task) is in omega (arith, goes.0, task, one))
+    goes_on mid r over (Cut at) (inl (inl (one, is, none))) known goes =
+        absurd (let rest = ap (λ (x : Recorder). x.has_rest) is in omega (arith, goes.1, rest, is_asked.2))
+    goes_on mid r over (Perform effect) (inl (inr (inl (two, _, is, none)))) known goes =
+        absurd (let more = goes.4 (ap (λ (x : Recorder). x.task) is ∙ two) in
+        let number = ap (λ (x : Recorder). x.number) is in
+        let condition = ap (λ (x : Recorder). x.condition) is in
+        omega (arith, more, number, condition, is_asked.0, is_asked.1))
+    goes_on mid r over (WriteBlock at len) (inl (inr (inl (two, p, is, none)))) known (some, rest, saved, how, places, long, same) =
+        let number : mid.number ≡ asked.number = ap (λ (x : Recorder). x.number) is in
+        let task : mid.task ≡ asked.task = ap (λ (x : Recorder). x.task) is in
+        handed_on mid r saved at len two (as_asked how) places (ap (λ (x : Recorder). x.samples) is) number
+        (omega (arith, task, two)) long same
+        (laws.handed mid r at len (number ∙ is_asked.0) (subst (λ o. after o mid) none known)
+        (some, rest, saved, how, places, long, same))
+      where
+        as_asked : IsSaved mid saved → record saved { task = 3 } ≡ record asked { task = 3 }
+        as_asked (inl (clear, one)) = ap (λ (x : Recorder). record x { task = 3 }) (one ∙ is)
+        as_asked (inr (_, next)) = ap (λ (x : Recorder). record x { task = 3 }) next.4
+            ∙ (λ i. record (is i) { number = 0; condition = 0; task = 3 })
+            ∙ (λ i. record asked { number = sym is_asked.0 i; condition = sym is_asked.1 i; task = 3 })
+    goes_on mid r over (Cut at) (inl (inr (inl (two, _, is, none)))) known goes =
+        absurd (let rest = ap (λ (x : Recorder). x.has_rest) is in omega (arith, goes.1, rest, is_asked.2))
+    goes_on mid r over (Perform effect) (inl (inr (inr (inl (two, is, none))))) known goes =
+        absurd (let task = ap (λ (x : Recorder). x.task) is in omega (arith, goes.1, task))
+    goes_on mid r over (WriteBlock at len) (inl (inr (inr (inl (two, is, none))))) known (some, rest, saved, how, places, long, same) =
+        let number : mid.number ≡ asked.number = ap (λ (x : Recorder). x.number) is in
+        let task : mid.task ≡ 3 = ap (λ (x : Recorder). x.task) is in
+        handed_on mid r saved at len two (as_asked task how) places (ap (λ (x : Recorder). x.samples) is) number
+        (omega (arith, task)) long same
+        (laws.handed mid r at len (number ∙ is_asked.0) (subst (λ o. after o mid) none known)
+        (some, rest, saved, how, places, long, same))
+      where
+        as_asked : mid.task ≡ 3 → IsSaved mid saved → record saved { task = 3 } ≡ record asked { task = 3 }
+        as_asked three (inl (clear, one)) = ap (λ (x : Recorder). record x { task = 3 }) (one ∙ is)
+        as_asked three (inr (two, next)) = absurd (omega (arith, three, two))
+    goes_on mid r over (Cut at) (inl (inr (inr (inl (two, is, none))))) known goes =
+        absurd (let rest = ap (λ (x : Recorder). x.has_rest) is in omega (arith, goes.1, rest, is_asked.2))
+    goes_on mid r over (Cut at) (inl (inr (inr (inr (two, is, lost))))) known (some, rest, same, place) =
+        rw same (over, (λ _. inr (inr (inr (two, is, lost)))), known, (some, rest, refl, place), omega arith)
+    goes_on mid r over (Perform effect) (inl (inr (inr (inr (two, is, lost))))) known goes =
+        absurd (let rest = ap (λ (x : Recorder). x.has_rest) is in omega (arith, goes.2, rest))
+    goes_on mid r over (WriteBlock at len) (inl (inr (inr (inr (two, is, lost))))) known goes =
+        absurd (let rest = ap (λ (x : Recorder). x.has_rest) is in omega (arith, goes.1, rest))
+    goes_on mid r over (Perform effect) (inr (two, is, ok)) known goes =
+        absurd (let task = ap (λ (x : Recorder). x.task) is in omega (arith, goes.0, task))
+    goes_on mid r over (WriteBlock at len) (inr (two, is, ok)) known goes =
+        absurd (let task = ap (λ (x : Recorder). x.task) is in omega (arith, goes.0, task))
+    goes_on mid r over (Cut at) (inr (two, is, ok)) known goes =
+        absurd (let task = ap (λ (x : Recorder). x.task) is in omega (arith, goes.0, task))
+
+    -- all of it is done
+    pub finished : (mid r : Recorder) (over : Option Bool) → IsSettled asked mid over → after over mid
+        → GoesOn mid r (Ok None) → (r ≡ once_done asked) × after (Some true) r
+    finished mid r over (inl (inl (one, is, none))) known (inl (idle, same)) =
+        absurd (let task = ap (λ (x : Recorder). x.task) is in omega (arith, task, one, idle))
+    finished mid r over (inl (inl (one, is, none))) known (inr (busy, rest, x, next, same)) = (
+      same ∙ ap (λ (x : Recorder). record x { task = 0 }) next.4
+          ∙ (λ i. record (is i) { number = 0; condition = 0; task = 0 })
+          ∙ (λ i. record asked {
+            data_length = if sym one i == 1 then asked.data_length else length_with asked asked.samples;
+            number = 0;
+            condition = 0;
+            task = 0;
+          }),
+      laws.saved mid r one busy (subst (λ o. after o mid) none known) (inr (busy, rest, x, next, same)),
+    )
+    finished mid r over (inl (inr (inl (two, _, is, none)))) known (inl (idle, same)) =
+        absurd (let task = ap (λ (x : Recorder). x.task) is in omega (arith, task, two, idle))
+    finished mid r over (inl (inr (inl (two, _, is, none)))) known (inr (busy, _, _, _, _)) =
+        absurd (let task = ap (λ (x : Recorder). x.task) is in omega (arith, task, two, busy))
+    finished mid r over (inl (inr (inr (inl (two, is, none))))) known (inl (idle, same)) =
+        absurd (let task = ap (λ (x : Recorder). x.task) is in omega (arith, task, idle))
+    finished mid r over (inl (inr (inr (inl (two, is, none))))) known (inr (busy, _, _, _, _)) =
+        absurd (let task = ap (λ (x : Recorder). x.task) is in omega (arith, task, busy))
+    finished mid r over (inl (inr (inr (inr (two, is, lost))))) known (inl (idle, same)) =
+        absurd (let task = ap (λ (x : Recorder). x.task) is in omega (arith, task, idle))
+    finished mid r over (inl (inr (inr (inr (two, is, lost))))) known (inr (busy, _, _, _, _)) =
+        absurd (let task = ap (λ (x : Recorder). x.task) is in omega (arith, task, busy))
+    finished mid r over (inr (two, is, ok)) known (inl (idle, same)) =
+        (same ∙ is, subst (λ (x : Option Bool × Recorder). after x.0 x.1) (λ i. (ok i, sym same i)) known)
+    finished mid r over (inr (two, is, ok)) known (inr (busy, _, _, _, _)) =
+        absurd (let task = ap (λ (x : Recorder). x.task) is in omega (arith, task, busy))
+
+    busy : (mid r : Recorder) (action : Action) → GoesOn mid r (Ok (Some action)) → 0 < mid.task
+    busy mid r (Perform effect) goes = goes.0
+    busy mid r (Cut at) goes = goes.0
+    busy mid r (WriteBlock at len) goes = omega (arith, goes.0)
+    busy mid r (Read at len) goes = absurd goes
+
+    -- what the call for the next action makes of it
+    pub next_some : (r new : Recorder) (over : Option Bool) (action : Action) → IsWithin asked report r over
+        → before over r → HasAction report does r → Advances report r new (Ok (Some action))
+        → (over : Option Bool) × ((next : Report) → IsWithin asked next new over) × after over new
+        × GoesOn new new (Ok (Some action)) × (come r + step_of report ≤ come new) × (come new ≤ 10)
+    next_some r new over action within known has (mid, told, settles, on) =
+        by told (settled r mid over told within known has settles) on
+      where
+        by : (told : Result (Unit {0}) RecorderError) → After r told mid → ThenGoesOn told mid new (Ok (Some action))
+            → (over : Option Bool) × ((next : Report) → IsWithin asked next new over) × after over new
+            × GoesOn new new (Ok (Some action)) × (come r + step_of report ≤ come new) × (come new ≤ 10)
+        by (Ok x) (o, where_is, known, inl idle) on = absurd (let some = busy mid new action on in omega (arith, some, idle))
+        by (Ok x) (o, where_is, known, inr grows) on =
+            let (o, w, k, goes, more) = goes_on mid new o action where_is known on in
+            (o, w, k, goes, omega (arith, grows, more), few new action o (w Done) goes)
+        by (Err error) k (never, _) = cc
+
+    pub next_none : (r new : Recorder) (over : Option Bool) → IsWithin asked report r over → before over r
+        → HasAction report does r → Advances report r new (Ok None)
+        → (new ≡ once_done asked) × after (Some true) new
+    next_none r new over within known has (mid, told, settles, on) =
+        by told (settled r mid over told within known has settles) on
+      where
+        by : (told : Result (Unit {0}) RecorderError) → After r told mid → ThenGoesOn told mid new (Ok None)
+            → (new ≡ once_done asked) × after (Some true) new
+        by (Ok x) (o, where_is, known, grows) on = finished mid new o where_is known on
+        by (Err error) k (never, _) = cc
+
+    pub next_err : (r new : Recorder) (over : Option Bool) (error : RecorderError)
+        → ((over : Option Bool) (mid : Recorder) → after over mid → mid.condition ≤ 1 → GoesOn mid new (Err error) → ⊥)
+        → IsWithin asked report r over → before over r → HasAction report does r → Advances report r new (Err error)
+        → (new.number ≡ 0) × after (Some false) new
+    next_err r new over error failed within known has (mid, told, settles, on) =
+        by told (settled r mid over told within known has settles) on
+      where
+        by : (told : Result (Unit {0}) RecorderError) → After r told mid → ThenGoesOn told mid new (Err error)
+            → (new.number ≡ 0) × after (Some false) new
+        by (Ok x) (o, where_is, known, grows) on = absurd (failed o mid known (settled_low mid o where_is) on)
+        by (Err other) (none, known) (is, same) = rw same (none, known)
+
+-- what is known where nothing is said of the medium
+pub no_laws : (asked : Recorder) (report : Report) → Laws asked report (λ _ _. ⊤) (λ _ _. ⊤) (λ _. ⊤)
+no_laws asked report = record {
+  same = λ _ _ _ _. tt;
+  performed = λ _ _ _ _ _ _ _ _ _. tt;
+  wrote = λ _ _ _ _ _ _ _ _ _ _ _ _ _. tt;
+  cut = λ _ _ _ _ _ _ _ _ _. tt;
+  handed = λ _ _ _ _ _ _ _. tt;
+  saved = λ _ _ _ _ _ _. tt;
+}
+
+-- what is known of the calls, by whether the one is over that was requested
+abbrev pub KnownAt : WavSpecEx → Begun → List Known → Recorder → List ℕ → MediumState → Option Bool → Recorder → Type 0
+KnownAt s file known asked block m None r = Directed s file known r m
+KnownAt s file known asked block m (Some b) r =
+    Directed s file (known ++ marked (asked_as s asked block) b ∷ []) r m
+
+module _ (s : WavSpecEx) (file : Begun) (known : List Known) (asked : Recorder) (block : List ℕ)
+    (is_asked : IsAsked asked (length block)) (report : Report) (before : MediumState) (end : Log) where
+  abbrev pub Before : Option Bool → Recorder → Type 0
+  Before over r = KnownAt s file known asked block before over r
+
+  abbrev pub Now : Option Bool → Recorder → Type 0
+  Now over r = KnownAt s file known asked block end.state over r
+
+  abbrev pub Did : Action → Type 0
+  Did action = DoesAction action block report before end.state
+
+  long : asked.task ≡ 2 → length block ≡ asked.samples * asked.bytes_per_sample
+  long two = by is_asked.3
+    where
+      by : (asked.task ≡ 1) ⊎ ((asked.task ≡ 2) × (length block ≡ asked.samples * asked.bytes_per_sample)
+          × ((place : ℕ) × Places asked asked.samples (Ok place))) → length block ≡ asked.samples * asked.bytes_per_sample
+      by (inl one) = absurd (omega (arith, one, two))
+      by (inr (_, is, _)) = is
+
+  -- the clauses of the law, for what was requested
+  pub laws_of : ((old mid new : Recorder) (effect : Effect) (result : Result (Unit {0}) IoFault)
+      (told : Result (Unit {0}) RecorderError) → Directed s file known old before
+      → GoesOn old mid (Ok (Some (Perform effect))) → Performs effect result before end.state
+      → HasEnded (is_ok result) mid new told → Directed s file (known ++ cut_known told) new end.state)
+      → ((old new : Recorder) (result : Result (Unit {0}) IoFault) (told : Result (Unit {0}) RecorderError)
+      → Directed s file known old before → old.task ≡ 3 → old.has_rest ≡ 0
+      → length block ≡ old.samples * old.bytes_per_sample
+      → PutsAt true (old.data_start + old.data_length) block result before end.state
+      → HasEnded (is_ok result) old new told
+      → Directed s file (known ++ block_known block (is_ok result) s ∷ []) new end.state)
+      → ((known : List Known) (old new : Recorder) (ok : Bool) (told : Result (Unit {0}) RecorderError)
+      → Directed s file known old before → 0 < old.has_rest → HasEnded ok old new told
+      → Directed s file known new before)
+      → ((old new : Recorder) (place len : ℕ) → Directed s file known old end.state
+      → GoesOn old new (Ok (Some (WriteBlock place len))) → (place ≡ new.data_start + new.data_length)
+      × (Directed s file known new end.state
+      ⊎ ((0 < old.number) × Directed s file (known ++ marked publish true ∷ []) new end.state)))
+      → ((old new : Recorder) → Directed s file known old end.state → old.task ≡ 1 → GoesOn old new (Ok None)
+      → Directed s file (known ++ marked publish true ∷ []) new end.state)
+      → (report ≡ Pending → end.state ≡ before)
+      → Laws asked report Before Now Did
+  laws_of performed wrote cut handed saved still = record {
+    same = λ pending over r d. subst (λ m. KnownAt s file known asked block m over r) (sym (still pending)) d;
+    performed = λ r mid effect told one d goes (result, is, did) settles.
+        effect_known told mid one (performed r r mid effect result told d goes did
+        (settles_as (is_ok result) r mid told (subst (λ x. Settles x r mid told) is settles)));
+    wrote = λ b r mid at len told two reported d is place (result, told_is, did) ended.
+        let same : is_ok result ≡ b = one_report (is_ok result) b (sym told_is ∙ reported) in
+        let as_block : Asked = write (whole_containers s block) in
+        let asks : as_block ≡ asked_as s asked block = rw two refl in
+        subst (λ (x : Asked × Bool). Directed s file (known ++ marked x.0 x.1 ∷ []) mid end.state)
+        (λ i. (asks i, same i))
+        (wrote r mid result told d (ap (λ (x : Recorder). x.task) is)
+        (ap (λ (x : Recorder). x.has_rest) is ∙ is_asked.2)
+        (rw is (long two)) (rw place at did) (subst (λ b. HasEnded b r mid told) (sym same) ended));
+    cut = λ b r mid at told d rest (is, same) ended.
+        subst (λ m. Directed s file (known ++ marked (asked_as s asked block) false ∷ []) mid m) (sym same)
+        (cut (known ++ marked (asked_as s asked block) false ∷ []) r mid b told d rest ended);
+    handed = λ mid r at len none d goes. only mid r none (handed mid r at len d goes).1;
+    saved = λ mid r one task d goes. subst (λ x. Directed s file (known ++ marked x true ∷ []) r end.state)
+        (publishes one) (saved mid r d task goes);
+  }
+    where
+      publishes : asked.task ≡ 1 → publish ≡ asked_as s asked block
+      publishes one = rw one refl
+
+      effect_known : (told : Result (Unit {0}) RecorderError) (mid : Recorder) → asked.task ≡ 1
+          → Directed s file (known ++ cut_known told) mid end.state → Now (told_as told) mid
+      effect_known (Ok x) mid one d = rw append-nil at d
+      effect_known (Err error) mid one d =
+          subst (λ x. Directed s file (known ++ marked x false ∷ []) mid end.state) (publishes one) d
+
+      one_report : (a b : Bool) → report_for a ≡ report_for b → a ≡ b
+      one_report true true is = refl
+      one_report false false is = refl
+      one_report true false is = cc
+      one_report false true is = cc
+
+      only : (mid r : Recorder) → mid.number ≡ 0 → Directed s file known r end.state
+          ⊎ ((0 < mid.number) × Directed s file (known ++ marked publish true ∷ []) r end.state)
+          → Directed s file known r end.state
+      only mid r none (inl d) = d
+      only mid r none (inr (some, _)) = absurd (omega (arith, none, some))
+
+  -- no error comes of what is to do
+  pub not_failed : ((known : List Known) (old new : Recorder) (error : RecorderError) → Directed s file known old end.state
+      → old.condition ≤ 1 → GoesOn old new (Err error) → ⊥)
+      → (new : Recorder) (error : RecorderError) (over : Option Bool) (mid : Recorder) → Now over mid
+      → mid.condition ≤ 1 → GoesOn mid new (Err error) → ⊥
+  not_failed failed new error None mid d low goes = failed known mid new error d low goes
+  not_failed failed new error (Some b) mid d low goes =
+      failed (known ++ marked (asked_as s asked block) b ∷ []) mid new error d low goes

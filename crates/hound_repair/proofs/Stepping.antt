@@ -1,0 +1,360 @@
+-- A look at a file, one part after the other.
+use Rattle.std.proofs.lemmas.Grind.{common_steps}
+use Rattle.std.proofs.Common.{◌≡◌, ℕ, ◌+◌, ◌-◌, ◌≤◌, ◌<◌, Bool, true, false, ◌&&◌, ◌||◌, nat_lt, List, [], ◌++◌, length, drop, take, inl, inr, min, ◌^◌, Some, None, Err, Ok, refl, sym, ap, ◌∙◌, arith, length-drop, length-take}
+use Rattle.std.proofs.lemmas.Bool.{cases_lt}
+use Rattle.std.proofs.lemmas.List.{take-append-le, take-take, take_all, drop-drop}
+use Rattle.std.specs.Prelude.{bytes_eq, codes, slice_index, if◌then◌else◌}
+use Rattle.hound_spec.specs.declared.error.Error.{Error}
+use Rattle.hound_spec.specs.declared.spec.WavSpecEx.{WavSpecEx}
+use Rattle.std.proofs.lemmas.Bool.Decides.{nat_tests}
+use Rattle.std.proofs.Math.Nat.{le-mul_of_pos_right, lt-div-mul-add}
+use Rattle.hound_walk.specs.{IsSoundSpec}
+use Rattle.hound_spec.specs.{greatest_u32, is_pair, padded, riff_size}
+use Rattle.hound_repair.proofs.Again.{held_cases, uncounted_cases}
+use Rattle.hound_repair.proofs.RightSizes.{check_fits}
+use Rattle.hound_repair.specs.declared.look.SeenHead.{SeenHead}
+use Rattle.hound_repair.specs.Held.{are_chunks, begins_chunk, chunk_content, ends_with_id3, has_known_tag, held, is_followed, right_length, shown_length, uncounted}
+use Rattle.hound_repair.specs.Repairing.{repair_fault, size_fault, state_of}
+use Rattle.hound_repair.specs.Steps.{IsAtChunk, IsFoundAs, IsLengthOf, IsMeasured, IsNotWhole, IsShown, else_followed, followed, has_right, steps_left, tagged}
+use Rattle.hound_repair.specs.declared.sizes.RepairState.TheVariants.{CutOff, HasChunksAfterData}
+use Rattle.hound_repair.specs.declared.look.Damage.{Damage}
+use Rattle.hound_repair.specs.declared.steps.Stage.TheVariants as stages
+use Rattle.hound_repair.specs.Damages.{IsSoundDamage, shown_of}
+use Rattle.hound_writer.specs.{AppendFault, FailsCheck, field, too_long}
+use Rattle.hound_writer.proofs.Heads.{head_inside}
+use Rattle.hound_repair.proofs.Measuring.{fails_for, written}
+use Rattle.hound_repair.proofs.Chunking.{chunk_then, known_chunk, no_chunk, none_left, tag_is}
+
+-- how a file is found whose sizes aren't right, by whether something follows its data
+pub known_by : (looks : Bool) (file : List ℕ) (head : SeenHead) (b : Bool)
+    → IsNotWhole looks file head → followed file head ≡ b
+    → state_of false b ≡ state_of (has_right file head) (looks && followed file head)
+known_by looks file head b not is = cc (not.wrong, not.looks_for, is)
+
+pub found_followed : (looks : Bool) (file : List ℕ) (head : SeenHead) → IsNotWhole looks file head
+    → followed file head ≡ true → IsFoundAs looks file head HasChunksAfterData
+found_followed looks file head not is = known_by looks file head true not is
+
+pub found_cut : (looks : Bool) (file : List ℕ) (head : SeenHead) → IsNotWhole looks file head
+    → followed file head ≡ false → IsFoundAs looks file head CutOff
+found_cut looks file head not is = known_by looks file head false not is
+
+-- too few bytes for an ID3v1 tag
+pub no_id3 : (len : ℕ) (bytes : List ℕ) → length bytes < len + 128 → ends_with_id3 len bytes ≡ false
+unfolding ends_with_id3
+no_id3 len bytes few = grind (arith, common_steps)
+
+-- enough of them
+pub id3_is : (len : ℕ) (bytes : List ℕ) → len + 128 ≤ length bytes
+    → ends_with_id3 len bytes ≡ bytes_eq (take 3 (drop (length bytes - 128) bytes)) (codes "TAG")
+unfolding ends_with_id3
+id3_is len bytes many = grind (arith, common_steps)
+
+-- what is at the end of the bytes from a place on is at the end of all
+pub at_the_end : (start n : ℕ) (file : List ℕ) → 1 ≤ n → n ≤ held start file
+    → drop (held start file - n) (drop start file) ≡ drop (length file - n) file
+at_the_end start n file some within =
+    drop-drop (held start file - n) start file
+    ∙ ap (λ k. drop k file) (omega (arith, some, within, length-drop start file))
+
+-- the tag at the end decides
+pub tag_decides : (file bytes : List ℕ) (head : SeenHead) → head.data_length + 128 ≤ held head.data_start file
+    → bytes ≡ take 3 (drop (length file - 128) file)
+    → tagged file head ≡ bytes_eq bytes (codes "TAG")
+tag_decides file bytes head within is =
+    id3_is head.data_length (drop head.data_start file) within
+    ∙ ap (λ l. bytes_eq (take 3 l) (codes "TAG")) (at_the_end head.data_start 128 file (omega arith) (omega (arith, within)))
+    ∙ ap (λ l. bytes_eq l (codes "TAG")) (sym is)
+
+-- where the file ends no chunk begins
+pub none_begins : (k : ℕ) (bytes : List ℕ) → length bytes ≤ k → begins_chunk (drop k bytes) ≡ false
+none_begins k bytes few = grind (arith, common_steps, length-drop)
+
+-- and before that it is decided by what is there
+pub begins_there : (k start : ℕ) (file : List ℕ) → k < held start file
+    → begins_chunk (drop k (drop start file)) ≡ are_chunks (drop (start + k) file)
+begins_there k start file before =
+    let some : nat_lt 0 (length (drop k (drop start file))) ≡ true =
+    grind (arith, common_steps, length-drop, before) in
+    (λ i. some i && are_chunks (drop-drop k start file i))
+
+-- after the data with their pad byte
+pub after_padded : (file : List ℕ) (head : SeenHead)
+    → followed file head
+    ≡ (begins_chunk (drop (padded head.data_length) (drop head.data_start file)) || else_followed true file head)
+unfolding is_followed
+after_padded file head = refl
+
+pub begin_padded : (looks : Bool) (file : List ℕ) (head : SeenHead) → IsNotWhole looks file head
+    → padded head.data_length < held head.data_start file
+    → IsAtChunk looks file head (head.data_start + padded head.data_length) true
+begin_padded looks file head not before = (
+  not,
+  after_padded file head
+      ∙ ap (λ b. b || else_followed true file head)
+      (begins_there (padded head.data_length) head.data_start file before),
+)
+
+pub pass_padded : (file : List ℕ) (head : SeenHead)
+    → held head.data_start file ≤ padded head.data_length
+    → followed file head ≡ else_followed true file head
+pass_padded file head few =
+    after_padded file head
+    ∙ ap (λ b. b || else_followed true file head)
+    (none_begins (padded head.data_length) (drop head.data_start file) few)
+
+-- after the data alone
+pub begin_last : (looks : Bool) (file : List ℕ) (head : SeenHead) → IsNotWhole looks file head
+    → head.data_length < held head.data_start file
+    → followed file head ≡ else_followed true file head
+    → IsAtChunk looks file head (head.data_start + head.data_length) false
+begin_last looks file head not before is = (
+  not,
+  is ∙ ap (λ b. b || tagged file head) (begins_there head.data_length head.data_start file before),
+)
+
+pub pass_last : (file : List ℕ) (head : SeenHead) → held head.data_start file ≤ head.data_length
+    → else_followed true file head ≡ tagged file head
+pass_last file head few =
+    ap (λ b. b || tagged file head) (none_begins head.data_length (drop head.data_start file) few)
+
+-- the header shows a known tag
+pub known_by_eight : (bytes all : List ℕ) → bytes ≡ take 8 all
+    → has_known_tag bytes ≡ has_known_tag all
+unfolding has_known_tag
+known_by_eight bytes all is =
+    ap has_known_tag is ∙ tag_is all (take 4 (take 8 all)) (take-take 4 8 all (omega arith))
+
+-- a header of fewer than eight bytes is none
+pub short_none : (all : List ℕ) → length all < 8 → chunk_content all ≡ None
+unfolding chunk_content
+short_none all few = grind (arith, common_steps)
+
+-- at a place where chunks begin, or none does, or one
+module _ (looks : Bool) (file bytes : List ℕ) (head : SeenHead) (place : ℕ) (wide : Bool)
+    (at : IsAtChunk looks file head place wide) (is : bytes ≡ take 8 (drop place file)) where
+  pub chunks_here : are_chunks (drop place file) ≡ true → IsFoundAs looks file head HasChunksAfterData
+  chunks_here are =
+      found_followed looks file head at.0 (at.1 ∙ ap (λ b. b || else_followed wide file head) are)
+
+  pub no_chunks_here : are_chunks (drop place file) ≡ false
+      → followed file head ≡ else_followed wide file head
+  no_chunks_here are = at.1 ∙ ap (λ b. b || else_followed wide file head) are
+
+  pub ends_here : length file ≤ place → IsFoundAs looks file head HasChunksAfterData
+  ends_here behind =
+      chunks_here (none_left (drop place file) (omega (arith, behind, length-drop place file)))
+
+  pub known_here : place < length file → has_known_tag bytes ≡ true
+      → IsFoundAs looks file head HasChunksAfterData
+  known_here before known =
+      chunks_here (known_chunk (drop place file) (omega (arith, before, length-drop place file))
+      (sym (known_by_eight bytes (drop place file) is) ∙ known))
+
+  pub none_here : place < length file → has_known_tag bytes ≡ false
+      → chunk_content (drop place file) ≡ None → followed file head ≡ else_followed wide file head
+  none_here before other none =
+      no_chunks_here (no_chunk (drop place file) (omega (arith, before, length-drop place file))
+      (sym (known_by_eight bytes (drop place file) is) ∙ other) none)
+
+  pub short_here : place < length file → has_known_tag bytes ≡ false → length bytes < 8
+      → followed file head ≡ else_followed wide file head
+  short_here before other few =
+      none_here before other (short_none (drop place file)
+      (omega (arith, few, ap length is, length-take 8 (drop place file))))
+
+  pub one_here : (content : ℕ) → place < length file → has_known_tag bytes ≡ false
+      → chunk_content (drop place file) ≡ Some content
+      → IsAtChunk looks file head (place + 8 + content) wide
+  one_here content before other one = (
+    at.0,
+    at.1 ∙ ap (λ b. b || else_followed wide file head)
+        (chunk_then (drop place file) content (omega (arith, before, length-drop place file))
+        (sym (known_by_eight bytes (drop place file) is) ∙ other) one
+        ∙ ap are_chunks (drop-drop (8 + content) place file ∙ ap (λ k. drop k file) (omega arith))),
+  )
+
+-- where no chunk begins after the pad byte, and no bytes follow the data alone
+pub pass_both : (wide : Bool) (file : List ℕ) (head : SeenHead)
+    → (wide ≡ true → held head.data_start file ≤ head.data_length)
+    → else_followed wide file head ≡ tagged file head
+pass_both true file head few = pass_last file head (few refl)
+pass_both false file head few = refl
+
+-- at a chunk there are two parts to come and more
+pub two_left : (n place : ℕ) (head : SeenHead) (wide : Bool)
+    → 2 ≤ steps_left n (stages.Chunk head place wide)
+two_left n place head true = omega arith
+two_left n place head false = omega arith
+
+-- the next chunk is nearer
+pub nearer_chunk : (n place content : ℕ) (head : SeenHead) (wide : Bool) → place < n
+    → steps_left n (stages.Chunk head (place + 8 + content) wide)
+    < steps_left n (stages.Chunk head place wide)
+nearer_chunk n place content head true before = omega (arith, before)
+nearer_chunk n place content head false before = omega (arith, before)
+
+-- the only fault of sizes
+only_too_long : (s : WavSpecEx) (len start n : ℕ) (fault : AppendFault)
+    → size_fault s len start n ≡ Some fault → size_fault s len start n ≡ Some too_long
+unfolding size_fault
+only_too_long s len start n fault is = grind (arith, common_steps)
+
+pub sizes_refused : (T : Type 0) (e : Error) (s : WavSpecEx) (counted len start n m : ℕ)
+    → FailsCheck {T = T} (Err e) (size_fault s counted start m)
+    → size_fault s counted start m ≡ size_fault s len start n
+    → is_pair s.spec.sample_format s.spec.bits_per_sample s.bytes_per_sample ≡ true
+    → repair_fault s len start n ≡ Some too_long
+sizes_refused T e s counted len start n m fails same pair =
+    let check = fails_for T e (size_fault s counted start m) fails in
+    written s len start n pair ∙ sym same ∙ only_too_long s counted start m check.0 check.1
+
+-- sizes that aren't right, where chunks are looked for
+pub not_whole : (looks : Bool) (file : List ℕ) (d : Damage) → IsSoundDamage d → IsMeasured file d
+    → looks ≡ true
+    → ((field 4 file ≡ d.sizes.riff_size) → (d.head.data_length ≡ d.sizes.data_length) → ⊥)
+    → IsNotWhole looks file d.head
+not_whole looks file d sound m looking wrong = record {
+  looks_for = looking;
+  head_is = m.head_is;
+  shown_is = λ _. m.shown_is;
+  wrong = grind (arith, common_steps, sound.sizes.riff, sound.sizes.length_is, m.held_is, m.shown_is);
+}
+
+-- the file ends where what is held ends
+pub end_is : (file : List ℕ) (d : Damage) → IsMeasured file d
+    → d.head.data_start + d.held ≡ length file
+end_is file d m =
+    omega (
+      arith,
+      m.held_is,
+      length-drop d.head.data_start file,
+      head_inside file d.head.spec_ex d.head.data_length d.head.data_start m.head_is,
+    )
+
+-- a file of 2^33 bytes and more has too many
+too_long_file : (s : WavSpecEx) (len start n : ℕ) → IsSoundSpec s → len ≤ 2 ^ 32 → 20 ≤ start
+    → 2 ^ 33 ≤ start + n → greatest_u32 < riff_size start (right_length s len n)
+too_long_file s len start n sound small after many =
+    grind (arith, common_steps, held_cases, lt-div-mul-add, le-mul_of_pos_right)
+
+-- a length up to there serves
+pub length_serves : (s : WavSpecEx) (len start size : ℕ) (file : List ℕ) → IsSoundSpec s → len ≤ 2 ^ 32
+    → 20 ≤ start → IsLengthOf size file → start ≤ length file → start ≤ min size (2 ^ 33)
+    → (size_fault s len start (min size (2 ^ 33) - start) ≡ size_fault s len start (held start file))
+    × (size_fault s len start (min size (2 ^ 33) - start) ≡ None → min size (2 ^ 33) - start ≡ held start file)
+unfolding size_fault
+length_serves s len start size file sound small after same inside within =
+    elim (cases_lt (length file) (2 ^ 33)) [
+      | inl few ↦
+          let is : min size (2 ^ 33) - start ≡ held start file = omega (arith, same, few, length-drop start file) in
+          (ap (size_fault s len start) is, λ _. is)
+      | inr many ↦
+          let one = too_long_file s len start (held start file) sound small after (omega (arith, many, inside, length-drop start file)) in
+          let two = too_long_file s len start (min size (2 ^ 33) - start) sound small after (omega (arith, many, within, same)) in
+          (grind (arith, common_steps, one, two, nat_tests), λ none. absurd (grind (arith, common_steps, two, none, nat_tests)))
+    ]
+
+-- one byte after the data at most is counted
+pub shown_small : (start len : ℕ) (file : List ℕ) → len < 2 ^ 32 → shown_length start len file ≤ 2 ^ 32
+shown_small start len file small =
+    elim (uncounted_cases (drop len (drop start file))) [
+      | inl none ↦ omega (arith, small, none)
+      | inr one ↦ omega (arith, small, one.0)
+    ]
+
+-- a file that is measured has this length
+pub tag_length : (size : ℕ) (file : List ℕ) (d : Damage) → IsLengthOf size file → IsMeasured file d
+    → d.head.data_start + d.held ≤ size → IsSoundDamage d → size ≡ length file
+tag_length size file d same m inside sound =
+    let s = d.head.spec_ex in
+    let len = shown_length d.head.data_start d.head.data_length file in
+    let start = d.head.data_start in
+    let end = end_is file d m in
+    elim (cases_lt (length file) (2 ^ 33)) [
+      | inl few ↦ omega (arith, same, few, end, inside)
+      | inr many ↦
+          let long = too_long_file s len start (held start file) sound.spec
+          (shown_small start d.head.data_length file (omega (arith, m.small))) sound.place.0
+          (omega (arith, many, end, m.held_is)) in
+          let fits = check_fits s len start (held start file) m.check in
+          absurd (omega (arith, long, fits))
+    ]
+
+-- the check fails by the data length that a look saw as it does by the one that the file shows
+pub shown_serves : (s : WavSpecEx) (start : ℕ) (head : SeenHead) (file : List ℕ) → IsSoundSpec s → head.data_length < 2 ^ 32
+    → 20 ≤ start → start ≤ length file → head.data_start ≡ start → IsShown file head → shown_of head ≤ 2 ^ 32
+    → (size_fault s (shown_of head) start (held start file)
+    ≡ size_fault s (shown_length start head.data_length file) start (held start file))
+    × (size_fault s (shown_of head) start (held start file) ≡ None
+    → shown_of head ≡ shown_length start head.data_length file)
+unfolding size_fault
+shown_serves s start head file sound small after inside at shown few =
+    elim (cases_lt (length file) (2 ^ 33)) [
+      | inl short ↦
+          let is : shown_of head ≡ shown_length start head.data_length file =
+          shown short ∙ ap (λ k. shown_length k head.data_length file) at in
+          (ap (λ k. size_fault s k start (held start file)) is, λ _. is)
+      | inr many ↦
+          let long = length-drop start file in
+          let one = too_long_file s (shown_of head) start (held start file) sound few after (omega (arith, many, inside, long)) in
+          let two = too_long_file s (shown_length start head.data_length file) start (held start file) sound
+          (shown_small start head.data_length file small) after (omega (arith, many, inside, long)) in
+          (grind (arith, common_steps, one, two, nat_tests), λ none. absurd (grind (arith, common_steps, one, none, nat_tests)))
+    ]
+
+-- what is counted of a file serves for what it holds and shows
+pub counts_serve : (s : WavSpecEx) (head : SeenHead) (size : ℕ) (file : List ℕ) → IsSoundSpec s
+    → head.data_length < 2 ^ 32 → 20 ≤ head.data_start → IsLengthOf size file
+    → head.data_start ≤ length file → head.data_start ≤ min size (2 ^ 33) → IsShown file head
+    → shown_of head ≤ 2 ^ 32
+    → (size_fault s (shown_of head) head.data_start (min size (2 ^ 33) - head.data_start)
+    ≡ size_fault s (shown_length head.data_start head.data_length file) head.data_start (held head.data_start file))
+    × (size_fault s (shown_of head) head.data_start (min size (2 ^ 33) - head.data_start) ≡ None
+    → (min size (2 ^ 33) - head.data_start ≡ held head.data_start file)
+    × (shown_of head ≡ shown_length head.data_start head.data_length file))
+counts_serve s head size file sound small after same inside within shown few =
+    let start = head.data_start in
+    let counts = length_serves s (shown_of head) start size file sound few after same inside within in
+    let shows = shown_serves s start head file sound small after inside refl shown few in (
+      counts.0 ∙ shows.0,
+      λ none. (counts.1 none, shows.1 (sym counts.0 ∙ none)),
+    )
+
+-- a single byte after the data, which was read
+pub last_read : (start len : ℕ) (file bytes : List ℕ) → held start file ≡ len + 1
+    → bytes ≡ take 1 (drop (start + len) file)
+    → (length bytes ≡ 1) × (uncounted (drop len (drop start file)) ≡ (if nat_lt 0 (slice_index bytes 0) then 1 else 0))
+unfolding uncounted
+last_read start len file bytes one is = grind (arith, common_steps, drop-drop, length-drop, length-take, take_all)
+
+-- where other than one byte follows the data none is counted
+pub none_counted : (start len : ℕ) (file : List ℕ) → (held start file ≡ len + 1 → ⊥)
+    → shown_length start len file ≡ len
+none_counted start len file not =
+    elim (uncounted_cases (drop len (drop start file))) [
+      | inl none ↦ omega (arith, none)
+      | inr one ↦ absurd (not (omega (arith, one.1, length-drop len (drop start file))))
+    ]
+
+-- bytes that were read up to where they end
+pub all_read : (at n : ℕ) (place : ℕ) (buf contents : List ℕ) → at ≤ n
+    → drop (place + at) contents ≡ [] → take at buf ≡ take at (drop place contents)
+    → take at buf ≡ take n (drop place contents)
+all_read at n place buf contents within none is =
+    let few : length (drop place contents) ≤ at =
+    omega (arith, ap length none, length-drop (place + at) contents, length-drop place contents) in
+    is ∙ take_all at (drop place contents) few ∙ sym (take_all n (drop place contents) (omega (arith, few, within)))
+
+-- the bytes of a part that were read into the front of a buffer
+pub part_read : (count asked asked_for place place_for size : ℕ) (given after contents now : List ℕ)
+    → length given ≡ size → size ≡ asked → count ≤ size → now ≡ contents
+    → take count given ≡ take size (drop place now) → asked ≡ asked_for → place ≡ place_for
+    → take count (given ++ after) ≡ take asked_for (drop place_for contents)
+part_read count asked asked_for place place_for size given after contents now long size_is within same is a p =
+    take-append-le count given after (omega (arith, long, within))
+    ∙ is ∙ (λ i. take ((size_is ∙ a) i) (drop (p i) (same i)))
+
+-- a length that was counted up to there
+pub counted : (n : ℕ) (file : List ℕ) → n ≡ min (held 0 file) (2 ^ 33) → IsLengthOf n file
+counted n file is = omega (arith, is, length-drop 0 file)

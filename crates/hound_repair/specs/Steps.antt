@@ -1,0 +1,408 @@
+-- A repair whose caller reads and writes the file.
+use Rattle.std.specs.Prelude.{◌≡◌, ℕ, ◌^◌, min, ◌+◌, ◌-◌, ◌≤◌, ◌<◌, ◌⊎◌, ⊤, MatchResult, Bool, true, false, ◌||◌, ◌&&◌, List, [], ◌∷◌, ◌++◌, length, take, drop, Result, Ok, Err, Option, None, Some}
+use Rattle.hound_spec.specs.{greatest_u32, riff_size}
+use Rattle.hound_walk.specs.{Head, IsAt, IsDataPlace, IsSoundOption, IsSoundSpec, part_length, part_start, parts_left}
+use Rattle.hound_walk.specs.declared.cause.Cause.TheVariants as causes
+use Rattle.hound_repair.specs.declared.look.SeenHead.{SeenHead}
+use Rattle.std.specs.declared.io.Error.{Error as IoFault}
+use Rattle.hound_number.specs.{bytes_of, mix}
+use Rattle.hound_medium.specs.{Flushes, MediumState, moment, one_more}
+use Rattle.hound_writer.specs.{AppendFault, IsIoError, NamesFault, PutsAt, PutsNothing, SameButSizes, by_bytes, field, too_long}
+use Rattle.hound_writer.specs.declared.effects.Effect.{Effect}
+use Rattle.hound_writer.specs.declared.effects.Effect.TheVariants.{Sync, Pad, Size}
+use Rattle.hound_repair.specs.Damages.{IsSoundDamage, repair_of, shown_of}
+use Rattle.hound_repair.specs.Held.{are_chunks, are_right, begins_chunk, ends_with_id3, held, is_followed, mended, missing_pad, shown_length}
+use Rattle.hound_repair.specs.Repairing.{IsFoundAt, IsRepairFault, Looks, Repairs, found_length, repair_fault, state_of}
+use Rattle.hound_repair.specs.declared.look.Damage.{Damage}
+use Rattle.hound_repair.specs.declared.sizes.Repair.{Repair}
+use Rattle.hound_repair.specs.declared.sizes.RepairState.{RepairState}
+use Rattle.hound_repair.specs.declared.sizes.RepairState.TheVariants.{CutOff}
+use Rattle.hound_repair.specs.declared.steps.Refusal.{Refusal}
+use Rattle.hound_repair.specs.declared.steps.Refusal.TheVariants as refusals
+use Rattle.hound_repair.specs.declared.steps.Stage.{Stage}
+use Rattle.hound_repair.specs.declared.steps.Stage.TheVariants as stages
+use Rattle.hound_repair.specs.declared.steps.Look.{Look}
+use Rattle.hound_spec.specs.declared.error.Error.{Error}
+use Rattle.hound_spec.specs.declared.error.Error.TheVariants.{IoError}
+use Rattle.hound_repair.specs.declared.steps.LookError.{LookError}
+use Rattle.hound_repair.specs.declared.steps.LookError.TheVariants.{Failed, Refused}
+use Rattle.hound_writer.specs.{nth}
+use Rattle.hound_repair.specs.declared.bytes.Unrepaired.{Unrepaired}
+use Rattle.hound_repair.specs.declared.bytes.Unrepaired.TheVariants as unrepaired
+use Rattle.hound_writer.specs.declared.effects.Action.{Action}
+use Rattle.hound_writer.specs.declared.effects.Action.TheVariants.{Read, Perform}
+use Rattle.hound_writer.specs.declared.effects.Report.{Report}
+use Rattle.hound_writer.specs.declared.effects.Report.TheVariants.{Pending, Done, Failed as NotDone}
+use Rattle.hound_repair.specs.declared.steps.RepairStep.{RepairStep}
+use Rattle.hound_repair.specs.declared.steps.RepairStep.TheVariants.{Asks, Found as Found_so}
+use Rattle.hound_repair.specs.declared.steps.Failure.{Failure}
+use Rattle.hound_repair.specs.declared.steps.Failure.TheVariants.{Sync as SyncFailed, Call as CallFailed}
+use Rattle.hound_repair.specs.declared.steps.Task.{Task}
+use Rattle.hound_repair.specs.declared.steps.Task.TheVariants.{FindDamage, RepairToEnd}
+use Rattle.hound_repair.specs.declared.steps.RepairError.{RepairError}
+use Rattle.hound_repair.specs.declared.steps.RepairError.TheVariants.{Refused as refused, Failed as failed}
+use Rattle.hound_repair.specs.declared.steps.Repairing.{Repairing}
+use Rattle.hound_repair.specs.declared.steps.Repairing.TheVariants.{Looks as Looks_for, Mends as Mends_now, Found as Found_now, Failed as Failed_with}
+use Rattle.hound_repair.specs.declared.steps.LookStep.{LookStep}
+use Rattle.hound_repair.specs.declared.steps.LookStep.TheVariants.{Next, Found}
+
+-- where the part is that a look asks for, and how many bytes it has
+abbrev pub stage_place : Stage → ℕ → ℕ
+stage_place (stages.Head walk) length = part_start walk.part walk.taken
+stage_place (stages.Last head) length = head.data_start + head.data_length
+stage_place (stages.Size head) length = 4
+stage_place (stages.Chunk head place padded) length = place
+stage_place (stages.Tag head) length = length - 128
+
+abbrev pub asked_place : Look → ℕ
+asked_place look = stage_place look.stage look.length
+
+abbrev pub asked_count : Stage → ℕ
+asked_count (stages.Head walk) = part_length walk.part
+asked_count (stages.Last head) = 1
+asked_count (stages.Size head) = 4
+asked_count (stages.Chunk head place padded) = 8
+asked_count (stages.Tag head) = 3
+
+-- what its caller does
+abbrev pub asks_for : Look → Action
+asks_for look = Read (asked_place look) (asked_count look.stage)
+
+-- the bytes of the file that a look asks for: fewer only at its end
+abbrev pub IsAsked : Look → List ℕ → List ℕ → Type 0
+IsAsked look file bytes = bytes ≡ take (asked_count look.stage) (drop (asked_place look) file)
+
+-- whether something follows the data of a file with this head
+abbrev pub followed : List ℕ → SeenHead → Bool
+followed file head = is_followed head.data_length (drop head.data_start file)
+
+-- whether both sizes of a file with this head are right
+abbrev pub has_right : List ℕ → SeenHead → Bool
+has_right file head =
+    are_right head.spec_ex head.data_start head.data_length (field 4 file)
+    (shown_length head.data_start head.data_length file) (held head.data_start file)
+
+-- the data length that the file shows, unless it has more bytes than any RIFF size says
+abbrev pub IsShown : List ℕ → SeenHead → Type 0
+IsShown file head = length file < 2 ^ 33
+    → shown_of head ≡ shown_length head.data_start head.data_length file
+
+-- a file with this head whose sizes aren't right, and after whose data chunks are looked for
+pub record IsNotWhole (looks : Bool) (file : List ℕ) (head : SeenHead) : Type 0 where
+  pub looks_for : looks ≡ true
+  pub head_is : Head file head.spec_ex head.data_length head.data_start
+  pub shown_is : IsShown file head
+  pub wrong : has_right file head ≡ false
+
+-- once no chunk begins after the data, an ID3v1 tag decides
+abbrev pub tagged : List ℕ → SeenHead → Bool
+tagged file head = ends_with_id3 head.data_length (drop head.data_start file)
+
+abbrev pub IsAtEnd : Bool → List ℕ → SeenHead → Type 0
+IsAtEnd looks file head = IsNotWhole looks file head × (followed file head ≡ tagged file head)
+
+-- what decides if the bytes from a place on are no chunks: those without a pad byte before them, too
+abbrev pub else_followed : Bool → List ℕ → SeenHead → Bool
+else_followed true file head =
+    begins_chunk (drop head.data_length (drop head.data_start file)) || tagged file head
+else_followed false file head = tagged file head
+
+-- something follows the data if the bytes from a place on are chunks, or else what decides then
+abbrev pub IsAtChunk : Bool → List ℕ → SeenHead → ℕ → Bool → Type 0
+IsAtChunk looks file head place padded = IsNotWhole looks file head
+    × (followed file head ≡ (are_chunks (drop place file) || else_followed padded file head))
+
+-- what is known of a file when a look asks for a part
+abbrev pub IsAtStage : Bool → List ℕ → Stage → Type 0
+IsAtStage looks file (stages.Head walk) = IsAt file walk
+IsAtStage looks file (stages.Last head) = Head file head.spec_ex head.data_length head.data_start
+    × (length file < 2 ^ 33 → held head.data_start file ≡ head.data_length + 1)
+IsAtStage looks file (stages.Size head) = Head file head.spec_ex head.data_length head.data_start
+    × IsShown file head
+IsAtStage looks file (stages.Chunk head place padded) = IsAtChunk looks file head place padded
+IsAtStage looks file (stages.Tag head) = IsAtEnd looks file head
+    × (head.data_length + 128 ≤ held head.data_start file)
+
+-- so many bytes are in the file, or both are more than any RIFF size says
+abbrev pub IsLengthOf : ℕ → List ℕ → Type 0
+IsLengthOf n file = min n (2 ^ 33) ≡ min (length file) (2 ^ 33)
+
+-- what was measured is that of the file, which fails no check
+pub record IsMeasured (file : List ℕ) (d : Damage) : Type 0 where
+  pub head_is : Head file d.head.spec_ex d.head.data_length d.head.data_start
+  pub small : d.head.data_length ≤ greatest_u32
+  pub held_is : d.held ≡ held d.head.data_start file
+  pub shown_is : shown_of d.head ≡ shown_length d.head.data_start d.head.data_length file
+  pub check : repair_fault d.head.spec_ex (shown_length d.head.data_start d.head.data_length file)
+      d.head.data_start (held d.head.data_start file) ≡ None
+
+-- the fault of the bytes for which a file isn't repaired
+abbrev pub refused_for : Refusal → AppendFault
+refused_for (refusals.Head cause) = by_bytes cause
+refused_for refusals.Unsupported = by_bytes causes.Unsupported
+refused_for refusals.TooLong = too_long
+
+-- what is measured of a file with a head, or its fault
+abbrev pub MeasuresTo : List ℕ → Result Damage Refusal → Type 0
+MeasuresTo file (Ok d) = IsMeasured file d
+MeasuresTo file (Err why) = IsRepairFault file (refused_for why)
+
+-- how a file with this head is found
+abbrev pub IsFoundAs : Bool → List ℕ → SeenHead → RepairState → Type 0
+IsFoundAs looks file head state =
+    state ≡ state_of (has_right file head) (looks && followed file head)
+
+-- where one part of the file leads: on, to what is found of the whole file, or to its fault
+abbrev pub LooksTo : Bool → List ℕ → Result LookStep Refusal → Type 0
+LooksTo looks file (Ok (Next stage)) = IsAtStage looks file stage
+LooksTo looks file (Ok (Found d)) =
+    IsFoundAt looks file (repair_of d) d.head.data_length d.head.data_start
+    × (d.held ≡ held d.head.data_start file) × IsShown file d.head
+LooksTo looks file (Err why) = IsRepairFault file (refused_for why)
+
+-- over every file: specs and places are those of a header
+abbrev pub IsSoundHead : SeenHead → Type 0
+IsSoundHead head = IsSoundSpec head.spec_ex × IsDataPlace head.data_start
+
+abbrev pub IsSoundStage : Stage → Type 0
+IsSoundStage (stages.Head walk) = IsSoundOption walk.found
+IsSoundStage (stages.Last head) = IsSoundSpec head.spec_ex × IsDataPlace head.data_start
+IsSoundStage (stages.Size head) = IsSoundHead head
+IsSoundStage (stages.Chunk head place padded) = IsSoundHead head
+IsSoundStage (stages.Tag head) = IsSoundHead head
+
+abbrev pub IsSoundLook : LookStep → Type 0
+IsSoundLook (Next stage) = IsSoundStage stage
+IsSoundLook (Found d) = IsSoundDamage d
+
+-- how many parts a look at a file of so many bytes may still ask for
+abbrev pub steps_left : ℕ → Stage → ℕ
+steps_left n (stages.Tag head) = 1
+steps_left n (stages.Chunk head place false) = 2 + (n - place)
+steps_left n (stages.Chunk head place true) = 3 + n + (n - place)
+steps_left n (stages.Size head) = 4 + n + n
+steps_left n (stages.Last head) = 5 + n + n
+steps_left n (stages.Head walk) = 6 + n + n + parts_left walk.part walk.taken
+
+abbrev pub StageNearer : ℕ → ℕ → LookStep → Type 0
+StageNearer n left (Next stage) = steps_left n stage < left
+StageNearer n left (Found d) = ⊤
+
+-- the pad byte and its sync, where it is missing
+abbrev pub pads : ℕ → List ℕ → List Effect
+pads end [] = []
+pads end (b ∷ bytes) = Pad end ∷ Sync ∷ []
+
+-- the RIFF size, which says that all is done
+abbrev pub mending_end : ℕ → ℕ → List Effect
+mending_end start count = Size 4 (riff_size start count) ∷ Sync ∷ []
+
+-- what comes once the data length is synced
+abbrev pub mending_rest : ℕ → ℕ → ℕ → List Effect
+mending_rest start count n = pads (start + n) (missing_pad count n) ++ mending_end start count
+
+-- The effects that mend a file whose data begin at `start`, hold n bytes and are to count so many: all
+-- that it counts is synced first. The data length comes alone, then a missing pad byte, which no data
+-- length takes for a sample then, and last the RIFF size.
+abbrev pub mending_effects : ℕ → ℕ → ℕ → List Effect
+mending_effects start count n =
+    Sync ∷ Size (start - 4) count ∷ Sync ∷ mending_rest start count n
+
+abbrev pub effects_for : RepairState → ℕ → ℕ → ℕ → List Effect
+effects_for CutOff start count n = mending_effects start count n
+effects_for _ start count n = []
+
+-- what is to be done to a file that was found so
+abbrev pub mending : Damage → List Effect
+mending d = effects_for d.state d.head.data_start d.sizes.data_length d.held
+
+-- The contents wherever the effects stop: j low bytes of the data length are new, and any of the RIFF
+-- size. A pad byte is there only after the whole data length, and only where it was missing.
+pub record PartlyMended (start n : ℕ) (old new : List ℕ) : Type 0 where
+  pub sizes : List ℕ
+  pub j : ℕ
+  pub within : j ≤ 4
+  pub same : SameButSizes (start - 4) old sizes
+  pub length_says : field (start - 4) sizes ≡ mix j (field (start - 4) old) n
+  pub pad : List ℕ
+  pub is : new ≡ sizes ++ pad
+  pub last : 1 ≤ length pad
+      → (field (start - 4) sizes ≡ n) × (pad ≡ missing_pad n (held start old))
+
+-- what one effect did to a medium: at an Err a write may have written a beginning
+abbrev pub PerformsOn : Bool → Effect → Result (Unit {0}) IoFault → MediumState → MediumState → Type 0
+PerformsOn keeps Sync result old new = Flushes result old new
+PerformsOn keeps (Pad at) result old new = PutsAt keeps at (0 ∷ []) result old new
+PerformsOn keeps (Size at size) result old new = PutsAt keeps at (bytes_of 4 size) result old new
+
+-- what effects did, one after the other, up to the first that failed
+abbrev pub PerformedOn : Bool → List Effect → Result (Unit {0}) IoFault → MediumState → MediumState → Type 0
+PerformedOn keeps [] result old new = (result ≡ Ok tt) × (new ≡ old)
+PerformedOn keeps (effect ∷ effects) result old new =
+    (mid : MediumState) × (this : Result (Unit {0}) IoFault) × PerformsOn keeps effect this old mid
+    × MatchResult this (λ _. PerformedOn keeps effects result mid new)
+    (λ fault. (result ≡ Err fault) × (new ≡ mid))
+
+-- what the effects leave, up to the first that failed: at an Ok what `repair` leaves
+abbrev pub Mends : ℕ → ℕ → Result (Unit {0}) IoFault → List ℕ → MediumState → Type 0
+Mends start n result old new = PartlyMended start n old new.contents
+    × (result ≡ Ok tt → (new.contents ≡ mended start n old) × (new.flushed ≡ length new.past))
+
+-- a file that was looked at, by its caller
+pub record IsLookedAt (looks : Bool) (bytes : List ℕ) (d : Damage) : Type 0 where
+  pub sound : IsSoundDamage d
+  pub found : IsFoundAt looks bytes (repair_of d) d.head.data_length d.head.data_start
+  pub held_is : d.held ≡ held d.head.data_start bytes
+  pub cut : d.state ≡ CutOff
+
+-- a file that isn't looked at, for a fault that its bytes have, or since a read failed
+abbrev pub IsNotLookedAt : LookError → MediumState → MediumState → Type 0
+IsNotLookedAt (Failed error) old new = Looks {T = Unit {0}} (Err error) old new
+IsNotLookedAt (Refused why) old new = Looks {E = IoFault} (Ok (tt {0})) old new
+    × IsRepairFault old.contents (refused_for why)
+
+-- the error that callers get
+abbrev pub Tells : LookError → Error → Type 0
+Tells (Failed error) told = told ≡ IoError error
+Tells (Refused why) told = NamesFault told (refused_for why)
+
+-- what is left where the medium failed: all, or a file that is partly mended
+abbrev pub LeavesPartly : Bool → MediumState → MediumState → Type 0
+LeavesPartly looks old new = PutsNothing old new
+    ⊎ ((found : Repair) × (len : ℕ) × (start : ℕ) × IsFoundAt looks old.contents found len start
+    × (found.state ≡ CutOff) × PartlyMended start (found_length found) old.contents new.contents)
+
+-- A file that isn't repaired, for a fault that its bytes have, and then nothing was written; or since
+-- the medium failed.
+pub record IsNotRepaired (looks : Bool) (old new : MediumState) (e : Error) : Type 0 where
+  pub why : ((fault : AppendFault) × IsRepairFault old.contents fault × NamesFault e fault
+      × PutsNothing old new × (new.faults ≡ old.faults))
+      ⊎ (IsIoError e × LeavesPartly looks old new × (new.faults ≡ one_more old.faults))
+
+-- what a repair of a medium leaves, by its result
+abbrev pub RepairsMedium : {M : Type 0} → Bool → (M → MediumState) → M
+    → Result (M × Repair) (M × Error) → Type 0
+RepairsMedium looks state old result =
+    MatchResult result (λ done. Repairs looks (state old) done.1 (state done.0))
+    (λ refused. IsNotRepaired looks (state old) (state refused.0) refused.1)
+
+-- In each intermediate state nothing was written, or the file is partly mended, for the frames that were
+-- found in it.
+abbrev pub MendsAtEach : Bool → MediumState → MediumState → Type 0
+MendsAtEach looks old new = (new.past ≡ old.past)
+    ⊎ ((found : Repair) × (len : ℕ) × (start : ℕ) × IsFoundAt looks old.contents found len start
+    × (found.state ≡ CutOff)
+    × ((k : ℕ) → length old.past ≤ k → k ≤ length new.past
+    → PartlyMended start (found_length found) old.contents (moment new.start new.past k)))
+
+abbrev pub MendsMedium : {M : Type 0} → Bool → (M → MediumState) → M
+    → Result (M × Repair) (M × Error) → Type 0
+MendsMedium looks state old result =
+    MatchResult result (λ done. MendsAtEach looks (state old) (state done.0))
+    (λ refused. MendsAtEach looks (state old) (state refused.0))
+
+-- a repair, between two calls, over every file
+abbrev pub IsSoundRepairing : Repairing → Type 0
+IsSoundRepairing (Looks_for stage) = IsSoundStage stage
+IsSoundRepairing (Mends_now head number) = IsSoundHead head
+IsSoundRepairing (Found_now head state) = IsSoundHead head
+IsSoundRepairing (Failed_with failure) = ⊤
+
+-- over every file: what is found has the spec of a header
+abbrev pub IsSoundRepairStep : RepairStep → Type 0
+IsSoundRepairStep (Asks action) = ⊤
+IsSoundRepairStep (Found_so found) = IsSoundSpec found.spec_ex
+
+-- at a fault of the bytes a repair stays where it is, over every file
+abbrev pub StaysAt : Result RepairStep RepairError → Repairing → Repairing → Type 0
+StaysAt (Err (refused why)) old new = new ≡ old
+StaysAt _ old new = ⊤
+
+-- whether chunks after the data are looked for
+abbrev pub looks_for_chunks : Task → Bool
+looks_for_chunks RepairToEnd = false
+looks_for_chunks _ = true
+
+-- what is to be done to a file that was found so: nothing where it is only looked at
+abbrev pub effects_of_task : Task → Damage → List Effect
+effects_of_task FindDamage d = []
+effects_of_task _ d = mending d
+
+-- what it means that an effect failed
+abbrev pub failure_of : Effect → Failure
+failure_of Sync = SyncFailed
+failure_of _ = CallFailed
+
+-- the effect with a number is requested, or all are done
+abbrev pub AsksEffect : Task → Damage → ℕ → RepairStep → Repairing → Type 0
+AsksEffect task d number (Asks action) new = (effect : Effect)
+    × (nth (effects_of_task task d) number ≡ Some effect) × (action ≡ Perform effect)
+    × (new ≡ Mends_now d.head number)
+AsksEffect task d number (Found_so found) new = (nth (effects_of_task task d) number ≡ None)
+    × (found ≡ repair_of d) × (new ≡ Found_now d.head d.state)
+
+-- where an effect leads whose number is given: to the next one once it is done, to itself before
+abbrev pub AsksAfter : Task → Damage → ℕ → Report → Option Effect → Repairing → Result RepairStep RepairError
+    → Type 0
+AsksAfter task d number Pending effect new result =
+    MatchResult result (λ ask. AsksEffect task d number ask new) (λ _. ⊥)
+AsksAfter task d number Done (Some effect) new result =
+    MatchResult result (λ ask. AsksEffect task d (number + 1) ask new) (λ _. ⊥)
+AsksAfter task d number NotDone (Some effect) new result =
+    (result ≡ Err (failed (failure_of effect))) × (new ≡ Failed_with (failure_of effect))
+AsksAfter task d number report None new result =
+    MatchResult result (λ ask. AsksEffect task d number ask new) (λ _. ⊥)
+
+abbrev pub AsksMore : Task → Damage → ℕ → Report → Repairing → Result RepairStep RepairError → Type 0
+AsksMore task d number report new result =
+    AsksAfter task d number report (nth (effects_of_task task d) number) new result
+
+-- what a look of the file has led to: another part, or what was found of the whole file and the first
+-- effect that mends it
+abbrev pub AsksPart : Task → List ℕ → ℕ → Result RepairStep RepairError → Repairing → Repairing → Type 0
+AsksPart task file n (Ok ask) old new =
+    ((stage : Stage) × IsAtStage (looks_for_chunks task) file stage × (new ≡ Looks_for stage)
+    × (ask ≡ Asks (Read (stage_place stage n) (asked_count stage))))
+    ⊎ ((d : Damage) × AsksEffect task d 0 ask new
+    × IsFoundAt (looks_for_chunks task) file (repair_of d) d.head.data_length d.head.data_start
+    × (d.held ≡ held d.head.data_start file) × IsShown file d.head)
+AsksPart task file n (Err (refused why)) old new = IsRepairFault file (refused_for why) × (new ≡ old)
+AsksPart task file n (Err (failed failure)) old new = ⊥
+
+-- what is measured again of a file of which this was found, as it was looked at, and what then holds
+abbrev pub Remeasures : List ℕ → SeenHead → Result RepairStep RepairError → (Damage → Type 0) → Type 0
+Remeasures file head result P =
+    ((d : Damage) × IsSoundDamage d × IsMeasured file d × (d.head ≡ head) × P d)
+    ⊎ ((why : Refusal) × (result ≡ Err (refused why)) × IsRepairFault file (refused_for why))
+
+-- what comes of a part, by how its read has ended: what is pending is requested again
+abbrev pub AsksOfLook : Task → ℕ → List ℕ → Stage → Repairing → Result RepairStep RepairError → Report → Type 0
+AsksOfLook task n bytes stage new result Pending = (new ≡ Looks_for stage)
+    × (result ≡ Ok (Asks (Read (stage_place stage n) (asked_count stage))))
+AsksOfLook task n bytes stage new result Done = (file : List ℕ) → IsLengthOf n file
+    → IsAtStage (looks_for_chunks task) file stage
+    → bytes ≡ take (asked_count stage) (drop (stage_place stage n) file)
+    → AsksPart task file n result (Looks_for stage) new
+AsksOfLook task n bytes stage new result NotDone =
+    (result ≡ Err (failed CallFailed)) × (new ≡ Failed_with CallFailed)
+
+-- What a call leads to: over each file of which the part was handed in that was requested, to another part,
+-- to what is found of the whole file and the first effect that mends it, or to its fault; then to one
+-- effect after the other, until one fails, which ends it.
+abbrev pub AsksNext : Task → ℕ → List ℕ → Report → Repairing → Repairing → Result RepairStep RepairError → Type 0
+AsksNext task n bytes report (Looks_for stage) new result =
+    AsksOfLook task n bytes stage new result report
+AsksNext task n bytes report (Mends_now head number) new result = (file : List ℕ) → IsLengthOf n file
+    → Head file head.spec_ex head.data_length head.data_start → IsShown file head
+    → Remeasures file head result (λ d. (d.state ≡ CutOff) × AsksMore task d number report new result)
+AsksNext task n bytes report (Found_now head state) new result = (new ≡ Found_now head state)
+    × ((file : List ℕ) → IsLengthOf n file
+    → Head file head.spec_ex head.data_length head.data_start → IsShown file head
+    → Remeasures file head result (λ d. (result ≡ Ok (Found_so (repair_of (record d { state = state }))))))
+AsksNext task n bytes report (Failed_with failure) new result =
+    (result ≡ Err (failed failure)) × (new ≡ Failed_with failure)
+
+-- why a file in memory with a head isn't repaired
+abbrev pub unrepaired_for : Refusal → Unrepaired
+unrepaired_for refusals.TooLong = unrepaired.TooLong
+unrepaired_for _ = unrepaired.Unsupported

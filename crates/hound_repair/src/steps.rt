@@ -1,0 +1,756 @@
+// A repair whose caller reads and writes the file: it asks for one part after the other, and then says
+// what is to be done.
+ghost use Rattle.std.specs.Prelude.{◌≡◌, ℕ, ◌+◌, ◌-◌, ◌≤◌, Bool, List, Ok, true, IfErr, IfOk, IfSome, MatchResult, length, nat_lt, slice_index, take, drop};
+ghost use Rattle.hound_walk.specs.{Head, IsAt, IsDataPlace, IsSoundOption, IsSoundSpec, part_bytes};
+ghost use Rattle.hound_writer.specs.{IsMediumError, PutsAt, nth};
+ghost use Rattle.hound_medium.specs.{WhereKeeps, WhereTells};
+ghost use Rattle.hound_repair.specs.Damages.{FindsDamage, IsSoundDamage, may_be_chunks};
+ghost use Rattle.hound_repair.specs.Steps.{IsAsked, IsAtChunk, IsAtEnd, IsAtStage, IsFoundAs, IsLengthOf, IsMeasured, IsNotLookedAt, Tells, IsNotWhole, IsSoundHead, IsSoundLook, IsSoundStage, PerformedOn, PerformsOn, AsksEffect, AsksMore, AsksNext, AsksPart, IsShown, IsSoundRepairing, IsSoundRepairStep, StaysAt, MendsMedium, RepairsMedium, LooksTo, MeasuresTo, StageNearer, asked_count, asked_place, asks_for, effects_of_task, failure_of, looks_for_chunks, else_followed, followed, mending, mending_end, mending_rest, steps_left};
+ghost use Rattle.hound_repair.specs.declared.sizes.RepairState.TheVariants.{CutOff};
+ghost use Rattle.hound_repair.specs.declared.steps.Stage.TheVariants as stages;
+ghost use Rattle.hound_repair.specs.declared.steps.Repairing.TheVariants as states;
+
+use crate::look::{
+    Damage, ID3_LENGTH, ID3_TAG, Rest, SeenHead, content_of, has_known_tag, seen_head,
+};
+use crate::read_at::ReadAt;
+use crate::sizes::{Repair, RepairState, right_sizes};
+use hound_medium::{Medium, Source, put_all};
+use hound_number::{le_u32, u32_at};
+use hound_spec::{Error, is_pair};
+use hound_walk::{Cause, FileHead, HeadError, HeadWalk, Part, Step, error_of, take_part};
+use hound_writer::{Action, Effect, Report};
+use std::io;
+
+// More than any RIFF size says: bytes are counted up to here.
+const LIMIT: u64 = 8_589_934_592;
+
+/// Why a file isn't repaired, by its bytes.
+#[derive(Clone, Copy, Debug, PartialEq, Eq)]
+pub enum Refusal {
+    /// It has no head.
+    Head(Cause),
+
+    /// Its samples are not written with these bits, bytes and format.
+    Unsupported,
+
+    /// The RIFF size of its frames would pass 4294967295.
+    TooLong,
+}
+
+/// Which part of a file a look at it asks for.
+#[derive(Clone, Copy)]
+pub enum Stage {
+    /// A part of the header.
+    Head(HeadWalk),
+
+    /// The single byte after the data, of a file with this head.
+    Last(FileHead),
+
+    /// The RIFF size.
+    Size(SeenHead),
+
+    /// What may be a chunk's header at this place; `true` if those after the pad byte come first.
+    Chunk(SeenHead, u64, bool),
+
+    /// What may be an ID3v1 tag at the end.
+    Tag(SeenHead),
+}
+
+/// A look at a file, between two parts.
+#[derive(Clone, Copy)]
+pub struct Look {
+    /// How many bytes the file has.
+    pub length: u64,
+
+    /// What follows its data.
+    pub rest: Rest,
+
+    /// What it asks for.
+    pub stage: Stage,
+}
+
+/// Where one part leads.
+#[derive(Clone, Copy)]
+pub enum LookStep {
+    /// To another part.
+    Next(Stage),
+
+    /// To what was found.
+    Found(Damage),
+}
+
+impl Look {
+    /// The place of the part that it asks for.
+    pub fn place(self) -> u64
+        requires { IsSoundStage self.stage }
+        ensures { result ≡ asked_place self }
+    {
+        match self.stage {
+            Stage::Head(walk) => walk.start(),
+            Stage::Last(head) => head.data_start + head.data_length as u64,
+            Stage::Size(_) => 4,
+            Stage::Chunk(_, place, _) => place,
+            Stage::Tag(_) => self.length.saturating_sub(ID3_LENGTH),
+        }
+    }
+
+    /// How many bytes it has; fewer only at the end of the file.
+    pub fn count(self) -> usize
+        ensures is { result ≡ asked_count self.stage }
+        ensures few { result ≤ 40 }
+    {
+        match self.stage {
+            Stage::Head(walk) => walk.length(),
+            Stage::Last(_) => 1,
+            Stage::Size(_) => 4,
+            Stage::Chunk(..) => 8,
+            Stage::Tag(_) => 3,
+        }
+    }
+
+    /// What its caller does.
+    pub fn action(self) -> Action
+        requires { IsSoundStage self.stage }
+        ensures { result ≡ asks_for self }
+    {
+        Action::Read(self.place(), self.count() as u32)
+    }
+}
+
+// The right sizes of a file of so many bytes with this head.
+fn measured(size: u64, head: SeenHead) -> Result<Damage, Refusal>
+    requires sound { IsSoundHead head }
+    ensures measures { (file : List ℕ) → IsLengthOf size file
+        → Head file head.spec_ex head.data_length head.data_start → IsShown file head
+        → MeasuresTo file result }
+    ensures sound { IfOk result IsSoundDamage }
+    ensures head { IfOk result (λ d. d.head ≡ head) }
+    ensures cut { IfOk result (λ d. d.state ≡ CutOff) }
+    ensures inside { IfOk result (λ d. d.head.data_start + d.held ≤ size) }
+{
+    let spec = head.spec_ex.spec;
+    let width = head.spec_ex.bytes_per_sample;
+    if !is_pair(spec.sample_format, spec.bits_per_sample, width) {
+        return Err(Refusal::Unsupported);
+    }
+    let size = size.min(LIMIT);
+    if head.data_start > size {
+        return Err(Refusal::Head(Cause::Ended));
+    }
+    let held = size - head.data_start;
+    match right_sizes(head, head.shown(), held) {
+        Ok(sizes) => Ok(Damage {
+            head,
+            held,
+            sizes,
+            state: RepairState::CutOff,
+        }),
+        Err(_) => Err(Refusal::TooLong),
+    }
+}
+
+// A file that is found as this.
+fn found_as(damage: Damage, state: RepairState) -> LookStep
+    requires sound { IsSoundDamage damage }
+    ensures leads { (looks : Bool) (file : List ℕ) → IsMeasured file damage
+        → IsFoundAs looks file damage.head state → LooksTo looks file (Ok result) }
+    ensures sound { IsSoundLook result }
+    ensures nearer { (n left : ℕ) → StageNearer n left result }
+{
+    LookStep::Found(Damage { state, ..damage })
+}
+
+// On, where no chunk begins after the data.
+fn at_end(damage: Damage) -> LookStep
+    requires sound { IsSoundDamage damage }
+    ensures leads { (looks : Bool) (file : List ℕ) → IsMeasured file damage
+        → IsAtEnd looks file damage.head → LooksTo looks file (Ok result) }
+    ensures sound { IsSoundLook result }
+    ensures nearer { (n left : ℕ) → 2 ≤ left → StageNearer n left result }
+{
+    let length = damage.head.data_length as u64;
+    if length + ID3_LENGTH <= damage.held {
+        return LookStep::Next(Stage::Tag(damage.head));
+    }
+    found_as(damage, RepairState::CutOff)
+}
+
+// On, where no chunk begins at a place, which was that after the pad byte.
+fn at_no_chunk(damage: Damage, padded: bool) -> LookStep
+    requires sound { IsSoundDamage damage }
+    ensures leads { (looks : Bool) (file : List ℕ) → IsMeasured file damage
+        → IsNotWhole looks file damage.head
+        → (followed file damage.head ≡ else_followed padded file damage.head)
+        → LooksTo looks file (Ok result) }
+    ensures sound { IsSoundLook result }
+    ensures nearer { (n place : ℕ) → damage.head.data_start + damage.held ≤ n
+        → StageNearer n (steps_left n (stages.Chunk damage.head place padded)) result }
+{
+    let length = damage.head.data_length as u64;
+    if padded && length < damage.held {
+        let place = damage.head.data_start + length;
+        return LookStep::Next(Stage::Chunk(damage.head, place, false));
+    }
+    at_end(damage)
+}
+
+// On, where the sizes aren't right and chunks are looked for.
+fn after_sizes(damage: Damage) -> LookStep
+    requires sound { IsSoundDamage damage }
+    ensures leads { (looks : Bool) (file : List ℕ) → IsMeasured file damage
+        → IsNotWhole looks file damage.head → LooksTo looks file (Ok result) }
+    ensures sound { IsSoundLook result }
+    ensures nearer { (n : ℕ) → damage.head.data_start + damage.held ≤ n
+        → StageNearer n (steps_left n (stages.Size damage.head)) result }
+{
+    let length = damage.head.data_length as u64;
+    let padded = length + length % 2;
+    if padded < damage.held {
+        let place = damage.head.data_start + padded;
+        return LookStep::Next(Stage::Chunk(damage.head, place, true));
+    }
+    at_no_chunk(damage, true)
+}
+
+// Takes the RIFF size.
+fn take_size(rest: Rest, damage: Damage, bytes: &[u8]) -> Result<LookStep, Refusal>
+    requires sound { IsSoundDamage damage }
+    ensures leads { (file : List ℕ) → IsMeasured file damage → (bytes.now ≡ take 4 (drop 4 file))
+        → LooksTo (may_be_chunks rest) file result }
+    ensures sound { IfOk result IsSoundLook }
+    ensures nearer { (n : ℕ) → damage.head.data_start + damage.held ≤ n
+        → IfOk result (StageNearer n (steps_left n (stages.Size damage.head))) }
+{
+    if bytes.len() < 4 {
+        return Err(Refusal::Head(Cause::Ended));
+    }
+    let sizes = damage.sizes;
+    if u32_at(bytes, 0) == sizes.riff_size && damage.head.data_length == sizes.data_length {
+        return Ok(found_as(damage, RepairState::Whole));
+    }
+    if rest == Rest::IsSamples {
+        return Ok(found_as(damage, RepairState::CutOff));
+    }
+    Ok(after_sizes(damage))
+}
+
+// Takes what may be the header of a chunk at this place.
+fn take_chunk(damage: Damage, place: u64, padded: bool, bytes: &[u8]) -> LookStep
+    requires sound { IsSoundDamage damage }
+    ensures leads { (looks : Bool) (file : List ℕ) → IsMeasured file damage
+        → IsAtChunk looks file damage.head place padded → (bytes.now ≡ take 8 (drop place file))
+        → LooksTo looks file (Ok result) }
+    ensures sound { IsSoundLook result }
+    ensures nearer { (n : ℕ) → damage.head.data_start + damage.held ≤ n
+        → StageNearer n (steps_left n (stages.Chunk damage.head place padded)) result }
+{
+    let end = damage.head.data_start + damage.held;
+    if place >= end || has_known_tag(bytes) {
+        return found_as(damage, RepairState::HasChunksAfterData);
+    }
+    if bytes.len() < 8 {
+        return at_no_chunk(damage, padded);
+    }
+    match content_of(bytes, end - place) {
+        Some(content) => LookStep::Next(Stage::Chunk(damage.head, place + 8 + content, padded)),
+        None => at_no_chunk(damage, padded),
+    }
+}
+
+// Takes what may be an ID3v1 tag.
+fn take_tag(damage: Damage, bytes: &[u8]) -> LookStep
+    requires sound { IsSoundDamage damage }
+    ensures leads { (looks : Bool) (file : List ℕ) → IsMeasured file damage
+        → IsAtStage looks file (stages.Tag damage.head)
+        → (bytes.now ≡ take 3 (drop (length file - 128) file)) → LooksTo looks file (Ok result) }
+    ensures sound { IsSoundLook result }
+    ensures nearer { (n left : ℕ) → StageNearer n left result }
+{
+    if bytes == ID3_TAG.as_slice() {
+        return found_as(damage, RepairState::HasChunksAfterData);
+    }
+    found_as(damage, RepairState::CutOff)
+}
+
+/// What is requested once the head is found: the byte after the data, if it is the only one, or the RIFF
+/// size.
+pub(crate) fn after_head(length: u64, head: FileHead) -> Stage
+    requires place { IsDataPlace head.data_start }
+    requires sound { IsSoundSpec head.spec_ex }
+    ensures at { (looks : Bool) (file : List ℕ) → IsLengthOf length file
+        → Head file head.spec_ex head.data_length head.data_start → IsAtStage looks file result }
+    ensures sound { IsSoundStage result }
+    ensures near { steps_left length result ≤ 5 + length + length }
+{
+    if length == head.data_start + head.data_length as u64 + 1 {
+        return Stage::Last(head);
+    }
+    Stage::Size(seen_head(head, false))
+}
+
+// Whether a single byte after the data, which is this if there is one, is a sample.
+fn is_sample(bytes: &[u8]) -> bool
+    ensures { length bytes.now ≡ 1 → result ≡ nat_lt 0 (slice_index bytes.now 0) }
+{
+    bytes.len() == 1 && bytes[0] != 0
+}
+
+// Takes the byte after the data.
+fn take_last(head: FileHead, bytes: &[u8]) -> LookStep
+    requires sound { IsSoundSpec head.spec_ex }
+    requires place { IsDataPlace head.data_start }
+    ensures leads { (looks : Bool) (file : List ℕ) → IsAtStage looks file (stages.Last head)
+        → (bytes.now ≡ take 1 (drop (head.data_start + head.data_length) file))
+        → LooksTo looks file (Ok result) }
+    ensures sound { IsSoundLook result }
+    ensures nearer { (n : ℕ) → StageNearer n (steps_left n (stages.Last head)) result }
+{
+    LookStep::Next(Stage::Size(seen_head(head, is_sample(bytes))))
+}
+
+// Takes a part of the header.
+fn take_header(length: u64, walk: HeadWalk, bytes: &[u8]) -> Result<LookStep, Refusal>
+    requires sound { IsSoundOption walk.found }
+    ensures leads { (looks : Bool) (file : List ℕ) → IsLengthOf length file → IsAt file walk
+        → (bytes.now ≡ part_bytes walk file) → LooksTo looks file result }
+    ensures sound { IfOk result IsSoundLook }
+    ensures nearer { IfOk result (StageNearer length (steps_left length (stages.Head walk))) }
+{
+    match take_part(walk, bytes) {
+        Ok(Step::Next(next)) => Ok(LookStep::Next(Stage::Head(next))),
+        Ok(Step::Data(head)) => Ok(LookStep::Next(after_head(length, head))),
+        Err(cause) => Err(Refusal::Head(cause)),
+    }
+}
+
+/// Takes the bytes that a look asks for, fewer only at the end of the file, and returns where they
+/// lead: to another part, or to what [`repair`](crate::repair) finds. At an error the look has ended.
+pub fn take_asked(look: Look, bytes: &[u8]) -> Result<LookStep, Refusal>
+    requires sound { IsSoundStage look.stage }
+    ensures leads { (file : List ℕ) → IsLengthOf look.length file
+        → IsAtStage (may_be_chunks look.rest) file look.stage → IsAsked look file bytes.now
+        → LooksTo (may_be_chunks look.rest) file result }
+    ensures sound { IfOk result IsSoundLook }
+    ensures nearer { IfOk result (StageNearer look.length (steps_left look.length look.stage)) }
+{
+    match look.stage {
+        Stage::Head(walk) => take_header(look.length, walk, bytes),
+        Stage::Last(head) => Ok(take_last(head, bytes)),
+        Stage::Size(head) => match measured(look.length, head) {
+            Ok(damage) => take_size(look.rest, damage, bytes),
+            Err(why) => Err(why),
+        },
+        Stage::Chunk(head, place, padded) => match measured(look.length, head) {
+            Ok(damage) => Ok(take_chunk(damage, place, padded, bytes)),
+            Err(why) => Err(why),
+        },
+        Stage::Tag(head) => match measured(look.length, head) {
+            Ok(damage) => Ok(take_tag(damage, bytes)),
+            Err(why) => Err(why),
+        },
+    }
+}
+
+/// What a caller requests of a file.
+#[derive(Clone, Copy, Debug, PartialEq, Eq)]
+pub enum Task {
+    /// What [`find_damage`](crate::find_damage) does.
+    FindDamage,
+
+    /// What [`repair`](crate::repair) does.
+    Repair,
+
+    /// What [`repair_to_end`](crate::repair_to_end) does.
+    RepairToEnd,
+}
+
+impl Task {
+    /// What follows the data.
+    pub fn rest(self) -> Rest
+        ensures { may_be_chunks result ≡ looks_for_chunks self }
+    {
+        match self {
+            Task::RepairToEnd => Rest::IsSamples,
+            _ => Rest::MayBeChunks,
+        }
+    }
+}
+
+/// What failed, so that the repair has ended.
+#[derive(Clone, Copy, Debug, PartialEq, Eq)]
+pub enum Failure {
+    /// A sync: nobody knows what is stored.
+    Sync,
+
+    /// A read or a write.
+    Call,
+}
+
+/// A repair whose caller reads and writes the file, between two calls.
+#[derive(Clone, Copy)]
+pub enum Repairing {
+    /// It looks at the file, and asks for this part.
+    Looks(Stage),
+
+    /// It mends a file with this head, and asks for the effect with this number.
+    Mends(SeenHead, u32),
+
+    /// It is done: a file with this head was found so, and is mended if that is to be.
+    Found(SeenHead, RepairState),
+
+    /// It has ended, since this failed.
+    Failed(Failure),
+}
+
+/// What its caller does next.
+#[derive(Clone, Copy)]
+pub enum RepairStep {
+    /// This.
+    Asks(Action),
+
+    /// Nothing: this was found, and is mended if that is to be.
+    Found(Repair),
+}
+
+/// Why a repair has ended.
+#[derive(Clone, Copy, Debug, PartialEq, Eq)]
+pub enum RepairError {
+    /// The bytes decide it, and nothing was written.
+    Refused(Refusal),
+
+    /// An effect failed: another repair, from the beginning, finds the same frames.
+    Failed(Failure),
+}
+
+// What it means that an effect failed.
+fn failure_of(effect: Effect) -> Failure
+    ensures { result ≡ failure_of effect }
+{
+    match effect {
+        Effect::Sync => Failure::Sync,
+        _ => Failure::Call,
+    }
+}
+
+impl Damage {
+    // The effect with this number, from 0, that the task has for a file like this; none after the last.
+    fn effect_of(&self, task: Task, number: u32) -> Option<Effect>
+        requires { IsSoundDamage self.now }
+        ensures is { result ≡ nth (effects_of_task task self.now) number }
+        ensures few { IfSome result (λ _. number ≤ 6) }
+    {
+        if task == Task::FindDamage {
+            return None;
+        }
+        self.effect(number)
+    }
+}
+
+// Asks for the effect with this number, if there is one.
+fn ask_for(state: &mut Repairing, task: Task, damage: Damage, number: u32) -> RepairStep
+    requires sound { IsSoundDamage damage }
+    ensures asks { AsksEffect task damage number result state.new }
+    ensures sound { IsSoundRepairing state.new }
+    ensures spec { IsSoundRepairStep result }
+{
+    match damage.effect_of(task, number) {
+        Some(effect) => {
+            *state = Repairing::Mends(damage.head, number);
+            RepairStep::Asks(Action::Perform(effect))
+        }
+        None => {
+            *state = Repairing::Found(damage.head, damage.state);
+            RepairStep::Found(damage.repair())
+        }
+    }
+}
+
+// What comes of an effect.
+fn after_effect(
+    state: &mut Repairing,
+    task: Task,
+    damage: Damage,
+    number: u32,
+    report: Report,
+) -> Result<RepairStep, RepairError>
+    requires sound { IsSoundDamage damage }
+    ensures asks { AsksMore task damage number report state.new result }
+    ensures sound { IsSoundRepairing state.new }
+    ensures spec { IfOk result IsSoundRepairStep }
+    ensures stays { StaysAt result state.old state.new }
+{
+    match damage.effect_of(task, number) {
+        None => Ok(ask_for(state, task, damage, number)),
+        Some(effect) => match report {
+            Report::Pending => Ok(ask_for(state, task, damage, number)),
+            Report::Done => Ok(ask_for(state, task, damage, number + 1)),
+            Report::Failed => {
+                let failure = failure_of(effect);
+                *state = Repairing::Failed(failure);
+                Err(RepairError::Failed(failure))
+            }
+        },
+    }
+}
+
+// What comes of a part that was read.
+fn after_part(
+    state: &mut Repairing,
+    look: Look,
+    task: Task,
+    bytes: &[u8],
+) -> Result<RepairStep, RepairError>
+    requires sound { IsSoundStage look.stage }
+    requires rest { may_be_chunks look.rest ≡ looks_for_chunks task }
+    requires was { state.old ≡ states.Looks look.stage }
+    ensures leads { (file : List ℕ) → IsLengthOf look.length file
+        → IsAtStage (looks_for_chunks task) file look.stage → IsAsked look file bytes.now
+        → AsksPart task file look.length result state.old state.new }
+    ensures sound { IsSoundRepairing state.new }
+    ensures spec { IfOk result IsSoundRepairStep }
+    ensures stays { StaysAt result state.old state.new }
+{
+    match take_asked(look, bytes) {
+        Ok(LookStep::Next(stage)) => {
+            *state = Repairing::Looks(stage);
+            Ok(RepairStep::Asks(Look { stage, ..look }.action()))
+        }
+        Ok(LookStep::Found(damage)) => Ok(ask_for(state, task, damage, 0)),
+        Err(why) => Err(RepairError::Refused(why)),
+    }
+}
+
+/// What the caller of a repair of a file of so many bytes does next, by how it reports what was
+/// requested last. `bytes` are those of the part that was read.
+///
+/// What is pending is requested again. Where something failed, each later call returns that error.
+pub fn repair_next(
+    state: &mut Repairing,
+    length: u64,
+    task: Task,
+    bytes: &[u8],
+    report: Report,
+) -> Result<RepairStep, RepairError>
+    requires sound { IsSoundRepairing state.old }
+    ensures next { AsksNext task length bytes.now report state.old state.new result }
+    ensures sound { IsSoundRepairing state.new }
+    ensures spec { IfOk result IsSoundRepairStep }
+    ensures stays { StaysAt result state.old state.new }
+{
+    match *state {
+        Repairing::Looks(stage) => {
+            let look = Look {
+                length,
+                rest: task.rest(),
+                stage,
+            };
+            match report {
+                Report::Pending => Ok(RepairStep::Asks(look.action())),
+                Report::Done => after_part(state, look, task, bytes),
+                Report::Failed => {
+                    *state = Repairing::Failed(Failure::Call);
+                    Err(RepairError::Failed(Failure::Call))
+                }
+            }
+        }
+        Repairing::Mends(head, number) => match measured(length, head) {
+            Ok(damage) => after_effect(state, task, damage, number, report),
+            Err(why) => Err(RepairError::Refused(why)),
+        },
+        Repairing::Found(head, found) => match measured(length, head) {
+            Ok(damage) => Ok(RepairStep::Found(Damage {
+                state: found,
+                ..damage
+            }
+            .repair())),
+            Err(why) => Err(RepairError::Refused(why)),
+        },
+        Repairing::Failed(failure) => Err(RepairError::Failed(failure)),
+    }
+}
+
+/// Why a file isn't looked at.
+#[derive(Debug, Drop)]
+pub(crate) enum LookError {
+    /// A read failed.
+    Failed(io::Error),
+    /// The bytes decide it.
+    Refused(Refusal),
+}
+
+/// Looks on at a file of so many bytes, which are read at places, one part after the other.
+pub(crate) fn look_on<R: ReadAt>(
+    source: &mut R,
+    length: u64,
+    rest: Rest,
+    first: Stage,
+) -> Result<Damage, LookError>
+    requires sound { IsSoundStage first }
+    requires length { WhereTells R.tells (IsLengthOf length (R.state source.old).contents) }
+    requires at { WhereTells R.tells
+        (IsAtStage (may_be_chunks rest) (R.state source.old).contents first) }
+    ensures sound { IfOk result IsSoundDamage }
+    ensures finds { WhereTells R.tells (MatchResult result
+        (λ damage. FindsDamage (may_be_chunks rest) (R.state source.old) damage (R.state source.new))
+        (λ error. IsNotLookedAt error (R.state source.old) (R.state source.new))) }
+{
+    let mut stage = first;
+    'parts: loop {
+        let look = Look {
+            length,
+            rest,
+            stage,
+        };
+        let mut buf = [0; 40];
+        let asked = look.count();
+        let count = match source.part_at(look.place(), &mut buf[..asked]) {
+            Ok(count) => count,
+            Err(error) => return Err(LookError::Failed(error)),
+        };
+        match take_asked(look, &buf[..count]) {
+            Ok(LookStep::Next(next)) => stage = next,
+            Ok(LookStep::Found(damage)) => return Ok(damage),
+            Err(why) => return Err(LookError::Refused(why)),
+        }
+    }
+}
+
+/// Looks at a file from its beginning.
+pub(crate) fn look_by_parts<R: ReadAt>(source: &mut R, rest: Rest) -> Result<Damage, LookError>
+    ensures sound { IfOk result IsSoundDamage }
+    ensures finds { WhereTells R.tells (MatchResult result
+        (λ damage. FindsDamage (may_be_chunks rest) (R.state source.old) damage (R.state source.new))
+        (λ error. IsNotLookedAt error (R.state source.old) (R.state source.new))) }
+{
+    let length = match source.held_from(0) {
+        Ok(length) => length,
+        Err(error) => return Err(LookError::Failed(error)),
+    };
+    let walk = HeadWalk {
+        found: None,
+        taken: 0,
+        part: Part::Front,
+    };
+    look_on(source, length, rest, Stage::Head(walk))
+}
+
+/// The error that callers get.
+pub(crate) fn error_for(error: LookError) -> Error
+    ensures names { Tells error result }
+    ensures told { IsMediumError result }
+{
+    match error {
+        LookError::Failed(error) => Error::IoError(error),
+        LookError::Refused(Refusal::Head(cause)) => error_of(HeadError::Refused(cause)),
+        LookError::Refused(Refusal::Unsupported) => Error::Unsupported,
+        LookError::Refused(Refusal::TooLong) => Error::TooLong,
+    }
+}
+
+impl Damage {
+    /// The effect with this number, from 0, of those that mend the file; none after the last.
+    pub fn effect(&self, number: u32) -> Option<Effect>
+        requires { IsSoundDamage self.now }
+        ensures is { result ≡ nth (mending self.now) number }
+        ensures few { IfSome result (λ _. number ≤ 6) }
+    {
+        if self.state != RepairState::CutOff {
+            return None;
+        }
+        let start = self.head.data_start;
+        match number {
+            0 => Some(Effect::Sync),
+            1 => Some(Effect::Size(start - 4, self.sizes.data_length)),
+            2 => Some(Effect::Sync),
+            _ => self.effect_after(number - 3),
+        }
+    }
+
+    // The same, once the data length is synced.
+    fn effect_after(&self, number: u32) -> Option<Effect>
+        requires { IsSoundDamage self.now }
+        ensures is { result ≡ nth (mending_rest self.now.head.data_start self.now.sizes.data_length self.now.held) number }
+        ensures few { IfSome result (λ _. number ≤ 3) }
+    {
+        if !self.lacks_pad() {
+            return self.last_effect(number);
+        }
+        match number {
+            0 => Some(Effect::Pad(self.head.data_start + self.held)),
+            1 => Some(Effect::Sync),
+            _ => self.last_effect(number - 2),
+        }
+    }
+
+    // The same, once no pad byte is missing.
+    fn last_effect(&self, number: u32) -> Option<Effect>
+        requires { IsSoundDamage self.now }
+        ensures is { result ≡ nth (mending_end self.now.head.data_start self.now.sizes.data_length) number }
+        ensures few { IfSome result (λ _. number ≤ 1) }
+    {
+        match number {
+            0 => Some(Effect::Size(4, self.sizes.riff_size)),
+            1 => Some(Effect::Sync),
+            _ => None,
+        }
+    }
+}
+
+// Writes bytes at a place.
+fn write_at<M: Medium>(medium: &mut M, place: u64, bytes: &[u8]) -> io::Result<()>
+    ensures { WhereTells M.tells (PutsAt M.keeps place bytes.now result (M.state medium.old)
+        (M.state medium.new)) }
+{
+    medium.go(place)?;
+    put_all(medium, bytes)
+}
+
+// Performs an effect.
+fn perform<M: Medium>(medium: &mut M, effect: Effect) -> io::Result<()>
+    ensures { WhereTells M.tells
+        (PerformsOn M.keeps effect result (M.state medium.old) (M.state medium.new)) }
+{
+    match effect {
+        Effect::Sync => medium.flush(),
+        Effect::Pad(place) => write_at(medium, place, &[0]),
+        Effect::Size(place, size) => write_at(medium, place, &le_u32(size)),
+    }
+}
+
+// Performs the effects that mend a file, up to one that fails.
+fn perform_all<M: Medium>(medium: &mut M, damage: Damage) -> io::Result<()>
+    requires { IsSoundDamage damage }
+    ensures { WhereTells M.tells
+        (PerformedOn M.keeps (mending damage) result (M.state medium.old) (M.state medium.new)) }
+{
+    let mut number = 0;
+    while let Some(effect) = damage.effect(number) {
+        match perform(medium, effect) {
+            Ok(()) => number += 1,
+            Err(error) => return Err(error),
+        }
+    }
+    Ok(())
+}
+
+/// Repairs a file by the machine.
+pub(crate) fn repair_by_effects<M: Source + Medium>(
+    medium: M,
+    rest: Rest,
+) -> Result<(M, Repair), (M, Error)>
+    ensures sound { IfOk result (λ done. IsSoundSpec done.1.spec_ex) }
+    ensures told { IfErr result (λ refused. IsMediumError refused.1) }
+    ensures repaired { WhereTells M.tells (RepairsMedium (may_be_chunks rest) M.state medium result) }
+    ensures moments { WhereKeeps M.tells M.keeps (MendsMedium (may_be_chunks rest) M.state medium result) }
+{
+    let mut medium = medium;
+    let damage = match look_by_parts(&mut medium, rest) {
+        Ok(damage) => damage,
+        Err(error) => return Err((medium, error_for(error))),
+    };
+    match perform_all(&mut medium, damage) {
+        Ok(()) => Ok((medium, damage.repair())),
+        Err(error) => Err((medium, Error::IoError(error))),
+    }
+}

@@ -1,0 +1,52 @@
+use Rattle.std.proofs.lemmas.Grind.{common_steps}
+use Rattle.std.proofs.Common.{◌≡◌, Err, Ok, refl, sym, subst, ap, ◌∙◌, arith, rules}
+use Rattle.hound_repair.specs.{StaysAt}
+use Rattle.hound_repair.specs.declared.steps.RepairError.TheVariants.{Failed, Refused}
+use Rattle.hound_repair.specs.declared.steps.RepairStep.TheVariants.{Asks, Found}
+use Rattle.hound_slices.proofs.Stepped.{gives_for, step_is}
+use Rattle.hound_slices.proofs.repairer.step_repairer.Goals as goal
+
+pub returns-in-Ok-Asks-clause-steps : goal.returns-in-Ok-Asks-clause-steps
+returns-in-Ok-Asks-clause-steps c = record {
+  step = c.repair_next-step.result;
+  next = step_is _ _ _ _ _ _ _ _ _ _ _ _ c.task_of-task.ensures (grind (arith, common_steps)) c.report_of.ensures
+      c.repairing_of-state.ensures.is (sym c.repairer_for_c.ensures.is) c.repair_next-step.ensures.next;
+  gives = gives_for _ _ _ _ _ _ _ (let is : c.repair_next-step.result ≡ Ok (Asks c.in-Ok-Asks.action) = search rules in is) (refl, c.effect_for_c.ensures, refl);
+  length = c.repairer_for_c.ensures.length;
+  mode = c.repairer_for_c.ensures.mode;
+}
+
+pub returns-in-Ok-Found-clause-steps : goal.returns-in-Ok-Found-clause-steps
+returns-in-Ok-Found-clause-steps c = record {
+  step = c.repair_next-step.result;
+  next = step_is _ _ _ _ _ _ _ _ _ _ _ _ c.task_of-task.ensures (grind (arith, common_steps)) c.report_of.ensures
+      c.repairing_of-state.ensures.is (sym c.repairer_for_c-next.ensures.is) c.repair_next-step.ensures.next;
+  gives = gives_for _ _ _ _ _ _ _ (let is : c.repair_next-step.result ≡ Ok (Found c.in-Ok-Found.repair) = search rules in is)
+      (refl, c.effect_for_c-in-Ok-Found.ensures, c.repair_for_c.ensures.reported, c.repair_for_c.ensures.start, c.repair_for_c.ensures.counted, c.repair_for_c.ensures.length);
+  length = c.repairer_for_c-next.ensures.length;
+  mode = c.repairer_for_c-next.ensures.mode;
+}
+
+pub returns-in-Err-Failed-clause-steps : goal.returns-in-Err-Failed-clause-steps
+returns-in-Err-Failed-clause-steps c = record {
+  step = c.repair_next-step.result;
+  next = step_is _ _ _ _ _ _ _ _ _ _ _ _ c.task_of-task.ensures (grind (arith, common_steps)) c.report_of.ensures
+      c.repairing_of-state.ensures.is (sym c.repairer_for_c-in-Err-Failed.ensures.is) c.repair_next-step.ensures.next;
+  gives = gives_for _ _ _ _ _ _ _ (let is : c.repair_next-step.result ≡ Err (Failed c.in-Err-Failed.failure) = search rules in is)
+      (ap Err c.fault_of-in-Err-Failed.ensures, c.effect_for_c-in-Err-Failed.ensures, refl);
+  length = c.repairer_for_c-in-Err-Failed.ensures.length;
+  mode = c.repairer_for_c-in-Err-Failed.ensures.mode;
+}
+
+pub returns-in-Err-Refused-clause-steps : goal.returns-in-Err-Refused-clause-steps
+returns-in-Err-Refused-clause-steps c =
+    let is : c.repair_next-step.result ≡ Err (Refused c.in-Err-Refused.why) = search rules in
+    let stays = subst (λ r. StaysAt r c.repairing_of-state.result c.repair_next-step.new.state) is c.repair_next-step.ensures.stays in
+    record {
+      step = c.repair_next-step.result;
+      next = step_is _ _ _ _ _ _ _ _ _ _ _ _ c.task_of-task.ensures (grind (arith, common_steps)) c.report_of.ensures
+          c.repairing_of-state.ensures.is (stays ∙ c.repairing_of-state.ensures.is) c.repair_next-step.ensures.next;
+      gives = gives_for _ _ _ _ _ _ _ is (ap Err c.fault_of.ensures, refl, refl);
+      length = refl;
+      mode = refl;
+    }

@@ -1,0 +1,74 @@
+// What a machine asks its caller to do, as C has it, and how that ended.
+ghost use Rattle.std.specs.Prelude.{◌≡◌, ◌++◌, replicate};
+ghost use Rattle.hound_slices.specs.Effects.{effect_of, effect_with, report_of};
+
+use hound_number::le_u32;
+use hound_writer::{Action, Effect, Report};
+
+/// What a caller does to its file, and how that ended.
+#[repr(C)]
+#[derive(Clone, Copy)]
+pub struct HoundEffect {
+    pub place: u64,
+    pub length: u32,
+    pub kind: u16,
+    pub report: u16,
+    pub bytes: [u8; 40],
+}
+
+// Four bytes, and zeros after them.
+fn padded(bytes: [u8; 4]) -> [u8; 40]
+    ensures { result ≡ bytes ++ replicate 36 0 }
+{
+    let mut padded = [0; 40];
+    padded[0] = bytes[0];
+    padded[1] = bytes[1];
+    padded[2] = bytes[2];
+    padded[3] = bytes[3];
+    padded
+}
+
+// An effect that writes no bytes of its own.
+fn without_bytes(kind: u16, place: u64, length: u32) -> HoundEffect
+    ensures { result ≡ effect_with kind place length (replicate 40 0) }
+{
+    HoundEffect {
+        place,
+        length,
+        kind,
+        report: 0,
+        bytes: [0; 40],
+    }
+}
+
+/// What is requested, as C has it.
+pub fn effect_for_c(action: Option<Action>) -> HoundEffect
+    ensures { result ≡ effect_of action }
+{
+    match action {
+        None => without_bytes(0, 0, 0),
+        Some(Action::Read(place, length)) => without_bytes(1, place, length),
+        Some(Action::Perform(Effect::Pad(place))) => without_bytes(2, place, 1),
+        Some(Action::Perform(Effect::Size(place, size))) => HoundEffect {
+            bytes: padded(le_u32(size)),
+            ..without_bytes(2, place, 4)
+        },
+        Some(Action::WriteBlock(place, length)) => without_bytes(3, place, length),
+        Some(Action::Perform(Effect::Sync)) => without_bytes(4, 0, 0),
+        Some(Action::Cut(place)) => without_bytes(5, place, 0),
+    }
+}
+
+/// How what was requested has ended.
+pub fn report_of(effect: HoundEffect) -> Report
+    ensures { result ≡ report_of effect }
+{
+    if effect.kind == 0 {
+        return Report::Pending;
+    }
+    match effect.report {
+        1 => Report::Done,
+        2 => Report::Failed,
+        _ => Report::Pending,
+    }
+}

@@ -1,0 +1,341 @@
+// The repair of a caller who reads and writes the file.
+ghost use Rattle.std.specs.Prelude.{◌≡◌, ◌<◌, ◌≤◌, Some, IfSome, IfOk};
+ghost use Rattle.hound_walk.specs.{IsSoundOption};
+ghost use Rattle.hound_repair.specs.{IsSoundHead, IsSoundRepairing, IsSoundStage};
+ghost use Rattle.hound_repair.specs.declared.steps.Repairing.TheVariants as states;
+ghost use Rattle.hound_repair.specs.declared.steps.Stage.TheVariants as stages;
+ghost use Rattle.hound_slices.specs.Repairers.{BeginsRepairer, StepsRepairer, after_head, count_of, failure_of_code, fault_of, head_of, repairing_of, state_of_code, task_of};
+
+use crate::effect::{HoundEffect, effect_for_c, report_of};
+use crate::fault::Fault;
+use crate::repairing::{repair_for_c, state_code};
+use crate::spec::{HoundRepair, HoundSpec};
+use crate::walking::{found_for_c, found_of};
+use hound_repair::{
+    Failure, Look, Refusal, RepairError, RepairState, RepairStep, Repairing, SeenHead, Stage, Task,
+    repair_next, seen_head,
+};
+use hound_walk::{FileHead, HeadWalk, Part};
+use hound_writer::RecorderError;
+
+/// A repairer of a file that the caller reads and writes.
+#[repr(C)]
+#[derive(Clone, Copy)]
+pub struct HoundRepairer {
+    pub effect: HoundEffect,
+    pub length: u64,
+    pub place: u64,
+    pub data_start: u64,
+    pub spec: HoundSpec,
+    pub data_length: u32,
+    pub taken: u32,
+    pub part: u32,
+    pub fmt_length: u32,
+    pub number: u32,
+    pub mode: u32,
+    pub unused: u32,
+}
+
+// What the caller requests, by its number.
+fn task_of(mode: u32) -> Task
+    ensures { result ≡ task_of mode }
+{
+    match mode {
+        1 => Task::Repair,
+        2 => Task::RepairToEnd,
+        _ => Task::FindDamage,
+    }
+}
+
+// How a file was found, by its number.
+fn state_of_code(number: u32) -> RepairState
+    ensures { result ≡ state_of_code number }
+{
+    match number {
+        0 => RepairState::Whole,
+        1 => RepairState::CutOff,
+        _ => RepairState::HasChunksAfterData,
+    }
+}
+
+// What failed, by its number.
+fn failure_of_code(number: u32) -> Failure
+    ensures { result ≡ failure_of_code number }
+{
+    match number {
+        0 => Failure::Sync,
+        _ => Failure::Call,
+    }
+}
+
+// The number of what failed.
+fn code_of_failure(failure: Failure) -> u32
+    ensures { failure_of_code result ≡ failure }
+{
+    match failure {
+        Failure::Sync => 0,
+        Failure::Call => 1,
+    }
+}
+
+// The head that was found, if C's is one of a file.
+fn head_of(c: HoundRepairer) -> Option<SeenHead>
+    ensures is { result ≡ head_of c }
+    ensures sound { IfSome result IsSoundHead }
+{
+    let spec_ex = match found_of(c.spec) {
+        None => return None,
+        Some(spec_ex) => spec_ex,
+    };
+    if c.data_start < 20 {
+        return None;
+    }
+    if c.data_start > 20 + u32::MAX as u64 {
+        return None;
+    }
+    Some(SeenHead {
+        spec_ex,
+        data_length: c.data_length,
+        data_start: c.data_start,
+        has_more: c.taken == 1,
+    })
+}
+
+// The head of the file alone.
+fn file_head(head: SeenHead) -> FileHead
+    ensures spec { result.spec_ex ≡ head.spec_ex }
+    ensures counted { result.data_length ≡ head.data_length }
+    ensures start { result.data_start ≡ head.data_start }
+{
+    FileHead {
+        spec_ex: head.spec_ex,
+        data_length: head.data_length,
+        data_start: head.data_start,
+    }
+}
+
+// Where a repairer is that has found the head.
+fn after_head(c: HoundRepairer, head: SeenHead) -> Repairing
+    requires { IsSoundHead head }
+    ensures is { result ≡ after_head c head }
+    ensures sound { IsSoundRepairing result }
+{
+    match c.part {
+        4 => Repairing::Looks(Stage::Last(file_head(head))),
+        5 => Repairing::Looks(Stage::Size(head)),
+        6 => Repairing::Looks(Stage::Chunk(head, c.place, true)),
+        7 => Repairing::Looks(Stage::Chunk(head, c.place, false)),
+        8 => Repairing::Looks(Stage::Tag(head)),
+        9 => Repairing::Mends(head, c.number),
+        _ => Repairing::Found(head, state_of_code(c.number)),
+    }
+}
+
+// The part of the header that C's repairer asks for.
+fn walk_of(c: HoundRepairer) -> HeadWalk
+    requires { c.part < 4 }
+    ensures is { repairing_of c ≡ states.Looks (stages.Head result) }
+    ensures sound { IsSoundOption result.found }
+{
+    HeadWalk {
+        found: found_of(c.spec),
+        taken: c.taken,
+        part: match c.part {
+            0 => Part::Front,
+            1 => Part::Header,
+            2 => Part::Last,
+            _ => Part::Fmt(c.fmt_length),
+        },
+    }
+}
+
+// The repair that C's is.
+fn repairing_of(c: HoundRepairer) -> Repairing
+    ensures is { result ≡ repairing_of c }
+    ensures sound { IsSoundRepairing result }
+{
+    if c.part < 4 {
+        return Repairing::Looks(Stage::Head(walk_of(c)));
+    }
+    if c.part == 11 {
+        return Repairing::Failed(failure_of_code(c.number));
+    }
+    match head_of(c) {
+        None => Repairing::Failed(Failure::Call),
+        Some(head) => after_head(c, head),
+    }
+}
+
+// C's form of a repair that has found a head, with these numbers.
+fn with_head(c: HoundRepairer, head: SeenHead, part: u32, place: u64, number: u32) -> HoundRepairer
+    requires { IsSoundHead head }
+    ensures head { head_of result ≡ Some head }
+    ensures part { result.part ≡ part }
+    ensures place { result.place ≡ place }
+    ensures number { result.number ≡ number }
+    ensures length { result.length ≡ c.length }
+    ensures mode { result.mode ≡ c.mode }
+    ensures effect { result.effect ≡ c.effect }
+{
+    HoundRepairer {
+        place,
+        data_start: head.data_start,
+        spec: found_for_c(Some(head.spec_ex)),
+        data_length: head.data_length,
+        taken: if head.has_more { 1 } else { 0 },
+        part,
+        number,
+        ..c
+    }
+}
+
+// C's form of a look, with the length and the task of this one.
+fn stage_for_c(c: HoundRepairer, stage: Stage) -> HoundRepairer
+    requires { IsSoundStage stage }
+    ensures is { repairing_of result ≡ states.Looks stage }
+    ensures length { result.length ≡ c.length }
+    ensures mode { result.mode ≡ c.mode }
+    ensures effect { result.effect ≡ c.effect }
+{
+    match stage {
+        Stage::Head(walk) => {
+            let (part, fmt_length) = match walk.part {
+                Part::Front => (0, 0),
+                Part::Header => (1, 0),
+                Part::Last => (2, 0),
+                Part::Fmt(length) => (3, length),
+            };
+            HoundRepairer {
+                spec: found_for_c(walk.found),
+                taken: walk.taken,
+                part,
+                fmt_length,
+                ..c
+            }
+        }
+        Stage::Last(head) => with_head(c, seen_head(head, false), 4, 0, 0),
+        Stage::Size(head) => with_head(c, head, 5, 0, 0),
+        Stage::Chunk(head, place, padded) => {
+            with_head(c, head, if padded { 6 } else { 7 }, place, 0)
+        }
+        Stage::Tag(head) => with_head(c, head, 8, 0, 0),
+    }
+}
+
+// C's form of a repair, with the length and the task of this one.
+fn repairer_for_c(c: HoundRepairer, state: Repairing) -> HoundRepairer
+    requires { IsSoundRepairing state }
+    ensures is { repairing_of result ≡ state }
+    ensures length { result.length ≡ c.length }
+    ensures mode { result.mode ≡ c.mode }
+    ensures effect { result.effect ≡ c.effect }
+{
+    match state {
+        Repairing::Looks(stage) => stage_for_c(c, stage),
+        Repairing::Mends(head, number) => with_head(c, head, 9, 0, number),
+        Repairing::Found(head, found) => with_head(c, head, 10, 0, state_code(found)),
+        Repairing::Failed(failure) => HoundRepairer {
+            part: 11,
+            number: code_of_failure(failure),
+            ..c
+        },
+    }
+}
+
+// How many bytes a repairer has asked for.
+fn count_of(state: Repairing, length: u64, task: Task) -> usize
+    ensures { result ≡ count_of state }
+{
+    match state {
+        Repairing::Looks(stage) => Look {
+            length,
+            rest: task.rest(),
+            stage,
+        }
+        .count(),
+        _ => 0,
+    }
+}
+
+// The fault of an error.
+fn fault_of(error: RepairError) -> Fault
+    ensures { result ≡ fault_of error }
+{
+    match error {
+        RepairError::Refused(Refusal::Head(cause)) => Fault::Head(cause),
+        RepairError::Refused(Refusal::Unsupported) => Fault::NotWritable,
+        RepairError::Refused(Refusal::TooLong) => Fault::TooLong,
+        RepairError::Failed(Failure::Sync) => Fault::Recorder(RecorderError::SyncFailed),
+        RepairError::Failed(Failure::Call) => Fault::NotPerformed,
+    }
+}
+
+/// A repairer of a file of so many bytes.
+pub fn begin_repairer(length: u64, mode: u32) -> HoundRepairer
+    ensures { BeginsRepairer length mode result }
+{
+    HoundRepairer {
+        effect: effect_for_c(None),
+        length,
+        place: 0,
+        data_start: 0,
+        spec: found_for_c(None),
+        data_length: 0,
+        taken: 0,
+        part: 0,
+        fmt_length: 0,
+        number: 0,
+        mode,
+        unused: 0,
+    }
+}
+
+/// Takes what an effect was reported as: 1 if an effect is requested, 0 if all is done.
+pub fn step_repairer(repairer: &mut HoundRepairer, found: &mut HoundRepair) -> Result<usize, Fault>
+    ensures steps { StepsRepairer repairer.old repairer.new found.old found.new result }
+    ensures few { IfOk result (λ n. n ≤ 1) }
+{
+    let c = *repairer;
+    let task = task_of(c.mode);
+    let mut state = repairing_of(c);
+    let asked = count_of(state, c.length, task);
+    let read = (c.effect.length.min(40) as usize).min(asked);
+    let step = repair_next(
+        &mut state,
+        c.length,
+        task,
+        &c.effect.bytes[..read],
+        report_of(c.effect),
+    );
+    match step {
+        Ok(RepairStep::Asks(action)) => {
+            *repairer = HoundRepairer {
+                effect: effect_for_c(Some(action)),
+                ..repairer_for_c(c, state)
+            };
+            Ok(1)
+        }
+        Ok(RepairStep::Found(repair)) => {
+            let next = repairer_for_c(c, state);
+            let head = FileHead {
+                spec_ex: repair.spec_ex,
+                data_length: next.data_length,
+                data_start: next.data_start,
+            };
+            *found = repair_for_c(repair, head, c.length);
+            *repairer = HoundRepairer {
+                effect: effect_for_c(None),
+                ..next
+            };
+            Ok(0)
+        }
+        Err(RepairError::Refused(why)) => Err(fault_of(RepairError::Refused(why))),
+        Err(RepairError::Failed(failure)) => {
+            *repairer = HoundRepairer {
+                effect: effect_for_c(None),
+                ..repairer_for_c(c, state)
+            };
+            Err(fault_of(RepairError::Failed(failure)))
+        }
+    }
+}

@@ -1,0 +1,25 @@
+use Rattle.std.proofs.Common.{ℕ, Err, arith, refl}
+use Rattle.hound_writer.specs.Machine.{TakesBlock, saved_of}
+use Rattle.hound_writer.specs.Recorder.{Places}
+use Rattle.hound_writer.specs.declared.recorder.Recorder.{Recorder}
+use Rattle.hound_writer.specs.declared.recorder.RecorderError.{RecorderError}
+use Rattle.hound_writer.specs.declared.recorder.RecorderError.TheVariants.{NotWritable, UnfinishedFrame, TooLong, Truncated, CutOff, HasChunksAfterData, NeedsCheckpoint, SyncFailed}
+use Rattle.hound_writer.proofs.recorder.Recorder.write.Goals as goal
+
+no_room : (samples : ℕ) (end : Recorder) (error : RecorderError) → Places (saved_of end) samples (Err error)
+    → TakesBlock samples end end (Err error)
+no_room samples end SyncFailed high = absurd (omega (arith, high))
+no_room samples end UnfinishedFrame (clean, none, never) = absurd never
+no_room samples end NotWritable is = (refl, is)
+no_room samples end TooLong is = (refl, is)
+no_room samples end Truncated is = (refl, is)
+no_room samples end CutOff is = (refl, is)
+no_room samples end HasChunksAfterData is = (refl, is)
+no_room samples end NeedsCheckpoint is = (refl, is)
+
+pub returns-in-Err : goal.returns-in-Err
+returns-in-Err c = (
+  c.give_up.new.self,
+  (c.settle.new.self, c.settle.result, c.settle.ensures, c.give_up.ensures),
+  no_room c.args.samples c.give_up.new.self c.in-Err.error c.in-Err.ensures,
+)

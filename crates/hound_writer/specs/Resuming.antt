@@ -1,0 +1,61 @@
+-- A file that was found, and is recorded further.
+use Rattle.std.specs.Prelude.{◌≡◌, ℕ, ◌+◌, ◌*◌, ◌%◌, ◌<◌, ◌≤◌, ◌==◌, ◌&&◌, ◌||◌, not, nat_le, nat_lt, if◌then◌else◌, Bool, Result, Ok, Err}
+use Rattle.hound_writer.specs.Recorder.{AppendsRecorder, recorder_of}
+use Rattle.hound_writer.specs.declared.recorder.Recorder.{Recorder}
+use Rattle.hound_writer.specs.declared.recorder.RecorderError.{RecorderError}
+use Rattle.hound_writer.specs.declared.recorder.RecorderError.TheVariants.{CutOff, HasChunksAfterData, Truncated}
+use Rattle.hound_writer.specs.declared.resuming.FileState.{FileState}
+use Rattle.hound_writer.specs.declared.resuming.FileState.TheVariants.{Whole, CutOff as WasCutOff, HasChunksAfterData as HasChunks}
+use Rattle.hound_writer.specs.declared.resuming.FoundFile.{FoundFile}
+
+-- how many bytes a frame of the file has
+abbrev pub found_frame : FoundFile → ℕ
+found_frame f = f.spec_ex.spec.channels * f.spec_ex.bytes_per_sample
+
+-- the file ends with the whole frames that its header counts, or with a pad byte after them, and holds no
+-- other frame: a sample of one byte may be where the pad byte would
+abbrev pub ends_whole : FoundFile → Bool
+ends_whole f = nat_lt 0 (found_frame f) && ((f.data_length % found_frame f == 0)
+    && (nat_le (f.frames * found_frame f) f.data_length
+    && nat_le f.length (f.data_start + f.data_length + f.data_length % 2)))
+
+-- how many bytes of data are kept of a file that continues after those that its header counts
+abbrev pub kept_as : FileState → FoundFile → Bool → Bool → Result ℕ RecorderError
+kept_as Whole f mends overwrites = Ok f.data_length
+kept_as WasCutOff f mends overwrites = if mends then Ok (f.frames * found_frame f) else Err CutOff
+kept_as HasChunks f mends overwrites = if overwrites then Ok f.data_length else Err HasChunksAfterData
+
+-- how many bytes of data are kept: those that the header counts, or of a recording that is mended all
+-- whole frames that the file holds
+abbrev pub kept_length : FoundFile → Bool → Bool → Result ℕ RecorderError
+kept_length f mends overwrites =
+    if nat_lt f.length (f.data_start + f.data_length) then Err Truncated
+    else if ends_whole f then Ok f.data_length else kept_as f.state f mends overwrites
+
+-- whether more than a pad byte follows n bytes of data
+abbrev pub rest_follows : FoundFile → ℕ → Bool
+rest_follows f n = nat_lt (f.data_start + n + n % 2) f.length
+
+-- the recorder that keeps n bytes of data: what follows them is cut off, and a checkpoint comes first if the
+-- header counts others or something is cut off
+abbrev pub resumed_recorder : FoundFile → ℕ → Recorder
+resumed_recorder f n = record (recorder_of f.spec_ex f.data_start n) {
+  has_rest = if rest_follows f n then 1 else 0;
+  condition = if rest_follows f n || not (n == f.data_length) then 1 else 0;
+}
+
+-- what it is to append after n bytes of data, which the file holds
+abbrev pub ContinuesAfter : FoundFile → ℕ → Result Recorder RecorderError → Type 0
+ContinuesAfter f n (Ok r) = AppendsRecorder f.spec_ex f.data_start n (Ok (recorder_of f.spec_ex f.data_start n))
+    × (f.data_start + n ≤ f.length) × (r ≡ resumed_recorder f n)
+ContinuesAfter f n (Err Truncated) = f.length < f.data_start + n
+ContinuesAfter f n (Err error) = AppendsRecorder f.spec_ex f.data_start n (Err error)
+
+-- what the call for a file that was found does, if so many bytes of data are kept
+abbrev pub ResumesAfter : FoundFile → Result ℕ RecorderError → Result Recorder RecorderError → Type 0
+ResumesAfter f (Ok n) result = ContinuesAfter f n result
+ResumesAfter f (Err error) result = result ≡ Err error
+
+-- what the call for a file that was found does
+abbrev pub Resumes : FoundFile → Bool → Bool → Result Recorder RecorderError → Type 0
+Resumes f mends overwrites result = ResumesAfter f (kept_length f mends overwrites) result

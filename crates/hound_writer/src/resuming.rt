@@ -1,0 +1,122 @@
+// A file that was found, and is recorded further.
+ghost use Rattle.std.specs.Prelude.{◌≡◌, ◌*◌};
+ghost use Rattle.hound_writer.specs.Resuming.{ContinuesAfter, Resumes, ends_whole, kept_length};
+
+use crate::recorder::{Recorder, RecorderError};
+use hound_spec::WavSpecEx;
+
+/// How a file was found.
+#[derive(Clone, Copy, Debug, PartialEq, Eq)]
+pub enum FileState {
+    /// Its sizes are right.
+    Whole,
+
+    /// Its recording was cut off.
+    CutOff,
+
+    /// Chunks or a tag follow the data.
+    HasChunksAfterData,
+}
+
+/// A file that was found, as a repair reports it.
+#[derive(Clone, Copy)]
+pub struct FoundFile {
+    /// The spec of its samples.
+    pub spec_ex: WavSpecEx,
+
+    /// The place of the first data byte.
+    pub data_start: u64,
+
+    /// How many bytes of data its header counts.
+    pub data_length: u32,
+
+    /// How many bytes the file has.
+    pub length: u64,
+
+    /// How many whole frames it holds.
+    pub frames: u32,
+
+    /// How it was found.
+    pub state: FileState,
+}
+
+impl FoundFile {
+    // How many bytes a frame has.
+    fn frame_length(&self) -> u32
+        ensures { result ≡ self.now.spec_ex.spec.channels * self.now.spec_ex.bytes_per_sample }
+    {
+        self.spec_ex.spec.channels as u32 * self.spec_ex.bytes_per_sample as u32
+    }
+
+    // Whether the file ends with the whole frames that its header counts, or with a pad byte after them, and
+    // not with another sample in its place.
+    fn ends_whole(&self) -> bool
+        ensures { result ≡ ends_whole self.now }
+    {
+        let frame = self.frame_length();
+        if frame == 0 || self.data_length % frame != 0 {
+            return false;
+        }
+        if self.frames as u64 * frame as u64 > self.data_length as u64 {
+            return false;
+        }
+        let padded = self.data_length as u64 + (self.data_length % 2) as u64;
+        self.length <= self.data_start || self.length - self.data_start <= padded
+    }
+
+    // How many bytes of data are kept.
+    fn kept_length(&self, mends: bool, overwrites: bool) -> Result<u64, RecorderError>
+        ensures { result ≡ kept_length self.now mends overwrites }
+    {
+        let counted = self.data_length as u64;
+        if self.length < self.data_start || self.length - self.data_start < counted {
+            return Err(RecorderError::Truncated);
+        }
+        if self.ends_whole() {
+            return Ok(counted);
+        }
+        match self.state {
+            FileState::Whole => Ok(counted),
+            FileState::CutOff if mends => Ok(self.frames as u64 * self.frame_length() as u64),
+            FileState::CutOff => Err(RecorderError::CutOff),
+            FileState::HasChunksAfterData if overwrites => Ok(counted),
+            FileState::HasChunksAfterData => Err(RecorderError::HasChunksAfterData),
+        }
+    }
+}
+
+impl Recorder {
+    // A recorder that appends to a file after so many bytes of data. What follows them is cut off, and
+    // then, or if the header counts others, a checkpoint comes first.
+    fn continue_after(found: FoundFile, data_length: u64) -> Result<Recorder, RecorderError>
+        ensures { ContinuesAfter found data_length result }
+    {
+        let mut recorder = Recorder::append(found.spec_ex, found.data_start, data_length)?;
+        let end = found.data_start + data_length;
+        if found.length < end {
+            return Err(RecorderError::Truncated);
+        }
+        if found.length > end + data_length % 2 {
+            recorder.has_rest = 1;
+            recorder.condition = 1;
+        }
+        if data_length != found.data_length as u64 {
+            recorder.condition = 1;
+        }
+        Ok(recorder)
+    }
+
+    /// A recorder that appends to a file that was found. What follows the samples that the header counts is
+    /// cut off, and never without leave: samples of a recording that was cut off are kept instead where `mends`
+    /// is true, and chunks are given up where `overwrites` is. It is an error if samples are missing.
+    pub fn resume(
+        found: FoundFile,
+        mends: bool,
+        overwrites: bool,
+    ) -> Result<Recorder, RecorderError>
+        ensures { Resumes found mends overwrites result }
+    {
+        let kept = found.kept_length(mends, overwrites)?;
+        Recorder::continue_after(found, kept)
+    }
+}
