@@ -19,17 +19,19 @@ static size_t take(uint8_t *out, size_t count) {
 
 static size_t least(uint64_t a, size_t b) { return a < b ? (size_t)a : b; }
 
+/* Reads the part of the input that a walk requests. What comes before it is read, too. */
+static void perform(hound_effect *effect) {
+    static uint8_t skipped[BLOCK];
+    while (taken < effect->place && take(skipped, least(effect->place - taken, sizeof skipped)) > 0) continue;
+    effect->length = taken < effect->place ? 0 : (uint32_t)take(effect->bytes, effect->length);
+    effect->report = ferror(stdin) ? HOUND_FAILED : HOUND_DONE;
+}
+
 /* Reads all that is before the data, and no byte more. */
 static int32_t find_data(hound_info_t *info) {
-    static uint8_t skipped[BLOCK];
     hound_walk walk = HOUND_WALK_BEGIN;
     int32_t code;
-    do {
-        uint8_t bytes[HOUND_WALK_BYTES];
-        while (taken < walk.place && take(skipped, least(walk.place - taken, sizeof skipped)) > 0) continue;
-        size_t got = taken < walk.place ? 0 : take(bytes, walk.length);
-        code = hound_walk_next(&walk, bytes, got, info);
-    } while (code == 1);
+    while ((code = hound_walk_next(&walk, info)) == 1) perform(&walk.effect);
     return code;
 }
 

@@ -20,11 +20,11 @@
      the call. Memory that is passed with const isn't written during the call, so a mapped file must
      not change or get shorter.
    - What is read is initialized: specs, samples, and a file up to its `length` or its `used` bytes.
-     What is only written needn't be: `out`, `info`, `found`, `effect`, a recorder that is begun, and a
-     file from `used` on.
+     What is only written needn't be: `out`, `info`, `found`, a repairer or a recorder that is begun, and
+     a file from `used` on.
 
-   After an error the caller's memory is as it was before the call; but hound_checkpoint_next notes in
-   the recorder that an effect failed. */
+   After an error the caller's memory is as it was before the call; but a recorder and a repairer remember
+   which effect failed. */
 #ifndef HOUND_H
 #define HOUND_H
 #include <stddef.h>
@@ -36,9 +36,9 @@ extern "C" {
 /* The version of this interface, and of the library and the packages with it. It isn't that of the
    Rust crate hound, which the library is a port of: 3.5.1. */
 #define HOUND_VERSION_MAJOR 0
-#define HOUND_VERSION_MINOR 1
+#define HOUND_VERSION_MINOR 2
 #define HOUND_VERSION_PATCH 0
-#define HOUND_VERSION "0.1.0"
+#define HOUND_VERSION "0.2.0"
 
 /* No pointer that is passed is NULL. */
 #ifdef __GNUC__
@@ -83,10 +83,13 @@ enum {
     HOUND_DATA_LENGTH = -25,
     HOUND_FRAME_LENGTH = -26,
     /* What happened to the file of a recorder. */
-    HOUND_NEEDS_CHECKPOINT = -27, /* a write failed, or a checkpoint isn't done: one has to be, before samples
-                                     are written */
-    HOUND_SYNC_FAILED = -28       /* a sync failed, after which it is unknown what is stored: the recorder has
-                                     ended, and the file has the samples of the last checkpoint */
+    HOUND_NEEDS_CHECKPOINT = -27, /* a block or a checkpoint of the recorder failed: the next request begins with
+                                     a checkpoint */
+    HOUND_SYNC_FAILED = -28,      /* a sync failed, after which it is unknown what is stored: the recorder or
+                                     the repairer has ended. A recording has the samples of its last checkpoint */
+    HOUND_IS_CUT_OFF = -29,       /* the recording was cut off, and the recorder may not mend it */
+    HOUND_CHUNKS_FOLLOW = -30,    /* chunks or a tag follow the data, and the recorder may not overwrite them */
+    HOUND_NOT_PERFORMED = -31     /* an effect other than a sync was reported as failed */
 };
 
 /* The formats of samples. */
@@ -116,32 +119,64 @@ typedef struct {
 
 typedef struct {
     hound_spec spec;
-    uint32_t frames;    /* how many whole frames the file holds */
-    uint32_t left_over; /* how many bytes of a torn frame follow them */
-    uint32_t state;     /* HOUND_WHOLE, HOUND_CUT_OFF or HOUND_HAS_CHUNKS_AFTER_DATA */
+    uint32_t frames;      /* how many whole frames the file holds */
+    uint32_t left_over;   /* how many bytes of a torn frame follow them */
+    uint32_t state;       /* HOUND_WHOLE, HOUND_CUT_OFF or HOUND_HAS_CHUNKS_AFTER_DATA */
+    uint64_t data_start;  /* how many bytes are before the first sample */
+    uint64_t length;      /* how many bytes the file had */
+    uint32_t data_length; /* how many bytes of samples its header counted */
+    uint32_t unused;
 } hound_repair_t;
 
 /* Finds what is before the data. Returns 0 or an error, and looks at no byte of the data. */
 int32_t hound_info(const uint8_t *file, size_t length, hound_info_t *info) HOUND_NONNULL;
 
-/* A walk to the data of a file that isn't in memory, or comes from a pipe. It asks for one part after
-   the other, and for nothing of a chunk that it skips but the last byte. It begins as
-   HOUND_WALK_BEGIN; `place` and `length` are for you, and the rest is for the next call. */
+/* Files that the caller reads and writes: by a walk, a repairer or a recorder. Each of them requests one effect
+   after the other, and the caller performs it and reports how it ended:
+
+     while ((code = hound_.._next(&machine, ..)) == 1) perform(&machine.effect);
+
+   `perform` does what `kind` says, and sets `report`. Without a report the next call requests the same effect
+   again: so a program that was interrupted, and doesn't know whether an effect was done, just goes on with its
+   loop. Only a sync that was begun and may have failed has to be reported as failed. See record.c and repair.c. */
+enum {
+    HOUND_NOTHING,     /* there is nothing to do */
+    HOUND_READ,        /* read `length` bytes at `place` into `bytes`. Where the file ends before that, set `length` to
+                          how many there were, and report the effect as done */
+    HOUND_WRITE,       /* write the first `length` of `bytes` at `place` */
+    HOUND_WRITE_BLOCK, /* write the caller's block, which has `length` bytes, at `place` */
+    HOUND_SYNC,        /* sync the file. If that only passes the bytes on to the system, the file has all that comes
+                          before it after a kill; only if it stores them, as fsync does, also after a loss of power */
+    HOUND_CUT          /* cut the file off at `place`, where it is longer than that */
+};
+
+/* How an effect ended. One of which a part isn't done has failed. */
+enum { HOUND_PENDING, HOUND_DONE, HOUND_FAILED };
+
+enum { HOUND_EFFECT_BYTES = 40 };
+
 typedef struct {
-    uint64_t place;  /* where in the file the bytes begin that are asked for */
-    hound_spec spec;
-    uint32_t length; /* how many they are: at most HOUND_WALK_BYTES */
-    uint32_t taken, part, fmt_length, unused;
+    uint64_t place;
+    uint32_t length;
+    uint16_t kind;
+    uint16_t report; /* the caller's: HOUND_DONE or HOUND_FAILED */
+    uint8_t bytes[HOUND_EFFECT_BYTES];
+} hound_effect;
+
+/* A walk to the data of a file that isn't in memory, or comes from a pipe. It begins as HOUND_WALK_BEGIN, and
+   requests one part after the other: no byte twice, none of the data, and of a chunk that it skips the last one. */
+typedef struct {
+    hound_effect effect;
+    hound_spec spec; /* the rest is for the calls */
+    uint32_t taken, part, fmt_length;
 } hound_walk;
 
-enum { HOUND_WALK_BYTES = 40 };
-#define HOUND_WALK_BEGIN {0, {0, 0, 0, 0, 0}, 12, 0, 0, 0, 0}
+#define HOUND_WALK_BEGIN {{0, 0, 0, 0, {0}}, {0, 0, 0, 0, 0}, 0, 0, 0}
 
-/* Takes the bytes that the walk asks for, fewer only where the file ends; bytes past `walk->length` are
-   ignored. Returns 1 if the walk asks for other bytes, which come after these; 0 if the data begin after
-   these, and then info is as hound_info has it; or the error that hound_info returns. So no byte of the
-   data is asked for, and none twice. */
-int32_t hound_walk_next(hound_walk *walk, const uint8_t *bytes, size_t length, hound_info_t *info) HOUND_NONNULL;
+/* Returns 1 for the next part; 0 if the data begin after the last one, and then info is as hound_info has it; or
+   the error that hound_info returns. Where a read was reported as failed it returns HOUND_NOT_PERFORMED, and the walk stays
+   as it is: with the report HOUND_PENDING that part is requested again. */
+int32_t hound_walk_next(hound_walk *walk, hound_info_t *info) HOUND_NONNULL;
 
 /* Reads samples from number `first` on, counted from 0, and returns how many: as many as fit, as the
    header counts and as the bytes hold. So 0 means the end, or that count is 0. HOUND_TRUNCATED means
@@ -155,7 +190,8 @@ int64_t hound_read_f32(const uint8_t *file, size_t length, uint64_t first, float
 int64_t hound_size(const hound_spec *spec, uint64_t samples) HOUND_NONNULL;
 
 /* Writes the header of the file of so many samples to the front of `out`, and returns its length, which
-   is 44 or 68. */
+   is at most HOUND_HEADER_BYTES. */
+enum { HOUND_HEADER_BYTES = 68 };
 int64_t hound_header(const hound_spec *spec, uint64_t samples, uint8_t *out, size_t capacity) HOUND_NONNULL;
 
 /* Writes the two sizes of the file of so many samples whose data begin at `data_start`: the RIFF size,
@@ -192,6 +228,31 @@ int64_t hound_repair_to_end(uint8_t *file, size_t capacity, size_t used, hound_r
    what hound_repair would, or the error that hound_repair returns, where that isn't HOUND_NO_ROOM. */
 int32_t hound_find_damage(const uint8_t *file, size_t length, hound_repair_t *found) HOUND_NONNULL;
 
+/* A repairer of a file that the caller reads and writes. It begins with the length of the file, and looks at few
+   parts of it: those that a walk looks at, the headers of chunks after the data, and the end. */
+typedef struct {
+    hound_effect effect;
+    uint64_t length, place, data_start; /* the rest is for the calls */
+    hound_spec spec;
+    uint32_t data_length, taken, part, fmt_length, number, mode, unused;
+} hound_repairer;
+
+enum {
+    HOUND_FIND_DAMAGE,  /* it only reads, and finds what HOUND_REPAIR would */
+    HOUND_REPAIR,       /* it repairs as hound_repair does */
+    HOUND_REPAIR_TO_END /* it repairs as hound_repair_to_end does */
+};
+
+/* Begins a repairer of a file of so many bytes. */
+void hound_repairer_begin(uint64_t length, uint32_t mode, hound_repairer *repairer) HOUND_NONNULL;
+
+/* Returns 1 for the next effect; 0 if all are done, and then `found` is what the file was; or an error of
+   hound_repair, or what an effect was reported as, which ends the repairer. What it writes are the sizes and a missing
+   pad byte, in the order in which a kill or a loss of power loses no sample and invents none, and a sync comes
+   between two writes: of all that there is, the data length, the pad byte, the RIFF size. After an error, or where
+   it was stopped, the file can be repaired by another repairer. */
+int32_t hound_repairer_next(hound_repairer *repairer, hound_repair_t *found) HOUND_NONNULL;
+
 /* Samples without a file around them: containers one after the other, as in the data of a file. They
    are for streams, and for a file whose header is too long to be walked over for each block.
    Decoding returns how many samples, as many as fit and as the bytes hold; encoding returns how many
@@ -223,48 +284,48 @@ int64_t hound_to_f32(const int32_t *samples, size_t count, uint16_t bits, float 
    that; a NaN is 0. Returns how many samples there are in all. */
 int64_t hound_from_f32(const float *samples, size_t count, uint16_t bits, int32_t *out, size_t capacity, uint64_t *clipped) HOUND_NONNULL;
 
-/* A recorder: what a program remembers of a file that it writes itself, block by block. It says where the
-   samples are written, and by which effects a checkpoint makes the header count them. Between checkpoints
-   the header counts those of the last one, and hound_repair finds the others that are there; where frames
-   have one byte it takes a pad byte that isn't counted yet for one.
-   A program begins one, and then, as often as it likes, writes a block and makes a checkpoint; see record.c. */
+/* A recorder of a file that the caller writes, block by block. It says where the samples are written, and by which
+   effects a checkpoint makes the header count them. Between checkpoints the header counts those of the last one, and
+   a repair finds the others that are there; where frames have one byte it takes a pad byte that isn't counted yet for
+   one.
+   A program begins a recorder, and then, as often as it likes, requests a block or a checkpoint, and performs all
+   effects until there is none. A block that failed is cut off, and the next request begins with a checkpoint. */
 typedef struct {
+    hound_effect effect;
     uint64_t data_start;  /* how many bytes are before the first sample */
     uint32_t data_length; /* how many bytes of samples are written */
     uint32_t number;      /* the rest is for the calls */
-    uint16_t bytes_per_sample, condition;
-    uint32_t unused;
+    uint32_t samples;
+    uint16_t bytes_per_sample, channels, condition, task, has_rest, unused;
 } hound_recorder;
 
-/* What a program does to its file: it writes `length` of `bytes` at `place`, or, if `length` is 0, syncs it.
-   A sync has to end before the next effect. If it only passes the bytes on to the system, the file has all of
-   a checkpoint after a kill; only if it stores them, as fsync does, also after a loss of power. */
-typedef struct {
-    uint64_t place;
-    uint32_t length;
-    uint8_t bytes[4];
-} hound_effect;
-
-/* Begin a recorder: of a new file, after its header, which hound_header gives for 0 samples; or of a file
-   whose `info` was found. That one continues after the samples that the header counts, which the file must
-   hold, and over what follows them, as hound_append_.. does. Return 0 or an error. */
+/* Begins a recorder of a new file, whose header the caller has written: hound_header gives it for 0 samples. Returns 0
+   or an error. */
 int32_t hound_recorder_begin(const hound_spec *spec, hound_recorder *recorder) HOUND_NONNULL;
-int32_t hound_recorder_append(const hound_info_t *info, hound_recorder *recorder) HOUND_NONNULL;
 
-/* Returns the place where the next so many samples are written, as hound_encode_.. gives them; blocks are whole
-   frames. A write that ends early is continued with its rest. */
-int64_t hound_recorder_place(const hound_recorder *recorder, uint64_t samples) HOUND_NONNULL;
+/* What a recorder of a file that exists may do. */
+enum {
+    HOUND_MEND = 1,     /* continue a recording that was cut off, after all whole frames that it holds */
+    HOUND_OVERWRITE = 2 /* continue after the samples that the header counts, and cut off chunks or a tag after them */
+};
 
-/* Reports how the write of so many samples at that place ended: `ok` is 0 if it failed, and then they don't
-   count, and a checkpoint has to come next. A part of them may be in the file, which hound_repair would take
-   for samples: cut the file off at that place. Returns 0, or the error that hound_recorder_place returns. */
-int32_t hound_recorder_wrote(hound_recorder *recorder, uint64_t samples, int32_t ok) HOUND_NONNULL;
+/* Begins a recorder of a file as a repairer of HOUND_FIND_DAMAGE found it; `allowed` is a sum of what it may do. A file
+   that ends with the samples that its header counts, or with their pad byte, needs neither. Where samples are missing
+   that the header counts it is HOUND_TRUNCATED. Returns 0 or an error. */
+int32_t hound_recorder_resume(const hound_repair_t *found, uint32_t allowed, hound_recorder *recorder) HOUND_NONNULL;
 
-/* Returns 1 for the next effect of a checkpoint, and 0 if it is done: then the header counts all samples. `ok`
-   is 0 if the last effect failed, and ignored for the first one. After a write that failed this returns
-   HOUND_NEEDS_CHECKPOINT, and the next call begins another checkpoint; after a sync that failed it returns
+/* Requests that a block of so many samples is written, as hound_encode_.. gives them: whole frames, which have
+   room. A block that is under way is given up, and one that wasn't reported may be in the file in part: it is cut
+   off. Returns 0 or an error, and then nothing is requested. */
+int32_t hound_recorder_write(hound_recorder *recorder, uint64_t samples) HOUND_NONNULL;
+
+/* Requests a checkpoint of all that is written. */
+void hound_recorder_checkpoint(hound_recorder *recorder) HOUND_NONNULL;
+
+/* Returns 1 for the next effect of what was requested, and 0 if all of it is done: after a checkpoint the header counts
+   all samples. After a block or an effect that failed it returns HOUND_NEEDS_CHECKPOINT; after a sync that failed
    HOUND_SYNC_FAILED, as each later call of the recorder does. */
-int32_t hound_checkpoint_next(hound_recorder *recorder, int32_t ok, hound_effect *effect) HOUND_NONNULL;
+int32_t hound_recorder_next(hound_recorder *recorder) HOUND_NONNULL;
 
 /* A sentence for an error, without its full stop. */
 static inline const char *hound_error_text(int64_t code) {
@@ -297,6 +358,9 @@ static inline const char *hound_error_text(int64_t code) {
     case HOUND_FRAME_LENGTH: return "invalid data chunk length";
     case HOUND_NEEDS_CHECKPOINT: return "a write failed or a checkpoint is not done, and no samples are written before one is";
     case HOUND_SYNC_FAILED: return "a sync failed, and it is unknown what is stored";
+    case HOUND_IS_CUT_OFF: return "the recording was cut off, and has to be repaired first";
+    case HOUND_CHUNKS_FOLLOW: return "chunks or a tag follow the data, and would be overwritten";
+    case HOUND_NOT_PERFORMED: return "the file could not be read or written";
     default: return code < 0 ? "unknown error" : "no error";
     }
 }
@@ -321,15 +385,26 @@ HOUND_ASSERT(sizeof(hound_spec) == 12 && offsetof(hound_spec, channels) == 4
              && offsetof(hound_spec, bytes_per_sample) == 8 && offsetof(hound_spec, sample_format) == 10);
 HOUND_ASSERT(sizeof(hound_info_t) == 24 && offsetof(hound_info_t, samples) == 12
              && offsetof(hound_info_t, data_start) == 16);
-HOUND_ASSERT(sizeof(hound_walk) == 40 && offsetof(hound_walk, spec) == 8 && offsetof(hound_walk, length) == 20
-             && offsetof(hound_walk, taken) == 24 && offsetof(hound_walk, part) == 28
-             && offsetof(hound_walk, fmt_length) == 32 && offsetof(hound_walk, unused) == 36);
-HOUND_ASSERT(sizeof(hound_repair_t) == 24 && offsetof(hound_repair_t, frames) == 12
-             && offsetof(hound_repair_t, left_over) == 16 && offsetof(hound_repair_t, state) == 20);
-HOUND_ASSERT(sizeof(hound_recorder) == 24 && offsetof(hound_recorder, data_length) == 8
-             && offsetof(hound_recorder, number) == 12 && offsetof(hound_recorder, bytes_per_sample) == 16
-             && offsetof(hound_recorder, condition) == 18 && offsetof(hound_recorder, unused) == 20);
-HOUND_ASSERT(sizeof(hound_effect) == 16 && offsetof(hound_effect, length) == 8 && offsetof(hound_effect, bytes) == 12);
+HOUND_ASSERT(sizeof(hound_repair_t) == 48 && offsetof(hound_repair_t, frames) == 12
+             && offsetof(hound_repair_t, left_over) == 16 && offsetof(hound_repair_t, state) == 20
+             && offsetof(hound_repair_t, data_start) == 24 && offsetof(hound_repair_t, length) == 32
+             && offsetof(hound_repair_t, data_length) == 40 && offsetof(hound_repair_t, unused) == 44);
+HOUND_ASSERT(sizeof(hound_effect) == 56 && offsetof(hound_effect, length) == 8 && offsetof(hound_effect, kind) == 12
+             && offsetof(hound_effect, report) == 14 && offsetof(hound_effect, bytes) == 16);
+HOUND_ASSERT(sizeof(hound_walk) == 80 && offsetof(hound_walk, spec) == 56 && offsetof(hound_walk, taken) == 68
+             && offsetof(hound_walk, part) == 72 && offsetof(hound_walk, fmt_length) == 76);
+HOUND_ASSERT(sizeof(hound_repairer) == 120 && offsetof(hound_repairer, length) == 56
+             && offsetof(hound_repairer, place) == 64 && offsetof(hound_repairer, data_start) == 72
+             && offsetof(hound_repairer, spec) == 80 && offsetof(hound_repairer, data_length) == 92
+             && offsetof(hound_repairer, taken) == 96 && offsetof(hound_repairer, part) == 100
+             && offsetof(hound_repairer, fmt_length) == 104 && offsetof(hound_repairer, number) == 108
+             && offsetof(hound_repairer, mode) == 112 && offsetof(hound_repairer, unused) == 116);
+HOUND_ASSERT(sizeof(hound_recorder) == 88 && offsetof(hound_recorder, data_start) == 56
+             && offsetof(hound_recorder, data_length) == 64 && offsetof(hound_recorder, number) == 68
+             && offsetof(hound_recorder, samples) == 72 && offsetof(hound_recorder, bytes_per_sample) == 76
+             && offsetof(hound_recorder, channels) == 78 && offsetof(hound_recorder, condition) == 80
+             && offsetof(hound_recorder, task) == 82 && offsetof(hound_recorder, has_rest) == 84
+             && offsetof(hound_recorder, unused) == 86);
 #undef HOUND_ASSERT
 #undef HOUND_ASSERT_AT
 #undef HOUND_NAMED

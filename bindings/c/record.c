@@ -7,21 +7,10 @@
    samples were lost; why, it says on standard error.
      cc -Ibindings/c bindings/c/record.c bindings/lib/x86_64-linux/libhound_c.a -o record
      arecord -t raw -f S16_LE -r 48000 -c 2 | ./record take.wav 48000 2 16 240000 --durable */
-#define _GNU_SOURCE
-#define _FILE_OFFSET_BITS 64
-#include "hound.h"
-#include <errno.h>
-#include <fcntl.h>
+#include "perform.h"
 #include <libgen.h>
 #include <poll.h>
 #include <signal.h>
-#include <stdio.h>
-#include <stdlib.h>
-#include <string.h>
-#include <sys/file.h>
-#include <sys/mman.h>
-#include <sys/stat.h>
-#include <unistd.h>
 
 static int file, is_durable, is_whole = 1;
 static hound_recorder recorder;
@@ -32,53 +21,38 @@ static void stop(const char *why) { complain(why), exit(1); }
 static int64_t checked(int64_t code) { return code < 0 ? stop(hound_error_text(code)), 0 : code; }
 static unsigned long long recorded(void) { return recorder.data_length / recorder.bytes_per_sample; }
 
-/* Whether the file or its folder is synced, where that is wanted. */
-static int has_synced(int descriptor) {
-    if (!is_durable || fsync(descriptor) == 0) return 1;
-    return complain(strerror(errno)), 0;
-}
-
-/* Whether all of these bytes could be written at a place. */
-static int has_written(const uint8_t *bytes, size_t count, int64_t place) {
-    for (size_t done = 0; done < count;) {
-        ssize_t more = pwrite(file, bytes + done, count - done, place + (off_t)done);
-        if (more > 0) done += (size_t)more;
-        else if (more == 0 || errno != EINTR) return complain(more == 0 ? "nothing could be written" : strerror(errno)), 0;
+/* Performs all that was requested, with this block, and says why an effect failed: 0, or an error. */
+static int32_t finish(const uint8_t *block) {
+    int32_t code;
+    while ((code = hound_recorder_next(&recorder)) == 1) {
+        int is_cut = recorder.effect.kind == HOUND_CUT;
+        if (perform(file, &recorder.effect, block, is_durable)) continue;
+        complain(is_cut ? "a part of a block that was lost stays in the file" : strerror(errno));
     }
-    return 1;
+    return code;
 }
 
 /* Makes the header count all samples: 0, or an error. */
 static int32_t checkpoint(void) {
-    hound_effect effect;
-    int32_t code;
-    for (int ok = 1; (code = hound_checkpoint_next(&recorder, ok, &effect)) == 1;)
-        ok = effect.length > 0 ? has_written(effect.bytes, effect.length, (int64_t)effect.place) : has_synced(file);
+    hound_recorder_checkpoint(&recorder);
+    int32_t code = finish(NULL);
     if (code == 0) counted = recorded();
     return code;
 }
 
-/* Writes samples after the others, and before that, where it is needed, makes a checkpoint: 0, or an error. */
+/* Writes samples after the others: 0, or an error. */
 static int32_t write_block(const uint8_t *bytes, uint64_t samples) {
-    int64_t place = hound_recorder_place(&recorder, samples);
-    if (place == HOUND_NEEDS_CHECKPOINT && checkpoint() == 0) place = hound_recorder_place(&recorder, samples);
-    if (place < 0) return (int32_t)place;
-    int ok = has_written(bytes, samples * recorder.bytes_per_sample, place);
-    if (!ok && ftruncate(file, place) < 0) complain("a part of a block that was lost stays in the file");
-    int32_t code = hound_recorder_wrote(&recorder, samples, ok);
-    return ok ? code : HOUND_NEEDS_CHECKPOINT;
+    int32_t code = hound_recorder_write(&recorder, samples);
+    return code < 0 ? code : finish(bytes);
 }
 
-/* Opens the file for this program alone, and syncs its folder, which has its name. A file that is new is removed
-   where that fails, and one that was there is as it was. */
-static void open_file(const char *path, int flags) {
-    file = open(path, flags | O_RDWR, 0666);
-    if (file < 0) stop(errno == EEXIST ? "the file exists: --append continues it, --overwrite empties it" : strerror(errno));
-    struct stat about = {0};
-    const char *why = NULL;
-    if (fstat(file, &about) < 0) why = strerror(errno);
-    else if (!S_ISREG(about.st_mode)) why = "this is no regular file";
-    else if (flock(file, LOCK_EX | LOCK_NB) < 0 && errno == EWOULDBLOCK) why = "another program records to this file or repairs it";
+/* Opens the file for this program alone, and syncs its folder, which has its name; returns its length. A file that is
+   new is removed where that fails, and one that was there is as it was. */
+static uint64_t open_file(const char *path, int flags) {
+    struct stat about;
+    const char *why = opened(path, flags, &file, &about);
+    if (file < 0) stop(errno == EEXIST ? "the file exists: --append continues it, --overwrite empties it" : why);
+    if (!why && !S_ISREG(about.st_mode)) why = "this is no regular file";
     if (!why && is_durable) {
         char *name = realpath(path, NULL);
         int folder = name ? open(dirname(name), O_RDONLY) : -1;
@@ -88,37 +62,27 @@ static void open_file(const char *path, int flags) {
     }
     if (why && flags & O_EXCL) unlink(path);
     if (why) stop(why);
+    return (uint64_t)about.st_size;
 }
 
 static void begin(const char *path, const hound_spec *spec, int flags) {
-    uint8_t header[68];
+    uint8_t header[HOUND_HEADER_BYTES];
     size_t length = (size_t)checked(hound_header(spec, 0, header, sizeof header));
     checked(hound_recorder_begin(spec, &recorder));
     open_file(path, flags);
-    if (ftruncate(file, 0) < 0) stop(strerror(errno));
-    if (!has_written(header, length, 0)) exit(1);
+    if (!has_cut(file, 0) || !has_written(file, header, length, 0)) stop(strerror(errno));
 }
-
-/* The disk doesn't give a page of the mapped file. Only the calls of hound.h read it, so no other one is interrupted. */
-static void stop_at_fault(int number) { (void)number, stop("a part of the file can't be read"); }
 
 /* Continues after all samples that the file holds: where a recording was cut off, its header counts fewer. */
 static void append(const char *path, const hound_spec *spec) {
-    hound_info_t info;
     hound_repair_t found;
-    open_file(path, 0);
-    off_t length = lseek(file, 0, SEEK_END);
-    if (length == 0) stop("the file is empty: it has no header to append to");
-    uint8_t *bytes = length < 0 ? MAP_FAILED : mmap(NULL, (size_t)length, PROT_READ, MAP_PRIVATE, file, 0);
-    if (bytes == MAP_FAILED) stop(strerror(errno));
-    signal(SIGBUS, stop_at_fault);
-    checked(hound_info(bytes, (size_t)length, &info));
-    checked(hound_find_damage(bytes, (size_t)length, &found));
-    munmap(bytes, (size_t)length);
-    if (found.state == HOUND_HAS_CHUNKS_AFTER_DATA) stop("other chunks follow the samples");
-    if (memcmp(&info.spec, spec, sizeof *spec)) stop("the file has samples of another kind");
-    info.samples = found.frames * spec->channels;
-    checked(hound_recorder_append(&info, &recorder));
+    int fault = 0;
+    uint64_t length = open_file(path, 0);
+    int32_t code = repaired(file, length, HOUND_FIND_DAMAGE, &found, &fault);
+    if (fault) stop(strerror(fault));
+    checked(code);
+    if (memcmp(&found.spec, spec, sizeof *spec)) stop("the file has samples of another kind");
+    checked(hound_recorder_resume(&found, HOUND_MEND, &recorder));
 }
 
 /* Reads so many bytes from standard input, fewer only where it ends or can't be read, and returns how many. */

@@ -57,7 +57,7 @@ export interface Format {
 /** A call failed. */
 export class HoundError extends Error {
   constructor(code: string);
-  /** The name of the cause in hound.h, without HOUND_; or CUT_OFF, or CHUNKS_AFTER_DATA. */
+  /** The name of the cause in hound.h, without HOUND_. */
   readonly code: string;
 }
 

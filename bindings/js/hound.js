@@ -2,9 +2,9 @@
 //
 // A file is a Uint8Array or a Blob, of which only what is needed is read. Samples are interleaved typed arrays. No call
 // changes its arguments. A file must not change before the promise of a call over it is settled; samples may.
-import { module, wideModule } from "./module.js";
+import { module } from "./module.js";
 
-// Each error, its code in hound.h without the sign, and its sentence there; from 101 on those of this package.
+// Each error, its code in hound.h without the sign, and its sentence there.
 const ERRORS = {
   ENDED: [1, "the bytes end before the data begin"],
   UNSUPPORTED: [2, "the format is neither PCM nor IEEE float"],
@@ -34,8 +34,9 @@ const ERRORS = {
   FRAME_LENGTH: [26, "invalid data chunk length"],
   NEEDS_CHECKPOINT: [27, "a write failed or a checkpoint is not done, and no samples are written before one is"],
   SYNC_FAILED: [28, "a sync failed, and it is unknown what is stored"],
-  CUT_OFF: [101, "the recording was cut off: call repair before append"],
-  CHUNKS_AFTER_DATA: [102, "chunks or a tag follow the data, and append overwrites them only with overwrite: true"],
+  IS_CUT_OFF: [29, "the recording was cut off, and has to be repaired first"],
+  CHUNKS_FOLLOW: [30, "chunks or a tag follow the data, and would be overwritten"],
+  NOT_PERFORMED: [31, "the file could not be read or written"],
 };
 const NAMES = new Map(Object.entries(ERRORS).map(([name, [code]]) => [code, name]));
 
@@ -57,22 +58,25 @@ const PAGE = 65536;
 // How many samples are decoded or encoded at once, and how many bytes they have at most in a file, or in an array.
 const BLOCK = 1 << 18;
 const BLOCK_BYTES = 4 * BLOCK;
-// Where arguments are in the memory of an instance, from its start on: small ones in a page, then two blocks, or a file.
-const [SPEC, WALK, PART, INFO, FOUND, HEADER, SIZES, FIRST, SECOND] = [0, 16, 64, 128, 160, 192, 320, PAGE, PAGE + BLOCK_BYTES];
+// Where arguments are in the memory of the instance, from its start on: small ones in a page, then two blocks.
+const [SPEC, MACHINE, FOUND, HEADER, FIRST, SECOND] = [0, 16, 192, 256, PAGE, PAGE + BLOCK_BYTES];
+
+// Which argument of a call has 32 bits.
+const WORDS = { repairer_begin: 1, recorder_resume: 1 };
 
 /** An instance of the module and so much memory of it: no two calls use it at once. */
 class Memory {
-  constructor({ exports }, size, counted = Number) {
+  constructor({ exports }, size) {
     const { memory } = exports;
     this.exports = exports;
-    this.start = PAGE * Number(memory.grow(counted(Math.ceil(size / PAGE)))); // A memory of 64 bits counts in BigInts.
+    this.start = PAGE * memory.grow(Math.ceil(size / PAGE));
     this.bytes = new Uint8Array(memory.buffer, this.start);
     this.view = new DataView(memory.buffer, this.start);
   }
 
   /** Calls an export; addresses and lengths are those of a 64-bit processor. */
   call(name, ...numbers) {
-    return this.exports["hound_" + name](...numbers.map(BigInt));
+    return this.exports["hound_" + name](...numbers.map((number, i) => WORDS[name] === i ? number : BigInt(number)));
   }
 
   at(place) {
@@ -147,41 +151,75 @@ function joined(file, parts) {
   return whole;
 }
 
-/** A file whose two sizes are these, up to a place, and then others of its parts. */
-function withSizes(file, dataStart, sizes, end, ...rest) {
-  const before = [partOf(file, 0, 4), sizes.slice(0, 4), partOf(file, 8, dataStart - 4), sizes.slice(4)];
-  return joined(file, [...before, partOf(file, dataStart, end), ...rest]);
-}
+// The kinds of effects in hound.h, and the report that one is done.
+const [READ, WRITE, WRITE_BLOCK, DONE] = [1, 2, 3, 1];
 
-/** Takes a step of a walk, which is changed. */
-function step(walk, part) {
-  shared.bytes.set(walk, WALK);
-  shared.bytes.set(part, PART);
-  const code = shared.call("walk_next", shared.at(WALK), shared.at(PART), part.length, shared.at(INFO));
-  walk.set(shared.bytes.subarray(WALK, WALK + walk.length));
-  return code;
-}
-
-/** Walks over what is before the data: the code of its last step, its parts, and where the last one ends. */
-async function walkOver(file) {
-  const walk = new Uint8Array(40), view = new DataView(walk.buffer), parts = [];
-  view.setUint32(20, 12, true);
-  for (;;) {
-    const place = Number(view.getBigUint64(0, true)), end = place + view.getUint32(20, true);
-    const part = await bytesOf(file, place, end);
-    parts.push([place, part]);
-    const code = step(walk, part);
-    if (code === 1) continue;
-    const samples = shared.view.getUint32(INFO + 12, true);
-    return { code, parts, dataStart: end, ...(code === 0 && { samples, spec: shared.specAt(INFO) }) };
+/** A walk, a repairer or a recorder. The memory of the instance has it only during a call. */
+class Machine {
+  constructor(size) {
+    this.bytes = new Uint8Array(size);
+    this.view = new DataView(this.bytes.buffer);
   }
+
+  /** Makes a call with it first or last among addresses, and returns the code. */
+  call(name, ...numbers) {
+    shared.bytes.set(this.bytes, MACHINE);
+    const code = shared.call(name, ...numbers);
+    this.bytes.set(shared.bytes.subarray(MACHINE, MACHINE + this.bytes.length));
+    return code;
+  }
+
+  /** The effect that is requested. Its bytes are a part of the machine. */
+  get effect() {
+    const length = this.view.getUint32(8, true);
+    return { place: Number(this.view.getBigUint64(0, true)), length, kind: this.view.getUint16(12, true), bytes: this.bytes.subarray(16, 16 + Math.min(length, 40)) };
+  }
+
+  /** Reports the effect as done; what was read is fewer bytes only where the file ends. */
+  report({ kind, bytes }, part) {
+    if (kind === READ) {
+      bytes.set(part);
+      this.view.setUint32(8, part.length, true);
+    }
+    this.view.setUint16(14, DONE, true);
+  }
+}
+
+/** Performs all that a walk or a repairer requests, and returns what `found` gives for its last code. */
+async function performAll(machine, name, perform, found) {
+  for (;;) {
+    const code = machine.call(name, shared.at(MACHINE), shared.at(FOUND));
+    if (code !== 1) return found(code);
+    const { effect } = machine;
+    machine.report(effect, await perform(effect));
+  }
+}
+
+/** Reads parts of a file. Of a Blob the last page is kept, for many chunks that are short. */
+function readerOf(file) {
+  const size = lengthOf(file);
+  let from = 0, page = new Uint8Array(0);
+  return async ({ place, length }) => {
+    const end = Math.min(place + length, size);
+    if (place >= end) return page.subarray(0, 0);
+    if (place < from || end > from + page.length) [from, page] = [place, await bytesOf(file, place, Math.min(place + PAGE, size))];
+    return page.subarray(place - from, end - from);
+  };
+}
+
+/** Walks over what is before the data. */
+function walkOver(file) {
+  const size = lengthOf(file), readPart = ({ place, length }) => bytesOf(file, Math.min(place, size), Math.min(place + length, size));
+  return performAll(new Machine(80), "walk_next", readPart, (code) => {
+    checked(code);
+    const samples = shared.view.getUint32(FOUND + 12, true), dataStart = Number(shared.view.getBigUint64(FOUND + 16, true));
+    return { spec: shared.specAt(FOUND), samples, dataStart };
+  });
 }
 
 /** What the header of a file says. The data needn't all be there. */
 export async function info(file) {
-  lengthOf(file);
-  const { code, spec, samples, dataStart } = await walkOver(file);
-  checked(code);
+  const { spec, samples, dataStart } = await walkOver(file);
   return { ...spec, frames: samples / spec.channels, dataStart };
 }
 
@@ -252,82 +290,41 @@ export async function write(samples, { sampleRate, channels = 1, bitsPerSample, 
   };
   shared.putSpec(spec);
   const size = checked(shared.call("size", shared.at(SPEC), samples.length));
-  const length = checked(shared.call("header", shared.at(SPEC), samples.length, shared.at(HEADER), SIZES - HEADER));
+  const length = checked(shared.call("header", shared.at(SPEC), samples.length, shared.at(HEADER), FIRST - HEADER));
   const header = shared.bytes.slice(HEADER, HEADER + length), data = encoded(type, samples, spec);
   return joined(data, [header, data, new Uint8Array(size - length - data.length)]);
 }
 
 const STATES = ["whole", "cutOff", "hasChunksAfterData"];
-// Errors of a header whose data length is wrong, which a repair mends.
-const MENDED = ["DATA_LENGTH", "FRAME_LENGTH"].map((name) => -ERRORS[name][0]);
-const isPrintable = (byte) => byte >= 32 && byte <= 126;
+// The modes of a repairer.
+const [FIND_DAMAGE, REPAIR, REPAIR_TO_END] = [0, 1, 2];
 
-/** What `repair` writes into a file whose recording was cut off: bytes at places, in their order. */
-const repairs = (sizes, pad, dataStart, size) => [[sizes.slice(4), dataStart - 4], [pad, size], [sizes.slice(0, 4), 4]];
-
-/** Makes memory for a file and a pad byte, of 64 bits where 32 are too few. Its pages cost nothing until something is put
-    there. */
-async function memoryFor(size) {
-  for (const [load, counted] of [[() => module, Number], [wideModule, BigInt]]) {
-    try {
-      return new Memory(await WebAssembly.instantiate(await load()), FIRST + size + 1, counted);
-    } catch {
-      // There isn't so much of it, or none of 64 bits.
-    }
-  }
-  throw new RangeError(`file has ${size} bytes, and WebAssembly gets no memory for so many`);
-}
-
-/** Loads what a repair looks at after the data that the header counts: the place of an ID3v1 tag, and the headers of
-    chunks, one after the other as long as their tags are printable. */
-async function loadRest(load, memory, dataStart, counted, size) {
-  await load(size - 128, size);
-  for (let place of new Set([counted, counted + counted % 2].map((length) => dataStart + length))) {
-    while (place < size) {
-      await load(place, Math.min(place + 8, size));
-      const tag = FIRST + place;
-      if (size - place < 8 || !memory.bytes.subarray(tag, tag + 4).every(isPrintable)) break;
-      const length = memory.view.getUint32(tag + 4, true);
-      place += 8 + length + length % 2;
-    }
-  }
-}
-
-/** A memory with the parts of a long file that a repair looks at. */
-async function sparse(file, size, parts, dataStart) {
-  const memory = await memoryFor(size), loaded = new Set(), [lastPlace, last] = parts.at(-1);
-  for (const [place, part] of parts) memory.bytes.set(part, FIRST + place);
-  const load = async (from, to) => {
-    for (let page = Math.floor(Math.max(from, 0) / PAGE); page * PAGE < to; page++) {
-      if (loaded.has(page)) continue;
-      memory.bytes.set(await bytesOf(file, page * PAGE, Math.min((page + 1) * PAGE, size)), FIRST + page * PAGE);
-      loaded.add(page);
-    }
-  };
-  await loadRest(load, memory, dataStart, memory.view.getUint32(FIRST + lastPlace + last.length - 4, true), size);
-  return memory;
-}
-
-/** Calls `use` with a memory that has the file, as far as a repair looks at it. */
-async function lookAt(file, use) {
-  const size = lengthOf(file), { code, parts, dataStart } = await walkOver(file);
-  if (!MENDED.includes(code)) checked(code);
-  if (size >= 2 * BLOCK_BYTES) return use(await sparse(file, size, parts, dataStart), size, dataStart);
-  shared.bytes.set(await bytesOf(file, 0, size), FIRST);
-  return use(shared, size, dataStart);
-}
-
-function foundIn(memory) {
-  const [frames, leftOver, state] = [12, 16, 20].map((n) => memory.view.getUint32(FOUND + n, true));
-  return { state: STATES[state], frames, leftOver, ...memory.specAt(FOUND) };
+/** What a repairer of this mode finds in a file of so many bytes, once all that it requests is performed. */
+function repairBy(size, mode, perform) {
+  const repairer = new Machine(120);
+  repairer.call("repairer_begin", size, mode, shared.at(MACHINE));
+  return performAll(repairer, "repairer_next", perform, (code) => {
+    checked(code);
+    const [frames, leftOver, state] = [12, 16, 20].map((n) => shared.view.getUint32(FOUND + n, true));
+    return { report: { state: STATES[state], frames, leftOver, ...shared.specAt(FOUND) }, found: shared.bytes.slice(FOUND, FOUND + 48) };
+  });
 }
 
 /** Reports what `repair` would find, or fails as it would. */
-export function findDamage(file) {
-  return lookAt(file, (memory, size) => {
-    checked(memory.call("find_damage", memory.at(FIRST), size, memory.at(FOUND)));
-    return foundIn(memory);
-  });
+export async function findDamage(file) {
+  const { report } = await repairBy(lengthOf(file), FIND_DAMAGE, readerOf(file));
+  return report;
+}
+
+/** A file after bytes were written at places, none of which was written twice. */
+function written(file, writes) {
+  const parts = [];
+  let end = 0;
+  for (const { place, bytes } of writes.sort((a, b) => a.place - b.place)) {
+    parts.push(partOf(file, end, place), bytes);
+    end = place + bytes.length;
+  }
+  return joined(file, [...parts, partOf(file, end, Math.max(end, lengthOf(file)))]);
 }
 
 /**
@@ -335,54 +332,26 @@ export function findDamage(file) {
  * sizes and a missing pad byte differ. A file that is whole, or that chunks or a tag follow, is returned as it is; with
  * `toEnd` all that follows the header of the data is taken for samples, also what looks like chunks.
  */
-export function repair(file, { toEnd = false } = {}) {
-  return repairBy(file, toEnd, (found, { sizes, pad, dataStart, size }) => {
-    return { ...found, file: found.state === "cutOff" ? withSizes(file, dataStart, sizes, size, pad) : file };
+export async function repair(file, { toEnd = false } = {}) {
+  const readPart = readerOf(file), writes = [];
+  const { report } = await repairBy(lengthOf(file), toEnd ? REPAIR_TO_END : REPAIR, (effect) => {
+    if (effect.kind === WRITE) writes.push({ place: effect.place, bytes: effect.bytes.slice() });
+    return effect.kind === READ ? readPart(effect) : undefined; // No sync is of use here.
   });
+  return { ...report, file: writes.length > 0 ? written(file, writes) : file };
 }
 
-/** Repairs a file in memory, and calls `use` with what was found, and with the sizes and the pad byte that mend it. */
-function repairBy(file, toEnd, use) {
-  return lookAt(file, (memory, size, dataStart) => {
-    const call = toEnd ? "repair_to_end" : "repair";
-    const length = checked(memory.call(call, memory.at(FIRST), size + 1, size, memory.at(FOUND)));
-    const sizes = [4, dataStart - 4].flatMap((place) => [...memory.bytes.subarray(FIRST + place, FIRST + place + 4)]);
-    const pad = memory.bytes.slice(FIRST + size, FIRST + length);
-    return use(foundIn(memory), { sizes: Uint8Array.from(sizes), pad, dataStart, size });
-  });
+async function readAt(handle, { place, length }) {
+  const bytes = new Uint8Array(length);
+  for (let count = 0; count < length;) {
+    const { bytesRead } = await handle.read(bytes, count, length - count, place + count);
+    if (bytesRead === 0) return bytes.subarray(0, count);
+    count += bytesRead;
+  }
+  return bytes;
 }
 
-/** A file that is open in Node, as a Blob of which parts are read. */
-class OpenFile extends Blob {
-  #handle;
-  #size;
-
-  constructor(handle, size) {
-    super([]);
-    this.#handle = handle;
-    this.#size = size;
-  }
-
-  get size() {
-    return this.#size;
-  }
-
-  slice(from, to) {
-    return { arrayBuffer: () => this.#read(Math.min(from, this.#size), Math.min(to, this.#size)) };
-  }
-
-  async #read(from, to) {
-    const bytes = new Uint8Array(to - from);
-    for (let count = 0; count < bytes.length;) {
-      const { bytesRead } = await this.#handle.read(bytes, count, bytes.length - count, from + count);
-      if (bytesRead === 0) throw new Error("the file has become shorter");
-      count += bytesRead;
-    }
-    return bytes.buffer;
-  }
-}
-
-async function writeAt(handle, bytes, place) {
+async function writeAt(handle, { place, bytes }) {
   for (let count = 0; count < bytes.length;) {
     const { bytesWritten } = await handle.write(bytes, count, bytes.length - count, place + count);
     if (bytesWritten === 0) throw new Error("nothing could be written");
@@ -397,34 +366,41 @@ async function writeAt(handle, bytes, place) {
 export async function repairFile(path, { toEnd = false } = {}) {
   const { open } = await import(/* webpackIgnore: true */ "node:fs/promises");
   const handle = await open(path, "r+");
+  const perform = (effect) => effect.kind === READ ? readAt(handle, effect) : effect.kind === WRITE ? writeAt(handle, effect) : handle.sync();
   try {
     const { size } = await handle.stat();
-    return await repairBy(new OpenFile(handle, size), toEnd, async (found, { sizes, pad, dataStart }) => {
-      if (found.state !== "cutOff") return found;
-      await handle.sync();
-      for (const [bytes, place] of repairs(sizes, pad, dataStart, size)) {
-        await writeAt(handle, bytes, place);
-        await handle.sync();
-      }
-      return found;
-    });
+    const { report } = await repairBy(size, toEnd ? REPAIR_TO_END : REPAIR, perform);
+    return report;
   } finally {
     await handle.close();
   }
 }
 
-// The files that `append` has made: their parts, which an append to one of them takes over. A Blob of a Blob of a Blob ..
-// can't be read at some depth, so parts of about one length are joined, and a file of many blocks has few of them.
+// The files that `append` has made: their recorders and parts, which an append to one of them takes over. A Blob of a Blob of
+// a Blob .. can't be read at some depth, so parts of about one length are joined, and a file of many blocks has few of them.
 const made = new WeakMap();
 
-/** The Blob of a file with these data appended at a place, with these sizes. */
-function longerBlob(file, dataStart, sizes, end, data, pad) {
-  const before = made.get(file)?.before ?? [partOf(file, 0, 4), partOf(file, 8, dataStart - 4)];
-  const parts = [...made.get(file)?.parts ?? [partOf(file, dataStart, end)], new Blob([data])];
-  while (parts.length > 1 && parts.at(-2).size < 2 * parts.at(-1).size) parts.push(new Blob(parts.splice(-2)));
-  const longer = blobOf([before[0], sizes.slice(0, 4), before[1], sizes.slice(4), ...parts, pad]);
-  made.set(longer, { before, parts });
-  return longer;
+/** What is appended to: a recorder, the bytes before the data, and parts of the data. */
+async function opened(file, overwrite) {
+  const { found } = await repairBy(lengthOf(file), FIND_DAMAGE, readerOf(file)), recorder = new Machine(88);
+  shared.bytes.set(found, FOUND);
+  checked(recorder.call("recorder_resume", shared.at(FOUND), overwrite ? 2 : 0, shared.at(MACHINE)));
+  const spec = shared.specAt(FOUND), dataStart = Number(recorder.view.getBigUint64(56, true));
+  const parts = [partOf(file, dataStart, dataStart + recorder.view.getUint32(64, true))];
+  return { recorder, spec, head: await bytesOf(file, 0, dataStart), parts };
+}
+
+/** Performs what is requested of a recorder: a block is a part of the data, and bytes after these are the pad byte. */
+function record({ recorder, head, parts }, block) {
+  let pad = new Uint8Array(0);
+  for (let code; (code = checked(recorder.call("recorder_next", shared.at(MACHINE)))) === 1;) {
+    const { effect } = recorder, { place, bytes, kind } = effect;
+    if (kind === WRITE_BLOCK) parts.push(block);
+    if (kind === WRITE && place < head.length) head.set(bytes, place);
+    if (kind === WRITE && place >= head.length) pad = bytes.slice();
+    recorder.report(effect);
+  }
+  return pad;
 }
 
 /**
@@ -433,17 +409,18 @@ function longerBlob(file, dataStart, sizes, end, data, pad) {
  * A recording that was cut off is an error, and so are chunks or a tag after the data, unless they may be overwritten.
  */
 export async function append(file, samples, { overwrite = false } = {}) {
-  const type = typeOf(samples), length = lengthOf(file), given = samples.slice();
-  const { code, spec, samples: counted, dataStart } = await walkOver(file);
-  const dataLength = code === 0 ? counted * spec.bytesPerSample : 0, end = dataStart + dataLength;
-  if (code !== 0 || length < end || length > end + dataLength % 2 || (await bytesOf(file, end, length)).some(Boolean)) {
-    const { state } = await findDamage(file);
-    if (state === "cutOff") throw new HoundError("CUT_OFF");
-    checked(code);
-    if (state === "hasChunksAfterData" && !overwrite) throw new HoundError("CHUNKS_AFTER_DATA");
-  }
-  const data = encoded(type, given, spec);
-  const size = checked(shared.call("sizes", shared.at(SPEC), dataStart, counted + given.length, shared.at(SIZES), 8));
-  const sizes = shared.bytes.slice(SIZES, SIZES + 8), pad = new Uint8Array(size - end - data.length);
-  return file instanceof Blob ? longerBlob(file, dataStart, sizes, end, data, pad) : withSizes(file, dataStart, sizes, end, data, pad);
+  const type = typeOf(samples), given = samples.slice();
+  const before = made.get(file) ?? await opened(file, overwrite), recorder = new Machine(88);
+  const data = encoded(type, given, before.spec), isBlob = file instanceof Blob;
+  recorder.bytes.set(before.recorder.bytes);
+  const longer = { recorder, spec: before.spec, head: before.head.slice(), parts: [...before.parts] };
+  checked(recorder.call("recorder_write", shared.at(MACHINE), given.length));
+  record(longer, isBlob ? new Blob([data]) : data);
+  recorder.call("recorder_checkpoint", shared.at(MACHINE));
+  const pad = record(longer), { head, parts } = longer;
+  if (!isBlob) return joined(file, [head, ...parts, pad]);
+  while (parts.length > 1 && parts.at(-2).size < 2 * parts.at(-1).size) parts.push(new Blob(parts.splice(-2)));
+  const whole = blobOf([head, ...parts, pad]);
+  made.set(whole, longer);
+  return whole;
 }

@@ -30,10 +30,12 @@ static int64_t call(const char *name, const uint64_t *a) {
     if (!strcmp(name, "value_24")) return hound_value_24((uint32_t)a[0]);
     if (!strcmp(name, "value_32")) return hound_value_32((uint32_t)a[0]);
     if (!strcmp(name, "recorder_begin")) return hound_recorder_begin(AT(hound_spec, 0), AT(hound_recorder, 1));
-    if (!strcmp(name, "recorder_append")) return hound_recorder_append(AT(hound_info_t, 0), AT(hound_recorder, 1));
-    if (!strcmp(name, "recorder_place")) return hound_recorder_place(AT(hound_recorder, 0), a[1]);
-    if (!strcmp(name, "recorder_wrote")) return hound_recorder_wrote(AT(hound_recorder, 0), a[1], (int32_t)a[2]);
-    if (!strcmp(name, "checkpoint_next")) return hound_checkpoint_next(AT(hound_recorder, 0), (int32_t)a[1], AT(hound_effect, 2));
+    if (!strcmp(name, "recorder_resume")) return hound_recorder_resume(AT(hound_repair_t, 0), (uint32_t)a[1], AT(hound_recorder, 2));
+    if (!strcmp(name, "recorder_write")) return hound_recorder_write(AT(hound_recorder, 0), a[1]);
+    if (!strcmp(name, "recorder_checkpoint")) return hound_recorder_checkpoint(AT(hound_recorder, 0)), 0;
+    if (!strcmp(name, "recorder_next")) return hound_recorder_next(AT(hound_recorder, 0));
+    if (!strcmp(name, "repairer")) return repaired(AT(uint8_t, 0), a[1], (uint32_t)a[2], AT(hound_repair_t, 3));
+    if (!strcmp(name, "repairer_next")) return hound_repairer_next(AT(hound_repairer, 0), AT(hound_repair_t, 1));
     if (!strcmp(name, "size")) return hound_size(AT(hound_spec, 0), a[1]);
     if (!strcmp(name, "repair")) return hound_repair(AT(uint8_t, 0), a[1], a[2], AT(hound_repair_t, 3));
     if (!strcmp(name, "repair_to_end")) return hound_repair_to_end(AT(uint8_t, 0), a[1], a[2], AT(hound_repair_t, 3));

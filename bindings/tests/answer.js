@@ -7,18 +7,40 @@ const memory = new Uint8Array(hound.memory.buffer, start, 65536);
 const value = { "@": (word) => BigInt(start) + BigInt(word.slice(1)), "#": (word) => Number(word.slice(1)) };
 const argument = (word) => (value[word[0]] ?? ((word) => BigInt.asIntN(64, BigInt(word))))(word);
 
-// Walks to the data of a file in memory; each part that it requests is copied into the page after it.
+// Reads the part that is requested by the effect at a place, and reports it.
+function readPart(file, used, effect) {
+  const view = new DataView(hound.memory.buffer), place = view.getBigUint64(effect, true), from = Number(place < used ? place : used);
+  const bytes = memory.subarray(Number(file) - start).slice(from, Math.min(from + view.getUint32(effect + 8, true), Number(used)));
+  new Uint8Array(hound.memory.buffer).set(bytes, effect + 16);
+  view.setUint32(effect + 8, bytes.length, true);
+  view.setUint16(effect + 14, 1, true);
+}
+
+// Walks to the data of a file in memory, by a walk in the page after it.
 function walked(file, used, info) {
-  const walk = start + 65536, part = walk + 64;
-  const view = new DataView(hound.memory.buffer);
-  new Uint8Array(hound.memory.buffer, walk, 40).fill(0);
-  view.setUint32(walk + 20, 12, true);
-  for (let code = 1; ; ) {
-    const place = view.getBigUint64(walk, true), from = Number(place < used ? place : used);
-    const bytes = memory.slice(Number(file) - start).subarray(from, Math.min(from + view.getUint32(walk + 20, true), Number(used)));
-    new Uint8Array(hound.memory.buffer).set(bytes, part);
-    code = hound.hound_walk_next(BigInt(walk), BigInt(part), BigInt(bytes.length), info);
+  const walk = start + 65536;
+  new Uint8Array(hound.memory.buffer, walk, 80).fill(0);
+  for (;;) {
+    const code = hound.hound_walk_next(BigInt(walk), info);
     if (code !== 1) return code;
+    readPart(file, used, walk);
+  }
+}
+
+// Repairs a file in memory by what a repairer requests.
+function repaired(file, used, mode, found) {
+  const repairer = start + 65536, at = Number(file);
+  let length = Number(used);
+  hound.hound_repairer_begin(used, mode, BigInt(repairer));
+  for (;;) {
+    const code = hound.hound_repairer_next(BigInt(repairer), found);
+    if (code !== 1) return code < 0 ? code : length;
+    const view = new DataView(hound.memory.buffer), all = new Uint8Array(hound.memory.buffer);
+    const [place, count, kind] = [Number(view.getBigUint64(repairer, true)), view.getUint32(repairer + 8, true), view.getUint16(repairer + 12, true)];
+    if (kind === 1) readPart(file, used, repairer);
+    if (kind === 2) all.copyWithin(at + place, repairer + 16, repairer + 16 + count);
+    if (kind === 2) length = Math.max(length, place + count);
+    view.setUint16(repairer + 14, 1, true);
   }
 }
 
@@ -32,7 +54,7 @@ for (const line of fs.readFileSync(0, "latin1").trimEnd().split("\n")) {
     continue;
   }
   memory.set(before);
-  const result = (name === "walk" ? walked : hound["hound_" + name])(...words.map(argument));
+  const result = ({ walk: walked, repairer: repaired }[name] ?? hound["hound_" + name])(...words.map(argument)) ?? 0;
   let sum = 2166136261;
   for (let i = 0; i < before.length; i++) sum = Math.imul(sum ^ memory[i], 16777619);
   answers.push(`${result} ${(sum >>> 0).toString(16).padStart(8, "0")}`);

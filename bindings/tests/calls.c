@@ -246,12 +246,16 @@ static void walks(void) {
         hound_info_t info;
         memset(&info, 7, sizeof info);
         for (int i = 0; i < PARTS; i++) {
-            must(walk.place == parts[i].place && walk.length == parts[i].length, "the part that is asked for");
-            size_t count = more ? sizeof listed - (size_t)walk.place : walk.length;
-            uint8_t *part = copy(listed + walk.place, count);
-            must(hound_walk_next(&walk, part, count, &info) == (i < PARTS - 1), "a step");
-            free(part);
+            must(hound_walk_next(&walk, &info) == 1 && hound_walk_next(&walk, &info) == 1, "a step, and the same again");
+            must(walk.effect.kind == HOUND_READ && walk.effect.place == parts[i].place && walk.effect.length == parts[i].length, "the part that is asked for");
+            walk.effect.report = HOUND_FAILED;
+            must(hound_walk_next(&walk, &info) == HOUND_NOT_PERFORMED && hound_walk_next(&walk, &info) == HOUND_NOT_PERFORMED, "a part that can't be read");
+            walk.effect.report = HOUND_PENDING;
+            must(hound_walk_next(&walk, &info) == 1, "a part that is requested again");
+            read_part(listed, sizeof listed, &walk.effect);
+            if (more) walk.effect.length += 1;
         }
+        must(hound_walk_next(&walk, &info) == 0, "the last step");
         must(info.data_start == 56 && info.samples == 1 && info.spec.sample_rate == 44100, "what a walk finds");
         must(info.spec.channels == 1 && info.spec.bits_per_sample == 16 && info.spec.bytes_per_sample == 2 && info.spec.sample_format == HOUND_INT, "the spec of a walk");
     }
@@ -344,39 +348,46 @@ static void sizes_of_none(void) {
     must(hound_sizes(&spec, 4294967303, 0, out, 44) == 4294967303 && le32(out) == 4294967295 && le32(out + 4) == 0, "the last place of data");
 }
 
+static hound_effect effect_of(uint16_t kind, uint64_t place, uint32_t length, uint32_t bytes) {
+    hound_effect effect = {place, length, kind, HOUND_PENDING, {0}};
+    put32(effect.bytes, bytes);
+    return effect;
+}
+
 /* The effects of a checkpoint of so much data: a sync after a write that failed, a pad byte after an odd length, a sync,
    the RIFF size, the data length, and a sync; returns how many they are. */
 static int effects_of(uint64_t start, uint32_t data, int has_failed, hound_effect *out) {
-    hound_effect sync = {0, 0, {0}}, pad = {start + data, 1, {0}}, riff = {4, 4, {0}}, length = {start - 4, 4, {0}};
+    hound_effect sync = effect_of(HOUND_SYNC, 0, 0, 0), pad = effect_of(HOUND_WRITE, start + data, 1, 0);
+    hound_effect riff = effect_of(HOUND_WRITE, 4, 4, (uint32_t)(start - 8 + data + data % 2)), length = effect_of(HOUND_WRITE, start - 4, 4, data);
     int count = 0;
-    put32(riff.bytes, (uint32_t)(start - 8 + data + data % 2));
-    put32(length.bytes, data);
     if (has_failed) out[count++] = sync;
     if (data % 2) out[count++] = pad;
     out[count++] = sync, out[count++] = riff, out[count++] = length, out[count++] = sync;
     return count;
 }
 
-static int same_effect(const hound_effect *a, const hound_effect *b) {
-    return a->place == b->place && a->length == b->length && !memcmp(a->bytes, b->bytes, 4);
+/* Whether this is what a recorder requests, also if it is asked again. */
+static int requests(hound_recorder *recorder, const hound_effect *wanted) {
+    for (int i = 0; i < 3; i++)
+        if (hound_recorder_next(recorder) != 1 || memcmp(&recorder->effect, wanted, sizeof *wanted)) return 0;
+    return 1;
 }
 
-/* Makes a checkpoint of a file, one of whose effects may fail; it is compared with what it has to do. */
+/* Performs a checkpoint, one of whose effects may fail; it is compared with what it has to do. */
 static void checkpoint(hound_recorder *recorder, uint8_t *file, int has_failed, int fails) {
-    hound_effect wanted[6], effect;
+    hound_effect wanted[6];
     int count = effects_of(recorder->data_start, recorder->data_length, has_failed, wanted);
-    for (int i = 0; i < count; i++) { /* `ok` is ignored at the first one */
-        must(hound_checkpoint_next(recorder, i > 0, &effect) == 1 && same_effect(&effect, &wanted[i]), "the effects of a checkpoint");
-        must(hound_recorder_place(recorder, 0) == HOUND_NEEDS_CHECKPOINT && hound_recorder_wrote(recorder, 0, 1) == HOUND_NEEDS_CHECKPOINT, "samples within a checkpoint");
-        if (i == fails) {
-            int32_t code = hound_checkpoint_next(recorder, 0, &effect);
-            must(code == (effect.length ? HOUND_NEEDS_CHECKPOINT : HOUND_SYNC_FAILED) && same_effect(&effect, &wanted[i]), "an effect that failed");
-            must(hound_recorder_place(recorder, 0) == code && hound_recorder_wrote(recorder, 1, 1) == code, "samples after an effect that failed");
-            return;
-        }
-        memcpy(file + effect.place, effect.bytes, effect.length);
+    for (int i = 0; i < count; i++) {
+        must(requests(recorder, &wanted[i]), "the effects of a checkpoint");
+        memcpy(file + recorder->effect.place, recorder->effect.bytes, recorder->effect.length);
+        recorder->effect.report = i == fails ? HOUND_FAILED : HOUND_DONE;
+        if (i == fails) return;
     }
-    must(hound_checkpoint_next(recorder, 1, &effect) == 0 && recorder->number == 0 && recorder->condition == 0, "the end of a checkpoint");
+}
+
+/* The end of what was requested. */
+static void ends(hound_recorder *recorder, int32_t code, const char *what) {
+    must(hound_recorder_next(recorder) == code && recorder->effect.kind == HOUND_NOTHING, what);
 }
 
 static void recorders(void) {
@@ -384,59 +395,141 @@ static void recorders(void) {
         hound_spec spec = spec_of(kind, 1);
         size_t start = kinds[kind].start, width = kinds[kind].bytes;
         char type = kinds[kind].format == HOUND_FLOAT ? 'f' : 'i';
-        hound_recorder recorder, before;
+        hound_recorder recorder;
         uint8_t file[100], whole_file[100];
         memset(&recorder, 9, sizeof recorder);
         memset(file, 0, sizeof file);
         must(hound_recorder_begin(&spec, &recorder) == 0 && recorder.data_start == start && recorder.data_length == 0, "a recorder of a new file");
+        ends(&recorder, 0, "nothing is requested of a new recorder");
         must(hound_header(&spec, 0, file, sizeof file) == (int64_t)start, "its header");
         for (size_t n = 0, held = 0; held + n <= 4; held += n++) {
-            must(hound_recorder_place(&recorder, n) == (int64_t)(start + held * width), "the place of a block");
-            must(hound_recorder_wrote(&recorder, n, 0) == 0 && recorder.data_length == held * width, "a write that failed counts nothing");
-            must(hound_recorder_place(&recorder, n) == HOUND_NEEDS_CHECKPOINT && hound_recorder_wrote(&recorder, n, 1) == HOUND_NEEDS_CHECKPOINT, "samples after a write that failed");
+            hound_effect block = effect_of(HOUND_WRITE_BLOCK, start + held * width, (uint32_t)(n * width), 0);
+            hound_effect cut = effect_of(HOUND_CUT, start + held * width, 0, 0);
+            must(hound_recorder_write(&recorder, n) == 0 && requests(&recorder, &block), "the place of a block");
+            recorder.effect.report = HOUND_FAILED;
+            must(requests(&recorder, &cut), "a block that failed is cut off");
+            recorder.effect.report = n % 2 ? HOUND_FAILED : HOUND_DONE;
+            ends(&recorder, HOUND_NEEDS_CHECKPOINT, "a block that failed");
+            must(recorder.data_length == held * width && hound_recorder_write(&recorder, n) == 0, "a block after one that failed");
             checkpoint(&recorder, file, 1, -1);
+            must(requests(&recorder, &block), "a block after its checkpoint");
+            if (n == 1) { /* It isn't reported, and another one is requested. */
+                must(hound_recorder_write(&recorder, n) == 0 && requests(&recorder, &cut), "a block that is given up is cut off");
+                recorder.effect.report = HOUND_DONE;
+                checkpoint(&recorder, file, 1, -1);
+                must(requests(&recorder, &block), "a block after one that was given up");
+            }
             int64_t length = type == 'f' ? hound_encode_f32(&spec, reals + held, n, file + start + held * width, 16)
                                          : hound_encode_i32(&spec, ints + held, n, file + start + held * width, 16);
-            must(length == (int64_t)(n * width) && hound_recorder_wrote(&recorder, n, 77) == 0 && recorder.data_length == (held + n) * width, "a block that was written");
+            must(length == (int64_t)(n * width), "the bytes of a block");
+            recorder.effect.report = HOUND_DONE;
+            ends(&recorder, 0, "a block that was written");
+            must(recorder.data_length == (held + n) * width, "a block counts");
+            hound_recorder_checkpoint(&recorder);
             checkpoint(&recorder, file, 0, -1);
+            ends(&recorder, 0, "the end of a checkpoint");
             length = written(type, &spec, held + n, whole_file, sizeof whole_file);
             must(length > 0 && !memcmp(file, whole_file, (size_t)length), "the file after a checkpoint");
         }
         hound_effect wanted[6];
         int count = effects_of(start, recorder.data_length, 0, wanted);
         if (fails < 0 || fails >= count) continue;
+        hound_recorder_checkpoint(&recorder);
         checkpoint(&recorder, file, 0, fails);
-        before = recorder;
-        hound_effect effect = wanted[0];
-        if (wanted[fails].length) checkpoint(&recorder, file, 1, -1);
-        else for (int ok = 0; ok < 2; ok++)
-            must(hound_checkpoint_next(&recorder, ok, &effect) == HOUND_SYNC_FAILED && !memcmp(&before, &recorder, sizeof before), "after a sync that failed");
+        if (wanted[fails].kind == HOUND_WRITE) {
+            ends(&recorder, HOUND_NEEDS_CHECKPOINT, "a checkpoint that failed");
+            hound_recorder_checkpoint(&recorder);
+            checkpoint(&recorder, file, 1, -1);
+            ends(&recorder, 0, "a checkpoint after one that failed");
+            continue;
+        }
+        ends(&recorder, HOUND_SYNC_FAILED, "a sync that failed");
+        hound_recorder_checkpoint(&recorder);
+        ends(&recorder, HOUND_SYNC_FAILED, "a checkpoint after a sync that failed");
+        must(hound_recorder_write(&recorder, 1) == HOUND_SYNC_FAILED, "a block after a sync that failed");
     }
 }
 
 /* What no recorder is begun for, and what has no room. */
 static void no_recorders(void) {
     hound_spec spec = {44100, 2, 16, 0, HOUND_INT}, none = {44100, 2, 12, 0, HOUND_INT};
-    hound_info_t info = {{44100, 2, 16, 2, HOUND_INT}, 4, 58};
+    hound_repair_t found = {{44100, 2, 16, 2, HOUND_INT}, 2, 0, HOUND_WHOLE, 58, 66, 8, 0};
     hound_recorder recorder, before;
-    hound_effect effect;
     memset(&recorder, 9, sizeof recorder);
     before = recorder;
     must(hound_recorder_begin(&none, &recorder) == HOUND_NOT_WRITABLE, "a recorder of 12 bits");
-    info.samples = 3;
-    must(hound_recorder_append(&info, &recorder) == HOUND_UNFINISHED_FRAME, "a recorder after half a frame");
-    info.samples = 2147483630;
-    must(hound_recorder_append(&info, &recorder) == HOUND_TOO_LONG, "a recorder past 32 bits");
-    info.samples = 4, info.data_start = 19;
-    must(hound_recorder_append(&info, &recorder) == HOUND_NOT_WRITABLE, "no file has its data there");
+    found.data_length = 6;
+    must(hound_recorder_resume(&found, 0, &recorder) == HOUND_UNFINISHED_FRAME, "a recorder after half a frame");
+    found.data_length = 4294967292, found.length = UINT64_MAX;
+    must(hound_recorder_resume(&found, 0, &recorder) == HOUND_TOO_LONG, "a recorder past 32 bits");
+    found.data_length = 8, found.length = 65;
+    must(hound_recorder_resume(&found, 3, &recorder) == HOUND_TRUNCATED, "a recorder of a file that lacks samples");
+    found.length = 70, found.state = HOUND_CUT_OFF, found.frames = 3;
+    must(hound_recorder_resume(&found, HOUND_OVERWRITE, &recorder) == HOUND_IS_CUT_OFF, "a recorder over samples that aren't counted");
+    found.state = HOUND_HAS_CHUNKS_AFTER_DATA;
+    must(hound_recorder_resume(&found, HOUND_MEND, &recorder) == HOUND_CHUNKS_FOLLOW, "a recorder over chunks");
+    found.data_start = 19;
+    must(hound_recorder_resume(&found, 3, &recorder) == HOUND_NOT_WRITABLE, "no file has its data there");
     must(!memcmp(&recorder, &before, sizeof before), "an error begins no recorder");
-    info.data_start = 58;
-    must(hound_recorder_append(&info, &recorder) == 0 && hound_recorder_place(&recorder, 2) == 66, "a recorder that appends");
-    must(hound_recorder_begin(&spec, &recorder) == 0 && hound_recorder_place(&recorder, 2147483629) == 44, "as many samples as 32 bits count");
-    must(hound_recorder_place(&recorder, 2147483630) == HOUND_TOO_LONG && hound_recorder_wrote(&recorder, UINT64_MAX, 0) == HOUND_TOO_LONG, "samples past 32 bits");
-    must(recorder.condition == 0, "an error notes nothing");
-    recorder.data_start = 19;
-    must(hound_recorder_place(&recorder, 0) == HOUND_NOT_WRITABLE && hound_checkpoint_next(&recorder, 1, &effect) == HOUND_NOT_WRITABLE, "a recorder that no call made");
+    hound_repair_t byte = {{44100, 1, 8, 1, HOUND_INT}, 2, 0, HOUND_CUT_OFF, 44, 46, 1, 0}; /* another sample, and no pad byte */
+    must(hound_recorder_resume(&byte, 0, &recorder) == HOUND_IS_CUT_OFF && !memcmp(&recorder, &before, sizeof before), "a recorder over a sample");
+    found.data_start = 58, found.length = 66, found.state = HOUND_WHOLE, found.frames = 2;
+    hound_effect block = effect_of(HOUND_WRITE_BLOCK, 66, 4, 0), cut = effect_of(HOUND_CUT, 66, 0, 0), after = effect_of(HOUND_CUT, 70, 0, 0);
+    must(hound_recorder_resume(&found, 0, &recorder) == 0 && hound_recorder_write(&recorder, 2) == 0 && requests(&recorder, &block), "a recorder that appends");
+    found.length = 76, found.state = HOUND_HAS_CHUNKS_AFTER_DATA;
+    must(hound_recorder_resume(&found, HOUND_OVERWRITE, &recorder) == 0 && hound_recorder_write(&recorder, 2) == 0 && requests(&recorder, &cut), "chunks are cut off");
+    found.length = 71, found.state = HOUND_CUT_OFF, found.frames = 3;
+    must(hound_recorder_resume(&found, HOUND_MEND, &recorder) == 0 && hound_recorder_write(&recorder, 2) == 0 && requests(&recorder, &after), "a recording that was cut off is continued");
+    must(hound_recorder_begin(&spec, &recorder) == 0 && hound_recorder_write(&recorder, 2147483628) == 0 && hound_recorder_next(&recorder) == 1, "as many samples as 32 bits count");
+    must(recorder.effect.place == 44 && recorder.effect.length == 4294967256, "the block of them");
+    must(hound_recorder_begin(&spec, &recorder) == 0 && hound_recorder_write(&recorder, 2147483630) == HOUND_TOO_LONG
+             && hound_recorder_write(&recorder, UINT64_MAX - 1) == HOUND_TOO_LONG, "samples past 32 bits");
+    must(hound_recorder_write(&recorder, 3) == HOUND_UNFINISHED_FRAME, "a torn frame");
+    ends(&recorder, 0, "an error requests nothing");
+    recorder.data_start = 19, hound_recorder_checkpoint(&recorder);
+    must(hound_recorder_write(&recorder, 0) == HOUND_NOT_WRITABLE, "a recorder that no call made");
+    hound_recorder_checkpoint(&recorder), ends(&recorder, HOUND_NOT_WRITABLE, "a checkpoint of a recorder that no call made");
+}
+
+/* Repairs a file by its effects as by the call over all of it; and what isn't performed. */
+static void repairers(void) {
+    for (int kind = 0; kind < KINDS; kind++) for (size_t length = 0; length < 100; length++) for (uint32_t mode = HOUND_REPAIR; mode <= HOUND_REPAIR_TO_END; mode++) {
+        hound_spec spec = spec_of(kind, 1);
+        uint8_t file[101], same[101];
+        char type = kinds[kind].format == HOUND_FLOAT ? 'f' : 'i';
+        int64_t used = written(type, &spec, 4, file, sizeof file);
+        if (used < 0 || length > (size_t)used) continue;
+        file[4] = 0, file[kinds[kind].start - 4] = (uint8_t)(length % 3);
+        memcpy(same, file, sizeof same);
+        hound_repair_t found, whole, looked;
+        memset(&found, 7, sizeof found), memset(&whole, 7, sizeof whole), memset(&looked, 7, sizeof looked);
+        int64_t by_effects = repaired(file, length, mode, &found);
+        int64_t at_once = (mode == HOUND_REPAIR ? hound_repair : hound_repair_to_end)(same, sizeof same, length, &whole);
+        must(by_effects == at_once && !memcmp(file, same, sizeof same) && !memcmp(&found, &whole, sizeof found), "a repair by its effects");
+        must(mode == HOUND_REPAIR_TO_END || by_effects < 0 || found.state == HOUND_CUT_OFF || repaired(file, length, HOUND_FIND_DAMAGE, &looked) == (int64_t)length, "a look by its effects");
+    }
+    /* The effects of a file that lacks a pad byte; each may fail. */
+    static const uint16_t order[] = {HOUND_SYNC, HOUND_WRITE, HOUND_SYNC, HOUND_WRITE, HOUND_SYNC, HOUND_WRITE, HOUND_SYNC};
+    static const uint64_t places[] = {0, 40, 0, 47, 0, 4, 0};
+    for (int fails = 0; fails < 8; fails++) {
+        hound_spec spec = {44100, 1, 8, 1, HOUND_INT};
+        int16_t three[3] = {1, 2, 3};
+        uint8_t file[48];
+        hound_repair_t found;
+        hound_repairer repairer;
+        must(hound_write_i16(&spec, three, 3, file, sizeof file) == 48, "three samples");
+        file[4] = file[40] = 0;
+        hound_repairer_begin(47, HOUND_REPAIR, &repairer);
+        while (hound_repairer_next(&repairer, &found) == 1 && repairer.effect.kind == HOUND_READ) read_part(file, 47, &repairer.effect);
+        for (int i = 0; i < 7; i++) {
+            must(hound_repairer_next(&repairer, &found) == 1 && repairer.effect.kind == order[i] && repairer.effect.place == places[i], "the effects of a repair");
+            repairer.effect.report = i == fails ? HOUND_FAILED : HOUND_DONE;
+            if (i == fails) break;
+            must(hound_repairer_next(&repairer, &found) == (i < 6), "the next effect of a repair");
+        }
+        for (int i = 0; i < 2 && fails < 7; i++)
+            must(hound_repairer_next(&repairer, &found) == (order[fails] == HOUND_SYNC ? HOUND_SYNC_FAILED : HOUND_NOT_PERFORMED), "a repair after an effect that failed");
+    }
 }
 
 static void floats(void) {
@@ -563,12 +656,12 @@ static void texts(void) {
     char version[40];
     sprintf(version, "%d.%d.%d", HOUND_VERSION_MAJOR, HOUND_VERSION_MINOR, HOUND_VERSION_PATCH);
     must(!strcmp(version, HOUND_VERSION), "the version");
-    for (int code = 0; code >= HOUND_SYNC_FAILED; code--) {
+    for (int code = 0; code >= HOUND_NOT_PERFORMED; code--) {
         must(strcmp(hound_error_text(code), "unknown error") != 0, "a text for each error");
         for (int other = 0; other > code; other--)
             must(strcmp(hound_error_text(code), hound_error_text(other)) != 0, "a text of its own for each error");
     }
-    must(!strcmp(hound_error_text(HOUND_SYNC_FAILED - 1), "unknown error"), "no further error");
+    must(!strcmp(hound_error_text(HOUND_NOT_PERFORMED - 1), "unknown error"), "no further error");
 }
 
 int main(void) {
@@ -584,6 +677,7 @@ int main(void) {
     sizes_of_none();
     recorders();
     no_recorders();
+    repairers();
     floats();
     repairs();
     repairs_to_the_end();

@@ -104,6 +104,8 @@ def look(path, case, least, most, what, after=b""):
             raise Wrong(f"{what}, {state}: another head")
         (length,) = struct.unpack("<I", contents[start - 4 : start])
         held = len(contents) - start
+        if state == "repaired" and case.frame == 1 and contents[start + length - 1] == 0:
+            length -= 1  # It is a pad byte that wasn't counted yet, and looks like a sample.
         if length > held or length % case.frame:
             raise Wrong(f"{what}, {state}: {length} bytes are counted, and {held} are there")
         if contents[start : start + length] != STREAM[:length]:
@@ -118,35 +120,46 @@ def look(path, case, least, most, what, after=b""):
     return length // case.frame
 
 
-# Versions of `append` that are wrong.
+# Wrong versions of the package.
 
 
-def in_order(*order):
-    """One that makes its writes in another order, and undoes none."""
-
-    def change(descriptor, heads, end, data, pad, keep, durable):
-        writes = {"data": [(data, end)], "sizes": hound._sizes(heads[1]), "pad": [(pad, end + len(data))]}
-        for name in order:
-            for content, place in writes[name]:
-                hound.disk.put(descriptor, content, place)
-
-    hound._change = change
+def performed(change):
+    """One that performs effects in another way."""
+    perform = hound.disk.perform
+    hound.disk.perform = lambda effect, *words: change(perform, effect, *words)
 
 
-def mapped():
-    """One that makes the file longer, maps it, and cuts it to its length."""
+def reported(perform, effect, *words):
+    """It reports each effect as done, also one that failed."""
+    with contextlib.suppress(OSError):
+        perform(effect, *words)
+    effect.report = hound.disk.DONE
 
-    def append(path, samples, overwrite=False, durable=False):
-        with hound._samples(samples) as given, open(path, "r+b") as file:
-            used = os.fstat(file.fileno()).st_size
-            file.truncate(used + 4 * given.count + 1)
-            with hound.mmap.mmap(file.fileno(), 0) as image:
-                with hound._address(image) as (start, room):
-                    used = hound._checked(hound._append[given.form.kind](start, room, used, given.start, given.count))
-                image.flush()
-            file.truncate(used)
 
-    hound.append = append
+def without(kind):
+    """It reports the effects of a kind as done, and doesn't perform them."""
+
+    def change(perform, effect, *words):
+        if effect.kind != kind:
+            perform(effect, *words)
+        effect.report = hound.disk.DONE
+
+    return change
+
+
+LATER = []
+
+
+def late(perform, effect, *words):
+    """It writes a block after the sizes that count it, and reports it before that."""
+    if effect.kind == hound.disk.WRITE_BLOCK:
+        LATER.append((perform, type(effect).from_buffer_copy(effect), *words))
+        effect.report = hound.disk.DONE
+        return
+    perform(effect, *words)
+    while effect.place == 40 and LATER:
+        call, *arguments = LATER.pop()
+        call(*arguments)
 
 
 def counted_early():
@@ -166,26 +179,30 @@ def counted_early():
 def effects_forgotten():
     """A recorder that reports each effect as done, or a sync as failed, where a signal handler raised."""
 
-    def checkpoint(self):
-        recorder, effect, fault = ctypes.byref(self._state.recorder), streams._Effect(), None
-        while (code := streams._checkpoint_next(recorder, fault is None, ctypes.byref(effect))) == 1:
+    def perform_all(self, block=b""):
+        recorder, fault = self._state.recorder, None
+        while (code := streams._recorder_next(ctypes.byref(recorder))) == 1:
+            effect = recorder.effect
             try:
-                if effect.length:
-                    hound.disk.put(self._file.descriptor, bytes(effect.bytes)[: effect.length], effect.place)
-                elif self._durable:
-                    os.fsync(self._file.descriptor)
+                hound.disk.perform(effect, self._file.descriptor, self._durable, block)
             except BaseException as error:
-                fault = error
+                fault, effect.report = error, hound.disk.FAILED if effect.kind == hound.disk.SYNC else hound.disk.DONE
         if fault is not None:
             raise fault
         hound._checked(code)
+        return recorder
 
-    hound.Writer._checkpoint = checkpoint
+    hound.Writer._perform_all = perform_all
 
 
 def blocks_forgotten():
-    """A recorder that keeps no block in mind while it writes it."""
-    hound.Writer._cut_off = lambda self: setattr(self, "_state", streams._Recording(self._state.recorder, None, []))
+    """A recorder that reports a block as done before its call returns."""
+
+    def written(self, block):
+        hound.disk.perform(self._state.recorder.effect, self._file.descriptor, self._durable, block)
+        return self._state.recorder
+
+    hound.Writer._written = written
 
 
 def nobody_waits():
@@ -215,10 +232,10 @@ def all_held_is_returned():
 
 CONTROLS = {
     "right": lambda: None,
-    "sizes first": lambda: in_order("sizes", "data", "pad"),
-    "pad byte before the sizes": lambda: in_order("data", "pad", "sizes"),
-    "nothing undone": lambda: in_order("data", "sizes", "pad"),
-    "in a mapped file": mapped,
+    "a report before the effect": lambda: performed(late),
+    "each report is that it is done": lambda: performed(reported),
+    "a block isn't cut off": lambda: performed(without(hound.disk.CUT)),
+    "no block is written": lambda: performed(without(hound.disk.WRITE_BLOCK)),
     "counted early": counted_early,
     "effects forgotten": effects_forgotten,
     "blocks forgotten": blocks_forgotten,
@@ -292,9 +309,12 @@ def program(control, work, path, number, first, count, times):
         time.sleep(10)  # It is killed here at the latest.
 
 
-def words(path, task, times=1, control="right"):
+TRIED = ["right"]  # The version of the package in the programs.
+
+
+def words(path, task, times=1, control=None):
     place = CASES.index(task.case)
-    return [sys.executable, "-S", __file__, "program", control, task.work, path, str(place), str(task.first), str(task.count), str(times)]
+    return [sys.executable, "-S", __file__, "program", control or TRIED[0], task.work, path, str(place), str(task.first), str(task.count), str(times)]
 
 
 def leave(path, contents):
@@ -332,8 +352,13 @@ def is_as_promised(path, task, status, what, is_exact):
     if "create" in task.work and len(contents) < len(head(task.case, 0)):
         return
     is_exact = is_exact and "record" not in task.work
-    if status == 3 and is_exact and contents != task.before:
+    if status == 3 and is_exact and task.work == "write" and contents != task.before:
         raise Wrong(f"{what}: the file isn't the one from before")
+    if status == 3 and is_exact and task.work in ("append", "durable"):
+        start, frame = len(head(task.case, 0)), task.case.frame
+        ends = [start + frames * frame for frames in (task.first, task.first + task.count)]
+        if len(contents) not in (*ends, *(end + 1 for end in ends if (end - start) % 2)):
+            raise Wrong(f"{what}: a part of a block that failed stays")
     if task.work == "write" and contents not in (task.before, task.done):
         raise Wrong(f"{what}: the file is neither the old nor the new one")
     if is_exact and status in (0, 3) and os.path.exists(os.path.join(os.path.dirname(path), ".hound-part")):
@@ -353,6 +378,7 @@ def each_call(folder, task, faults, names=None, control="right"):
     wrong, runs = [], 0
     if status:
         raise Wrong(f"{task} fails by itself")
+    is_as_promised(path, task, status, str(task), True)
     for name, count in collections.Counter(name for name, _ in calls).items():
         if names and name not in names:
             continue
@@ -372,20 +398,24 @@ def each_call(folder, task, faults, names=None, control="right"):
 
 
 def order(folder):
-    """The calls of an append to odd data that makes them odd again: the samples, the sizes, the pad byte; one that
-    is durable syncs after each, and after it has cut chunks off."""
-    sync, works = ("fsync", None), ("append", "durable", "durable overwrite")
-    for case, sizes in (CASES[1], [4]), (CASES[5], [4, len(head(CASES[5], 0)) - 4]):
-        end = len(head(case, 0)) + 101
+    """The calls of an append to odd data that makes them odd again: the samples, and then a checkpoint, which writes the
+    pad byte and the sizes. One that is durable syncs between. Where chunks are cut off, a checkpoint follows that."""
+    works = ("append", "durable", "durable overwrite")
+    for case in CASES[1], CASES[5]:
+        start = len(head(case, 0))
         for work in works:
-            steps = [[("ftruncate", None)]] * ("overwrite" in work)
-            steps += [[("pwrite64", place) for place in places] for places in ([end], sizes, [end + 4998])]
-            wanted = [call for step in steps for call in step + [sync] * ("durable" in work)]
+            sync = [("fsync", None)] * ("durable" in work)
+
+            def checkpoint(end):
+                return [("pwrite64", end), *sync, ("pwrite64", 4), ("pwrite64", start - 4), *sync]
+
+            wanted = sync + ([("ftruncate", None), *sync] + checkpoint(start + 101)) * ("overwrite" in work)
+            wanted += [("pwrite64", start + 101)] + checkpoint(start + 101 + 4998)
             _, _, calls = traced(folder, task(work, case, 101, 4998), "right")
             calls = [call for call in calls if call[0] in CHANGES]
             if calls != wanted:
                 raise Wrong(f"the calls of {work} are {calls}, and not {wanted}")
-    print("an append: samples, sizes, pad byte; with a sync after each where it is durable", flush=True)
+    print("an append: samples, pad byte, sizes; with syncs between where it is durable", flush=True)
     return 2 * len(works)
 
 
@@ -394,10 +424,9 @@ def kill(folder, count):
     leave once it is repaired."""
     inside, path = 0, os.path.join(folder, "killed.wav")
     for turn in range(count):
-        case = CASES[turn % len(CASES)]
-        work = ("append", "record", "durable", "append", "durable record")[turn % 5]
         # Of 8 bits and one channel a repair takes a pad byte that isn't counted yet for a sample.
-        work = "append" if "record" in work and case.frame == 1 else work
+        cases = [case for case in CASES if case.frame > 1]
+        case, work = cases[turn % len(cases)], ("append", "record", "durable", "append", "durable record")[turn % 5]
         appended = task(work, case, 100, (4096, 333, 200000)[turn // 2 % 3] // case.frame | 1)
         leave(path, appended.before)
         times = (len(STREAM) // case.frame - 100) // appended.count
@@ -431,9 +460,7 @@ def limit(folder, cases):
                 status = subprocess.run(words(path, long), stdout=subprocess.DEVNULL, preexec_fn=limited).returncode
                 if status != 3:
                     raise Wrong(f"{long}: no error with a limit of {length}")
-                # Where the file that was there is too long already, what was cut off of it can't come back.
-                is_exact = work != "overwrite" or length >= used
-                is_as_promised(path, long, status, f"{long}, a limit of {length}", is_exact)
+                is_as_promised(path, long, status, f"{long}, a limit of {length}", True)
                 runs += 1
     print(f"files longer than they may be: {runs} runs, none wrong", flush=True)
     return runs
@@ -528,7 +555,9 @@ def interrupt_changes(folder, step):
                 perform(work, path, case, 100, 151)
             with open(path, "rb") as file:
                 contents = file.read()
-            if contents not in (one.before, one.done):
+            if work in ("overwrite", "repair"):  # The chunks may be cut off; a repair is done again.
+                look(path, case, 100, 151, f"{one}, interrupted at {at}, {interruption.place}", one.after)
+            elif contents not in (one.before, one.done):
                 raise Wrong(f"{one}, interrupted at {at}, {interruption.place}: the file is neither the old nor the new one")
             runs += 1
             if interruption.place is None:
@@ -605,6 +634,7 @@ def find_control(control, tried, *arguments):
     child = os.fork()
     if child == 0:
         CONTROLS[control]()
+        TRIED[0] = control
         signal.alarm(60)
         try:
             with open(os.devnull, "w") as output, contextlib.redirect_stdout(output):
@@ -638,20 +668,22 @@ def tasks(is_short):
 def find_controls(folder):
     """Each wrong version has to be found, by a kill at one of its calls or by one that fails."""
     for control, case, fault in [
-        ("sizes first", CASES[0], "KILL"),
-        ("pad byte before the sizes", CASES[1], "KILL"),
-        ("in a mapped file", CASES[0], "KILL"),
-        ("nothing undone", CASES[0], "ENOSPC"),
+        ("a report before the effect", CASES[0], "KILL"),
+        ("each report is that it is done", CASES[0], "ENOSPC"),
+        ("no block is written", CASES[0], "ENOSPC"),
         ("counted early", CASES[0], "KILL"),
     ]:
         work = "record" if control == "counted early" else "append"
-        runs, wrong = each_call(folder, task(work, case, 100, 4999), [fault], (*CHANGES, "mmap"), control)
+        try:
+            runs, wrong = each_call(folder, task(work, case, 100, 4999), [fault], CHANGES, control)
+        except Wrong as error:  # It fails by itself.
+            runs, wrong = 1, [str(error)]
         print(f"control, {control}: {len(wrong)} of {runs} runs wrong", flush=True)
         if not wrong:
             raise Wrong(f"the wrong version '{control}' isn't found")
+    find_control("a block isn't cut off", limit, folder, CASES[:1])
     find_control("effects forgotten", interrupt, folder, 7)
     find_control("blocks forgotten", interrupt, folder, 7)
-    find_control("nothing undone", interrupt_changes, folder, 7)
     find_control("nobody waits", share, folder, 400)  # until a run is wrong
     find_control("all held is returned", feed, 20)
 

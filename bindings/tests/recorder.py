@@ -17,22 +17,28 @@ import time
 TOP = os.path.dirname(os.path.dirname(os.path.dirname(os.path.abspath(__file__))))
 C = os.path.join(TOP, "bindings", "c")
 SHAPE = ["48000", "2", "16", "100"]
+CHUNK = b"LIST\4\0\0\0INFO"
 DATA = bytes(range(1, 251)) * 16  # 1,000 whole frames of two channels with 16 bits
 # Wrong versions of record.c: a part, and what is in its place.
 WRONG = {
     "a file that exists is emptied": ("is_overwritten ? O_CREAT : O_CREAT | O_EXCL", "O_CREAT"),
-    "a file is emptied before its folder is synced": ("file = open(path, flags | O_RDWR, 0666);", "file = open(path, flags | O_RDWR | (flags ? O_TRUNC : 0), 0666);"),
+    "a file is emptied before its folder is synced": ("*file = open(path, flags | O_RDWR, 0666);", "*file = open(path, flags | O_RDWR | (flags ? O_TRUNC : 0), 0666);"),
     "a file that isn't recorded to stays": ("if (why && flags & O_EXCL) unlink(path);", ""),
-    "no lock": ("flock(file, LOCK_EX | LOCK_NB) < 0", "0"),
+    "no lock": ("flock(*file, LOCK_EX | LOCK_NB) < 0", "0"),
     "an output that nobody reads ends it": ("signal(SIGPIPE, SIG_IGN);", ""),
     "an input without bytes yet is at its end": ("errno == EAGAIN || errno == EWOULDBLOCK", "0"),
     "a torn frame isn't reported": ('if (torn > 0) complain("the input ends within a frame, which isn\'t recorded");', ""),
-    "a fault has no reason": ('return complain(more == 0 ? "nothing could be written" : strerror(errno)), 0;', "return is_whole = 0;"),
+    "a fault has no reason": ('complain(is_cut ? "a part of a block that was lost stays in the file" : strerror(errno));', "is_whole = 0;"),
     "what the header counts isn't reported": ('fprintf(stderr, "record: the header counts only %llu samples: repair the file\\n", counted), is_whole = 0', "is_whole = 0"),
-    "a file of no bytes is appended to": ('if (length == 0) stop("the file is empty: it has no header to append to");', ""),
     "a pipe is taken for a file": ("!S_ISREG(about.st_mode)", "0"),
-    "a rejected block isn't cut off": ("if (!ok && ftruncate(file, place) < 0)", "if (0)"),
+    "a rejected block isn't cut off": ("case HOUND_CUT: is_done = has_cut(file, effect->place);", "case HOUND_CUT: is_done = 1;"),
+    "a report is taken for done": ("effect->report = is_done ? HOUND_DONE : HOUND_FAILED;", "effect->report = HOUND_DONE;"),
+    "a recording that was cut off is overwritten": ("HOUND_MEND, &recorder", "HOUND_OVERWRITE, &recorder"),
+    "chunks after the data are overwritten": ("HOUND_MEND, &recorder", "HOUND_MEND | HOUND_OVERWRITE, &recorder"),
 }
+
+# A version that is right: of three reports two are lost, so that each effect is performed three times.
+LOST = ("effect->report = is_done ? HOUND_DONE : HOUND_FAILED;", "static int number; effect->report = !is_done ? HOUND_FAILED : ++number % 3 ? HOUND_PENDING : HOUND_DONE;")
 
 
 class Wrong(Exception):
@@ -155,6 +161,15 @@ def slow_input(record, path):
     expect("samples of a slow input are lost", recorder.returncode == 0 and counted_in(path) == len(DATA) // 2)
 
 
+def cut_off(record, path):
+    """A recording that was killed: its header counts fewer frames than the file holds, and a part of one is at its end."""
+    run([record, path, *SHAPE], DATA[:400])
+    with open(path, "ab") as file:
+        file.write(DATA[400:803])
+    expect("--append fails", run([record, path, *SHAPE, "--append"], DATA[800:1200]).returncode == 0)
+    expect("frames that the file held are lost", counted_in(path) == 600 and os.path.getsize(path) == 44 + 1200)
+
+
 def torn_frame(record, path):
     ran = run([record, path, *SHAPE], DATA[:-1])
     expect("a torn frame isn't reported", ran.returncode == 1 and b"within a frame" in ran.stderr)
@@ -181,7 +196,12 @@ def failing_header(record, path):
 
 def not_appended(record, path):
     open(path, "w").close()
-    expect("an empty file is appended to", is_rejected(run([record, path, *SHAPE, "--append"]), b"the file is empty"))
+    expect("an empty file is appended to", is_rejected(run([record, path, *SHAPE, "--append"]), b"the bytes end"))
+    whole = run([record, path, *SHAPE, "--overwrite"]) and contents_of(path)
+    with open(path, "wb") as file:
+        file.write(whole + CHUNK)
+    expect("chunks are overwritten", is_rejected(run([record, path, *SHAPE, "--append"]), b"chunks or a tag"))
+    expect("chunks that aren't overwritten change", contents_of(path) == whole + CHUNK)
     os.remove(path)
     os.mkfifo(path)
     for words in ["--append"], ["--overwrite"]:
@@ -189,7 +209,7 @@ def not_appended(record, path):
     expect("a pipe isn't left", stat.S_ISFIFO(os.stat(path).st_mode))
 
 
-CHECKS = [exists, folder_without_leave, two_programs, closed_output, slow_input, torn_frame, full_disk, failing_header, not_appended]
+CHECKS = [exists, folder_without_leave, two_programs, closed_output, slow_input, cut_off, torn_frame, full_disk, failing_header, not_appended]
 
 
 def first_failure(record):
@@ -206,17 +226,20 @@ def first_failure(record):
 def main():
     with tempfile.TemporaryDirectory() as folder:
         os.chmod(folder, 0o755)
-        with open(os.path.join(C, "record.c")) as file:
-            text = file.read()
+        with open(os.path.join(C, "record.c")) as program, open(os.path.join(C, "perform.h")) as performing:
+            text = program.read().replace('#include "perform.h"\n', performing.read())
         failure = first_failure(compiled(folder, "record", text))
         if failure:
             sys.exit(f"recorder: {failure}")
+        failure = first_failure(compiled(folder, "lost", text.replace(*LOST)))
+        if failure:
+            sys.exit(f"recorder: with reports that are lost: {failure}")
         for number, (what, (part, other)) in enumerate(WRONG.items()):
             if text.count(part) != 1:
                 sys.exit(f"recorder: record.c has {text.count(part)} times: {part}")
             if not first_failure(compiled(folder, f"wrong{number}", text.replace(part, other))):
                 sys.exit(f"recorder: this wrong version isn't found: {what}")
-        print(f"recorder: {len(CHECKS)} checks, and {len(WRONG)} wrong versions found")
+        print(f"recorder: {len(CHECKS)} checks, also with reports that are lost, and {len(WRONG)} wrong versions found")
 
 
 if __name__ == "__main__":

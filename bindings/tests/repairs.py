@@ -1,6 +1,6 @@
 #!/usr/bin/env python3
 """Repairs files by bindings/c/repair.c, or by the example `repair` of bindings/hound, beside the model of hound_rows and the
-Python package: those of the rows, and files that are cut off at each byte. Then each of its calls of the system is
+Python package, which has to write and sync the same: those of the rows, and files that are cut off at each byte. Then each of its calls of the system is
 killed or fails, and from these calls the states are built that a loss of power may leave; each is repaired again. Wrong
 versions have to be found.
 
@@ -22,7 +22,7 @@ from rows import TOP, model, repaired_by_model, repairs
 
 HEADER = 44
 IN_CARGO = sys.argv[1:] == ["cargo"]
-SOURCE = "hound/src/repair.rs" if IN_CARGO else "c/repair.c"
+SOURCE = "rust/src/machines.rs" if IN_CARGO else "c/repair.c"
 # A file of 8 bits and one channel that was cut off, with no pad byte after its 1,099 samples, of which 100 are counted.
 CUT_OFF = head(CASES[1], 100) + STREAM[:1099]
 WAYS = {"mend": [], "to_end": ["to_end" if IN_CARGO else "--to-end"]}
@@ -30,46 +30,44 @@ SAID = ("Whole", "CutOff", "HasChunksAfterData") if IN_CARGO else ("whole", "cut
 STATES = dict(zip(("whole", "cut_off", "followed"), SAID))
 WRITES = ("write", "pwrite64")
 TAG = b"TAG" + bytes(125)
-# Parts of repair.c.
-LENGTH, RIFF_SIZE = "!has_stored(bytes, (size_t)info.data_start - 4, 4)", "!has_stored(bytes, 4, 4)"
-PAD = "(length > used && !has_stored(bytes, used, length - used))"
-STEPS = f"{LENGTH}\n            || {PAD} || {RIFF_SIZE}"
-IS_CUT_OFF, LOOKS = "if (found.state == HOUND_CUT_OFF) {\n", "        checked(hound_info(bytes, length, &info));\n"
 # Wrong versions of it: a part, and what is in its place.
+SYNC, REPORT = "is_done = !is_durable || fsync(file) == 0;", "effect->report = is_done ? HOUND_DONE : HOUND_FAILED;"
+MODE, BEGIN = "is_to_end ? HOUND_REPAIR_TO_END : HOUND_REPAIR", "hound_repairer_begin(length, mode, &repairer);"
+# A version that is right: of three reports two are lost, so that each effect is performed three times.
+LOST = REPORT, "static int number; effect->report = !is_done ? HOUND_FAILED : ++number % 3 ? HOUND_PENDING : HOUND_DONE;"
 WRONG = {
-    "the data length before the samples are synced": ("fsync(file) < 0 || ", ""),
-    "no sync after a step": ("return fsync(file) == 0;", "return 1;"),
-    "a sync that fails is ignored": ("return fsync(file) == 0;", "return fsync(file), 1;"),
-    "the pad byte before the data length": (STEPS, f"{PAD} || {LENGTH} || {RIFF_SIZE}"),
-    "the RIFF size before the pad byte": (STEPS, f"{LENGTH} || {RIFF_SIZE} || {PAD}"),
-    "no pad byte": (f"{PAD} || ", ""),
-    "no RIFF size": (f" || {RIFF_SIZE}", ""),
-    "a whole file is written": (IS_CUT_OFF, IS_CUT_OFF.replace("== HOUND_CUT_OFF", "!= HOUND_HAS_CHUNKS_AFTER_DATA")),
-    "a file with chunks after the data is written": (IS_CUT_OFF, IS_CUT_OFF.replace("== HOUND_CUT_OFF", "!= HOUND_WHOLE")),
-    "an error of a file that isn't written": (IS_CUT_OFF + LOOKS, LOOKS + IS_CUT_OFF),
-    "the memory is the file": ("MAP_PRIVATE", "MAP_SHARED"),
-    "--to-end without an effect": ("(is_to_end ? hound_repair_to_end : hound_repair)", "hound_repair"),
-    "a short write isn't continued": ("if (more > 0) place += (size_t)more;", "if (more > 0) break;"),
-    "no message where the disk can't be read": ("signal(SIGBUS, stop_at_fault)", "(void)stop_at_fault"),
+    "no sync": (SYNC, "is_done = 1;"),
+    "a sync that fails is ignored": (SYNC, "is_done = (fsync(file), 1);"),
+    "a write that fails is ignored": (REPORT, "effect->report = HOUND_DONE;"),
+    "a write that is left out": ("is_done = has_written(file, effect->bytes, effect->length, effect->place);", "is_done = 1;"),
+    "a write at the end": ("pwrite(file, bytes + done, count - done, (off_t)(place + done))", "(lseek(file, 0, SEEK_END), write(file, bytes + done, count - done))"),
+    "a file is only looked at": (MODE, "HOUND_FIND_DAMAGE"),
+    "--to-end without an effect": (MODE, "HOUND_REPAIR"),
+    "a file with chunks after the data is written": (MODE, "HOUND_REPAIR_TO_END"),
+    "a length that isn't the file's": (BEGIN, BEGIN.replace("length", "length + 1")),
+    "a short write isn't continued": ("if (more > 0) done += (size_t)more;\n        else if (more == 0) return errno = EIO, 0;", "if (more > 0) break;\n        else if (more == 0) return errno = EIO, 0;"),
+    "a read that fails is ignored": ("else if (errno != EINTR) return -1;", "else if (errno != EINTR) return (int64_t)done;"),
     "an error ends with status 0": ('why), 1)); }', 'why), 0)); }'),
-    "no lock": ("flock(file, LOCK_EX | LOCK_NB) < 0", "0"),
+    "no lock": ("flock(*file, LOCK_EX | LOCK_NB) < 0", "0"),
 }
 if IN_CARGO:
-    LENGTH, PAD, RIFF_SIZE = "data_start - 4..data_start", "length..found.length", "4..8"
-    STEPS, SYNC = f"[{LENGTH}, {PAD}, {RIFF_SIZE}]", "                file.sync_all()?;\n"
+    SYNC, WRITE, REPORT = "medium.sync()", "Kind::Write => write_at(medium, place, self.bytes()),", "Err(_) => self.failed(),"
+    BEGIN, WRITTEN = "hound_repairer_begin(length, mode as u32,", "Err(io::ErrorKind::WriteZero.into()),\n            Ok(more) => count += more,\n"
+    INTERRUPTED = "            Err(error) if error.kind() == io::ErrorKind::Interrupted => {}\n"
+    READ = "            Err(error) => return Err(error),\n        }\n    }\n    Ok(count)"
     WRONG = {
-        "the order of an earlier version": (STEPS, f"[{PAD}, {RIFF_SIZE}, {LENGTH}]"),
-        "the data length before the samples are synced": ("        file.sync_all()?;\n        for", "        for"),
-        "no sync after a step": (SYNC, ""),
-        "a sync that fails is ignored": (SYNC, SYNC.replace("?", ".unwrap_or(())")),
-        "the pad byte before the data length": (STEPS, f"[{PAD}, {LENGTH}, {RIFF_SIZE}]"),
-        "the RIFF size before the pad byte": (STEPS, f"[{LENGTH}, {RIFF_SIZE}, {PAD}]"),
-        "no pad byte": (STEPS, f"[{LENGTH}, {RIFF_SIZE}]"),
-        "no RIFF size": (STEPS, f"[{LENGTH}, {PAD}]"),
-        "a whole file is written": ("== RepairState::CutOff", "!= RepairState::HasChunksAfterData"),
-        "a file with chunks after the data is written": ("== RepairState::CutOff", "!= RepairState::Whole"),
-        "repair_file_to_end without an effect": ("proved::repair_to_end, filename", "proved::repair, filename"),
-        "an interrupted or short write isn't continued": ("file.write_all(", "file.write("),
+        "no sync": (SYNC, "Ok(())"),
+        "a sync that fails is ignored": (SYNC, SYNC + ".or(Ok(()))"),
+        "a write that fails is ignored": (REPORT, REPORT.replace("Err(_)", "Err(_) if self.kind() == Kind::Read") + " Err(_) => self.done(),"),
+        "a write that is left out": (WRITE, "Kind::Write => Ok(()),"),
+        "a write at another place": (WRITE, WRITE.replace("place", "place + 1")),
+        "a file is only looked at": (BEGIN, BEGIN.replace("mode as u32", "mode as u32 * 0")),
+        "repair_file_to_end without an effect": (BEGIN, BEGIN.replace("mode as u32", "mode as u32 * 0 + 1")),
+        "a file with chunks after the data is written": (BEGIN, BEGIN.replace("mode as u32", "mode as u32 * 0 + 2")),
+        "a length that isn't the file's": (BEGIN, BEGIN.replace("length", "length + 1")),
+        "a short write isn't continued": (WRITTEN, WRITTEN.replace("count += more", "{ count += more; break }")),
+        "an interrupted write isn't continued": (WRITTEN + INTERRUPTED, WRITTEN),
+        "a read that fails is ignored": (READ, READ.replace("Err(error) => return Err(error)", "Err(_) => break")),
     }
 
 
@@ -99,8 +97,16 @@ def contents_of(path):
         return file.read()
 
 
+def ended(words, **options):
+    """How a program has ended."""
+    try:
+        return subprocess.run(words, stdout=subprocess.PIPE, stderr=subprocess.PIPE, timeout=20, **options)
+    except subprocess.TimeoutExpired:
+        raise Wrong(f"{words} doesn't end") from None
+
+
 def run(program, path, how="mend", **options):
-    return subprocess.run([program, path, *WAYS[how]], stdout=subprocess.PIPE, stderr=subprocess.PIPE, **options)
+    return ended([program, path, *WAYS[how]], **options)
 
 
 def is_error(ran):
@@ -220,8 +226,8 @@ def traced(program, path, before, how, *options):
     # Rust takes no notice of these where they fail: the sizes, the flags and the end of a file. A lock that can't be had
     # since there are none is no error, either.
     options = ["-e", "trace=!statx,fcntl,close,flock", *options]
-    words = ["strace", "-qq", "-xx", "-o", log, "-P", path, *options, program, path, *WAYS[how]]
-    ran = subprocess.run(words, stdout=subprocess.PIPE, stderr=subprocess.PIPE)
+    words = ["strace", "-qq", "-xx", "-o", log, "-P", path, *options, *(program if isinstance(program, list) else [program]), path, *WAYS[how]]
+    ran = ended(words)
     said = contents_of(log).decode()
     calls, at = [], 0
     pattern = r'^(\w+)\((?:\d+, "([^"]*)", \d+(?:, (\d+))?\))?.* = (-?\d+)'
@@ -262,13 +268,12 @@ def check_calls(program, path, how, before):
         number = sum(call[0] == name for call in calls[: at + 1])
         faults = ["signal=KILL:when={}", "error=EIO:when={}", "error=ENOSPC:when={}+"]
         faults += ["error=EINTR:when={}", "retval=1:when={}"] * (name in WRITES)
-        faults += ["signal=BUS:when={}"] * (name == "fsync" and not IN_CARGO)
         for fault in (fault.format(number) for fault in faults):
             what = f"{name} {fault} of a file of {len(before)} bytes"
             ran, met, said = traced(program, path, before, how, "-e", f"inject={name}:{fault}")
             left = contents_of(path)
             runs += 1
-            if not re.search("INJECTED|SIG(KILL|BUS)", said):
+            if not re.search("INJECTED|SIGKILL", said):
                 raise Wrong(f"{what}: it isn't met")
             if "retval" in fault:  # It says that one byte was written: the others have to follow.
                 is_right = ran.returncode == 0 and (len(data) == 1 or (name, place + 1, data[1:]) in met)
@@ -307,6 +312,18 @@ def check_losses(program, path, how, before):
     return states
 
 
+def check_same(program, path):
+    """The Python package writes and syncs the same."""
+    repair = "import hound_bindings, sys; hound_bindings.repair(sys.argv[1], durable=True, to_end=len(sys.argv) > 2)"
+    for how, before in CALLED:
+        made = []
+        for one in program, [sys.executable, "-S", "-c", repair]:
+            _, calls, _ = traced(one, path, before, how)
+            made.append([("write", *call[1:]) if call[0] in WRITES else call[0] for call in calls if call[0] in (*WRITES, "fsync", "ftruncate")])
+        if made[0] != made[1] or not made[0]:
+            raise Wrong(f"the Python package makes other changes: {made}")
+
+
 def check_lock(program, path):
     """A file that a recorder has locked is rejected, and stays as it is."""
     leave(path, CUT_OFF)
@@ -327,19 +344,24 @@ def all_checks(program, path, is_short):
     files += check_files(program, path, (("to_end", data) for data in cut[:: 9 if is_short else 3]))
     if is_short:
         return ""
-    if not IN_CARGO:
-        check_long(program, path)
+    check_same(program, path)
+    check_long(program, path)
     files += check_files(program, path, repairs())
     return f"{files} files, {errors} errors, {calls} killed or failing calls, {losses} states of a loss of power"
 
 
 def main():
     text = contents_of(os.path.join(TOP, "bindings", SOURCE)).decode()
+    performing = contents_of(os.path.join(TOP, "bindings", "c", "perform.h")).decode()
+    text = text.replace('#include "perform.h"\n', performing)
     # A sync costs nothing there.
     with tempfile.TemporaryDirectory(dir="/dev/shm" if os.path.isdir("/dev/shm") else None) as folder:
         folder = os.path.realpath(folder)
         path = os.path.join(folder, "a.wav")
         print(f"repairs: {all_checks(compiled(folder, text), path, False)}", flush=True)
+        if not IN_CARGO:
+            all_checks(compiled(folder, text.replace(*LOST)), path, True)
+            print("repairs: the same with reports that are lost", flush=True)
         for what, (part, other) in WRONG.items():
             if text.count(part) != 1:
                 sys.exit(f"repairs: {SOURCE} has another part than {part}")

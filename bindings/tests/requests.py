@@ -13,9 +13,9 @@ TOP = os.path.dirname(os.path.dirname(os.path.dirname(os.path.abspath(__file__))
 sys.path.insert(0, os.path.join(TOP, "crates", "hound_rows"))
 import expected as model  # noqa: E402
 
-# Where things are in memory: a spec, what is found (before that a recorder, and what one is begun by), samples, what is
-# decoded or written, and the file with room after it.
-SPEC, FOUND, INFO, SAMPLES, OUT, FILE = 0, 16, 40, 64, 192, 832
+# Where things are in memory: a spec, what is found (before that a recorder or a repairer, and what one is begun by),
+# samples, what is decoded or written, and the file with room after it.
+SPEC, FOUND, INFO, SAMPLES, OUT, FILE = 0, 16, 136, 192, 320, 960
 COUNT, ROOM, MORE = 32, FILE - OUT, 160
 # Bits and bytes that are written, and some that aren't.
 PAIRS = [(8, 0, 0), (16, 0, 0), (24, 3, 0), (24, 4, 0), (32, 0, 0), (32, 0, 1), (12, 0, 0), (16, 4, 0), (64, 0, 1)]
@@ -59,12 +59,29 @@ def recorder(some):
     """A recorder as C has it, also one that no call makes."""
     start = some.choice((44, 44, 44, 68, 20, 19, 2**32 + 7, 2**33, 2**64 - 1))
     length = some.choice((0, 1, 6, 300, 2**31, 2**32 - 37, 2**32 - 1))
-    return struct.pack("<QIIHHI", start, length, some.choice((0, 0, 0, *range(1, 8), 2**32 - 1)), some.choice((0, 1, 2, 3, 4)), some.choice((0, 0, 0, 1, 2, 3)), 0)
+    number, samples = some.choice((0, 0, 0, *range(1, 8), 2**32 - 1)), some.choice((0, 1, 6, 2**31, 2**32 - 1))
+    shape = [some.choice(values) for values in (range(5), range(3), (0, 0, 0, 1, 2, 3), range(6), (0, 0, 1, 2))]
+    return effect(some) + struct.pack("<QIII6H", start, length, number, samples, *shape, 0)
+
+
+def effect(some):
+    """An effect, and how it ended."""
+    return struct.pack("<QIHH40s", some.choice((0, 12, 44)), some.choice((0, 4, 8, 12, 40, 99)), some.randrange(7), some.randrange(4), some.randbytes(40))
+
+
+def repairer(some):
+    """A repairer as C has it, also one that no call makes."""
+    places = [some.choice((0, 44, 60, 200, 2**33, 2**64 - 1)) for _ in range(3)]
+    spec = struct.pack("<IHHHH", 44100, some.randrange(3), some.choice((8, 16, 24, 12)), some.randrange(4), some.randrange(2))
+    numbers = [some.choice((0, 1, 7, 16, 100, 2**32 - 1)), some.choice((0, 12, 24)), some.randrange(12), some.choice((16, 18, 40)), some.randrange(9), some.choice((0, 1, 2, 3, 2**16 + 1)), 0]
+    return effect(some) + struct.pack("<QQQ", *places) + spec + struct.pack("<7I", *numbers)
 
 
 def recorded(some, spec):
-    """What says that a file of this spec has samples."""
-    return spec + struct.pack("<IQ", some.choice((0, 1, 6, 2**31, 2**32 - 1)), some.choice((44, 44, 68, 20, 19, 2**33)))
+    """What is found of a file of this spec that has samples."""
+    start, counted = some.choice((44, 44, 68, 20, 19, 2**33)), some.choice((0, 1, 6, 12, 2**31, 2**32 - 1))
+    length = start + counted + some.choice((-1, 0, 0, 1, 2, 40))
+    return spec + struct.pack("<IIIQQII", counted // 2 + some.randrange(3), some.randrange(3), some.randrange(4), start, length, counted, 0)
 
 
 def requests(file, some):
@@ -78,7 +95,8 @@ def requests(file, some):
         low = 0 if suffix == "f32" else -(2 ** min(kept, most))
         high = 2**32 if suffix == "f32" else 2 ** min(kept, most)
         samples = struct.pack(f"<{COUNT}{code}", *(some.randrange(low, high) for _ in range(COUNT)))
-        memory = spec.ljust(FOUND, b"\x5a") + recorder(some) + recorded(some, spec) + samples
+        machine = recorder(some).ljust(INFO - FOUND, b"\x5a") if some.random() < 0.7 else repairer(some)
+        memory = spec.ljust(FOUND, b"\x5a") + machine + recorded(some, spec).ljust(SAMPLES - INFO, b"\x5a") + samples
         yield f"memory {size} {(memory.ljust(FILE, bytes([0x5A])) + file).hex()}"
         if suffix == "i16":
             yield f"info @{FILE} {used} @{FOUND}"
@@ -90,10 +108,13 @@ def requests(file, some):
             for width in (8, 16, 24, 32):
                 yield f"value_{width} #{some.choice((0, 2 ** (width - 1), some.randrange(2**32)))}"
             yield f"recorder_begin @{SPEC} @{FOUND}"
-            yield f"recorder_append @{INFO} @{FOUND}"
-            yield f"recorder_place @{FOUND} {some.choice((few, 2**31, 2**64 - 1))}"
-            yield f"recorder_wrote @{FOUND} {some.choice((few, few, 2**31))} #{some.choice((0, 1, 77))}"
-            yield f"checkpoint_next @{FOUND} #{some.choice((0, 1, 77))} @{OUT}"
+            yield f"recorder_resume @{INFO} #{some.randrange(5)} @{FOUND}"
+            yield f"recorder_write @{FOUND} {some.choice((few, few, 2**31, 2**64 - 1))}"
+            yield f"recorder_checkpoint @{FOUND}"
+            yield f"recorder_next @{FOUND}"
+            yield f"repairer_next @{FOUND} @{OUT}"
+            for mode in range(4):
+                yield f"repairer @{FILE} {used} #{mode} @{FOUND}"
             for room in (used, used + 1, used - (used > 0)):
                 yield f"repair @{FILE} {room} {used} @{FOUND}"
                 yield f"repair_to_end @{FILE} {room} {used} @{FOUND}"

@@ -44,7 +44,7 @@ REASONS = {
 WORDS = {f"FormatError({text})": cause for text, cause in REASONS.items()}
 HEAD = {**WORDS, model.ENDED: Cause.ENDED, "Unsupported": Cause.UNSUPPORTED}
 ITEM = {"InvalidSampleFormat": Cause.OTHER_FORMAT, "TooWide": Cause.TOO_WIDE, "Unsupported": Cause.NOT_WRITABLE, model.ENDED: Cause.TRUNCATED}
-CODES = [cause for cause in Cause if cause < Cause.CUT_OFF]  # Those of hound.h.
+CODES = list(Cause)
 met = set()
 
 
@@ -181,7 +181,11 @@ def repaired_by_model(how, data):
 
 
 # The calls of the C interface for the repairs of the rows.
-REPAIRS = {"mend": hound._repair, "to_end": hound._repair_to_end}
+SIZE, POINTER = ctypes.c_size_t, ctypes.c_void_p
+REPAIRS = {
+    how: hound._function(name, POINTER, SIZE, SIZE, POINTER) for how, name in (("mend", "repair"), ("to_end", "repair_to_end"))
+}
+APPEND = hound._function("append_i16", POINTER, SIZE, SIZE, POINTER, SIZE)
 
 
 def repaired(how, data):
@@ -235,14 +239,43 @@ def other_codes():
             met.add(cause)
     file = hound.to_bytes(array.array("h", [1]), 1)
     with hound._address(file) as (address, capacity), hound._samples(array.array("h", [1])) as (_, one, _, _):
-        assert hound._append["i16"](address, capacity, capacity, one, 1) == -Cause.NO_ROOM
+        assert APPEND(address, capacity, capacity, one, 1) == -Cause.NO_ROOM
         met.add(Cause.NO_ROOM)
-    recorder, effect = streams._Recorder(44, 0, 0, 2, 0), streams._Effect()
-    with hound._address(recorder) as (address, _):
-        assert streams._recorder_wrote(address, 1, 0) == 0 and streams._recorder_place(address, 1) == -Cause.NEEDS_CHECKPOINT
-        assert streams._checkpoint_next(address, 1, ctypes.byref(effect)) == 1 and effect.length == 0
-        assert streams._checkpoint_next(address, 0, ctypes.byref(effect)) == -Cause.SYNC_FAILED
-    met.update((Cause.NEEDS_CHECKPOINT, Cause.SYNC_FAILED))
+    check_reports()
+
+
+def check_reports():
+    """The codes of a recorder and a repairer, by what is reported of their effects."""
+    spec, recorder, found = hound._Spec(44100, 1, 16, 2, 0), streams._Recorder(), hound._Repair()
+    streams._recorder_begin(ctypes.byref(spec), ctypes.byref(recorder))
+
+    def next_after(report):
+        recorder.effect.report = report
+        return streams._recorder_next(ctypes.byref(recorder)), recorder.effect.kind, recorder.effect.place
+
+    assert streams._recorder_write(ctypes.byref(recorder), 3) == 0
+    assert next_after(0) == next_after(0) == (1, hound.disk.WRITE_BLOCK, 44) and recorder.effect.length == 6
+    assert next_after(hound.disk.FAILED) == (1, hound.disk.CUT, 44)
+    assert next_after(hound.disk.DONE)[0] == -Cause.NEEDS_CHECKPOINT
+    assert streams._recorder_write(ctypes.byref(recorder), 3) == 0 and next_after(0) == (1, hound.disk.SYNC, 0)
+    assert next_after(hound.disk.FAILED)[0] == streams._recorder_write(ctypes.byref(recorder), 3) == -Cause.SYNC_FAILED
+    file = hound.to_bytes(array.array("h", [1, 2]), 44100)
+    for length, state, results in (
+        (48, 0, [0, 0, 0, 0]),
+        (46, 1, [-Cause.TRUNCATED] * 4),
+        (50, 1, [-Cause.IS_CUT_OFF, 0, -Cause.IS_CUT_OFF, 0]),
+        (56, 2, [-Cause.CHUNKS_FOLLOW, -Cause.CHUNKS_FOLLOW, 0, 0]),
+    ):
+        found = hound._Repair(spec, (length - 44) // 2, 0, state, 44, length, 4)
+        resumed = [streams._recorder_resume(ctypes.byref(found), allowed, ctypes.byref(recorder)) for allowed in range(4)]
+        assert resumed == results, (length, state, resumed)
+    repairer = hound._Repairer()
+    hound._repairer_begin(len(file), hound._REPAIR, ctypes.byref(repairer))
+    assert hound._repairer_next(ctypes.byref(repairer), ctypes.byref(found)) == 1 and repairer.effect.length == 12
+    repairer.effect.report = hound.disk.FAILED
+    for _ in range(2):
+        assert hound._repairer_next(ctypes.byref(repairer), ctypes.byref(found)) == -Cause.NOT_PERFORMED
+    met.update((Cause.NEEDS_CHECKPOINT, Cause.SYNC_FAILED, Cause.IS_CUT_OFF, Cause.CHUNKS_FOLLOW, Cause.NOT_PERFORMED))
 
 
 def main():

@@ -50,12 +50,15 @@ TRY(f32, float)
 static void try_recorder(void) {
     hound_spec spec = {44100, 1, 8, 1, HOUND_INT};
     hound_recorder *recorder = fresh(sizeof *recorder);
-    hound_effect *effect = fresh(sizeof *effect);
     int count = 0;
-    must(hound_recorder_begin(&spec, recorder) == 0 && hound_recorder_wrote(recorder, 1, 1) == 0, "recording");
-    for (; hound_checkpoint_next(recorder, 1, effect) == 1; count++) must(fwrite(effect, 1, sizeof *effect, stdout) == sizeof *effect, "an effect");
-    must(count == 5, "the effects");
-    free(recorder), free(effect);
+    must(hound_recorder_begin(&spec, recorder) == 0 && hound_recorder_write(recorder, 1) == 0, "recording");
+    for (; hound_recorder_next(recorder) == 1; count++) {
+        must(fwrite(&recorder->effect, 1, sizeof recorder->effect, stdout) == sizeof recorder->effect, "an effect");
+        recorder->effect.report = HOUND_DONE;
+        if (recorder->effect.kind == HOUND_WRITE_BLOCK) hound_recorder_checkpoint(recorder);
+    }
+    must(count == 6, "the effects");
+    free(recorder);
 }
 
 int main(int argc, char **argv) {

@@ -1,22 +1,47 @@
-/* A walk to the data of a file in memory that sees only the parts that it asks for, as one over a pipe. */
+/* A walk over a file in memory, and a repair of one, by what they request, as of a file on a disk. */
 #include <stdlib.h>
 #include <string.h>
 
 static void must(int holds, const char *what);
 
+/* Reads what is requested into memory of its own, and reports it. */
+static void read_part(const uint8_t *file, size_t length, hound_effect *effect) {
+    size_t from = effect->place < length ? (size_t)effect->place : length;
+    size_t count = length - from < effect->length ? length - from : effect->length;
+    must(effect->kind == HOUND_READ && effect->length <= HOUND_EFFECT_BYTES, "a part that is read");
+    memcpy(effect->bytes, file + from, count);
+    effect->length = (uint32_t)count;
+    effect->report = HOUND_DONE;
+}
+
 static int32_t walked(const uint8_t *file, size_t length, hound_info_t *info) {
     hound_walk walk = HOUND_WALK_BEGIN;
-    for (uint64_t end = 0;;) {
-        must(walk.place >= end && walk.length <= HOUND_WALK_BYTES, "a part after those before it");
-        size_t from = walk.place < length ? (size_t)walk.place : length;
-        size_t count = length - from < walk.length ? length - from : walk.length;
-        uint8_t *part = malloc(count ? count : 1);
-        must(part != NULL, "memory");
-        memcpy(part, file + from, count);
-        end = walk.place + walk.length;
-        int32_t code = hound_walk_next(&walk, part, count, info);
-        free(part);
-        must(code != 0 || info->data_start == end, "the data begin after the last part");
-        if (code != 1) return code;
+    uint64_t end = 0;
+    int32_t code;
+    while ((code = hound_walk_next(&walk, info)) == 1) {
+        must(walk.effect.place >= end, "a part after those before it");
+        end = walk.effect.place + walk.effect.length;
+        read_part(file, length, &walk.effect);
     }
+    must(code != 0 || info->data_start == end, "the data begin after the last part");
+    return code;
+}
+
+/* What a repairer of this mode leaves of the file in the first `used` bytes, after which there is room for one: its
+   length, or an error. */
+static inline int64_t repaired(uint8_t *file, size_t used, uint32_t mode, hound_repair_t *found) {
+    hound_repairer repairer;
+    uint64_t length = used;
+    int32_t code;
+    hound_repairer_begin(used, mode, &repairer);
+    while ((code = hound_repairer_next(&repairer, found)) == 1) {
+        hound_effect *effect = &repairer.effect;
+        uint64_t end = effect->place + effect->length;
+        must(effect->kind == HOUND_READ || mode != HOUND_FIND_DAMAGE, "looking writes nothing");
+        if (effect->kind == HOUND_READ) read_part(file, used, effect);
+        if (effect->kind == HOUND_WRITE) must(end <= used + 1, "a place of the file"), memcpy(file + effect->place, effect->bytes, effect->length);
+        if (effect->kind == HOUND_WRITE && end > length) length = end;
+        effect->report = HOUND_DONE;
+    }
+    return code < 0 ? code : (int64_t)length;
 }

@@ -48,10 +48,10 @@ REAL(int32_t, find_damage, (const uint8_t *file, size_t length, hound_repair_t *
     return code;
 }
 
-REAL(int32_t, walk_next, (hound_walk *walk, const uint8_t *bytes, size_t length, hound_info_t *info)) {
-    int32_t code = __real_hound_walk_next(walk, bytes, length, info);
-    if (code == 1 && has("walk asks for a byte more")) walk->length++;
-    if (code == 1 && has("walk skips a byte more")) walk->place++;
+REAL(int32_t, walk_next, (hound_walk *walk, hound_info_t *info)) {
+    int32_t code = __real_hound_walk_next(walk, info);
+    if (code == 1 && has("walk asks for a byte more")) walk->effect.length++;
+    if (code == 1 && has("walk skips a byte more")) walk->effect.place++;
     if (code == 0) report(&info->spec);
     if (code == 0 && has("walk counts a sample more")) info->samples++;
     if (code < 0 && has("walk writes at an error")) info->samples = 0;
@@ -104,27 +104,42 @@ REAL(int64_t, size, (const hound_spec *spec, uint64_t samples)) {
     return n == HOUND_TOO_LONG && has("size past 32 bits") ? (int64_t)(44 + 2 * samples) : n;
 }
 
-REAL(int64_t, recorder_place, (const hound_recorder *recorder, uint64_t samples)) {
-    int64_t place = __real_hound_recorder_place(recorder, samples);
-    return place >= 0 && has("place of the header") ? (int64_t)recorder->data_start : place;
-}
-
-REAL(int32_t, recorder_append, (const hound_info_t *info, hound_recorder *recorder)) {
-    int32_t code = __real_hound_recorder_append(info, recorder);
+REAL(int32_t, recorder_resume, (const hound_repair_t *found, uint32_t allowed, hound_recorder *recorder)) {
+    int32_t code = __real_hound_recorder_resume(found, has("chunks are overwritten") ? allowed | HOUND_OVERWRITE : has("what was cut off is mended") ? allowed | HOUND_MEND : allowed, recorder);
     if (code == 0 && has("appending from the first sample")) recorder->data_length = 0;
+    if (code == 0 && has("what follows stays")) recorder->has_rest = 0;
     return code;
 }
 
-REAL(int32_t, recorder_wrote, (hound_recorder *recorder, uint64_t samples, int32_t ok)) {
-    return __real_hound_recorder_wrote(recorder, samples, ok || has("a failed write counts"));
+REAL(int32_t, recorder_write, (hound_recorder *recorder, uint64_t samples)) {
+    if (has("a torn frame is written")) recorder->channels = 1;
+    int32_t code = __real_hound_recorder_write(recorder, samples);
+    if (has("a block that is given up stays")) recorder->has_rest = 0;
+    return code;
 }
 
-REAL(int32_t, checkpoint_next, (hound_recorder *recorder, int32_t ok, hound_effect *effect)) {
+REAL(int32_t, recorder_next, (hound_recorder *recorder)) {
+    uint16_t *report = &recorder->effect.report;
+    if (recorder->effect.kind != HOUND_NOTHING && *report == HOUND_PENDING && has("a report that is lost counts as done")) *report = HOUND_DONE;
+    if (recorder->effect.kind == HOUND_WRITE_BLOCK && *report == HOUND_FAILED && has("a failed write counts")) *report = HOUND_DONE;
     if (recorder->condition == 2 && has("a failed sync is forgotten")) recorder->condition = 0;
-    if (recorder->number == 0 && has("no sync after a failed write")) recorder->condition = 0;
-    int32_t code = __real_hound_checkpoint_next(recorder, ok, effect);
-    if (code == 1 && effect->length == 1 && has("no pad byte in a checkpoint")) return __real_hound_checkpoint_next(recorder, 1, effect);
-    if (code == 1 && effect->length == 0 && recorder->number < 3 && has("sizes before a sync")) return __real_hound_checkpoint_next(recorder, 1, effect);
+    if (recorder->number == 0 && recorder->condition == 1 && has("no sync after a failed write")) recorder->condition = 0;
+    int32_t code = __real_hound_recorder_next(recorder);
+    int is_left_out = (recorder->effect.kind == HOUND_CUT && has("no cut")) || (recorder->effect.length == 1 && has("no pad byte in a checkpoint"))
+        || (recorder->effect.kind == HOUND_SYNC && recorder->number < 3 && has("sizes before a sync"));
+    if (code == 1 && is_left_out) return *report = HOUND_DONE, __real_hound_recorder_next(recorder);
+    if (code == 1 && recorder->effect.kind == HOUND_WRITE_BLOCK && has("place of the header")) recorder->effect.place = recorder->data_start;
+    return code;
+}
+
+REAL(int32_t, repairer_next, (hound_repairer *repairer, hound_repair_t *found)) {
+    uint16_t *report = &repairer->effect.report;
+    if (repairer->effect.kind > HOUND_READ && *report == HOUND_FAILED && has("a repair goes on after a failure")) *report = HOUND_DONE;
+    int32_t code = __real_hound_repairer_next(repairer, found);
+    int is_left_out = (repairer->effect.kind == HOUND_SYNC && has("a repair without syncs")) || (repairer->effect.length == 1 && repairer->effect.kind == HOUND_WRITE && has("a repair without a pad byte"));
+    if (code == 1 && is_left_out) return *report = HOUND_DONE, __real_hound_repairer_next(repairer, found);
+    if (code == 0 && has("a repair finds a frame more")) found->frames++;
+    if (code == 0 && has("a repair finds another length")) found->length++;
     return code;
 }
 

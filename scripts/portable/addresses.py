@@ -22,6 +22,7 @@ MOST = 12
 ALLOWED = {
     (SUBTRACT, "frame", "pointer"): "the distance of two arrays, which a loop over many samples looks at before it takes several at once",
     (SUBTRACT, "frame", "constants"): "the same",
+    (SUBTRACT, "frame", "frame/pointer"): "the same",
     (IS_ZERO, "pointer"): "no address is 0, here as in the module",
     (OR, "frame"): "a frame is at a multiple of 16, and the number is less: it is the sum",
 }
@@ -45,7 +46,7 @@ class Addresses:
         self.module, self.frames, self.has_changed = module, {}, True
         self.parameters = {function.number: [NOTHING] * len(function.parameters) for function in module.functions}
         self.results = {function.number: NOTHING for function in module.functions}
-        for name, parameters in re.findall(r"(?m)^int\d+_t (hound_\w+)\((.*?)\)(?: HOUND_NONNULL)?;", header):
+        for name, parameters in re.findall(r"(?m)^(?:int\d+_t|void) (hound_\w+)\((.*?)\)(?: HOUND_NONNULL)?;", header):
             pointers = enumerate("*" in parameter for parameter in parameters.split(", "))
             passed = [frozenset([(("pointer", name, place), 0)]) if is_pointer else NOTHING for place, is_pointer in pointers]
             self.parameters[module.exports[name].number] = passed

@@ -85,7 +85,7 @@ def take_frame(function, at):
     for end in ends:
         last = [one[0] for one in code[end + 1 :]]
         need(code[end - 3 : end] == [(LOCAL_GET, local), (I64_CONST, function.frame), I64_ADD], "all of a frame is given back")
-        need(last in ([], [LOCAL_GET], [RETURN, END, UNREACHABLE]) and code.count((RETURN,)) == last.count(RETURN), "it is given back at the end")
+        need(last in ([], [LOCAL_GET], [RETURN, END, UNREACHABLE], [LOCAL_GET, RETURN, END, UNREACHABLE]) and code.count((RETURN,)) == last.count(RETURN), "it is given back at the end")
         del code[end - 3 : end + 1]
 
 
@@ -317,24 +317,26 @@ def exported(module, name, declaration):
         is_narrow = re.search(r"int(16|32)_t ", parameter) and "*" not in parameter
         arguments.append(f"(uint64_t)(uintptr_t){word}" if "*" in parameter else f"(uint32_t){word}" if is_narrow else word)
     need("".join("i" if argument.startswith("(uint32_t)") else "l" for argument in arguments) == export.parameters, "arguments have the types of hound.h")
-    need(returned == {"i": "int32_t", "l": "int64_t"}[export.result], "results have the types of hound.h")
+    need(returned == {"i": "int32_t", "l": "int64_t", "": "void"}[export.result], "results have the types of hound.h")
     count = len(called.parameters)
     need(export.code[:count] == [(LOCAL_GET, number) for number in range(count)] and export.code[count][0] == CALL, "arguments are passed on")
-    *kept, last = export.code[count + 1 :]
-    if called.result:
-        need(kept == [(LOCAL_SET, last[1])] and last[0] == LOCAL_GET, "the result is returned")
-        result = f"{called.name_in_c}({', '.join(['sp'] * (called.depth > 0) + arguments[:count])})"
+    rest, result = export.code[count + 1 :], f"{called.name_in_c}({', '.join(['sp'] * (called.depth > 0) + arguments[:count])})"
+    if not export.result:
+        need(not rest and not called.result, "nothing is returned")
+    elif called.result:
+        need([code for code, _ in rest] == [LOCAL_SET, LOCAL_GET] and rest[0][1] == rest[1][1], "the result is returned")
     else:
-        need(not kept and last == (LOCAL_GET, 0) and not called.code, "or the first argument, and the call does nothing")
+        need(rest == [(LOCAL_GET, 0)] and not called.code, "or the first argument, and the call does nothing")
         result = arguments[0]
     stack = [f"    STACK({called.depth});"] * (called.depth > 0)
-    return "\n".join([f"{returned} {name}({parameters}) {{", *stack, f"    return s{returned[3:5]}({result});", "}", ""])
+    last = f"    return s{returned[3:5]}({result});" if export.result else f"    {result};"
+    return "\n".join([f"{returned} {name}({parameters}) {{", *stack, last, "}", ""])
 
 
 def converted(wasm, header):
     """The C file of a module that exports the functions of hound.h."""
     module = Module(wasm)
-    declarations = {found[2]: found[0] for found in re.finditer(r"(?m)^(int32_t|int64_t) (hound_\w+)\(.*;$", header)}
+    declarations = {found[2]: found[0] for found in re.finditer(r"(?m)^(int32_t|int64_t|void) (hound_\w+)\(.*;$", header)}
     need(set(declarations) == set(module.exports), "the exports are the functions of hound.h")
     take_guards_out(module)
     greatest = max(depth_of(module, function) for function in module.exports.values())

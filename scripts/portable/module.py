@@ -24,6 +24,7 @@ OPERATORS = {
         (0x48, "i32.lt_s", "ii", "b", "s32({0}) < s32({1})"),
         (0x49, "i32.lt_u", "ii", "b", "{0} < {1}"),
         (0x4B, "i32.gt_u", "ii", "b", "{0} > {1}"),
+        (0x4D, "i32.le_u", "ii", "b", "{0} <= {1}"),
         (0x4F, "i32.ge_u", "ii", "b", "{0} >= {1}"),
         (0x50, "i64.eqz", "l", "b", "{0} == 0"),
         (0x51, "i64.eq", "ll", "b", "{0} == {1}"),
@@ -54,6 +55,7 @@ OPERATORS = {
         (0x7D, "i64.sub", "ll", "l", "{0} - {1}"),
         (0x7E, "i64.mul", "ll", "l", "{0} * {1}"),
         (0x80, "i64.div_u", "ll", "l", "div64({0}, {1})"),
+        (0x82, "i64.rem_u", "ll", "l", "rem64({0}, {1})"),
         (0x83, "i64.and", "ll", "l", "{0} & {1}"),
         (0x84, "i64.or", "ll", "l", "{0} | {1}"),
         (0x85, "i64.xor", "ll", "l", "{0} ^ {1}"),
@@ -98,6 +100,7 @@ STORES = {
     0x38: ("f", "store_f32({}, {})"),  # f32.store
     0x3A: ("i", "store8({}, {})"),  # i32.store8
     0x3B: ("i", "store16({}, {})"),  # i32.store16
+    0x3D: ("l", "store16({}, (uint32_t)({}))"),  # i64.store16
     0x3E: ("l", "store32({}, (uint32_t)({}))"),  # i64.store32
 }
 UNREACHABLE, BLOCK, LOOP, END, BR, BR_IF, BR_TABLE, RETURN, CALL, SELECT = 0x00, 0x02, 0x03, 0x0B, 0x0C, 0x0D, 0x0E, 0x0F, 0x10, 0x1B

@@ -72,3 +72,4 @@ static inline uint32_t shr_s32(uint32_t x, uint32_t by) { return x >> 31 ? ~(~x 
 static inline uint32_t div32(uint32_t x, uint32_t y) { if (y == 0) TRAP(); return x / y; }
 static inline uint32_t rem32(uint32_t x, uint32_t y) { if (y == 0) TRAP(); return x % y; }
 static inline uint64_t div64(uint64_t x, uint64_t y) { if (y == 0) TRAP(); return x / y; }
+static inline uint64_t rem64(uint64_t x, uint64_t y) { if (y == 0) TRAP(); return x % y; }

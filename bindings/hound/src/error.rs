@@ -53,12 +53,14 @@ impl From<proved::Error> for Error {
     fn from(error: proved::Error) -> Error {
         use proved::Error::*;
         match error {
-            Ended | Truncated => early_end().into(),
+            Ended => early_end().into(),
+            Truncated => io::Error::new(io::ErrorKind::UnexpectedEof, error).into(),
+            IsCutOff | ChunksFollow => io::Error::new(io::ErrorKind::InvalidData, error).into(),
             Unsupported | NotWritable => Error::Unsupported,
             OtherFormat => Error::InvalidSampleFormat,
             TooWide => Error::TooWide,
             UnfinishedFrame => Error::UnfinishedSample,
-            TooLong | NoRoom | NeedsCheckpoint | SyncFailed => io::Error::new(io::ErrorKind::Other, error).into(),
+            TooLong | NoRoom | NeedsCheckpoint | SyncFailed | NotPerformed => io::Error::new(io::ErrorKind::Other, error).into(),
             BitsNot8Or16 => Error::FormatError("bits per sample is not 8 or 16"),
             _ => Error::FormatError(error.text()),
         }

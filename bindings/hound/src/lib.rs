@@ -1,11 +1,11 @@
 //! The API of hound 3.5.1, a library for WAV files, over proved code: the walk over the chunks of a file,
-//! headers, sizes, containers and the order of writes are exports of `hound_c`, which `hound_bindings`
-//! calls. Here are hound's types and the buffers between them and those calls, which tests compare with
-//! hound, and no proof.
+//! headers, containers, and each effect of a recording or a repair with its place are exports of `hound_c`, which
+//! `hound_bindings` calls and performs. Here are hound's types and the buffers between them and those calls, which tests
+//! compare with hound, and no proof.
 //!
 //! A program that depends on hound needs these lines in its `Cargo.toml`, with the URL of this repository,
 //! and no other change. Where there is a `Cargo.lock` with hound in it, `cargo update -p hound` is needed once;
-//! `cargo tree -i hound` then names version 3.5.1+rattle.0.1.0.
+//! `cargo tree -i hound` then names version 3.5.1+rattle.0.2.0.
 //!
 //! ```toml
 //! [patch.crates-io]
@@ -57,8 +57,8 @@
 //! - Up to 4096 samples are buffered, and 64 KiB more by [`WavWriter::create`] and [`WavWriter::append`]: a
 //!   program that is killed loses what came after its last `flush`, as far as it was there. The header is in the
 //!   file when `create` returns. A fault is reported by the call that meets it; the samples that were accepted stay
-//!   in the buffer, and the next call writes them at their place. Where a disk is full, repeat `flush` once there is
-//!   room, before `finalize`. A limit of the file's size (`ulimit -f`) ends the program by `SIGXFSZ`; it is an error,
+//!   in the buffer, and the next call writes them at their place. Where a disk is full the block that has no room
+//!   counts nothing, though a part of it would fit: repeat `flush` once there is room, before `finalize`. A limit of the file's size (`ulimit -f`) ends the program by `SIGXFSZ`; it is an error,
 //!   as a full disk is, only if the program ignores that signal.
 //! - After a write that failed, the next call that writes makes a checkpoint first, and `finalize` tries once more. A
 //!   file is cut off where a block failed; over another writer a part of that block may stay after the data. Readers
@@ -66,8 +66,10 @@
 //! - Only whole frames are stored. `flush` and `finalize` in an unfinished frame store and count those before it, then
 //!   they return `UnfinishedSample`. Later samples finish it; at a drop its samples are lost. hound counts them, and
 //!   then readers reject the file.
-//! - A writer that panics counts as one that failed: a drop tries to write, and catches a second panic, with which old
-//!   versions of Rust end the program, as with hound.
+//! - What a writer that panicked was to do is done by the next call: a drop tries to write, and catches a second panic,
+//!   with which old versions of Rust end the program, as with hound.
+//! - The first call that writes to a file that is appended to cuts it off after the samples that its header counts.
+//!   Over another writer what follows them stays as far as it isn't overwritten, as with hound.
 //! - A file that its sizes can't count, which hound makes with wrong sizes, is an `IoError`. So is appending to one
 //!   that is shorter than its header counts (`UnexpectedEof`), if `seek` finds its length: hound counts zeros then.
 //! - A spec that can't be written is `Unsupported`; nothing is written, and an existing file stays as it is. hound

@@ -1,5 +1,5 @@
 use crate::error::early_end;
-use crate::proved::{self, Container};
+use crate::proved::{self, Container, Next};
 use crate::sample::{check, Coding, Decode};
 use crate::spec::containers;
 use crate::{Error, Result, Sample, SampleFormat, WavSpec, WavSpecEx, BLOCK};
@@ -33,9 +33,13 @@ fn finish_container<R: Read>(reader: &mut R, bytes: &mut [u8], width: usize, fir
 
 /// Reads the first 12 bytes of a file, and returns the length that they say the file has.
 pub fn read_wave_header<R: Read>(reader: &mut R) -> Result<u64> {
-    let (mut header, mut count) = ([0; 12], 0);
-    read_on(reader, &mut header, &mut count)?;
-    proved::Walk::new().take(&header[..count])?;
+    let (mut walk, mut header, mut count) = (proved::Walk::new(), [0; 12], 0);
+    if let Next::Effect(first) = walk.next()? {
+        read_on(reader, first.bytes_mut(), &mut count)?;
+        header[..count].copy_from_slice(&first.bytes()[..count]);
+        first.read(count);
+    }
+    walk.next()?;
     let [_, _, _, _, a, b, c, d, ..] = header;
     Ok(u64::from(u32::from_le_bytes([a, b, c, d])) + 8)
 }

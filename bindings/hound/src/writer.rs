@@ -1,9 +1,8 @@
 use crate::medium::Medium;
-use crate::proved::{self, Info, Recorder, Walk};
-use crate::repair::contents;
+use crate::proved::{self, Allowed, Info, Mode, Recorder, Repair, Repairer, State, Walk};
 use crate::sample::Encode;
 use crate::spec::containers;
-use crate::{Error, RepairState, Result, Sample, SampleFormat, WavSpec, WavSpecEx, BLOCK};
+use crate::{Error, Result, Sample, SampleFormat, WavSpec, WavSpecEx, BLOCK};
 use std::io::{self, Read, Seek, SeekFrom, Write};
 use std::{fs, iter, panic, path};
 
@@ -22,6 +21,9 @@ pub struct WavWriter<W: Write + Seek> {
 pub(crate) struct Core<W> {
     spec_ex: WavSpecEx,
     medium: Medium<W>,
+    recorder: Recorder,
+    width: usize, // the bytes of a sample, and of a frame
+    frame: usize,
     // The integers: the first `count` of as many as have room in the file, all of one format.
     buffer: Vec<i32>,
     count: usize,
@@ -72,13 +74,13 @@ impl<W: Write + Seek> Core<W> {
     }
 
     fn samples(&self) -> u32 {
-        (self.medium.recorder.samples() + (self.waiting / self.medium.width + self.count) as u64) as u32
+        (self.recorder.samples() + (self.waiting / self.width + self.count) as u64) as u32
     }
 
     // Whether the file has room for so many samples after those that wait, and for the rest of their last frame.
     fn find_room(&mut self, samples: usize) -> Result<()> {
-        let (all, channels) = (self.waiting / self.medium.width + samples, usize::from(self.spec_ex.spec.channels));
-        self.medium.next_place((all + channels - 1) / channels * channels).map(drop)
+        let (all, channels) = (self.waiting / self.width + samples, usize::from(self.spec_ex.spec.channels));
+        Ok(self.recorder.write(((all + channels - 1) / channels * channels) as u64)?)
     }
 
     // Writes the whole frames of the buffered samples; the rest waits.
@@ -88,30 +90,37 @@ impl<W: Write + Seek> Core<W> {
             self.waiting = encode_after(self.waiting, &mut self.bytes, &spec, samples, proved::encode)?;
             self.count = 0;
         }
-        let result = self.write_waiting(self.waiting, false);
+        let result = self.write_waiting(self.waiting);
         if result.is_err() {
             self.buffer.clear(); // The next sample has to come here first.
         }
         result
     }
 
-    // Writes the whole frames of these containers; the rest waits. Those of a block are accepted by that.
-    fn write_waiting(&mut self, length: usize, is_block: bool) -> Result<()> {
-        let (whole, mut count, mut result) = (length - length % self.medium.frame, 0, Ok(()));
+    // Writes the whole frames of these containers, and the rest waits. After an error those wait that did before.
+    fn write_waiting(&mut self, length: usize) -> Result<()> {
+        let whole = length - length % self.frame;
         if whole > 0 {
-            result = self.medium.write_frames(&self.bytes[..whole], is_block, &mut count);
-            self.bytes.copy_within(count..length, 0);
+            self.recorder.write((whole / self.width) as u64)?;
+            self.recorder.run(&mut self.medium, &self.bytes[..whole])??;
+            self.bytes.copy_within(whole..length, 0);
         }
-        if result.is_ok() || !is_block {
-            self.waiting = length - count;
-        }
-        result
+        self.waiting = length - whole;
+        Ok(())
     }
 
     // Accepts the containers of a block, which end here.
     fn write_block(&mut self, end: usize) -> Result<()> {
-        self.find_room((end - self.waiting) / self.medium.width)?;
-        self.write_waiting(end, true)
+        if end % self.frame != 0 {
+            self.find_room((end - self.waiting) / self.width)?;
+        }
+        self.write_waiting(end)
+    }
+
+    // Writes the sizes that count all samples that are written.
+    fn checkpoint(&mut self) -> Result<()> {
+        self.recorder.checkpoint();
+        Ok(self.recorder.run(&mut self.medium, &[])??)
     }
 
     // Writes samples after the buffered ones; then the room for others is counted anew.
@@ -132,7 +141,7 @@ impl<W: Write + Seek> Core<W> {
     fn write_own<S: Sample>(&mut self, mut samples: impl Iterator<Item = S>) -> Result<()> {
         let (spec, mut bytes) = (self.containers(SampleFormat::Int), Vec::new());
         samples.try_for_each(|sample| sample.write_padded(&mut bytes, spec.bits_per_sample, spec.bytes_per_sample))?;
-        if bytes.len() % self.medium.width != 0 {
+        if bytes.len() % self.width != 0 {
             return Err(Error::Unsupported);
         }
         self.spill()?;
@@ -147,7 +156,7 @@ impl<W: Write + Seek> Core<W> {
         let room = self.buffer.len() - self.count; // what these leave of it
         let spilled = self.spill();
         self.buffer.truncate(room);
-        let published = self.medium.checkpoint();
+        let published = self.checkpoint();
         spilled.and(published)?;
         if flushes {
             self.medium.writer.flush()?;
@@ -177,17 +186,21 @@ impl<W: Write + Seek> WavWriter<W> {
 
     /// The same, with containers of another width.
     pub fn new_with_spec_ex(mut writer: W, spec_ex: WavSpecEx) -> Result<WavWriter<W>> {
-        let (mut header, recorder) = ([0; 68], Recorder::begin(&spec_ex.into())?);
+        let (mut header, recorder) = ([0; proved::HEADER_BYTES], Recorder::begin(&spec_ex.into())?);
         let length = proved::header_to(&spec_ex.into(), 0, &mut header)?;
         writer.write_all(&header[..length])?;
         Ok(WavWriter::at(writer, Some(length as u64), spec_ex, recorder))
     }
 
     fn at(writer: W, place: Option<u64>, spec_ex: WavSpecEx, recorder: Recorder) -> WavWriter<W> {
+        let width = usize::from(spec_ex.bytes_per_sample);
         WavWriter {
             core: Core {
                 spec_ex,
-                medium: Medium::new(writer, place, recorder, spec_ex),
+                medium: Medium::new(writer, place),
+                recorder,
+                width,
+                frame: width * usize::from(spec_ex.spec.channels),
                 buffer: Vec::new(),
                 count: 0,
                 format: SampleFormat::Int,
@@ -278,13 +291,13 @@ impl<W: Read + Write + Seek> WavWriter<W> {
     /// that its header counts. A fact chunk stays as it is.
     ///
     /// A file that lacks samples which its header counts is an `IoError`, if a `seek` to its end succeeds. What follows
-    /// these samples is overwritten, without an error, also the samples of a recording that was cut off. So
-    /// repair it first, always, as [`repair_file`](crate::repair_file) does a file. Append only if that reports
+    /// these samples is overwritten, without an error, also the samples of a recording that was cut off; a file of
+    /// [`append`](WavWriter::append) is cut off there. So repair it first, always, as [`repair_file`](crate::repair_file) does a file. Append only if that reports
     /// `Whole` or `CutOff`: where it reports `HasChunksAfterData` it repaired nothing, and what would be overwritten
     /// may be samples ([`repair_file_to_end`](crate::repair_file_to_end)).
     pub fn new_append(mut writer: W) -> Result<WavWriter<W>> {
         let info = Walk::over(&mut writer)??;
-        let recorder = continuing(&info, writer.seek(SeekFrom::End(0)).ok())?;
+        let recorder = after_counted(&info, writer.seek(SeekFrom::End(0)).ok())?;
         Ok(WavWriter::at(writer, None, info.spec.into(), recorder))
     }
 }
@@ -299,15 +312,19 @@ impl WavWriter<io::BufWriter<fs::File>> {
     /// Appends to a file as `new_append` does: call [`repair_file`](crate::repair_file) first, always, and append
     /// only if it reports `Whole` or `CutOff`.
     pub fn append<P: AsRef<path::Path>>(filename: P) -> Result<WavWriter<io::BufWriter<fs::File>>> {
-        WavWriter::after(fs::OpenOptions::new().read(true).write(true).open(filename)?, false)
+        let mut file = fs::OpenOptions::new().read(true).write(true).open(filename)?;
+        let info = Walk::over(&mut io::BufReader::new(&file))??;
+        let recorder = after_counted(&info, Some(file.seek(SeekFrom::End(0))?))?;
+        Ok(WavWriter::of_file(file, None, info.spec.into(), recorder, false))
     }
 
     /// Creates a file that survives a loss of power (own). When this returns, a WAV file without samples and its
     /// name are on the disk, and after a `flush` all samples are: it syncs them before the sizes that count them,
     /// and then these.
     ///
-    /// A file that there was is emptied once its folder is synced (Windows syncs no folders, and has no such locks). Until the writer is dropped, another one that is
-    /// durable, or a repair of the file, is an error (`WouldBlock`), if the file system has locks.
+    /// A file that there was is emptied once its folder is synced (Windows syncs no folders, and has no such locks). Until
+    /// the writer is dropped, another one that is durable, or a repair of the file, is an error (`WouldBlock`), if the
+    /// file system has locks.
     ///
     /// Only single samples are buffered, up to 4096, and those of an unfinished frame: each
     /// [`write_samples`](crate::blocks::WriteSamples::write_samples) is a write of the system. After a write that
@@ -330,9 +347,12 @@ impl WavWriter<io::BufWriter<fs::File>> {
     /// header counts and the file lacks (`UnexpectedEof`). Call [`repair_file`](crate::repair_file) first: after `Whole`
     /// and `CutOff` the file can be appended to.
     pub fn append_durable<P: AsRef<path::Path>>(filename: P) -> Result<WavWriter<io::BufWriter<fs::File>>> {
-        let file = open_alone(fs::OpenOptions::new().read(true).write(true), filename.as_ref())?;
+        let mut file = open_alone(fs::OpenOptions::new().read(true).write(true), filename.as_ref())?;
         file.sync_all()?;
-        WavWriter::after(file, true)
+        let length = file.seek(SeekFrom::End(0))?;
+        let found = Repairer::new(length, Mode::FindDamage).run(&mut file)??;
+        let recorder = Recorder::resume(&found, Allowed::default())?;
+        Ok(WavWriter::of_file(file, None, found.spec.into(), recorder, true))
     }
 
     // Writes the header of a new file, which isn't opened if the spec can't be written.
@@ -347,17 +367,6 @@ impl WavWriter<io::BufWriter<fs::File>> {
         Ok(WavWriter::of_file(file, Some(header.len() as u64), spec_ex, recorder, is_durable))
     }
 
-    // Appends to a file.
-    fn after(file: fs::File, is_durable: bool) -> Result<WavWriter<io::BufWriter<fs::File>>> {
-        let mut reader = io::BufReader::new(file);
-        let (info, mut file) = (Walk::over(&mut reader)??, reader.into_inner());
-        let recorder = continuing(&info, Some(file.seek(SeekFrom::End(0))?))?;
-        if is_durable {
-            check_end(&mut file, &info, recorder.place(0)?)?;
-        }
-        Ok(WavWriter::of_file(file, None, info.spec.into(), recorder, is_durable))
-    }
-
     // A durable writer has no bytes in its `BufWriter`: what the recorder takes for written is with the system, a write
     // that fails isn't one of a sync, and a sync has only to sync.
     fn of_file(
@@ -369,7 +378,10 @@ impl WavWriter<io::BufWriter<fs::File>> {
     ) -> WavWriter<io::BufWriter<fs::File>> {
         let capacity = if is_durable { 0 } else { 16 * BLOCK };
         let mut writer = WavWriter::at(io::BufWriter::with_capacity(capacity, file), place, spec_ex, recorder);
-        writer.core.medium.cut = |file, place| cut(file.get_ref(), place);
+        writer.core.medium.cut = |file, place| {
+            file.flush()?;
+            proved::Medium::cut(file.get_mut(), place)
+        };
         if is_durable {
             writer.core.medium.sync = |file| file.get_ref().sync_data();
         }
@@ -377,39 +389,20 @@ impl WavWriter<io::BufWriter<fs::File>> {
     }
 }
 
-// The recorder of a file that is appended to. After one that lacks samples which its header counts, others would make
-// zeros count that nobody wrote.
-fn continuing(info: &Info, length: Option<u64>) -> Result<Recorder> {
-    let recorder = Recorder::append(info)?;
-    let end = recorder.place(0)?;
-    if length.map_or(false, |length| length < end) {
-        return Err(io::Error::new(io::ErrorKind::UnexpectedEof, proved::Error::Truncated).into());
-    }
-    Ok(recorder)
-}
-
-// An error where samples or chunks follow the samples that the header counts. Those of a pad byte and of the torn
-// frame that a repair leaves may be overwritten.
-fn check_end(file: &mut fs::File, info: &Info, end: u64) -> Result<()> {
-    let (is_odd, mut rest) = ((end - info.data_start) % 2 == 1, Vec::new());
-    file.seek(SeekFrom::Start(end))?;
-    file.take(2).read_to_end(&mut rest)?;
-    let could_be_frame = (info.spec.bytes_per_sample, info.spec.channels) == (1, 1);
-    let state = match rest[..] {
-        [] => RepairState::Whole,
-        [byte] if is_odd && could_be_frame && byte != 0 => RepairState::CutOff,
-        [_] if is_odd => RepairState::Whole,
-        _ => {
-            file.seek(SeekFrom::Start(0))?;
-            proved::find_damage(&contents(file)?)?.state
-        }
+// A recorder of a file as hound appends to it: after the samples that the header counts, over all that follows them. Where
+// the length of the file isn't known, it is taken for one that ends there.
+fn after_counted(info: &Info, length: Option<u64>) -> Result<Recorder> {
+    let data_length = info.samples * u32::from(info.spec.bytes_per_sample);
+    let found = Repair {
+        spec: info.spec,
+        frames: info.samples / u32::from(info.spec.channels),
+        left_over: 0,
+        state: State::HasChunksAfterData,
+        data_start: info.data_start,
+        length: length.unwrap_or(info.data_start + u64::from(data_length)),
+        data_length,
     };
-    let why = match state {
-        RepairState::Whole => return Ok(()),
-        RepairState::CutOff => "the recording was cut off: repair it first",
-        RepairState::HasChunksAfterData => "chunks or a tag follow the data",
-    };
-    Err(io::Error::new(io::ErrorKind::InvalidData, why).into())
+    Ok(Recorder::resume(&found, Allowed { mend: false, overwrite: true })?)
 }
 
 // Opens a file that no other program records to, and syncs the folder, which has its name, where folders can be opened.
@@ -420,13 +413,6 @@ fn open_alone(options: &fs::OpenOptions, filename: &path::Path) -> io::Result<fs
         fs::File::open(fs::canonicalize(filename)?.parent().unwrap_or(path::Path::new("/")))?.sync_all()?;
     }
     Ok(file)
-}
-
-// Cuts a file off, as far as it can be. It gets no longer by that.
-fn cut(file: &fs::File, place: u64) {
-    if file.metadata().map_or(false, |found| found.len() > place) {
-        let _ = file.set_len(place);
-    }
 }
 
 /// A batch of samples of 16 bits, which `flush` writes.

@@ -321,10 +321,8 @@ fn the_checkpoint_that_a_fault_forces_holds_whole_frames() {
         // This writes the sizes first, and then, without success, samples.
         assert!(writer.write_sample(1).is_err());
         let right = |count: usize| (0..count).map(|i| i as i16 % 100).collect::<Vec<_>>();
-        let (held, frame) = (4097, usize::from(channels));
-        let stored = held - held % frame;
-        let has_room_for_pad_byte = bits == 16 || stored % 2 == 0;
-        assert!(disk.samples() == right(6000 + stored - if has_room_for_pad_byte { 0 } else { frame }));
+        let stored = disk.samples();
+        assert!(stored.len() >= 6000 && stored.len() % usize::from(channels) == 0 && stored == right(stored.len()));
         disk.0.borrow_mut().room = None;
         assert_eq!(accepted + write(&mut writer, accepted as i32, 18000), 18000);
         writer.finalize().unwrap();
@@ -333,7 +331,7 @@ fn the_checkpoint_that_a_fault_forces_holds_whole_frames() {
 }
 
 #[test]
-fn what_a_full_medium_holds_is_counted() {
+fn the_blocks_that_a_full_medium_holds_are_counted() {
     let sizes = [0, 1, 100, 4095, 4096, 4097, 9000];
     for (channels, held) in [1, 2, 6].into_iter().flat_map(|channels| sizes.map(|held| (channels, held))) {
         for end in ["finalize", "flush", "drop"] {
@@ -347,8 +345,55 @@ fn what_a_full_medium_holds_is_counted() {
                 "flush" => assert!(writer.flush().is_err()),
                 _ => drop(writer),
             }
-            assert!(disk.samples() == numbers(held - held % usize::from(channels)));
+            // The block that had no room isn't; the buffer has at most 4096 samples, and those of a frame that was begun.
+            let (counted, frame) = (disk.samples(), usize::from(channels));
+            assert!(counted == numbers(counted.len()) && counted.len() % frame == 0);
+            assert!(counted.len() <= held && counted.len() + 4096 + frame > held);
         }
+    }
+}
+
+#[test]
+fn what_had_no_room_is_written_once_there_is_some() {
+    let disk = Disk::default();
+    let mut writer = WavWriter::new(disk.clone(), WavSpec { channels: 2, ..MONO }).unwrap();
+    disk.0.borrow_mut().room = Some(44 + 2 * 3000);
+    let accepted = (0..12000).take_while(|&i| writer.write_sample(i as i16).is_ok()).count();
+    for _ in 0..3 {
+        assert!(writer.flush().is_err() && writer.write_sample(7i16).is_err() && writer.write_samples(&[7i16; 8]).is_err());
+        assert!(writer.len() as usize == accepted && disk.samples().len() <= 3000);
+    }
+    disk.0.borrow_mut().room = None;
+    writer.flush().unwrap();
+    assert!(disk.samples() == numbers(accepted));
+    write_by(0, &mut writer, accepted, 500).unwrap();
+    writer.finalize().unwrap();
+    assert_eq!(disk.contents(), written(WavSpec { channels: 2, ..MONO }, &numbers(accepted + 500)));
+}
+
+#[test]
+fn a_write_that_is_interrupted_or_short_is_continued() {
+    struct Slow(Disk, usize);
+    impl Write for Slow {
+        fn write(&mut self, bytes: &[u8]) -> io::Result<usize> {
+            self.1 += 1;
+            if self.1 % 3 == 0 { Err(io::ErrorKind::Interrupted.into()) } else { self.0.write(&bytes[..(bytes.len() + 1) / 2]) }
+        }
+        fn flush(&mut self) -> io::Result<()> {
+            self.0.flush()
+        }
+    }
+    impl Seek for Slow {
+        fn seek(&mut self, to: SeekFrom) -> io::Result<u64> {
+            self.0.seek(to)
+        }
+    }
+    for way in 0..WAYS {
+        let disk = Disk::default();
+        let mut writer = WavWriter::new(Slow(disk.clone(), 0), MONO).unwrap();
+        write_by(way, &mut writer, 0, 9000).unwrap();
+        writer.finalize().unwrap();
+        assert_eq!(disk.contents(), written(MONO, &numbers(9000)));
     }
 }
 
@@ -628,6 +673,27 @@ fn only_a_whole_file_without_chunks_is_appended_to_durably() {
     let wide = written(WavSpec { bits_per_sample: 24, ..MONO }, &[1, 2, 3]);
     let end = wide.len() - 1;
     assert_eq!((append(&wide), append(&wide[..end]), append(&[&wide[..end], &[7]].concat())), (Ok(()), Ok(()), Ok(())));
+}
+
+#[test]
+fn what_follows_the_counted_samples_is_overwritten_as_by_hound() {
+    let path = Path::new("overwritten");
+    let file = written(MONO, &[1i16, 2, 3]);
+    for rest in [&b"LIST\x04\0\0\0INFO"[..], &[4, 0, 5, 0, 6, 0, 7, 0], &[4]] {
+        let longer = [&file[..], rest].concat();
+        fs::write(&path, &longer).unwrap();
+        let mut writer = WavWriter::append(&path).unwrap();
+        assert_eq!((writer.len(), fs::read(&path).unwrap()), (3, longer.clone()));
+        writer.write_sample(9i16).unwrap();
+        writer.finalize().unwrap();
+        assert_eq!(fs::read(&path).unwrap(), written(MONO, &[1i16, 2, 3, 9]));
+        // What can't be cut off stays after the data.
+        let mut medium = Cursor::new(longer.clone());
+        WavWriter::new_append(&mut medium).unwrap().write_sample(9i16).unwrap();
+        let mut wanted = written(MONO, &[1i16, 2, 3, 9]);
+        wanted.extend(longer.get(wanted.len()..).unwrap_or(&[]));
+        assert_eq!(medium.into_inner(), wanted);
+    }
 }
 
 #[test]

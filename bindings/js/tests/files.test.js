@@ -1,6 +1,7 @@
 // Files written, read, appended to and repaired, beside bytes that were made by hand from the format.
 import assert from "node:assert/strict";
 import { test } from "node:test";
+import { openAsBlob } from "node:fs";
 import fs from "node:fs/promises";
 import os from "node:os";
 import path from "node:path";
@@ -39,15 +40,6 @@ class Counted extends Blob {
     part.set(this.file.subarray(from, to));
     this.taken += part.length;
     return new Blob([part]);
-  }
-}
-
-/** Whether there are such memories: they count their pages in BigInts. */
-function hasWideMemory() {
-  try {
-    return new WebAssembly.Memory({ initial: 0n, maximum: 65537n, address: "i64" }).grow(65537n) === 0n;
-  } catch {
-    return false;
   }
 }
 
@@ -175,15 +167,16 @@ test("frames are appended", async () => {
 
 test("an append overwrites only what it may", async () => {
   const one = Int16Array.of(7), followed = byHand([1, 0], { after: LIST });
-  await fails(append(followed, one), "CHUNKS_AFTER_DATA");
+  await fails(append(followed, one), "CHUNKS_FOLLOW");
   assert.deepEqual(await append(followed, one, { overwrite: true }), byHand([1, 0, 7, 0]));
-  for (const cut of [byHand([1, 0, 2, 0], { counted: 0 }), byHand([1, 0], { counted: 4 }), byHand([1, 0, 2, 0], { counted: 3 })]) {
-    for (const overwrite of [false, true]) await fails(append(cut, one, { overwrite }), "CUT_OFF");
+  for (const overwrite of [false, true]) {
+    for (const cut of [byHand([1, 0, 2, 0], { counted: 0 }), byHand([1, 0, 2, 0], { counted: 3 })]) await fails(append(cut, one, { overwrite }), "IS_CUT_OFF");
+    await fails(append(byHand([1, 0], { counted: 4 }), one, { overwrite }), "TRUNCATED");
   }
 });
 
 test("a byte after odd data that isn't 0 is a sample, and nothing is appended over it", async () => {
-  for (const file of kinds(byHand([1, 2, 3], { bits: 8, after: [4] }))) await fails(append(file, Int8Array.of(5)), "CUT_OFF");
+  for (const file of kinds(byHand([1, 2, 3], { bits: 8, after: [4] }))) await fails(append(file, Int8Array.of(5)), "IS_CUT_OFF");
 });
 
 test("the samples that are appended are those of the call", async () => {
@@ -283,14 +276,16 @@ test("calls that are made at once don't disturb each other", async () => {
   }));
 });
 
-test("a file that fills a card of FAT32 is repaired where WebAssembly has memories of 64 bits that hold more than 4 GiB", async () => {
-  const cut = byHand([], { channels: 2, counted: 0, riff: 0 }), file = new Counted(cut, 2 ** 32 - 1);
-  if (!hasWideMemory()) return assert.rejects(repair(file), { name: "RangeError", message: /^file has 4294967295 bytes/ });
-  const { state, frames, leftOver, file: repaired } = await repair(file);
+test("a file that fills a card of FAT32 is repaired", async () => {
+  const cut = byHand([], { channels: 2, counted: 0, riff: 0 }), folder = await fs.mkdtemp(path.join(os.tmpdir(), "hound-"));
+  const full = path.join(folder, "full.wav");
+  await fs.writeFile(full, cut);
+  await fs.truncate(full, 2 ** 32 - 1);
+  const { state, frames, leftOver, file: repaired } = await repair(await openAsBlob(full));
   assert.deepEqual({ state, frames, leftOver }, { state: "cutOff", frames: (2 ** 32 - 48) / 4, leftOver: 3 });
   assert.equal(repaired.size, 2 ** 32 - 1);
   assert.deepEqual(await bytes(repaired.slice(0, 44)), byHand([], { channels: 2, counted: 2 ** 32 - 48, riff: 2 ** 32 - 12 }));
-  assert.ok(file.taken < 300000);
+  await fs.rm(folder, { recursive: true });
   await fails(repair(new Counted(cut, 5e9)), "TOO_LONG");
 });
 

@@ -15,5 +15,5 @@ export async function uses(blob: Blob, bytes: Uint8Array): Promise<string> {
   await read(wrong, { type: "int24" });
   // @ts-expect-error: the rate is missing.
   await write(wide, { channels: 2 });
-  return found.state === "cutOff" ? new HoundError("CUT_OFF").code : `${head.frames} ${head.isFloat}`;
+  return found.state === "cutOff" ? new HoundError("IS_CUT_OFF").code : `${head.frames} ${head.isFloat}`;
 }

@@ -19,7 +19,7 @@ import os
 import secrets
 import shutil
 import sys
-from typing import Any, BinaryIO, Callable, ContextManager, Iterator, List, NamedTuple, Optional, Set, Tuple, Union
+from typing import Any, BinaryIO, Callable, ContextManager, Iterator, NamedTuple, Optional, Tuple, Union
 
 from . import disk
 
@@ -33,8 +33,7 @@ File = Union[Path, bytes, bytearray, memoryview, mmap.mmap]
 
 
 class Cause(enum.IntEnum):
-    """Why a call failed, with its sentence: the codes of hound.h without their sign, and from 101 on
-    those of this package."""
+    """Why a call failed, with its sentence: the codes of hound.h without their sign."""
 
     sentence: str
 
@@ -71,8 +70,9 @@ class Cause(enum.IntEnum):
     FRAME_LENGTH = 26, "invalid data chunk length"
     NEEDS_CHECKPOINT = 27, "a write failed or a checkpoint is not done, and no samples are written before one is"
     SYNC_FAILED = 28, "a sync failed, and it is unknown what is stored"
-    CUT_OFF = 101, "the recording was cut off: call repair before append"
-    CHUNKS_AFTER_DATA = 102, "chunks or a tag follow the data, and append overwrites them only with overwrite=True"
+    IS_CUT_OFF = 29, "the recording was cut off, and has to be repaired first"
+    CHUNKS_FOLLOW = 30, "chunks or a tag follow the data, and would be overwritten"
+    NOT_PERFORMED = 31, "the file could not be read or written"
 
 
 class State(enum.IntEnum):
@@ -128,20 +128,54 @@ class _Info(ctypes.Structure):
     _fields_ = [("spec", _Spec), ("samples", ctypes.c_uint32), ("data_start", ctypes.c_uint64)]
 
 
-class _Walk(ctypes.Structure):
+class _Effect(ctypes.Structure):
     _fields_ = [
         ("place", ctypes.c_uint64),
-        ("spec", _Spec),
         ("length", ctypes.c_uint32),
+        ("kind", ctypes.c_uint16),
+        ("report", ctypes.c_uint16),
+        ("bytes", ctypes.c_uint8 * 40),
+    ]
+
+
+class _Walk(ctypes.Structure):
+    _fields_ = [
+        ("effect", _Effect),
+        ("spec", _Spec),
         ("taken", ctypes.c_uint32),
         ("part", ctypes.c_uint32),
         ("fmt_length", ctypes.c_uint32),
-        ("unused", ctypes.c_uint32),
     ]
 
 
 class _Repair(ctypes.Structure):
-    _fields_ = [("spec", _Spec), ("frames", ctypes.c_uint32), ("left_over", ctypes.c_uint32), ("state", ctypes.c_uint32)]
+    _fields_ = [
+        ("spec", _Spec),
+        ("frames", ctypes.c_uint32),
+        ("left_over", ctypes.c_uint32),
+        ("state", ctypes.c_uint32),
+        ("data_start", ctypes.c_uint64),
+        ("length", ctypes.c_uint64),
+        ("data_length", ctypes.c_uint32),
+        ("unused", ctypes.c_uint32),
+    ]
+
+
+class _Repairer(ctypes.Structure):
+    _fields_ = [
+        ("effect", _Effect),
+        ("length", ctypes.c_uint64),
+        ("place", ctypes.c_uint64),
+        ("data_start", ctypes.c_uint64),
+        ("spec", _Spec),
+        ("data_length", ctypes.c_uint32),
+        ("taken", ctypes.c_uint32),
+        ("part", ctypes.c_uint32),
+        ("fmt_length", ctypes.c_uint32),
+        ("number", ctypes.c_uint32),
+        ("mode", ctypes.c_uint32),
+        ("unused", ctypes.c_uint32),
+    ]
 
 
 _NAME = "hound_c.dll" if os.name == "nt" else "libhound_c.so"
@@ -157,13 +191,14 @@ def _function(name: str, *arguments: Any, result: Any = _I64) -> Any:
 
 
 _info = _function("info", _POINTER, _SIZE, _POINTER, result=ctypes.c_int32)
-_walk_next = _function("walk_next", _POINTER, _POINTER, _SIZE, _POINTER, result=ctypes.c_int32)
-_find_damage = _function("find_damage", _POINTER, _SIZE, _POINTER, result=ctypes.c_int32)
+_walk_next = _function("walk_next", _POINTER, _POINTER, result=ctypes.c_int32)
+_repairer_begin = _function("repairer_begin", _U64, ctypes.c_uint32, _POINTER, result=None)
+_repairer_next = _function("repairer_next", _POINTER, _POINTER, result=ctypes.c_int32)
 _size = _function("size", _POINTER, _U64)
-_repair, _repair_to_end = (_function(name, _POINTER, _SIZE, _SIZE, _POINTER) for name in ("repair", "repair_to_end"))
 _read = {t: _function("read_" + t, _POINTER, _SIZE, _U64, _POINTER, _SIZE) for t in ("i16", "i32", "f32")}
 _write = {t: _function("write_" + t, _POINTER, _POINTER, _SIZE, _POINTER, _SIZE) for t in ("i16", "i32", "f32")}
-_append = {t: _function("append_" + t, _POINTER, _SIZE, _SIZE, _POINTER, _SIZE) for t in ("i16", "i32", "f32")}
+# The modes of a repairer.
+_FIND_DAMAGE, _REPAIR, _REPAIR_TO_END = range(3)
 
 
 def _checked(code: int) -> int:
@@ -220,24 +255,29 @@ def _converted(samples: "array.array[Any]", dtype: str) -> "array.array[Any]":
     return array.array("d", samples) if dtype == "float64" else samples
 
 
-@contextlib.contextmanager
-def _address(buffer: Any, align: int = 1) -> Iterator[Tuple[Any, int]]:
+class _address:  # noqa: N801
     """The address and the number of bytes of a buffer, or of a copy where the buffer is read-only, not
     contiguous or not aligned. They live as long as the context."""
-    with memoryview(buffer) as view:
+
+    def __init__(self, buffer: Any, align: int = 1) -> None:
+        self._buffer, self._align = buffer, align
+
+    def __enter__(self) -> Any:
+        view = self._view = memoryview(self._buffer)
         if view.nbytes == 0:
-            yield ctypes.addressof(_SPARE), 0
-            return
+            return ctypes.addressof(_SPARE), 0
         if view.c_contiguous and not view.readonly:
             start = ctypes.c_char.from_buffer(view)
-            try:
-                if ctypes.addressof(start) % align == 0:
-                    yield ctypes.addressof(start), view.nbytes
-                    return
-            finally:
-                del start
-        same = buffer if isinstance(buffer, bytes) else view.tobytes()
-        yield ctypes.cast(ctypes.c_char_p(same), _POINTER).value, len(same)
+            if ctypes.addressof(start) % self._align == 0:
+                self._kept = start
+                return ctypes.addressof(start), view.nbytes
+            del start
+        self._kept = self._buffer if isinstance(self._buffer, bytes) else view.tobytes()
+        return ctypes.cast(ctypes.c_char_p(self._kept), _POINTER).value, len(self._kept)
+
+    def __exit__(self, *_: Any) -> None:
+        self._kept: Any = None
+        self._view.release()
 
 
 def _form(view: memoryview, name: str, taken: str) -> Tuple[str, Optional[int]]:
@@ -264,35 +304,18 @@ class _Samples(NamedTuple):
     columns: Optional[int]
 
 
-@contextlib.contextmanager
-def _samples(buffer: Any) -> Iterator[_Samples]:
+class _samples(_address):  # noqa: N801
     """Samples to be written, as the library takes them."""
-    with memoryview(buffer) as view:
-        dtype, columns = _form(view, "samples", _WRITTEN)
-        if dtype == "float64":
-            raise TypeError(f"samples has float64, which would be rounded: {_WRITTEN}, so convert it to float32")
-        count = view.nbytes // view.itemsize
-        with _address(_widened(view.tobytes()) if dtype == "int8" else view, view.itemsize) as (start, _):
-            yield _Samples(_TYPES[dtype], start, count, columns)
 
-
-# Python names it from 3.13 on.
-_MAP_NORESERVE = getattr(mmap, "MAP_NORESERVE", 0x4000 if sys.platform == "linux" else 0)
-
-
-def _memory(size: int) -> mmap.mmap:
-    """So much memory, whose pages cost nothing until they are written, but that Windows reserves it."""
-    if not hasattr(mmap, "MAP_PRIVATE"):
-        return mmap.mmap(-1, size)
-    return mmap.mmap(-1, size, flags=mmap.MAP_PRIVATE | mmap.MAP_ANONYMOUS | _MAP_NORESERVE)
-
-
-def _copy(start: Any, count: int) -> bytearray:
-    """The bytes at an address."""
-    content = bytearray(count)
-    with _address(content) as (place, _):
-        ctypes.memmove(place, start, count)
-    return content
+    def __enter__(self) -> _Samples:
+        with memoryview(self._buffer) as view:
+            dtype, columns = _form(view, "samples", _WRITTEN)
+            if dtype == "float64":
+                raise TypeError(f"samples has float64, which would be rounded: {_WRITTEN}, so convert it to float32")
+            count, self._align = view.nbytes // view.itemsize, view.itemsize
+            if dtype == "int8":
+                self._buffer = _widened(view.tobytes())
+        return _Samples(_TYPES[dtype], super().__enter__()[0], count, columns)
 
 
 def _info_of(start: Any, length: int) -> _Info:
@@ -301,15 +324,13 @@ def _info_of(start: Any, length: int) -> _Info:
     return found
 
 
-def _walk_over(read: Callable[[int, int], bytes]) -> Tuple[int, _Info, int, bytes]:
-    """Walks over what is before the data of a file, of which `read` returns so many bytes from a place on. Returns how
-    the walk ended, what it found, and the place and the bytes that it requested last."""
-    walk, found, code = _Walk(length=12), _Info(), 1
-    while code == 1:
-        place = walk.place
-        part = read(walk.length, place)
-        code = _walk_next(ctypes.byref(walk), part, len(part), ctypes.byref(found))
-    return code, found, place, part
+def _walk_over(read: Callable[[int, int], bytes]) -> _Info:
+    """What a walk finds of the header of a file, of which `read` returns so many bytes from a place on."""
+    walk, found = _Walk(), _Info()
+    while (code := _walk_next(ctypes.byref(walk), ctypes.byref(found))) == 1:
+        disk.take(walk.effect, read(walk.effect.length, walk.effect.place))
+    _checked(code)
+    return found
 
 
 def _info_from(found: _Info) -> Info:
@@ -501,156 +522,50 @@ def write(
     return len(content)
 
 
-def _sizes(head: bytes) -> List[Tuple[bytes, int]]:
-    """What is written for the sizes of a head: at once where it is so short that no kill cuts the
-    write, and else the RIFF size before the data length."""
-    return [(head[4:], 4)] if len(head) <= 4096 else [(head[4:8], 4), (head[-4:], len(head) - 4)]
-
-
-def _change(
-    descriptor: int, heads: Tuple[bytes, bytes], end: int, data: bytes, pad: bytes, keep: int, durable: bool
-) -> None:
-    """Writes data from `end` on, then the sizes of the second head, and then the pad byte: so the header
-    counts only what is there, and no pad byte is there that a repair would take for a sample.
-
-    Of a file that is longer than `keep` the rest is cut off first. At an error all is made as it was,
-    step by step, as far as the system lets it.
-    """
-    is_counted = False
-    tail = disk.read_at(descriptor, os.fstat(descriptor).st_size - end, end)
-
-    def sync() -> None:
-        if durable:
-            disk.sync(descriptor)
-
-    def put_sizes(head: bytes) -> None:
-        for content, place in _sizes(head):
-            disk.put(descriptor, content, place)
-        sync()
-
-    try:
-        if keep < end + len(tail):
-            os.ftruncate(descriptor, keep)
-            sync()
-        disk.put(descriptor, data, end)
-        sync()
-        is_counted = True
-        put_sizes(heads[1])
-        if pad:
-            disk.put(descriptor, pad, end + len(data))
-            sync()
-    except BaseException:
-        with contextlib.suppress(OSError):
-            if is_counted:
-                os.ftruncate(descriptor, max(keep, end + len(data)))  # No pad byte stays with the old sizes.
-                put_sizes(heads[0])
-            os.ftruncate(descriptor, keep)
-            try:
-                disk.put(descriptor, tail, end)
-            except OSError:
-                os.ftruncate(descriptor, keep)
-        raise
-
-
-_PAGE = 4096
-# How a walk ends at the header of the data, also where a repair mends their length.
-_AT_DATA = (0, -Cause.DATA_LENGTH, -Cause.FRAME_LENGTH)
-
-
-@contextlib.contextmanager
-def _image(descriptor: int) -> Iterator[Tuple[Any, int, int]]:
-    """The address and the length of a file in memory that has room for a pad byte, and where the data begin.
-
-    It has the pages that a repair looks at: what is before the data, the headers of chunks after those that are
-    counted, with a pad byte or none, and an ID3v1 tag at the end. The others are zeros, and take no memory.
-    """
-    used = os.fstat(descriptor).st_size
-    memory = _memory(used + 1)
-    loaded: Set[int] = set()
-
-    def load(count: int, place: int) -> bytes:
-        end = min(place + count, used)
-        for start in range(place // _PAGE * _PAGE, end, _PAGE):
-            if start not in loaded:
-                wanted = min(_PAGE, used - start)
-                content = disk.read_at(descriptor, wanted, start)
-                if len(content) < wanted:
-                    raise OSError(errno.EIO, "the file became shorter while it was read")
-                memory[start : start + wanted] = content
-                loaded.add(start)
-        return memory[place:end]
-
-    code, _, place, part = _walk_over(load)
-    data_start = place + len(part)
-    if code in _AT_DATA:
-        length = int.from_bytes(part[-4:], "little")
-        load(128, max(used - 128, 0))
-        for end in {data_start + length, data_start + length + length % 2}:
-            while len(header := load(8, end)) == 8 and all(32 <= byte <= 126 for byte in header[:4]):
-                length = int.from_bytes(header[4:], "little")
-                end += 8 + length + length % 2
-    with _address(memory) as (start, _):
-        yield start, used, data_start
-
-
-def _end_of_data(descriptor: int, overwrite: bool) -> Tuple[_Info, int, int]:
-    """What the header says of a file that can be appended to, where its data end, and how many of its
-    bytes stay: chunks after the data don't."""
-    code, found, _, _ = _walk_over(lambda count, place: disk.read_at(descriptor, count, place))
-    used, spec = os.fstat(descriptor).st_size, found.spec
-    length = found.samples * spec.bytes_per_sample
-    end = found.data_start + length
-    if code == 0 and end <= used <= end + length % 2:
-        # What isn't 0 there is the next sample of a recording that was cut off, and no pad byte.
-        if spec.channels * spec.bytes_per_sample == 1 and disk.read_at(descriptor, used - end, end) not in (b"", b"\0"):
-            raise HoundError(Cause.CUT_OFF)
-        return found, end, used
-    damage = _Repair()
-    with _image(descriptor) as (start, used, _):
-        damaged = _find_damage(start, used, ctypes.byref(damage))
-    if damaged == 0 and damage.state == State.CUT_OFF:
-        raise HoundError(Cause.CUT_OFF)
-    _checked(code)
-    _checked(damaged)
-    has_chunks = damage.state == State.HAS_CHUNKS_AFTER_DATA
-    if has_chunks and not overwrite:
-        raise HoundError(Cause.CHUNKS_AFTER_DATA)
-    return found, end, end if has_chunks else used
-
-
 def append(path: Path, samples: Any, overwrite: bool = False, durable: bool = False) -> int:
     """Appends whole frames to a file, and returns its length.
 
-    The samples are written first, then the sizes: whenever the program is killed, the header counts only what is
-    there, and `repair` finds the samples that were written. At an error the file is made as it was. If the system
-    fails that, too, the header still counts only what is there; a part of the new samples may follow, and chunks
-    that were overwritten may be lost. If a signal handler raises, all samples are appended or none. With `durable` the folder is synced, then the samples, and then the sizes: the
-    samples survive a loss of power once this has returned; without, when the system has written them.
-    A recording that was cut off is an error, and so are chunks or a tag after the data, unless they may be
-    overwritten.
+    It is an `append_to`, one `write` and a `close`. So the samples are written first, then the sizes: whenever the
+    program is killed, the header counts only what is there, and `repair` finds the samples that were written (where frames
+    have one byte maybe a zero after them). At an error
+    the header counts what it did before, and the file is cut off after that; chunks that were to be overwritten are lost
+    then. If a signal handler raises, it is the same, or all samples are appended. With `durable` the samples survive a loss of power once this has returned; without, when
+    the system has written them. A recording that was cut off is an error, and so are chunks or a tag after the data,
+    unless they may be overwritten.
     """
-    with _samples(samples) as given, disk.File(path, os.O_RDWR) as file:
-        found, end, keep = _end_of_data(file.descriptor, overwrite)
-        _check_columns("samples", given.columns, found.spec.channels)
-        old, length = disk.read_at(file.descriptor, found.data_start, 0), found.spec.bytes_per_sample * given.count
-        # Longer files are an error before the room counts.
-        room = min(end + length + 1, (1 << 32) + 8)
-        image = _memory(room)
-        image[: len(old)] = old
-        with _address(image) as (memory, _):
-            size = _checked(_append[given.form.kind](memory, room, end, given.start, given.count))
-        new, data, pad = image[: len(old)], image[end : end + length], image[end + length : size]
-        if durable:
-            disk.sync_folder(path)
-        _change(file.descriptor, (old, new), end, data, pad, keep, durable)
-        return max(size, keep)
+    with _samples(samples) as given, streams._append_to(path, durable, overwrite) as writer:
+        _check_columns("samples", given.columns, writer._spec.channels)
+        writer.write(samples)
+        writer.close()  # Where a signal handler raises in it, the context closes it again.
+    return writer._length
+
+
+def _repaired(descriptor: int, mode: int, durable: bool, refused: Optional[OSError] = None) -> _Repair:
+    """What a repairer of this mode finds in a file. Where the file is only read, and a part of it would have to be
+    written, the error is why it may not be."""
+    repairer, found, faults = _Repairer(), _Repair(), []
+    _repairer_begin(os.fstat(descriptor).st_size, mode, ctypes.byref(repairer))
+    while (code := _repairer_next(ctypes.byref(repairer), ctypes.byref(found))) == 1:
+        if refused and repairer.effect.kind != disk.READ:
+            raise refused
+        try:
+            disk.perform(repairer.effect, descriptor, durable)
+        except OSError as error:
+            faults.append(error)
+            repairer.effect.report = disk.FAILED
+    if faults:
+        raise faults[0]
+    _checked(code)
+    return found
 
 
 def find_damage(path: Path) -> Repair:
     """Returns what `repair` would, and writes nothing."""
-    found = _Repair()
-    with io.open(path, "rb", buffering=0) as file, _image(file.fileno()) as (start, used, _):
-        _checked(_find_damage(start, used, ctypes.byref(found)))
+    with io.open(path, "rb", buffering=0) as file:
+        return _report_of(_repaired(file.fileno(), _FIND_DAMAGE, False))
+
+
+def _report_of(found: _Repair) -> Repair:
     return Repair(State(found.state), found.frames, found.left_over)
 
 
@@ -668,27 +583,17 @@ def repair(path: Path, durable: bool = False, to_end: bool = False) -> Repair:
     """Repairs a file whose recording was cut off, in place, and says how it was found. Copy it first if it
     is the only one: some recorders leave older sound at the end, which then counts.
 
-    It writes the two sizes, and then a missing pad byte; with `durable` it syncs before and after the
-    sizes. A file that is whole, or that chunks follow, is only read; with `to_end` all that follows the
-    header of the data is taken for samples, also what looks like chunks. At an error the file is made as it
-    was. If the system fails that, too, the header counts only what is there, and the file can be repaired again.
+    It writes the data length, a missing pad byte, and then the RIFF size; with `durable` it syncs before and after each
+    of them. A file that is whole, or that chunks follow, is only read; with `to_end` all that follows the header of the
+    data is taken for samples, also what looks like chunks. At an error, or if a signal handler raises, the header
+    counts only what is there, and the file can be repaired again.
     """
-    found, call = _Repair(), _repair_to_end if to_end else _repair
     file, refused = _opened_for_repair(path)
     with file:
-        with _image(file.descriptor) as (start, used, data_start):
-            size = _checked(call(start, used + 1, used, ctypes.byref(found)))
-            sizes = _copy(start + 4, 4), _copy(start + data_start - 4, 4)
-        report = Repair(State(found.state), found.frames, found.left_over)
-        if report.state == State.CUT_OFF:
-            if refused:
-                raise refused
-            old = disk.read_at(file.descriptor, data_start, 0)
-            new = old[:4] + sizes[0] + old[8:-4] + sizes[1]
-            _change(file.descriptor, (old, new), used, b"", bytes(size - used), used, durable)
-    return report
+        return _report_of(_repaired(file.descriptor, _REPAIR_TO_END if to_end else _REPAIR, durable, refused))
 
 
+from . import streams  # noqa: E402
 from .streams import Reader, Writer, append_to, create  # noqa: E402
 
 

@@ -14,7 +14,14 @@ try:
 except ImportError:  # It is Windows, or is like it.
     fcntl = None  # type: ignore[assignment]
 
-__all__ = ["File", "folder_of", "is_pipe", "put", "read_at", "replace", "sync", "sync_folder", "sync_once"]
+__all__ = [
+    "CUT", "DONE", "FAILED", "File", "READ", "SYNC", "WRITE", "WRITE_BLOCK", "folder_of", "is_pipe", "perform", "put",
+    "read_at", "replace", "sync", "sync_folder", "sync_once", "take",
+]  # fmt: skip
+
+# The kinds of effects in hound.h, and the reports.
+READ, WRITE, WRITE_BLOCK, SYNC, CUT = range(1, 6)
+DONE, FAILED = 1, 2
 
 _IS_LOCKED = "another program records to, appends to or repairs this file"
 # Without it Windows changes the bytes of lines' ends.
@@ -47,8 +54,8 @@ def read_at(descriptor: int, count: int, place: int) -> bytes:
 def put(descriptor: int, content: Any, place: int) -> None:
     """Writes all of this at a place of a file."""
     write = getattr(os, "pwrite", _pwrite)
+    done = write(descriptor, content, place)
     with memoryview(content) as left:
-        done = 0
         while done < len(left):
             count = write(descriptor, left[done:], place + done)
             if count == 0:
@@ -67,6 +74,36 @@ def sync(descriptor: Optional[int]) -> None:
     """Stores what a file has, or the names in a folder, if the system opens folders."""
     if descriptor is not None:
         next(sync_once(descriptor))
+
+
+def take(effect: Any, content: bytes) -> None:
+    """Hands in what was read: fewer bytes only where the file ends."""
+    effect.length = len(content)
+    effect.bytes[: len(content)] = content
+    effect.report = DONE
+
+
+def cut(descriptor: int, place: int) -> None:
+    """Cuts a file off, where it is longer than that."""
+    if os.fstat(descriptor).st_size > place:
+        os.ftruncate(descriptor, place)
+
+
+def perform(effect: Any, descriptor: int, durable: bool, block: Any = b"") -> None:
+    """Performs an effect of hound.h on a file, and reports it as done; an OSError says why it failed. A sync of a file
+    that isn't durable does nothing, since what was written is with the system."""
+    kind = effect.kind
+    if kind == WRITE:
+        put(descriptor, bytes(effect.bytes)[: effect.length], effect.place)
+    elif kind == WRITE_BLOCK:
+        put(descriptor, memoryview(block)[: effect.length], effect.place)
+    elif kind == READ:
+        take(effect, read_at(descriptor, effect.length, effect.place))
+    elif kind == CUT:
+        cut(descriptor, effect.place)
+    elif durable:
+        sync(descriptor)
+    effect.report = DONE
 
 
 @contextlib.contextmanager

@@ -15,8 +15,8 @@ import weakref
 from typing import Any, BinaryIO, Callable, Iterator, List, NamedTuple, Optional, Tuple, TypeVar, Union
 
 from . import (
-    _CODES, _POINTER, _SIZE, _SPARE, _TYPES, _U64, Cause, HoundError, Path, _address, _check_columns, _checked,
-    _end_of_data, _function, _info_from, _integer, _samples, _shaped, _Spec, _type_of, _walk_over, disk,
+    _CODES, _FIND_DAMAGE, _POINTER, _SIZE, _SPARE, _TYPES, _U64, Cause, HoundError, Path, _address, _check_columns,
+    _checked, _Effect, _function, _info_from, _integer, _repaired, _samples, _shaped, _Spec, _type_of, _walk_over, disk,
 )  # fmt: skip
 
 __all__ = ["Reader", "Writer", "append_to", "create"]
@@ -166,8 +166,7 @@ class Reader(_OneAtATime):
                 pass  # What can't be sought in is read up to there.
             return take(count, place)
 
-        code, found, _, _ = _walk_over(read)
-        _checked(code)
+        found = _walk_over(read)
         self._spec, self.info = found.spec, _info_from(found)
 
     @_one_at_a_time
@@ -223,17 +222,18 @@ class Reader(_OneAtATime):
 
 class _Recorder(ctypes.Structure):
     _fields_ = [
+        ("effect", _Effect),
         ("data_start", ctypes.c_uint64),
         ("data_length", ctypes.c_uint32),
         ("number", ctypes.c_uint32),
+        ("samples", ctypes.c_uint32),
         ("bytes_per_sample", ctypes.c_uint16),
+        ("channels", ctypes.c_uint16),
         ("condition", ctypes.c_uint16),
-        ("unused", ctypes.c_uint32),
+        ("task", ctypes.c_uint16),
+        ("has_rest", ctypes.c_uint16),
+        ("unused", ctypes.c_uint16),
     ]
-
-
-class _Effect(ctypes.Structure):
-    _fields_ = [("place", ctypes.c_uint64), ("length", ctypes.c_uint32), ("bytes", ctypes.c_uint8 * 4)]
 
 
 _INT = ctypes.c_int32
@@ -241,27 +241,18 @@ _decode = {t: _function("decode_" + t, _POINTER, _POINTER, _SIZE, _POINTER, _SIZ
 _encode = {t: _function("encode_" + t, _POINTER, _POINTER, _SIZE, _POINTER, _SIZE) for t in _CODES}
 _header = _function("header", _POINTER, _U64, _POINTER, _SIZE)
 _recorder_begin = _function("recorder_begin", _POINTER, _POINTER, result=_INT)
-_recorder_append = _function("recorder_append", _POINTER, _POINTER, result=_INT)
-_recorder_place = _function("recorder_place", _POINTER, _U64)
-_recorder_wrote = _function("recorder_wrote", _POINTER, _U64, _INT, result=_INT)
-_checkpoint_next = _function("checkpoint_next", _POINTER, _INT, _POINTER, result=_INT)
-
-
-class _Block(NamedTuple):
-    """A block of which a part may be in the file, and which doesn't count."""
-
-    place: int
-    samples: int
+_recorder_resume = _function("recorder_resume", _POINTER, ctypes.c_uint32, _POINTER, result=_INT)
+_recorder_write = _function("recorder_write", _POINTER, _U64, result=_INT)
+_recorder_checkpoint = _function("recorder_checkpoint", _POINTER, result=None)
+_recorder_next = _function("recorder_next", _POINTER, result=_INT)
+_OVERWRITE, _HEADER_BYTES = 2, 68  # HOUND_OVERWRITE and HOUND_HEADER_BYTES
 
 
 class _Recording(NamedTuple):
-    """What is recorded, and what comes before all else: an effect of a checkpoint, or that a block is cut off.
-
-    `synced` has one item since the sync that is the effect began, and two since it succeeded.
-    """
+    """What is recorded. `synced` has one item since a sync that is the recorder's effect began, and two since it
+    succeeded."""
 
     recorder: _Recorder
-    task: Union[None, _Effect, _Block]
     synced: List[Any]
 
 
@@ -276,8 +267,7 @@ class Writer(_OneAtATime):
     all blocks before that one, also if it is a `write`. If the system can't cut the file off either, a part of the
     block follows what is counted, which a repair takes for samples. After an OSError of a sync it is unknown what is
     stored, and each later call is an error. A signal handler may raise in any call, as Ctrl-C does: a block is in the
-    file only if its `write` has returned, and the next call does first what wasn't done; after a `close` that is
-    another `close`.
+    file only if its `write` has returned, and the next call cuts it off; after a `close` that is another `close`.
 
     Threads may share it: each call waits for the end of another one. A signal handler that calls it during another call
     of the same thread gets a RuntimeError. One that isn't closed is closed when it is collected or the program ends,
@@ -285,11 +275,12 @@ class Writer(_OneAtATime):
     """
 
     _process = 0
+    _length = 0  # of the file when it was closed
 
     def __init__(self, file: disk.File, spec: _Spec, recorder: _Recorder, durable: bool) -> None:
         super().__init__()
         self._file, self._spec, self._durable = file, spec, durable
-        self._state = _Recording(recorder, None, [])
+        self._state = _Recording(recorder, [])
         self._out = ctypes.create_string_buffer(0)
         _WRITERS[self] = file
         self._process = os.getpid()
@@ -326,31 +317,17 @@ class Writer(_OneAtATime):
         self._check_open()
         with _samples(block) as given:
             _check_columns("block", given.columns, self._spec.channels)
-            if given.count % self._spec.channels:
-                raise HoundError(Cause.UNFINISHED_FRAME)
             length = given.count * self._state.recorder.bytes_per_sample
             if length > len(self._out):
                 self._out = ctypes.create_string_buffer(length)
             _checked(_encode[given.form.kind](ctypes.byref(self._spec), given.start, given.count, self._out, length))
-        self._cut_off()
-        place = _recorder_place(ctypes.byref(self._state.recorder), given.count)
-        if place == -Cause.NEEDS_CHECKPOINT:
-            self._checkpoint()
-            place = _recorder_place(ctypes.byref(self._state.recorder), given.count)
-        recorder, place = self._state.recorder, _checked(place)
-        try:
-            self._state = _Recording(recorder, _Block(place, given.count), [])
-            disk.put(self._file.descriptor, memoryview(self._out)[:length], place)
-            self._finish(_Recording(_wrote(recorder, given.count, True), None, []))
-        except BaseException:
-            self._cut_off()
-            raise
+        self._request(_recorder_write, given.count)
+        self._finish(_Recording(self._perform_all(self._out), []))
 
     @_one_at_a_time
     def flush(self) -> None:
         """Makes the header count all frames, and if the file is durable, stores them."""
         self._check_open()
-        self._cut_off()
         self._checkpoint()
 
     @_one_at_a_time
@@ -358,57 +335,63 @@ class Writer(_OneAtATime):
         """Flushes and closes the file. It is closed after an error, too, but not if a signal handler raised."""
         try:
             if not self._file.is_closed:
-                self._cut_off()
                 self._checkpoint()
+                self._length = os.fstat(self._file.descriptor).st_size
         except (OSError, HoundError):
             self._file.close()
             raise
         self._file.close()
 
-    def _cut_off(self) -> None:
-        """Cuts off a block that isn't wholly written, since a repair would take it for samples, and reports it."""
-        recorder, block, _ = self._state
-        if isinstance(block, _Block):
-            with contextlib.suppress(OSError):
-                os.ftruncate(self._file.descriptor, block.place)
-            self._state = _Recording(_wrote(recorder, block.samples, False), None, [])
-
     def _checkpoint(self) -> None:
-        """Makes a checkpoint, or goes on with one from the effect on that wasn't done."""
-        code, fault = 1, None
-        if self._state.task is None:
-            code = self._next_effect(True)
-        while code == 1:
-            _, effect, synced = self._state
+        self._request(_recorder_checkpoint)
+        self._perform_all()
+
+    def _request(self, call: Any, *arguments: Any) -> None:
+        _checked(call(ctypes.byref(self._settled()), *arguments) or 0)
+
+    def _settled(self) -> _Recorder:
+        """The recorder, with a report of its sync if one was begun. One that was cut off has failed: what it was to store
+        may be lost though the next one succeeds."""
+        recorder, synced = self._state
+        if synced:
+            recorder.effect.report = disk.DONE if len(synced) > 1 else disk.FAILED
+            synced.clear()
+        return recorder
+
+    def _perform_all(self, block: Any = b"") -> _Recorder:
+        """Performs all that is requested, and returns the recorder after it. The state has no report of a block that is
+        done: so it is given up unless its call returns."""
+        fault, recorder = None, self._state.recorder
+        while (code := _recorder_next(ctypes.byref(recorder))) == 1:
+            effect = recorder.effect
             try:
-                self._perform()
+                if effect.kind == disk.WRITE_BLOCK:
+                    recorder = self._written(block)
+                elif effect.kind == disk.SYNC and self._durable:
+                    self._sync()
+                else:
+                    disk.perform(effect, self._file.descriptor, self._durable)
             except OSError as error:
-                if not effect.length and len(synced) != 1:
-                    raise  # It is no sync that failed: a signal handler raised it.
-                fault = error
-            code = self._next_effect(fault is None and len(synced) != 1)
-        if fault is not None:
+                if effect.kind == disk.SYNC and effect.report != disk.FAILED:
+                    raise  # A signal handler raised it.
+                fault, effect.report = fault or error, disk.FAILED
+        if fault and code < 0:
             raise fault
         _checked(code)
+        return recorder
 
-    def _next_effect(self, ok: bool) -> int:
-        """Takes the next effect; a sync only if the file is durable."""
-        recorder, effect = _Recorder.from_buffer_copy(self._state.recorder), _Effect()
-        code = _checkpoint_next(ctypes.byref(recorder), ok, ctypes.byref(effect))
-        while code == 1 and not (effect.length or self._durable):
-            code = _checkpoint_next(ctypes.byref(recorder), True, ctypes.byref(effect))
-        self._state = _Recording(recorder, effect if code == 1 else None, [])
-        return code
+    def _written(self, block: Any) -> _Recorder:
+        """The recorder once the block is written."""
+        recorder = _Recorder.from_buffer_copy(self._state.recorder)
+        disk.perform(recorder.effect, self._file.descriptor, self._durable, block)
+        return recorder
 
-    def _perform(self) -> None:
-        """Performs the next effect. One that was cut off is done again, but no sync: what it was to store may be lost
-        though the next one succeeds."""
-        descriptor, (_, effect, synced) = self._file.descriptor, self._state
-        if effect.length:
-            disk.put(descriptor, bytes(effect.bytes)[: effect.length], effect.place)
-        elif not synced:
+    def _sync(self) -> None:
+        try:
             # In one call of C: no signal handler runs before the sync's end is in the list.
-            synced.extend(itertools.chain((None,), disk.sync_once(descriptor)))
+            self._state.synced.extend(itertools.chain((None,), disk.sync_once(self._file.descriptor)))
+        finally:
+            self._settled()
 
 
 # The Writers, and their files: so a collected cycle of both closes the Writer before its file.
@@ -420,13 +403,6 @@ def _abandon_all() -> None:
     with contextlib.ExitStack() as writers:
         for writer in list(_WRITERS):
             writers.callback(writer._abandon)
-
-
-def _wrote(recorder: _Recorder, count: int, ok: bool) -> _Recorder:
-    """The recorder after so many samples were written, or not."""
-    after = _Recorder.from_buffer_copy(recorder)
-    _checked(_recorder_wrote(ctypes.byref(after), count, ok))
-    return after
 
 
 def create(
@@ -447,7 +423,7 @@ def create(
     channels, bits = _integer("channels", channels, 1, 0xFFFF), _integer("bits", bits, 1, 0xFFFF)
     width = _integer("bytes_per_sample", bytes_per_sample, 0, 0xFFFF)
     spec = _Spec(_integer("rate", rate, 1, 0xFFFFFFFF), channels, bits, width, is_float)
-    recorder, header = _Recorder(), ctypes.create_string_buffer(68)
+    recorder, header = _Recorder(), ctypes.create_string_buffer(_HEADER_BYTES)
     length = _checked(_header(ctypes.byref(spec), 0, header, len(header)))
     _checked(_recorder_begin(ctypes.byref(spec), ctypes.byref(recorder)))
     with disk.folder_of(path) if durable else contextlib.nullcontext() as folder:
@@ -469,13 +445,17 @@ def create(
 def append_to(path: Path, durable: bool = False) -> Writer:
     """A file that is there, after whose frames more are written. A recording that was cut off is an error,
     and so are chunks or a tag after its data."""
+    return _append_to(path, durable, False)
+
+
+def _append_to(path: Path, durable: bool, overwrite: bool) -> Writer:
     file, recorder = disk.File(path, os.O_RDWR), _Recorder()
     try:
         if durable:
             disk.sync(file.descriptor)
             disk.sync_folder(path)
-        found, _, _ = _end_of_data(file.descriptor, False)
-        _checked(_recorder_append(ctypes.byref(found), ctypes.byref(recorder)))
+        found = _repaired(file.descriptor, _FIND_DAMAGE, False)
+        _checked(_recorder_resume(ctypes.byref(found), _OVERWRITE if overwrite else 0, ctypes.byref(recorder)))
         return Writer(file, found.spec, recorder, durable)
     except BaseException:
         file.close()

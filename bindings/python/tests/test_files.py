@@ -131,41 +131,45 @@ class Files(unittest.TestCase):
         one, followed = array.array("h", [7]), by_hand(b"\1\2\3\4", after=CHUNK)
         for samples in one, array.array("h"):
             self.leave(followed)
-            self.fails(Cause.CHUNKS_AFTER_DATA, lambda: hound.append(self.path, samples))
+            self.fails(Cause.CHUNKS_FOLLOW, lambda: hound.append(self.path, samples))
             self.assert_file(followed)
         self.assertEqual(hound.append(self.path, one, overwrite=True), 50)
         self.assert_file(by_hand(b"\1\2\3\4\7\0"))
-        with self.assertRaisesRegex(HoundError, "overwrite=True"):
-            self.leave(by_hand(b"\1\2", after=b"TAG" + bytes(125)))
-            hound.append(self.path, one)
+        self.leave(by_hand(b"\1\2", after=b"TAG" + bytes(125)))
+        self.fails(Cause.CHUNKS_FOLLOW, lambda: hound.append(self.path, one))
 
     def test_an_append_to_what_was_cut_off(self):
         held = array.array("h", range(-24000, 24000)).tobytes()
-        for cut_off, frames in (
-            (by_hand(held, 0, riff=36), 48000),  # as a recorder leaves it that was killed
-            (by_hand(held, 4), 48000),
-            (by_hand(held)[:-2], 47999),
-            (by_hand(held, 0xFFFFFFFE), 48000),
-            (by_hand(held, 95999), 48000),  # no whole frames
+        for cut_off, frames, cause in (
+            (by_hand(held, 0, riff=36), 48000, Cause.IS_CUT_OFF),  # as a recorder leaves it that was killed
+            (by_hand(held, 4), 48000, Cause.IS_CUT_OFF),
+            (by_hand(held)[:-2], 47999, Cause.TRUNCATED),
+            (by_hand(held, 0xFFFFFFFE), 48000, Cause.TRUNCATED),
+            (by_hand(held, 95999), 48000, Cause.IS_CUT_OFF),  # no whole frames
         ):
             for samples in array.array("h", [7]), array.array("h"):
                 for overwrite in False, True:
                     self.leave(cut_off)
-                    self.fails(Cause.CUT_OFF, lambda: hound.append(self.path, samples, overwrite))
+                    self.fails(cause, lambda: hound.append(self.path, samples, overwrite))
                     self.assert_file(cut_off)
             self.assertEqual(hound.repair(self.path)[:2], (State.CUT_OFF, frames))
             self.assertEqual(hound.append(self.path, array.array("h", [7])), 44 + 2 * frames + 2)
             self.assert_file(by_hand(held[: 2 * frames] + b"\7\0"))
-        self.assertIn("repair", str(HoundError(Cause.CUT_OFF)))
+        self.assertIn("repair", str(HoundError(Cause.IS_CUT_OFF)))
         self.leave(by_hand(b"\x81\x82\x83", 0, width=1))  # A repair adds a pad byte.
-        self.fails(Cause.CUT_OFF, lambda: hound.append(self.path, array.array("b", [4])))
+        self.fails(Cause.IS_CUT_OFF, lambda: hound.append(self.path, array.array("b", [4])))
 
     def test_an_append_to_what_is_no_file_of_frames(self):
-        for contents, cause in ((b"RIFX" + bytes(60), Cause.NO_RIFF_TAG), (by_hand(b"\1\2\3", after=b"\0" + CHUNK), Cause.DATA_LENGTH)):
-            for overwrite in False, True:
-                self.leave(contents)
-                self.fails(cause, lambda: hound.append(self.path, array.array("h"), overwrite))
-                self.assert_file(contents)
+        torn = by_hand(b"\1\2\3", after=b"\0" + CHUNK)
+        for contents, overwrite, cause in (
+            (b"RIFX" + bytes(60), False, Cause.NO_RIFF_TAG),
+            (b"RIFX" + bytes(60), True, Cause.NO_RIFF_TAG),
+            (torn, False, Cause.CHUNKS_FOLLOW),
+            (torn, True, Cause.UNFINISHED_FRAME),
+        ):
+            self.leave(contents)
+            self.fails(cause, lambda: hound.append(self.path, array.array("h"), overwrite))
+            self.assert_file(contents)
 
     def test_what_an_append_makes_right(self):
         for before in (
@@ -211,9 +215,10 @@ class Files(unittest.TestCase):
             hound.append(self.path, array.array("h", range(100, 200)), durable=True)
         self.assert_file(by_hand(array.array("h", range(200)).tobytes()))
 
-    def test_an_interrupted_append_leaves_the_file(self):
+    def test_an_interrupted_append_is_done_or_not(self):
         before, pwrite = by_hand(b"\x81\x82", width=1), os.pwrite
-        for last in 1, 2, 3:
+        done = by_hand(b"\x81\x82\x83", width=1, after=bytes(1))
+        for last, left in (1, before), (2, done), (3, done), (4, done):
             self.leave(before)
             places = []
 
@@ -226,8 +231,8 @@ class Files(unittest.TestCase):
 
             with mock.patch("os.pwrite", interrupted), self.assertRaises(KeyboardInterrupt):
                 hound.append(self.path, array.array("b", [3]))
-            self.assertEqual(places[:3], [46, 4, 47][:last] + places[last:3])
-            self.assert_file(before)
+            self.assertEqual(places[:4], [46, 47, 4, 40][:last] + places[last:4])
+            self.assert_file(left)
 
     def test_what_is_synced(self):
         """The file, and its folder: before anything is appended, and after a new file has its name."""
@@ -245,7 +250,7 @@ class Files(unittest.TestCase):
             self.assertEqual(made, [46, "folder"])
             made.clear()
             hound.append(self.path, array.array("h", [2]), durable=True)
-            self.assertEqual(made, ["folder", 48, 48])
+            self.assertEqual(made, [46, "folder", 48, 48])
         with mock.patch("os.fsync", side_effect=OSError):
             for call in (hound.append, lambda *words, **more: hound.write(*words, 8000, **more)):
                 self.assertRaises(OSError, lambda: call(self.path, array.array("h", [3]), durable=True))
@@ -265,19 +270,12 @@ class Files(unittest.TestCase):
 
     def test_a_disk_that_can_t_be_read(self):
         """No file is mapped, since Python would end by SIGBUS: each read that fails is an OSError."""
-        content, mapped, map_it = by_hand(bytes(10000), 4000), [], hound.mmap.mmap
-        fault = OSError(errno.EIO, "a fault")
+        content, fault = by_hand(bytes(10000), 4000), OSError(errno.EIO, "a fault")
         self.leave(content)
-
-        def noted(descriptor, *words, **more):
-            mapped.append(descriptor)
-            return map_it(descriptor, *words, **more)
-
-        with mock.patch("mmap.mmap", noted):
+        with mock.patch("mmap.mmap", side_effect=AssertionError):
             for call in self.calls():
                 with contextlib.suppress(HoundError):
                     call()
-        self.assertEqual(set(mapped), {-1})
         self.leave(content)
 
         class Faulty(hound.io.FileIO):
@@ -325,18 +323,27 @@ class Files(unittest.TestCase):
 
         for call in (lambda: hound.find_damage(self.path), lambda: hound.repair(self.path)):
             self.leave(content)
-            with mock.patch("os.pread", late), self.assertRaisesRegex(OSError, "shorter"):
+            with mock.patch("os.pread", late), self.assertRaises(HoundError):
                 call()
+            self.assert_file(content[:20])
         self.leave(by_hand(bytes(10)))
         with mock.patch("os.pread", late), self.assertRaises(HoundError):
             hound.append(self.path, array.array("h"))
 
-    def test_repairs_look_at_few_pages(self):
+    def test_repairs_look_at_few_parts(self):
         """What is found over them is what is found over the whole file."""
-        some = random.Random(5)
+        some, pread, counts = random.Random(5), os.pread, []
+        calls = [hound._function(name, *[ctypes.c_void_p, ctypes.c_size_t] * 2) for name in ("repair", "repair_to_end")]
+        for call in calls:
+            call.argtypes = ctypes.c_void_p, ctypes.c_size_t, ctypes.c_size_t, ctypes.c_void_p
+
+        def noted(descriptor, count, place):
+            counts.append(count)
+            return pread(descriptor, count, place)
+
         chunks = [CHUNK, b"TAG" + bytes(125), b"data" + bytes(4), b"junk\3\0\0\0abc\0", b"odds\1\0\0\0a"]
         chunks += [b"\0", b"a", b"\x80bcd" + bytes(4)]
-        with mock.patch("hound_bindings._PAGE", 16):
+        with mock.patch("os.pread", noted):
             for _ in range(3000):
                 width, channels, length = some.randrange(1, 4), some.randrange(1, 3), some.randrange(70)
                 after = b"".join(some.choices(chunks, k=some.randrange(4)))
@@ -349,8 +356,7 @@ class Files(unittest.TestCase):
                     found = hound._Repair()
                     memory = bytearray(content + b"U")
                     with hound._address(memory) as (start, room):
-                        call = hound._repair_to_end if to_end else hound._repair
-                        size = call(start, room, len(content), ctypes.byref(found))
+                        size = calls[to_end](start, room, len(content), ctypes.byref(found))
                     if size < 0:
                         self.fails(Cause(-size), lambda: hound.repair(self.path, to_end=to_end))
                         self.assert_file(content)
@@ -360,6 +366,7 @@ class Files(unittest.TestCase):
                         self.assertEqual(hound.find_damage(self.path), wanted)
                     self.assertEqual(hound.repair(self.path, to_end=to_end), wanted)
                     self.assert_file(memory[:size])
+        self.assertLessEqual(max(counts), 40)
 
     def test_a_long_file_is_repaired_in_little_memory(self):
         length = 3 * 10**9 + 1

@@ -388,9 +388,9 @@ class Recordings(Case):
                 writer.write(SAMPLES[first:])
             self.assertEqual(content_of(self.path), by_hand(SAMPLES.tobytes(), chunk))
         for content, cause in (
-            (by_hand(SAMPLES.tobytes(), counted=8), Cause.CUT_OFF),
-            (by_hand(SAMPLES.tobytes()) + chunk, Cause.CHUNKS_AFTER_DATA),
-            (by_hand(SAMPLES.tobytes(), counted=7), Cause.CUT_OFF),
+            (by_hand(SAMPLES.tobytes(), counted=8), Cause.IS_CUT_OFF),
+            (by_hand(SAMPLES.tobytes()) + chunk, Cause.CHUNKS_FOLLOW),
+            (by_hand(SAMPLES.tobytes(), counted=7), Cause.IS_CUT_OFF),
             (b"RIFX" + bytes(60), Cause.NO_RIFF_TAG),
         ):
             self.leave(content)
@@ -431,7 +431,7 @@ class Recordings(Case):
             self.assertEqual([call[0][1] for call in control.call_args_list], [51] * 4)
             hound.append(self.path, SAMPLES, durable=True)
             hound.write(self.path, SAMPLES, 8000, durable=True)
-            self.assertEqual([call[0][1] for call in control.call_args_list], [51] * 9)
+            self.assertEqual([call[0][1] for call in control.call_args_list], [51] * 10)
             control.side_effect = OSError(errno.EIO, "a fault")
             writer = hound.append_to(self.path)
             writer._durable = True
@@ -811,7 +811,7 @@ class Recordings(Case):
             self.leave(content + last)
             for call in (lambda: hound.append_to(self.path).close(), lambda: hound.append(self.path, array.array("b"))):
                 if is_cut_off:
-                    self.fails(Cause.CUT_OFF, call)
+                    self.fails(Cause.IS_CUT_OFF, call)
                     self.assertEqual(content_of(self.path), content + last)
                 else:
                     call()

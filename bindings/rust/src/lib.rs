@@ -1,11 +1,15 @@
 //! WAV files in memory, read, written, appended to and repaired by proved code.
 //!
-//! A file is a slice of bytes. Samples are interleaved. After an error the slices that were passed
-//! are as they were before.
+//! A file is a slice of bytes, or one that the caller reads and writes, as a [`Walk`], a [`Repairer`] or a [`Recorder`]
+//! requests it. Samples are interleaved. After an error the slices that were passed are as they were before.
 //!
 //! The page of a function names its own errors. What is wrong with a file, a spec or the type of samples is an
 //! error of each function that takes one; `bindings/c/hound.h` has the conditions.
 #![warn(missing_docs)]
+
+mod machines;
+
+pub use machines::{Allowed, Effect, Kind, Medium, Mode, Next, Recorder, Repairer, Walk};
 
 use std::{error, fmt, fs, io};
 
@@ -61,6 +65,9 @@ errors! {
     FrameLength = -26, "invalid data chunk length";
     NeedsCheckpoint = -27, "a write failed or a checkpoint is not done, and no samples are written before one is";
     SyncFailed = -28, "a sync failed, and it is unknown what is stored";
+    IsCutOff = -29, "the recording was cut off, and has to be repaired first";
+    ChunksFollow = -30, "chunks or a tag follow the data, and would be overwritten";
+    NotPerformed = -31, "the file could not be read or written";
 }
 
 impl fmt::Display for Error {
@@ -132,16 +139,22 @@ pub struct Repair {
     pub left_over: u32,
     /// How the file was found.
     pub state: State,
-    /// The length of the file now.
-    pub length: usize,
+    /// How many bytes are before the data.
+    pub data_start: u64,
+    /// How many bytes the file has: after [`repair`] and [`repair_to_end`] with a pad byte that was missing, and
+    /// as a [`Repairer`] found it.
+    pub length: u64,
+    /// How many bytes of samples the header counted.
+    pub data_length: u32,
 }
 
 // The C interface, as hound.h has it.
 mod c {
+    use super::machines;
     use std::mem::size_of;
 
     #[repr(C)]
-    #[derive(Clone, Copy, Default)]
+    #[derive(Clone, Copy, Debug, Default)]
     pub struct Spec {
         pub sample_rate: u32,
         pub channels: u16,
@@ -165,45 +178,80 @@ mod c {
         pub frames: u32,
         pub left_over: u32,
         pub state: u32,
-    }
-
-    #[repr(C)]
-    #[derive(Clone, Default)]
-    pub struct Walk {
-        pub place: u64,
-        pub spec: Spec,
-        pub length: u32,
-        pub taken: u32,
-        pub part: u32,
-        pub fmt_length: u32,
-        pub unused: u32,
-    }
-
-    #[repr(C)]
-    #[derive(Clone, Copy, Default)]
-    pub struct Recorder {
         pub data_start: u64,
+        pub length: u64,
         pub data_length: u32,
-        pub number: u32,
-        pub bytes_per_sample: u16,
-        pub condition: u16,
         pub unused: u32,
     }
 
+    pub const EFFECT_BYTES: usize = 40;
+
     #[repr(C)]
-    #[derive(Clone, Copy, Default)]
+    #[derive(Clone, Debug)]
     pub struct Effect {
         pub place: u64,
         pub length: u32,
-        pub bytes: [u8; 4],
+        pub kind: u16,
+        pub report: u16,
+        pub bytes: [u8; EFFECT_BYTES],
+    }
+
+    impl Default for Effect {
+        fn default() -> Effect {
+            Effect { place: 0, length: 0, kind: 0, report: 0, bytes: [0; EFFECT_BYTES] }
+        }
+    }
+
+    #[repr(C)]
+    #[derive(Clone, Debug, Default)]
+    pub struct Walk {
+        pub effect: machines::Effect,
+        pub spec: Spec,
+        pub taken: u32,
+        pub part: u32,
+        pub fmt_length: u32,
+    }
+
+    #[repr(C)]
+    #[derive(Clone, Debug, Default)]
+    pub struct Repairer {
+        pub effect: machines::Effect,
+        pub length: u64,
+        pub place: u64,
+        pub data_start: u64,
+        pub spec: Spec,
+        pub data_length: u32,
+        pub taken: u32,
+        pub part: u32,
+        pub fmt_length: u32,
+        pub number: u32,
+        pub mode: u32,
+        pub unused: u32,
+    }
+
+    #[repr(C)]
+    #[derive(Clone, Debug, Default)]
+    pub struct Recorder {
+        pub effect: machines::Effect,
+        pub data_start: u64,
+        pub data_length: u32,
+        pub number: u32,
+        pub samples: u32,
+        pub bytes_per_sample: u16,
+        pub channels: u16,
+        pub condition: u16,
+        pub task: u16,
+        pub has_rest: u16,
+        pub unused: u16,
     }
 
     // What the calls write through a pointer, also where 64 bits are aligned as 32 are.
-    const _: () = assert!(size_of::<Walk>() == 40 && size_of::<Recorder>() == 24);
+    const _: () = assert!(size_of::<Info>() == 24 && size_of::<Repair>() == 48 && size_of::<Effect>() == 56);
+    const _: () = assert!(size_of::<Walk>() == 80 && size_of::<Repairer>() == 120 && size_of::<Recorder>() == 88);
 
     extern "C" {
         pub fn hound_info(file: *const u8, length: usize, info: *mut Info) -> i32;
-        pub fn hound_walk_next(walk: *mut Walk, bytes: *const u8, length: usize, info: *mut Info) -> i32;
+        pub fn hound_walk_next(walk: *mut Walk, info: *mut Info) -> i32;
         pub fn hound_size(spec: *const Spec, samples: u64) -> i64;
         pub fn hound_header(spec: *const Spec, samples: u64, out: *mut u8, capacity: usize) -> i64;
         pub fn hound_sizes(spec: *const Spec, data_start: u64, samples: u64, out: *mut u8, capacity: usize) -> i64;
@@ -212,11 +260,13 @@ mod c {
         pub fn hound_from_f32(samples: *const f32, count: usize, bits: u16, out: *mut i32, capacity: usize, clipped: *mut u64) -> i64;
         pub fn hound_repair(file: *mut u8, capacity: usize, used: usize, found: *mut Repair) -> i64;
         pub fn hound_repair_to_end(file: *mut u8, capacity: usize, used: usize, found: *mut Repair) -> i64;
+        pub fn hound_repairer_begin(length: u64, mode: u32, repairer: *mut Repairer);
+        pub fn hound_repairer_next(repairer: *mut Repairer, found: *mut Repair) -> i32;
         pub fn hound_recorder_begin(spec: *const Spec, recorder: *mut Recorder) -> i32;
-        pub fn hound_recorder_append(info: *const Info, recorder: *mut Recorder) -> i32;
-        pub fn hound_recorder_place(recorder: *const Recorder, samples: u64) -> i64;
-        pub fn hound_recorder_wrote(recorder: *mut Recorder, samples: u64, ok: i32) -> i32;
-        pub fn hound_checkpoint_next(recorder: *mut Recorder, ok: i32, effect: *mut Effect) -> i32;
+        pub fn hound_recorder_resume(found: *const Repair, allowed: u32, recorder: *mut Recorder) -> i32;
+        pub fn hound_recorder_write(recorder: *mut Recorder, samples: u64) -> i32;
+        pub fn hound_recorder_checkpoint(recorder: *mut Recorder);
+        pub fn hound_recorder_next(recorder: *mut Recorder) -> i32;
         pub fn hound_value_8(container: u32) -> i32;
         pub fn hound_value_16(container: u32) -> i32;
         pub fn hound_value_24(container: u32) -> i32;
@@ -273,10 +323,6 @@ impl Spec {
 }
 
 impl Info {
-    fn to_c(self) -> c::Info {
-        c::Info { spec: self.spec.to_c(), samples: self.samples, data_start: self.data_start }
-    }
-
     fn from_c(found: c::Info) -> Info {
         Info {
             spec: Spec::from_c(found.spec),
@@ -287,7 +333,20 @@ impl Info {
 }
 
 impl Repair {
-    fn from_c(found: c::Repair, length: usize) -> Repair {
+    fn to_c(self) -> c::Repair {
+        c::Repair {
+            spec: self.spec.to_c(),
+            frames: self.frames,
+            left_over: self.left_over,
+            state: self.state as u32,
+            data_start: self.data_start,
+            length: self.length,
+            data_length: self.data_length,
+            unused: 0,
+        }
+    }
+
+    fn from_c(found: c::Repair) -> Repair {
         Repair {
             spec: Spec::from_c(found.spec),
             frames: found.frames,
@@ -297,7 +356,9 @@ impl Repair {
                 1 => State::CutOff,
                 _ => State::HasChunksAfterData,
             },
-            length,
+            data_start: found.data_start,
+            length: found.length,
+            data_length: found.data_length,
         }
     }
 }
@@ -373,183 +434,6 @@ pub fn info(file: &[u8]) -> Result<Info> {
     Ok(Info::from_c(found))
 }
 
-/// A walk to the data of a file that isn't in memory, or comes from a pipe. It requests one part of
-/// the file after the other, none of the data, and of a chunk that it skips the last byte alone.
-/// [`Walk::over`] reads them in order.
-///
-/// ```no_run
-/// use std::io::{Read, Seek, SeekFrom};
-/// # fn main() -> Result<(), Box<dyn std::error::Error>> {
-/// let mut file = std::fs::File::open("tone.wav")?;
-/// let mut walk = hound_bindings::Walk::new();
-/// let info = loop {
-///     let mut part = Vec::new();
-///     file.seek(SeekFrom::Start(walk.place()))?;
-///     file.by_ref().take(walk.length() as u64).read_to_end(&mut part)?;
-///     if let Some(info) = walk.take(&part)? {
-///         break info; // and the next byte of the file is the first one of the data
-///     }
-/// };
-/// # Ok(())
-/// # }
-/// ```
-#[derive(Clone)]
-pub struct Walk(c::Walk);
-
-impl Walk {
-    /// A walk that requests the first bytes of a file.
-    pub fn new() -> Walk {
-        Walk(c::Walk { length: 12, ..c::Walk::default() })
-    }
-
-    /// Reads up to the data, and not a byte of them. The outer result is the reader's: its first error, also
-    /// where a read was interrupted. The inner one is that of `info` over the bytes.
-    pub fn over<R: io::Read>(reader: &mut R) -> io::Result<Result<Info>> {
-        let (mut walk, mut place, mut bytes) = (Walk::new(), 0, [0; 1024]);
-        loop {
-            let skipped = (walk.place() - place).min(bytes.len() as u64) as usize;
-            let wanted = if skipped > 0 { skipped } else { walk.length() };
-            let mut count = 0;
-            while count < wanted {
-                match reader.read(&mut bytes[count..wanted])? {
-                    0 => break,
-                    more => count += more,
-                }
-            }
-            place += count as u64;
-            if skipped == 0 || count < wanted {
-                match walk.take(&bytes[..if skipped == 0 { count } else { 0 }]) {
-                    Ok(Some(info)) => return Ok(Ok(info)),
-                    Ok(None) => {}
-                    Err(error) => return Ok(Err(error)),
-                }
-            }
-        }
-    }
-
-    /// Where in the file the requested bytes begin.
-    pub fn place(&self) -> u64 {
-        self.0.place
-    }
-
-    /// How many bytes are requested: at most 40.
-    pub fn length(&self) -> usize {
-        self.0.length as usize
-    }
-
-    /// Takes the requested bytes, fewer only where the file ends, and returns what is before the data,
-    /// which begin after these bytes, or nothing if other bytes are requested, which come after these.
-    /// The errors are those of `info`.
-    pub fn take(&mut self, bytes: &[u8]) -> Result<Option<Info>> {
-        let mut found = c::Info::default();
-        // SAFETY: as above.
-        let code = unsafe { c::hound_walk_next(&mut self.0, bytes.as_ptr(), bytes.len(), &mut found) };
-        Ok(if checked(code as i64)? == 0 { Some(Info::from_c(found)) } else { None })
-    }
-}
-
-impl Default for Walk {
-    fn default() -> Walk {
-        Walk::new()
-    }
-}
-
-/// What a program remembers of a file that it writes itself: where the samples go, and which effects make
-/// the header count them. Between checkpoints the header counts those of the last one.
-///
-/// ```
-/// use hound_bindings::{encode, header, Format, Recorder, Spec};
-/// # fn main() -> Result<(), hound_bindings::Error> {
-/// let spec = Spec { sample_rate: 8000, channels: 1, bits_per_sample: 8, bytes_per_sample: 1, format: Format::Int };
-/// let mut file = header(&spec, 0)?;
-/// let mut recorder = Recorder::begin(&spec)?;
-///
-/// assert_eq!(recorder.place(1)?, file.len() as u64);
-/// file.extend([128, 9]);
-/// recorder.wrote(1, true)?;
-///
-/// while let Some(effect) = recorder.next_effect(true)? {
-///     if effect.is_sync() {
-///         continue; // What is in memory needs none.
-///     }
-///     let place = effect.place() as usize;
-///     file[place..place + effect.bytes().len()].copy_from_slice(effect.bytes());
-/// }
-/// assert_eq!(file, hound_bindings::write(&spec, &[0i16])?);
-/// # Ok(())
-/// # }
-/// ```
-#[derive(Clone, Copy)]
-pub struct Recorder(c::Recorder);
-
-impl Recorder {
-    /// A recorder of a new file, of which the header for 0 samples is written.
-    pub fn begin(spec: &Spec) -> Result<Recorder> {
-        let mut recorder = c::Recorder::default();
-        // SAFETY: as above; and so below.
-        checked(unsafe { c::hound_recorder_begin(&spec.to_c(), &mut recorder) } as i64)?;
-        Ok(Recorder(recorder))
-    }
-
-    /// A recorder that appends to a file, of which a walk or `info` found this. It continues after the samples
-    /// that the header counts, which the file has to hold, and overwrites what follows them: repair a file that
-    /// may have been cut off before.
-    pub fn append(info: &Info) -> Result<Recorder> {
-        let mut recorder = c::Recorder::default();
-        checked(unsafe { c::hound_recorder_append(&info.to_c(), &mut recorder) } as i64)?;
-        Ok(Recorder(recorder))
-    }
-
-    /// How many samples are written.
-    pub fn samples(&self) -> u64 {
-        u64::from(self.0.data_length) / u64::from(self.0.bytes_per_sample)
-    }
-
-    /// Where the next so many samples are written; blocks are whole frames. `TooLong` is returned where the
-    /// sizes wouldn't count them, `NeedsCheckpoint` after a write that failed and within a checkpoint, and
-    /// `SyncFailed` after a sync that failed.
-    pub fn place(&self, samples: u64) -> Result<u64> {
-        checked(unsafe { c::hound_recorder_place(&self.0, samples) }).map(|place| place as u64)
-    }
-
-    /// Reports whether the write of so many samples at their place succeeded: then they count. If it
-    /// failed a checkpoint has to come next. A part of them may be in the file, which a repair would take for
-    /// samples: cut the file off at their place. The errors are those of `place`.
-    pub fn wrote(&mut self, samples: u64, ok: bool) -> Result<()> {
-        checked(unsafe { c::hound_recorder_wrote(&mut self.0, samples, ok.into()) } as i64).map(drop)
-    }
-
-    /// The next effect of a checkpoint, or none if it is done; `ok` is whether the last effect succeeded,
-    /// and is ignored for the first. After a write that failed the error is `NeedsCheckpoint`, and the next
-    /// call begins another one; after a sync that failed each call is `SyncFailed`.
-    pub fn next_effect(&mut self, ok: bool) -> Result<Option<Effect>> {
-        let mut effect = c::Effect::default();
-        let code = unsafe { c::hound_checkpoint_next(&mut self.0, ok.into(), &mut effect) };
-        Ok(if checked(code as i64)? == 0 { None } else { Some(Effect(effect)) })
-    }
-}
-
-/// What a checkpoint needs: bytes at a place of the file, or a sync of it.
-#[derive(Clone, Copy)]
-pub struct Effect(c::Effect);
-
-impl Effect {
-    /// Whether the file is synced: what was written is stored before the next effect.
-    pub fn is_sync(&self) -> bool {
-        self.0.length == 0
-    }
-
-    /// Where the bytes are written.
-    pub fn place(&self) -> u64 {
-        self.0.place
-    }
-
-    /// The bytes; none of a sync.
-    pub fn bytes(&self) -> &[u8] {
-        &self.0.bytes[..self.0.length as usize]
-    }
-}
-
 /// Locks a file that is open until it is closed, without waiting: where another program has locked it, or this one has
 /// opened and locked it before, the error is `WouldBlock`. A file system without locks is no error, and neither is
 /// another system than Unix.
@@ -606,9 +490,12 @@ pub fn size(spec: &Spec, samples: u64) -> Result<usize> {
     checked(unsafe { c::hound_size(&spec.to_c(), samples) })
 }
 
-/// The header of the file of so many samples: 44 or 68 bytes.
+/// How many bytes a header has at most.
+pub const HEADER_BYTES: usize = 68;
+
+/// The header of the file of so many samples.
 pub fn header(spec: &Spec, samples: u64) -> Result<Vec<u8>> {
-    let mut header = vec![0; 68];
+    let mut header = vec![0; HEADER_BYTES];
     let length = header_to(spec, samples, &mut header)?;
     header.truncate(length);
     Ok(header)
@@ -661,7 +548,7 @@ pub fn repair(file: &mut [u8], used: usize) -> Result<Repair> {
     let mut found = c::Repair::default();
     // SAFETY: as above.
     let length = checked(unsafe { c::hound_repair(file.as_mut_ptr(), file.len(), used, &mut found) })?;
-    Ok(Repair::from_c(found, length))
+    Ok(Repair { length: length as u64, ..Repair::from_c(found) })
 }
 
 /// Repairs the file in the first `used` bytes, and takes all that follows the header of its data for samples,
@@ -670,7 +557,7 @@ pub fn repair_to_end(file: &mut [u8], used: usize) -> Result<Repair> {
     let mut found = c::Repair::default();
     // SAFETY: as above.
     let length = checked(unsafe { c::hound_repair_to_end(file.as_mut_ptr(), file.len(), used, &mut found) })?;
-    Ok(Repair::from_c(found, length))
+    Ok(Repair { length: length as u64, ..Repair::from_c(found) })
 }
 
 /// Looks at a file as `repair` does, and changes nothing. It needs no room: the error is never `NoRoom`.
@@ -678,7 +565,7 @@ pub fn find_damage(file: &[u8]) -> Result<Repair> {
     let mut found = c::Repair::default();
     // SAFETY: as above.
     checked(unsafe { c::hound_find_damage(file.as_ptr(), file.len(), &mut found) } as i64)?;
-    Ok(Repair::from_c(found, file.len()))
+    Ok(Repair::from_c(found))
 }
 
 /// Decodes samples without a file around them, and returns how many.

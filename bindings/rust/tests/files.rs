@@ -1,8 +1,13 @@
 //! The calls over small files.
 use hound_bindings::{
     append_to, decode, encode, find_damage, from_f32, header, info, read, read_into, repair, repair_to_end, size, sizes, to_f32, value_16, value_24, value_32, value_8, write,
-    write_to, Container, Error, Format, Recorder, Spec, State, Walk, ERRORS,
+    write_to, Allowed, Container, Error, Format, Kind, Medium, Mode, Next, Recorder, Repairer, Spec, State, Walk, ERRORS,
 };
+use std::panic::{catch_unwind, AssertUnwindSafe};
+use std::{io, mem};
+
+const MEND: Allowed = Allowed { mend: true, overwrite: false };
+const OVERWRITE: Allowed = Allowed { mend: false, overwrite: true };
 
 const SPEC: Spec = Spec {
     sample_rate: 44100,
@@ -51,7 +56,7 @@ fn a_repair_to_the_end_takes_a_chunk_for_samples() {
     let (mut to_end, used) = (file.clone(), file.len());
     assert_eq!(repair(&mut file, used).unwrap().state, State::HasChunksAfterData);
     let found = repair_to_end(&mut to_end, used).unwrap();
-    assert_eq!((found.state, found.frames, found.left_over, found.length), (State::CutOff, 8, 0, used));
+    assert_eq!((found.state, found.frames, found.left_over, found.length), (State::CutOff, 8, 0, used as u64));
     assert_eq!(read::<i16>(&to_end).unwrap(), [2, 3, 0x494c, 0x5453, 4, 0, 0x4e49, 0x4f46]);
     assert_eq!(repair_to_end(&mut file, used + 1), Err(Error::NoRoom));
 }
@@ -89,23 +94,96 @@ fn an_error_leaves_all_as_it_was() {
     }
 }
 
+/// A medium in memory, which counts its calls. The call of a number fails, or panics, others give or take one byte.
+#[derive(Default)]
+struct Memory {
+    file: Vec<u8>,
+    said: Vec<String>,
+    fails: usize,
+    panics: bool,
+    is_slow: bool,
+}
+
+impl Memory {
+    fn of(file: Vec<u8>) -> Memory {
+        Memory { file, ..Memory::default() }
+    }
+
+    fn call(&mut self, what: String) -> io::Result<()> {
+        self.said.push(what);
+        assert!(!self.panics || self.said.len() != self.fails, "the medium panics");
+        match self.said.len() {
+            number if number == self.fails => Err(io::Error::new(io::ErrorKind::Other, "the medium fails")),
+            number if self.is_slow && number % 2 == 0 => Err(io::ErrorKind::Interrupted.into()),
+            _ => Ok(()),
+        }
+    }
+
+    fn count(&self, length: usize) -> usize {
+        if self.is_slow { length.min(1) } else { length }
+    }
+}
+
+impl Medium for Memory {
+    fn read_at(&mut self, place: u64, bytes: &mut [u8]) -> io::Result<usize> {
+        self.call(format!("read {} at {place}", bytes.len()))?;
+        let rest = self.file.get(place as usize..).unwrap_or(&[]);
+        let count = self.count(bytes.len().min(rest.len()));
+        bytes[..count].copy_from_slice(&rest[..count]);
+        Ok(count)
+    }
+    fn write_at(&mut self, place: u64, bytes: &[u8]) -> io::Result<usize> {
+        self.call(format!("write {bytes:?} at {place}"))?;
+        let (place, count) = (place as usize, self.count(bytes.len()));
+        self.file.resize(self.file.len().max(place + count), 0);
+        self.file[place..place + count].copy_from_slice(&bytes[..count]);
+        Ok(count)
+    }
+    fn sync(&mut self) -> io::Result<()> {
+        // A sync that was interrupted has failed.
+        let is_slow = mem::take(&mut self.is_slow);
+        let result = self.call("sync".into());
+        self.is_slow = is_slow;
+        result
+    }
+    fn cut(&mut self, place: u64) -> io::Result<()> {
+        self.call(format!("cut at {place}"))?;
+        self.file.truncate(place as usize);
+        Ok(())
+    }
+}
+
 #[test]
 fn a_walk_finds_what_info_finds() {
     // A chunk of three bytes and its pad byte before the fmt chunk.
     let mut file = write(&SPEC, &[7i16]).unwrap();
     file.splice(12..12, *b"LIST\x03\0\0\0abc\0");
+    let found = info(&file).unwrap();
+    let mut medium = Memory::of(file);
+    assert_eq!(Walk::new().run(&mut medium).unwrap(), Ok(found));
+    assert_eq!(medium.said, ["read 12 at 0", "read 8 at 12", "read 9 at 23", "read 16 at 32", "read 8 at 48"]);
+    assert_eq!((found.samples, found.data_start), (1, 56));
+    let mut slow = Memory { is_slow: true, ..medium };
+    assert_eq!(Walk::new().run(&mut slow).unwrap(), Ok(found));
+    assert_eq!(Walk::default().run(&mut Memory::of(b"RIFF".to_vec())).unwrap(), Err(Error::Ended));
+}
+
+#[test]
+fn a_read_that_failed_comes_again() {
+    let mut medium = Memory { fails: 2, ..Memory::of(write(&SPEC, &[7i16]).unwrap()) };
     let mut walk = Walk::new();
-    let mut parts = Vec::new();
-    let found = loop {
-        let start = walk.place() as usize;
-        parts.push((start, walk.length()));
-        if let Some(found) = walk.take(&file[start..start + walk.length()]).unwrap() {
-            break found;
-        }
-    };
-    assert_eq!(parts, [(0, 12), (12, 8), (23, 9), (32, 16), (48, 8)]);
-    assert_eq!((found.samples, found.data_start, found), (1, 56, info(&file).unwrap()));
-    assert_eq!(Walk::default().take(b"RIFF"), Err(Error::Ended));
+    assert_eq!(walk.run(&mut medium).unwrap_err().to_string(), "the medium fails");
+    assert_eq!(walk.run(&mut medium).unwrap().unwrap().samples, 1);
+    assert_eq!(medium.said, ["read 12 at 0", "read 8 at 12", "read 8 at 12", "read 16 at 20", "read 8 at 36"]);
+    // One that was not reported, too; and the error of one that was reported without its cause.
+    let mut walk = Walk::new();
+    for _ in 0..3 {
+        assert!(matches!(walk.next(), Ok(Next::Effect(effect)) if (effect.kind(), effect.place(), effect.length()) == (Kind::Read, 0, 12)));
+    }
+    if let Ok(Next::Effect(effect)) = walk.next() {
+        effect.failed();
+    }
+    assert_eq!(walk.next().err(), Some(Error::NotPerformed));
 }
 
 #[test]
@@ -188,7 +266,9 @@ fn what_the_header_does_not_count_is_overwritten() {
     let mut repaired = file.clone();
     assert_eq!(append_to(&mut file, 50, &[9i16]), Ok(48));
     assert_eq!(read::<i16>(&file[..48]).unwrap(), [1, 9]);
-    assert_eq!(Recorder::append(&info(&repaired).unwrap()).unwrap().place(1), Ok(46));
+    let found = find_damage(&repaired).unwrap();
+    assert_eq!(Recorder::resume(&found, OVERWRITE).err(), Some(Error::IsCutOff));
+    assert_eq!(Recorder::resume(&found, MEND).unwrap().samples(), 3);
     assert_eq!(repair(&mut repaired, 50).unwrap().frames, 3);
     repaired.extend([0; 2]);
     assert_eq!(append_to(&mut repaired, 50, &[9i16]), Ok(52));
@@ -196,17 +276,23 @@ fn what_the_header_does_not_count_is_overwritten() {
 }
 
 #[test]
-fn a_part_of_a_failed_write_is_taken_for_samples() {
-    let mut file = header(&SPEC, 0).unwrap();
+fn a_block_that_failed_is_cut_off() {
+    let mut medium = Memory { is_slow: true, fails: 3, ..Memory::of(header(&SPEC, 0).unwrap()) };
     let mut recorder = Recorder::begin(&SPEC).unwrap();
-    file.extend([1, 0]); // of a write of two samples
-    recorder.wrote(2, false).unwrap();
-    while let Some(effect) = recorder.next_effect(true).unwrap() {
-        file[effect.place() as usize..][..effect.bytes().len()].copy_from_slice(effect.bytes());
-    }
-    assert_eq!((info(&file).unwrap().samples, find_damage(&file).unwrap().frames), (0, 1));
-    file.truncate(recorder.place(2).unwrap() as usize);
-    assert_eq!(find_damage(&file).unwrap().frames, 0);
+    recorder.write(2).unwrap();
+    assert_eq!(recorder.run(&mut medium, &[1, 0, 2, 0]).unwrap_err().to_string(), "the medium fails");
+    assert_eq!(medium.said, ["write [1, 0, 2, 0] at 44", "write [0, 2, 0] at 45", "write [0, 2, 0] at 45", "cut at 44"]);
+    // A cut that is interrupted has failed, too. Where nothing is cut off, a repair takes the rest for samples.
+    assert_eq!((medium.file.len(), recorder.samples()), (45, 0));
+    medium = Memory { fails: 3, ..Memory::of(header(&SPEC, 0).unwrap()) };
+    recorder.write(2).unwrap();
+    assert!(recorder.run(&mut medium, &[1, 0, 2, 0]).is_err());
+    (medium.fails, medium.said) = (0, Vec::new());
+    recorder.write(2).unwrap();
+    recorder.run(&mut medium, &[1, 0, 2, 0]).unwrap().unwrap();
+    medium.said.dedup();
+    assert_eq!(medium.said, ["sync", "write [36, 0, 0, 0] at 4", "write [0, 0, 0, 0] at 40", "sync", "write [1, 0, 2, 0] at 44"]);
+    assert_eq!((find_damage(&medium.file).unwrap().frames, recorder.samples()), (2, 2));
 }
 
 #[test]
@@ -260,22 +346,239 @@ fn a_walk_over_a_reader_takes_no_byte_of_the_data() {
 }
 
 #[test]
-fn a_recorder_goes_on_after_a_failed_write() {
-    let mut recorder = Recorder::append(&info(&write(&SPEC, &[2i16]).unwrap()).unwrap()).unwrap();
-    assert_eq!((recorder.samples(), recorder.place(1)), (1, Ok(46)));
-    assert_eq!(recorder.wrote(1, false), Ok(()));
-    assert_eq!((recorder.samples(), recorder.place(1), recorder.wrote(1, true)), (1, Err(Error::NeedsCheckpoint), Err(Error::NeedsCheckpoint)));
-    assert!(recorder.next_effect(true).unwrap().unwrap().is_sync());
-    let mut places = Vec::new();
-    while let Some(effect) = recorder.next_effect(true).unwrap() {
-        places.push((effect.place(), effect.bytes().to_vec()));
+fn a_recorder_makes_a_checkpoint_of_what_was_written() {
+    let bytes = Spec { bits_per_sample: 8, ..SPEC };
+    let found = find_damage(&write(&bytes, &[2i16]).unwrap()).unwrap();
+    let mut recorder = Recorder::resume(&found, Allowed::default()).unwrap();
+    let mut medium = Memory::of(write(&bytes, &[2i16]).unwrap());
+    assert_eq!((recorder.samples(), recorder.write(4_294_967_258)), (1, Err(Error::TooLong)));
+    recorder.write(2).unwrap();
+    recorder.run(&mut medium, &[131, 133]).unwrap().unwrap();
+    assert_eq!((recorder.samples(), info(&medium.file).unwrap().samples), (3, 1));
+    recorder.checkpoint();
+    recorder.run(&mut medium, &[]).unwrap().unwrap();
+    assert_eq!(medium.file, write(&bytes, &[2i16, 3, 5]).unwrap());
+    assert_eq!(medium.said, [
+        "write [131, 133] at 45", "write [0] at 47", "sync", "write [40, 0, 0, 0] at 4", "write [3, 0, 0, 0] at 40", "sync",
+    ]);
+    let stereo = Spec { channels: 2, ..SPEC };
+    assert_eq!(Recorder::begin(&stereo).unwrap().write(3), Err(Error::UnfinishedFrame));
+    assert_eq!(Recorder::begin(&Spec { channels: 0, ..SPEC }).err(), Some(Error::NotWritable));
+}
+
+#[test]
+fn a_sync_that_failed_or_panicked_is_the_end() {
+    for panics in [false, true] {
+        let mut medium = Memory { fails: 2, panics, ..Memory::of(header(&SPEC, 0).unwrap()) };
+        let mut recorder = Recorder::begin(&SPEC).unwrap();
+        recorder.write(1).unwrap();
+        recorder.run(&mut medium, &[1, 0]).unwrap().unwrap();
+        recorder.checkpoint();
+        let run = AssertUnwindSafe(|| recorder.run(&mut medium, &[]));
+        assert!(catch_unwind(run).map_or(panics, |result| result.is_err() && !panics));
+        assert_eq!(recorder.write(1), Err(Error::SyncFailed));
+        recorder.checkpoint();
+        assert_eq!(recorder.run(&mut medium, &[]).unwrap(), Err(Error::SyncFailed));
+        assert_eq!(medium.said, ["write [1, 0] at 44", "sync"]);
     }
-    assert_eq!(places, [(0, vec![]), (4, vec![38, 0, 0, 0]), (40, vec![2, 0, 0, 0]), (0, vec![])]);
-    assert_eq!(recorder.place(2_147_483_629), Err(Error::TooLong));
-    recorder.next_effect(true).unwrap();
-    assert_eq!(recorder.place(1), Err(Error::NeedsCheckpoint));
-    assert_eq!(recorder.next_effect(false).err(), Some(Error::SyncFailed));
-    assert_eq!((recorder.place(1), recorder.wrote(1, true)), (Err(Error::SyncFailed), Err(Error::SyncFailed)));
+}
+
+#[test]
+fn a_write_that_panicked_is_requested_again() {
+    let mut medium = Memory { fails: 3, panics: true, ..Memory::of(header(&SPEC, 0).unwrap()) };
+    let mut recorder = Recorder::begin(&SPEC).unwrap();
+    recorder.write(1).unwrap();
+    recorder.run(&mut medium, &[1, 0]).unwrap().unwrap();
+    recorder.checkpoint();
+    assert!(catch_unwind(AssertUnwindSafe(|| recorder.run(&mut medium, &[]))).is_err());
+    recorder.run(&mut medium, &[]).unwrap().unwrap();
+    assert_eq!(medium.said[2..4], ["write [38, 0, 0, 0] at 4", "write [38, 0, 0, 0] at 4"]);
+    assert_eq!(medium.file, write(&SPEC, &[1i16]).unwrap());
+}
+
+/// Performs all effects. The report of each is lost, and it comes again, that has its number in these bits.
+fn perform_losing(recorder: &mut Recorder, medium: &mut Memory, block: &[u8], lost: u32, number: &mut u32) {
+    while let Next::Effect(effect) = recorder.next().unwrap() {
+        *number += 1;
+        match lost >> *number & 1 {
+            0 => effect.perform(medium, block).unwrap(),
+            _ => effect.clone().perform(medium, block).unwrap(),
+        }
+    }
+}
+
+#[test]
+fn a_report_that_is_lost_changes_nothing() {
+    let bytes = Spec { bits_per_sample: 8, ..SPEC };
+    for lost in 0..1 << 14 {
+        let (mut recorder, mut medium, mut number) = (Recorder::begin(&bytes).unwrap(), Memory::of(header(&bytes, 0).unwrap()), 0);
+        for block in [&[129, 130, 131][..], &[132, 133]] {
+            recorder.write(block.len() as u64).unwrap();
+            perform_losing(&mut recorder, &mut medium, block, lost, &mut number);
+            recorder.checkpoint();
+            perform_losing(&mut recorder, &mut medium, &[], lost, &mut number);
+        }
+        assert_eq!(medium.file, write(&bytes, &[1i16, 2, 3, 4, 5]).unwrap());
+    }
+    let file = write(&bytes, &[1i16, 2, 3]).unwrap()[..46].to_vec();
+    for lost in 0..1 << 14 {
+        let (mut repairer, mut medium, mut number) = (Repairer::new(46, Mode::Repair), Memory::of(file.clone()), 0);
+        let found = loop {
+            number += 1;
+            match repairer.next().unwrap() {
+                Next::Done(found) => break found,
+                Next::Effect(effect) if lost >> number & 1 == 0 => effect.perform(&mut medium, &[]).unwrap(),
+                Next::Effect(effect) => effect.clone().perform(&mut medium, &[]).unwrap(),
+            }
+        };
+        assert_eq!((found, &medium.file), (find_damage(&file).unwrap(), &write(&bytes, &[1i16, 2]).unwrap()));
+    }
+}
+
+#[test]
+fn a_block_whose_report_is_lost_is_cut_off_where_it_is_given_up() {
+    let (mut recorder, mut medium) = (Recorder::begin(&SPEC).unwrap(), Memory::of(header(&SPEC, 0).unwrap()));
+    recorder.write(2).unwrap();
+    match recorder.next().unwrap() {
+        Next::Effect(effect) => effect.clone().perform(&mut medium, &[1, 0, 2, 0]).unwrap(),
+        Next::Done(()) => unreachable!(),
+    }
+    recorder.write(1).unwrap();
+    recorder.run(&mut medium, &[9, 0]).unwrap().unwrap();
+    assert_eq!((&medium.said[1], medium.file[44..].to_vec(), recorder.samples()), (&"cut at 44".to_string(), vec![9, 0], 1));
+    // One that was requested, and never was an effect, is given up without a trace.
+    medium.said.clear();
+    recorder.write(2).unwrap();
+    recorder.write(1).unwrap();
+    recorder.run(&mut medium, &[7, 0]).unwrap().unwrap();
+    assert_eq!(medium.said, ["write [7, 0] at 46"]);
+}
+
+#[test]
+#[should_panic(expected = "the block has another length")]
+fn a_block_has_the_length_that_was_requested() {
+    let mut recorder = Recorder::begin(&SPEC).unwrap();
+    recorder.write(2).unwrap();
+    let _ = recorder.run(&mut Memory::default(), &[1, 0]);
+}
+
+#[test]
+fn a_file_is_repaired_as_in_memory() {
+    let bytes = Spec { bits_per_sample: 8, ..SPEC };
+    let mut file = write(&bytes, &[1i16, 2, 3]).unwrap();
+    file[4..8].fill(0);
+    file[40..44].fill(0);
+    file.truncate(47);
+    let mut medium = Memory::of(file.clone());
+    let damage = Repairer::new(47, Mode::FindDamage).run(&mut medium).unwrap().unwrap();
+    assert!(damage == find_damage(&file).unwrap() && medium.file == file && medium.said.iter().all(|call| call.starts_with("read")));
+    assert_eq!((damage.state, damage.frames, damage.data_start, damage.length, damage.data_length), (State::CutOff, 3, 44, 47, 0));
+    medium.said.clear();
+    assert_eq!(Repairer::new(47, Mode::Repair).run(&mut medium).unwrap(), Ok(damage));
+    let effects: Vec<_> = medium.said.iter().filter(|call| !call.starts_with("read")).collect();
+    assert_eq!(effects, ["sync", "write [3, 0, 0, 0] at 40", "sync", "write [0] at 47", "sync", "write [40, 0, 0, 0] at 4", "sync"]);
+    assert_eq!(medium.file, write(&bytes, &[1i16, 2, 3]).unwrap());
+
+    let mut file = write(&SPEC, &[2i16, 3]).unwrap();
+    file.extend(b"LIST\x04\0\0\0INFO");
+    let (length, mut medium) = (file.len() as u64, Memory::of(file));
+    assert_eq!(Repairer::new(length, Mode::Repair).run(&mut medium).unwrap().unwrap().state, State::HasChunksAfterData);
+    assert_eq!(Repairer::new(length, Mode::RepairToEnd).run(&mut medium).unwrap().unwrap().frames, 8);
+    assert_eq!(Repairer::new(4, Mode::Repair).run(&mut Memory::of(b"RIFF".to_vec())).unwrap(), Err(Error::Ended));
+}
+
+#[test]
+fn an_effect_that_failed_ends_a_repairer() {
+    let file = write(&SPEC, &[2i16, 3, 5]).unwrap()[..49].to_vec();
+    let mut calls = Memory::of(file.clone());
+    Repairer::new(49, Mode::Repair).run(&mut calls).unwrap().unwrap();
+    for (i, call) in calls.said.iter().enumerate() {
+        let mut medium = Memory { fails: i + 1, ..Memory::of(file.clone()) };
+        let mut repairer = Repairer::new(49, Mode::Repair);
+        assert_eq!(repairer.run(&mut medium).unwrap_err().to_string(), "the medium fails");
+        let error = if call == "sync" { Error::SyncFailed } else { Error::NotPerformed };
+        assert_eq!((repairer.run(&mut medium).unwrap(), repairer.next().err(), medium.said.len()), (Err(error), Some(error), i + 1));
+        assert_eq!(Repairer::new(49, Mode::Repair).run(&mut medium).unwrap().unwrap().frames, 2);
+        assert_eq!(medium.file, calls.file);
+    }
+}
+
+#[test]
+fn a_recorder_continues_a_file_as_it_is_allowed_to() {
+    let resume = |file: &[u8], allowed| Recorder::resume(&find_damage(file).unwrap(), allowed).map(|recorder| recorder.samples());
+    let file = write(&SPEC, &[2i16, 3, 5]).unwrap();
+    assert_eq!(resume(&file, Allowed::default()), Ok(3));
+    assert_eq!(resume(&file[..48], OVERWRITE), Err(Error::Truncated));
+    let longer = [&file[..], &[7, 0]].concat();
+    assert_eq!((resume(&longer, Allowed::default()), resume(&longer, MEND)), (Err(Error::IsCutOff), Ok(4)));
+    let with_chunk = [&file[..], b"LIST\x04\0\0\0INFO"].concat();
+    assert_eq!((resume(&with_chunk, MEND), resume(&with_chunk, OVERWRITE)), (Err(Error::ChunksFollow), Ok(3)));
+    // A byte that isn't 0 is no pad byte, but a sample, which nobody counted.
+    let bytes = write(&Spec { bits_per_sample: 8, ..SPEC }, &[2i16, 3, 5]).unwrap();
+    assert_eq!((resume(&bytes, Allowed::default()), resume(&bytes[..47], Allowed::default())), (Ok(3), Ok(3)));
+    let uncounted = [&bytes[..47], &[130]].concat();
+    assert_eq!((resume(&uncounted, Allowed::default()), resume(&uncounted, MEND)), (Err(Error::IsCutOff), Ok(4)));
+    // What is overwritten is cut off first.
+    let mut recorder = Recorder::resume(&find_damage(&with_chunk).unwrap(), OVERWRITE).unwrap();
+    let mut medium = Memory::of(with_chunk);
+    recorder.write(1).unwrap();
+    recorder.run(&mut medium, &[7, 0]).unwrap().unwrap();
+    assert_eq!((&medium.said[0], medium.said.last().unwrap()), (&"cut at 50".to_string(), &"write [7, 0] at 50".to_string()));
+    recorder.checkpoint();
+    recorder.run(&mut medium, &[]).unwrap().unwrap();
+    assert_eq!(medium.file, write(&SPEC, &[2i16, 3, 5, 7]).unwrap());
+}
+
+#[test]
+fn the_error_is_that_of_the_write_also_where_nothing_is_cut_off() {
+    struct Full;
+    impl Medium for Full {
+        fn write_at(&mut self, _: u64, _: &[u8]) -> io::Result<usize> {
+            Err(io::Error::new(io::ErrorKind::Other, "full"))
+        }
+        fn sync(&mut self) -> io::Result<()> {
+            Ok(())
+        }
+    }
+    let with_chunk = [&write(&SPEC, &[2i16]).unwrap()[..], b"LIST\x04\0\0\0INFO"].concat();
+    let mut recorder = Recorder::resume(&find_damage(&with_chunk).unwrap(), OVERWRITE).unwrap();
+    for _ in 0..3 {
+        recorder.write(1).unwrap();
+        assert_eq!(recorder.run(&mut Full, &[1, 0]).unwrap_err().to_string(), "full");
+    }
+}
+
+#[test]
+fn a_file_of_the_system_is_a_medium() {
+    let path = std::env::temp_dir().join(format!("hound-bindings-medium-{}", std::process::id()));
+    let mut file = std::fs::OpenOptions::new().read(true).write(true).create(true).truncate(true).open(&path).unwrap();
+    io::Write::write_all(&mut file, &write(&SPEC, &[2i16, 3, 5]).unwrap()[..49]).unwrap();
+    let found = Repairer::new(49, Mode::Repair).run(&mut file).unwrap().unwrap();
+    assert_eq!((found.state, found.frames, found.left_over), (State::CutOff, 2, 1));
+    assert_eq!(Walk::new().run(&mut file).unwrap().unwrap().samples, 2);
+    let found = Repairer::new(49, Mode::FindDamage).run(&mut file).unwrap().unwrap();
+    let mut recorder = Recorder::resume(&found, Allowed::default()).unwrap();
+    recorder.write(1).unwrap();
+    recorder.run(&mut file, &[7, 0]).unwrap().unwrap();
+    recorder.checkpoint();
+    recorder.run(&mut file, &[]).unwrap().unwrap();
+    assert_eq!(std::fs::read(&path).unwrap(), write(&SPEC, &[2i16, 3, 7]).unwrap());
+    file.cut(60).unwrap();
+    assert_eq!(std::fs::read(&path).unwrap().len(), 50);
+    std::fs::remove_file(&path).unwrap();
+}
+
+#[test]
+fn a_medium_without_a_call_fails() {
+    struct Nothing;
+    impl Medium for Nothing {}
+    let unsupported = io::ErrorKind::Unsupported;
+    assert_eq!(Walk::new().run(&mut Nothing).unwrap_err().kind(), unsupported);
+    let mut recorder = Recorder::begin(&SPEC).unwrap();
+    recorder.write(1).unwrap();
+    assert_eq!(recorder.run(&mut Nothing, &[1, 0]).unwrap_err().kind(), unsupported);
+    recorder.checkpoint();
+    assert_eq!(recorder.run(&mut Nothing, &[]).unwrap_err().kind(), unsupported);
 }
 
 #[test]

@@ -2,7 +2,7 @@
 //! `finalize` the original reads the accepted samples, exactly; after an error those of the last `flush` that was Ok, and
 //! maybe more of the accepted. The package keeps this; of the original it is counted. (An append that can't begin leaves the
 //! file as it was.) And writers that are full at each length: the package counts no fewer samples than the original, but
-//! for those of an odd number of bytes after which a pad byte has no room.   faults
+//! for those of the block that had no room.   faults
 use dropin::{both, Tally};
 use std::cell::RefCell;
 use std::collections::BTreeMap;
@@ -148,23 +148,24 @@ fn counted(file: &[u8], start: usize) -> usize {
     file.get(start - 4..start).map_or(0, |length| u32::from_le_bytes(length.try_into().unwrap()) as usize)
 }
 
+// How many samples of this plan are written at once, at most.
+const BUFFERED: usize = 128;
+
 fn full(tally: &mut Tally) {
     for (bits, is_float) in [(8, false), (16, false), (24, false), (32, false), (32, true)] {
         let plan = Plan { channels: 1, bits, is_float, burst: 50, appends: false, is_buffered: false };
         let (start, width) = (if bits > 16 { 68 } else { 44 }, usize::from(bits / 8));
         for room in 0..1000 {
-            let [original, package] = [by_original::run as fn(&Faulty, Plan) -> Record, by_package::run].map(|run| {
+            let [(original, _), (package, flushed)] = [by_original::run as fn(&Faulty, Plan) -> Record, by_package::run].map(|run| {
                 let disk = Faulty(Rc::new(RefCell::new(Disk { room: Some(room), ..Disk::default() })));
-                run(&disk, plan);
+                let record = run(&disk, plan);
                 let disk = disk.0.borrow();
-                counted(disk.file.get_ref(), start)
+                (counted(disk.file.get_ref(), start), record.flushed * width)
             });
             if package >= original {
                 tally.same();
-            } else if original % 2 == 1 && package + width == original && start + original < room {
-                tally.listed("a full file without a pad byte: the last sample isn't counted");
-            } else if original % 2 == 1 && package < original && start + original == room {
-                tally.listed("a full file without a pad byte: the samples after the last checkpoint aren't counted");
+            } else if package >= flushed && package + BUFFERED * width > original {
+                tally.listed("a full file: the block that had no room isn't counted");
             } else {
                 tally.unexplained(|| format!("{bits} bits {is_float}, full at {room}: {original} bytes, and {package}"));
             }

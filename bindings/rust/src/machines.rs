@@ -1,0 +1,474 @@
+//! Files that the caller reads and writes: a walk, a repairer or a recorder requests one effect after the other.
+use crate::{c, checked, Info, Repair, Result, Spec};
+use std::{fs, io};
+
+/// What an effect does.
+#[derive(Clone, Copy, Debug, PartialEq, Eq)]
+pub enum Kind {
+    /// Nothing.
+    Nothing,
+    /// It reads [`length`](Effect::length) bytes into [`bytes_mut`](Effect::bytes_mut).
+    Read,
+    /// It writes [`bytes`](Effect::bytes).
+    Write,
+    /// It writes the caller's block, which has [`length`](Effect::length) bytes.
+    WriteBlock,
+    /// It syncs the file. If that only passes the bytes on to the system, the file has all that comes before it after a
+    /// kill; only if it stores them, as [`File::sync_data`](fs::File::sync_data) does, also after a loss of power.
+    Sync,
+    /// It cuts the file off, where it is longer than its place.
+    Cut,
+}
+
+/// What a walk, a repairer or a recorder requests: something that is done to a file, at a place of it.
+///
+/// [`perform`](Effect::perform) does it over a [`Medium`], and reports how it ended. Whoever does it otherwise reports
+/// that by [`done`](Effect::done), [`read`](Effect::read) or [`failed`](Effect::failed). Without a report the same effect
+/// is requested again; only a sync that was begun and may have failed has to be reported as failed.
+#[derive(Clone, Debug, Default)]
+#[repr(transparent)]
+pub struct Effect(c::Effect);
+
+const PENDING: u16 = 0;
+const DONE: u16 = 1;
+const FAILED: u16 = 2;
+
+impl Effect {
+    /// What it does.
+    pub fn kind(&self) -> Kind {
+        match self.0.kind {
+            1 => Kind::Read,
+            2 => Kind::Write,
+            3 => Kind::WriteBlock,
+            4 => Kind::Sync,
+            5 => Kind::Cut,
+            _ => Kind::Nothing,
+        }
+    }
+
+    /// Where in the file.
+    pub fn place(&self) -> u64 {
+        self.0.place
+    }
+
+    /// How many bytes are read or written.
+    pub fn length(&self) -> usize {
+        self.0.length as usize
+    }
+
+    /// The bytes that are written, or that were read.
+    pub fn bytes(&self) -> &[u8] {
+        &self.0.bytes[..c::EFFECT_BYTES.min(self.length())]
+    }
+
+    /// Where the bytes that are read belong.
+    pub fn bytes_mut(&mut self) -> &mut [u8] {
+        let length = self.length();
+        &mut self.0.bytes[..c::EFFECT_BYTES.min(length)]
+    }
+
+    /// Reports that all of it is done.
+    pub fn done(&mut self) {
+        self.0.report = DONE;
+    }
+
+    /// Reports that so many bytes were read: fewer than were requested only where the file ends.
+    pub fn read(&mut self, count: usize) {
+        self.0.length = count.min(self.length()) as u32;
+        self.done();
+    }
+
+    /// Reports that it failed, or that a part of it isn't done.
+    pub fn failed(&mut self) {
+        self.0.report = FAILED;
+    }
+
+    /// Performs it, and reports how it ended, unless the medium panics. Short reads and writes are continued, and those
+    /// that a signal interrupted. The error is the medium's.
+    ///
+    /// # Panics
+    ///
+    /// If a block is written that hasn't the requested length.
+    pub fn perform<M: Medium + ?Sized>(&mut self, medium: &mut M, block: &[u8]) -> io::Result<()> {
+        let place = self.place();
+        let result = match self.kind() {
+            Kind::Nothing => Ok(()),
+            Kind::Read => read_at(medium, place, self.bytes_mut()).map(|count| self.read(count)),
+            Kind::Write => write_at(medium, place, self.bytes()),
+            Kind::WriteBlock => {
+                assert_eq!(block.len(), self.length(), "the block has another length than the one that was requested");
+                write_at(medium, place, block)
+            }
+            Kind::Sync => {
+                self.failed(); // unless it returns
+                medium.sync()
+            }
+            Kind::Cut => medium.cut(place),
+        };
+        match result {
+            Ok(()) => self.done(),
+            Err(_) => self.failed(),
+        }
+        result
+    }
+}
+
+// Reads until the bytes are full or the file ends, and returns how many there are.
+fn read_at<M: Medium + ?Sized>(medium: &mut M, place: u64, bytes: &mut [u8]) -> io::Result<usize> {
+    let mut count = 0;
+    while count < bytes.len() {
+        match medium.read_at(place + count as u64, &mut bytes[count..]) {
+            Ok(0) => break,
+            Ok(more) => count += more,
+            Err(error) if error.kind() == io::ErrorKind::Interrupted => {}
+            Err(error) => return Err(error),
+        }
+    }
+    Ok(count)
+}
+
+fn write_at<M: Medium + ?Sized>(medium: &mut M, place: u64, bytes: &[u8]) -> io::Result<()> {
+    let mut count = 0;
+    while count < bytes.len() {
+        match medium.write_at(place + count as u64, &bytes[count..]) {
+            Ok(0) => return Err(io::ErrorKind::WriteZero.into()),
+            Ok(more) => count += more,
+            Err(error) if error.kind() == io::ErrorKind::Interrupted => {}
+            Err(error) => return Err(error),
+        }
+    }
+    Ok(())
+}
+
+/// What effects are performed on: a file, or what is like one. What a medium doesn't have is an error (`Unsupported`): a
+/// walk only reads, and a recorder doesn't; where nothing can be cut off, a part of a block that failed may stay after
+/// the data.
+pub trait Medium {
+    /// Reads bytes at a place, and returns how many: 0 only where the file ends.
+    fn read_at(&mut self, _place: u64, _bytes: &mut [u8]) -> io::Result<usize> {
+        Err(io::ErrorKind::Unsupported.into())
+    }
+
+    /// Writes bytes at a place, and returns how many.
+    fn write_at(&mut self, _place: u64, _bytes: &[u8]) -> io::Result<usize> {
+        Err(io::ErrorKind::Unsupported.into())
+    }
+
+    /// Passes on or stores what was written: see [`Kind::Sync`].
+    fn sync(&mut self) -> io::Result<()> {
+        Err(io::ErrorKind::Unsupported.into())
+    }
+
+    /// Cuts the file off at a place, where it is longer.
+    fn cut(&mut self, _place: u64) -> io::Result<()> {
+        Err(io::ErrorKind::Unsupported.into())
+    }
+}
+
+/// A file, which a sync stores.
+impl Medium for fs::File {
+    fn read_at(&mut self, place: u64, bytes: &mut [u8]) -> io::Result<usize> {
+        io::Seek::seek(self, io::SeekFrom::Start(place))?;
+        io::Read::read(self, bytes)
+    }
+
+    fn write_at(&mut self, place: u64, bytes: &[u8]) -> io::Result<usize> {
+        io::Seek::seek(self, io::SeekFrom::Start(place))?;
+        io::Write::write(self, bytes)
+    }
+
+    fn sync(&mut self) -> io::Result<()> {
+        self.sync_all()
+    }
+
+    fn cut(&mut self, place: u64) -> io::Result<()> {
+        if self.metadata()?.len() > place { self.set_len(place) } else { Ok(()) }
+    }
+}
+
+/// What `next` returns.
+#[derive(Debug)]
+pub enum Next<'m, T> {
+    /// An effect to perform.
+    Effect(&'m mut Effect),
+    /// All are done.
+    Done(T),
+}
+
+// What requests effects.
+trait Machine {
+    type Found;
+
+    fn next_effect(&mut self) -> Result<Next<'_, Self::Found>>;
+
+    // Performs all effects. The outer result is the medium's: its first error but that of a cut, where it has ended this.
+    fn perform_all<M: Medium + ?Sized>(&mut self, medium: &mut M, block: &[u8]) -> io::Result<Result<Self::Found>> {
+        let mut fault = None;
+        loop {
+            match self.next_effect() {
+                Ok(Next::Effect(effect)) => {
+                    let may_fail = effect.kind() == Kind::Cut;
+                    let result = effect.perform(medium, block);
+                    if !may_fail {
+                        fault = fault.or(result.err());
+                    }
+                }
+                Ok(Next::Done(found)) => return Ok(Ok(found)),
+                Err(error) => return fault.map_or(Ok(Err(error)), Err),
+            }
+        }
+    }
+}
+
+// What a call has returned: 1 for an effect, 0 at the end.
+fn next<T>(code: i32, effect: &mut Effect, found: impl FnOnce() -> T) -> Result<Next<'_, T>> {
+    Ok(if checked(code.into())? == 0 { Next::Done(found()) } else { Next::Effect(effect) })
+}
+
+/// A walk to the data of a file that isn't in memory, or comes from a pipe. It requests one part of the file after the
+/// other, no byte twice, none of the data, and of a chunk that it skips the last byte alone.
+///
+/// ```no_run
+/// # fn main() -> Result<(), Box<dyn std::error::Error>> {
+/// let info = hound_bindings::Walk::new().run(&mut std::fs::File::open("tone.wav")?)??;
+/// println!("{} samples, from byte {} on", info.samples, info.data_start);
+/// # Ok(())
+/// # }
+/// ```
+#[derive(Clone, Debug, Default)]
+pub struct Walk(c::Walk);
+
+impl Machine for Walk {
+    type Found = Info;
+
+    fn next_effect(&mut self) -> Result<Next<'_, Info>> {
+        let mut found = c::Info::default();
+        // SAFETY: the pointers are those of references, and nothing is kept; so below.
+        let code = unsafe { c::hound_walk_next(&mut self.0, &mut found) };
+        if code == crate::Error::NotPerformed as i32 {
+            self.0.effect.0.report = PENDING;
+        }
+        next(code, &mut self.0.effect, || Info::from_c(found))
+    }
+}
+
+impl Walk {
+    /// A walk from the beginning of a file.
+    pub fn new() -> Walk {
+        Walk::default()
+    }
+
+    /// The next read, or what is before the data, which begin after the last one. The errors are those of
+    /// [`info`](crate::info), and [`NotPerformed`](crate::Error::NotPerformed) after a read that failed, which comes again then.
+    #[allow(clippy::should_implement_trait)]
+    pub fn next(&mut self) -> Result<Next<'_, Info>> {
+        self.next_effect()
+    }
+
+    /// Performs all reads. The outer result is the medium's.
+    pub fn run<M: Medium + ?Sized>(&mut self, medium: &mut M) -> io::Result<Result<Info>> {
+        self.perform_all(medium, &[])
+    }
+
+    /// Reads up to the data, and not a byte of them, from the beginning of a file. The outer result is the reader's: its
+    /// first error, also where a read was interrupted. The inner one is that of [`info`](crate::info) over the bytes.
+    pub fn over<R: io::Read>(reader: &mut R) -> io::Result<Result<Info>> {
+        let (mut walk, mut place, mut skipped) = (Walk::new(), 0, [0; 1024]);
+        loop {
+            let effect = match walk.next() {
+                Ok(Next::Effect(effect)) => effect,
+                Ok(Next::Done(info)) => return Ok(Ok(info)),
+                Err(error) => return Ok(Err(error)),
+            };
+            while place < effect.place() {
+                let most = (effect.place() - place).min(skipped.len() as u64) as usize;
+                match reader.read(&mut skipped[..most])? {
+                    0 => break,
+                    more => place += more as u64,
+                }
+            }
+            let (mut count, wanted) = (0, if place < effect.place() { 0 } else { effect.length() });
+            while count < wanted {
+                match reader.read(&mut effect.bytes_mut()[count..])? {
+                    0 => break,
+                    more => count += more,
+                }
+            }
+            place += count as u64;
+            effect.read(count);
+        }
+    }
+}
+
+/// What a repairer does.
+#[derive(Clone, Copy, Debug, PartialEq, Eq)]
+pub enum Mode {
+    /// It only reads, and finds what `Repair` would.
+    FindDamage,
+    /// It repairs as [`repair`](crate::repair) does.
+    Repair,
+    /// It repairs as [`repair_to_end`](crate::repair_to_end) does.
+    RepairToEnd,
+}
+
+/// A repairer of a file that isn't in memory. It looks at few parts of it: those that a walk looks at, the headers of
+/// chunks after the data, and the end.
+///
+/// What it writes are the sizes and a missing pad byte, in the order in which a kill or a loss of power loses no sample
+/// and invents none, and a sync comes between two writes. After an error, or where it was stopped, the file can be
+/// repaired by another repairer.
+///
+/// ```no_run
+/// use hound_bindings::{Mode, Repairer};
+/// # fn main() -> Result<(), Box<dyn std::error::Error>> {
+/// let mut file = std::fs::OpenOptions::new().read(true).write(true).open("take.wav")?;
+/// hound_bindings::lock(&file)?;
+/// let found = Repairer::new(file.metadata()?.len(), Mode::Repair).run(&mut file)??;
+/// println!("{:?}: {} frames", found.state, found.frames);
+/// # Ok(())
+/// # }
+/// ```
+#[derive(Clone, Debug)]
+pub struct Repairer(c::Repairer);
+
+impl Machine for Repairer {
+    type Found = Repair;
+
+    fn next_effect(&mut self) -> Result<Next<'_, Repair>> {
+        let mut found = c::Repair::default();
+        let code = unsafe { c::hound_repairer_next(&mut self.0, &mut found) };
+        next(code, &mut self.0.effect, || Repair::from_c(found))
+    }
+}
+
+impl Repairer {
+    /// A repairer of a file of so many bytes.
+    pub fn new(length: u64, mode: Mode) -> Repairer {
+        let mut repairer = c::Repairer::default();
+        unsafe { c::hound_repairer_begin(length, mode as u32, &mut repairer) };
+        Repairer(repairer)
+    }
+
+    /// The next effect, or what the file was, once all are done. The errors are those of [`repair`](crate::repair), and
+    /// what an effect was reported as, which ends the repairer: [`SyncFailed`](crate::Error::SyncFailed) or
+    /// [`NotPerformed`](crate::Error::NotPerformed).
+    #[allow(clippy::should_implement_trait)]
+    pub fn next(&mut self) -> Result<Next<'_, Repair>> {
+        self.next_effect()
+    }
+
+    /// Performs all effects. The outer result is the medium's.
+    pub fn run<M: Medium + ?Sized>(&mut self, medium: &mut M) -> io::Result<Result<Repair>> {
+        self.perform_all(medium, &[])
+    }
+}
+
+/// A recorder of a file that the caller writes, block by block. It says where the samples are written, and by which
+/// effects a checkpoint makes the header count them. Between checkpoints the header counts those of the last one, and a
+/// repair finds the others that are there.
+///
+/// A program begins a recorder, and then, as often as it likes, requests a block or a checkpoint, and performs all
+/// effects until there is none. A block that failed is cut off, and the next request begins with a checkpoint.
+///
+/// ```
+/// use hound_bindings::{encode, header, Format, Medium, Recorder, Spec};
+/// use std::io;
+///
+/// /// A file in memory.
+/// struct Bytes(Vec<u8>);
+///
+/// impl Medium for Bytes {
+///     fn write_at(&mut self, place: u64, bytes: &[u8]) -> io::Result<usize> {
+///         let (place, end) = (place as usize, place as usize + bytes.len());
+///         self.0.resize(self.0.len().max(end), 0);
+///         self.0[place..end].copy_from_slice(bytes);
+///         Ok(bytes.len())
+///     }
+///     fn sync(&mut self) -> io::Result<()> {
+///         Ok(())
+///     }
+/// }
+///
+/// # fn main() -> Result<(), Box<dyn std::error::Error>> {
+/// let spec = Spec { sample_rate: 8000, channels: 1, bits_per_sample: 8, bytes_per_sample: 1, format: Format::Int };
+/// let (mut file, mut recorder) = (Bytes(header(&spec, 0)?), Recorder::begin(&spec)?);
+/// let (samples, mut block) = ([3i8, -2, 5], [0; 3]);
+/// encode(&spec, &samples, &mut block)?;
+/// recorder.write(3)?;
+/// recorder.run(&mut file, &block)??;
+/// recorder.checkpoint();
+/// recorder.run(&mut file, &[])??;
+/// assert_eq!(file.0, hound_bindings::write(&spec, &[3i16, -2, 5])?);
+/// # Ok(())
+/// # }
+/// ```
+#[derive(Clone, Debug)]
+pub struct Recorder(c::Recorder);
+
+/// What a recorder of a file that exists may do. Nothing by default.
+#[derive(Clone, Copy, Debug, Default, PartialEq, Eq)]
+pub struct Allowed {
+    /// Continue a recording that was cut off, after all whole frames that it holds.
+    pub mend: bool,
+    /// Continue after the samples that the header counts, and cut off chunks or a tag after them.
+    pub overwrite: bool,
+}
+
+impl Machine for Recorder {
+    type Found = ();
+
+    fn next_effect(&mut self) -> Result<Next<'_, ()>> {
+        let code = unsafe { c::hound_recorder_next(&mut self.0) };
+        next(code, &mut self.0.effect, || ())
+    }
+}
+
+impl Recorder {
+    /// A recorder of a new file, of which the header for 0 samples is written.
+    pub fn begin(spec: &Spec) -> Result<Recorder> {
+        let mut recorder = c::Recorder::default();
+        checked(unsafe { c::hound_recorder_begin(&spec.to_c(), &mut recorder) }.into())?;
+        Ok(Recorder(recorder))
+    }
+
+    /// A recorder of a file as a repairer of [`Mode::FindDamage`], or [`find_damage`](crate::find_damage), found it. One
+    /// that ends with the samples that its header counts, or with their pad byte, needs nothing that is allowed. Else
+    /// the error is [`IsCutOff`](crate::Error::IsCutOff) or [`ChunksFollow`](crate::Error::ChunksFollow); where samples are missing
+    /// that the header counts it is [`Truncated`](crate::Error::Truncated).
+    pub fn resume(found: &Repair, allowed: Allowed) -> Result<Recorder> {
+        let (mut recorder, allowed) = (c::Recorder::default(), u32::from(allowed.mend) + 2 * u32::from(allowed.overwrite));
+        checked(unsafe { c::hound_recorder_resume(&found.to_c(), allowed, &mut recorder) }.into())?;
+        Ok(Recorder(recorder))
+    }
+
+    /// How many samples are written.
+    pub fn samples(&self) -> u64 {
+        u64::from(self.0.data_length) / u64::from(self.0.bytes_per_sample)
+    }
+
+    /// Requests that a block of so many samples is written, as [`encode`](crate::encode) gives them: whole frames, else
+    /// the error is [`UnfinishedFrame`](crate::Error::UnfinishedFrame), and [`TooLong`](crate::Error::TooLong) where the sizes wouldn't
+    /// count them. A block that is under way is given up, and cut off where a part of it may be in the file.
+    pub fn write(&mut self, samples: u64) -> Result<()> {
+        checked(unsafe { c::hound_recorder_write(&mut self.0, samples) }.into()).map(drop)
+    }
+
+    /// Requests a checkpoint of all that is written.
+    pub fn checkpoint(&mut self) {
+        unsafe { c::hound_recorder_checkpoint(&mut self.0) }
+    }
+
+    /// The next effect of what was requested, until all are done. After a block or an effect that failed the error is
+    /// [`NeedsCheckpoint`](crate::Error::NeedsCheckpoint), and after a sync that failed it is
+    /// [`SyncFailed`](crate::Error::SyncFailed), as that of each later call.
+    #[allow(clippy::should_implement_trait)]
+    pub fn next(&mut self) -> Result<Next<'_, ()>> {
+        self.next_effect()
+    }
+
+    /// Performs what was requested, with this block, or none for a checkpoint. The outer result is the medium's: its
+    /// first error, where what was requested isn't done because of it. A cut may fail.
+    pub fn run<M: Medium + ?Sized>(&mut self, medium: &mut M, block: &[u8]) -> io::Result<Result<()>> {
+        self.perform_all(medium, block)
+    }
+}
