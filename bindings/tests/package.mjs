@@ -5,7 +5,7 @@ import * as hound from "../js/hound.js";
 import { module } from "../js/module.js";
 
 // Where requests.py has the file in memory, and how much room for samples and after the file there is here.
-const FILE = 832, ROOM = 16384, MORE = 1024;
+const FILE = 960, ROOM = 16384, MORE = 1024;
 const ARRAYS = { int16: [Int16Array, "i16"], int32: [Int32Array, "i32"], float32: [Float32Array, "f32"] };
 const { exports } = new WebAssembly.Instance(module);
 const start = 65536 * exports.memory.grow(4), out = start + 64, file = out + ROOM;
