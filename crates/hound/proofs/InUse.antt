@@ -5,20 +5,18 @@ use Rattle.hound_spec.specs.declared.spec.WavSpecEx.{WavSpecEx}
 use Rattle.hound_medium.specs.{overlay, MediumState}
 use Rattle.hound_durable.specs.{Ascends, SurvivesLoss}
 use Rattle.hound_sample.specs.{too_wide}
-use Rattle.hound_writer.specs.{Ghosts, Begun, Call, Counts, Known, Left, found_in, start_of, write}
+use Rattle.hound_walk.specs.{Head}
+use Rattle.hound_writer.specs.{Ghosts, Begun, Call, Counts, Known, field, found_in, start_of, write}
 use Rattle.hound_writer.proofs.Accepting.{type_refuses}
 use Rattle.hound_writer.proofs.Recording.{call_at, lead_more}
 use Rattle.hound.specs.Headline.{Kept, Promises, accepted_by_all, begins_at}
 use Rattle.hound.proofs.Calling.{went}
-use Rattle.hound.proofs.Keeping.{first_of, keeps_promises, left_kept}
+use Rattle.hound.proofs.Keeping.{first_of, keeps_promises}
 
 module _ {W : Type 0} (kind : Ghosts W) (told : IsTrue kind.tells) (kept : IsTrue kind.keeps)
     (replays : (m : W) → (kind.state m).contents ≡ overlay (kind.state m).start (kind.state m).past)
     (s : WavSpecEx) (file : Begun) (known : List Known) (medium : W)
-    (left : Left kind s file known medium) where
-  pub is_kept : Kept kind s file known medium
-  is_kept = left_kept kind (λ m _ _. replays m) s file known medium left told kept
-
+    (is_kept : Kept kind s file known medium) where
   abbrev m : MediumState
   m = kind.state medium
 
@@ -58,3 +56,14 @@ module _ {W : Type 0} (kind : Ghosts W) (told : IsTrue kind.tells) (kept : IsTru
       (still_promised.after_loss calls [] refused f (length m.past) sector contents refl
       (omega (arith, begun, begins_same calls)) within
       (omega (arith, begins_same [])) (omega arith) ascends some one lost).0
+
+  -- and its head is there
+  pub head_after_loss : (f : ℕ) → f ≤ length m.past → Ascends m.past f (length m.past)
+      → begins_at calls m.past ≤ f → (sector : ℕ) (contents : List ℕ) → 1 ≤ sector
+      → (start_of s file - 4) / sector ≡ (start_of s file - 1) / sector
+      → SurvivesLoss sector m.start m.past f (length m.past) contents
+      → Head contents s (field (start_of s file - 4) contents) (start_of s file)
+  head_after_loss f within ascends begun sector contents some one lost =
+      (still_promised.after_loss calls [] refused f (length m.past) sector contents refl
+      (omega (arith, begun, begins_same calls)) within
+      (omega (arith, begins_same [])) (omega arith) ascends some one lost).2

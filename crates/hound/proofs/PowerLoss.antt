@@ -39,7 +39,7 @@ le_cover w v some =
     omega (arith, div-add-mod' (v + (w - 1)) w, mod_below (v + (w - 1)) w (omega (arith, some)), some)
 
 -- if the head is there and this many containers are stored, the first of them are counted
-counts_stored : (s : WavSpecEx) (h q : ℕ) (list : List (List ℕ)) (c : List ℕ)
+pub counts_stored : (s : WavSpecEx) (h q : ℕ) (list : List (List ℕ)) (c : List ℕ)
     → 1 ≤ s.bytes_per_sample → AreWide s.bytes_per_sample list
     → Head c s (field (h - 4) c) h → field (h - 4) c ≤ q * s.bytes_per_sample
     → q ≤ length list

@@ -22,8 +22,8 @@ use Rattle.hound.specs.declared.session.End.{End}
 use Rattle.hound.specs.Headline.{HasPublished, LeftWithin, LosesNothing, Promises, SurvivesAtEnd, begins_at}
 use Rattle.hound.specs.Run.{AppendedSurvives, IsNotBegunAs, IsSession, Ran, all_calls, end_call, accepted_by_steps, asked_by}
 use Rattle.hound.proofs.Calling.{begin as where_begun}
-use Rattle.hound.proofs.InUse.{counted_after_loss, is_kept}
-use Rattle.hound.proofs.Keeping.{all_accepted, survives, survives_counted}
+use Rattle.hound.proofs.InUse.{counted_after_loss}
+use Rattle.hound.proofs.Keeping.{all_accepted, left_kept, survives, survives_counted}
 use Rattle.hound.proofs.Whole.{all_lead, part_of_header, steps_accepted}
 
 -- the state that a durable medium shows
@@ -70,7 +70,7 @@ pub left_within : {M : Type 0} {g : Ghosts M}
 left_within {M} {g} replays told kept s file known d left =
     let shows : (d : Durable M g) → (shown d).contents ≡ overlay (shown d).start (shown d).past =
     λ d. replays_own g.keeps (g.state d.inner) d.faults d.flushed kept (replays d.inner told kept) in
-    let k = is_kept (durable_kind g) told kept shows s file known d left in
+    let k = left_kept (durable_kind g) (λ d _ _. shows d) s file known d left told kept in
     let p = k.promised.promises in
     record {
       left = k.left;
@@ -99,7 +99,7 @@ left_within {M} {g} replays told kept s file known d left =
           (survives_counted s (start_of s file) (found_in file) k.left.recorded.calls (shown d)
           (within d).flushed (within d).faults p
           (flushed_later d told kept) (flushed_within d told kept) (ascends d told kept)
-          (counted_after_loss (durable_kind g) told kept shows s file known d left
+          (counted_after_loss (durable_kind g) told kept shows s file known d k
           (within d).flushed (flushed_within d told kept) (ascends d told kept)));
     }
 

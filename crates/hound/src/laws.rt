@@ -6,9 +6,9 @@ ghost use Rattle.hound_spec.specs.declared.error.Error.{Error};
 ghost use Rattle.hound_spec.specs.declared.spec.WavSpecEx.{WavSpecEx};
 ghost use Rattle.hound_spec.specs.{canonical, data_start, riff_size};
 ghost use Rattle.hound_medium.specs.{MediumState, WhereKeeps, WhereTells, moment};
-ghost use Rattle.hound_durable.specs.{Ascends, place_of};
+ghost use Rattle.hound_durable.specs.{Ascends, SurvivesLoss, place_of};
 ghost use Rattle.hound_sample.specs.{Refusal, int_container};
-ghost use Rattle.hound_writer.specs.{mark_of, AcceptAnswer, AcceptsBytes, ChangesSizesOnly, appended, AcceptsEach, i16_bytes, AreKnown, Asked, Begun, Call, IsKnown, Known, Lead, Left, Recorded, answered, sample_count, asked_by_all, found_in, made, marked, new_file, publish, start_of, IsSameFile, Finishes, WriterState, IsWhole, accepted_samples, data_length, AreFrames, IsPublishResult, IsSound, CountsAtMost, LeavesWriter, PutsAt, ReadsAs, field, Log, Performed, checkpoint, handed_in, log_kind, Directed, IsSynced};
+ghost use Rattle.hound_writer.specs.{mark_of, AcceptAnswer, AcceptsBytes, ChangesSizesOnly, appended, AcceptsEach, i16_bytes, AreKnown, Asked, Begun, Call, IsKnown, Known, Lead, Left, Recorded, answered, sample_count, asked_by_all, found_in, made, marked, new_file, publish, start_of, IsSameFile, Finishes, WriterState, IsWhole, accepted_samples, data_length, AreFrames, IsPublishResult, IsSound, CountsAtMost, LeavesWriter, PutsAt, ReadsAs, field, Log, Performed, checkpoint, handed_in, log_kind, Directed, IsSynced, AgreeTo, Counts, end_of};
 ghost use Rattle.hound_writer.specs.declared.recorder.Recorder.{Recorder};
 ghost use Rattle.hound_writer.specs.declared.effects.Effect.TheVariants.{Size, Sync};
 ghost use Rattle.hound_repair.specs.{ReadsFrames, Repairs};
@@ -223,6 +223,10 @@ pub fn a_checkpoint_publishes()
 /// that a list of calls promises (`kept`). If all was synced in the file as it was handed in, it has
 /// written at ascending places only since it was last synced, within a checkpoint too (`ascends`); so a
 /// loss of power loses no sample of a checkpoint, and what it leaves counts (`survives`).
+///
+/// A file that is cut off where the data of its recorder end, or not, counts the same (`cut`), and so does what
+/// a loss of power leaves of it, where it agrees up to there with what one could leave without the cut
+/// (`cut_survives`).
 pub fn a_recording_is_kept()
     ensures kept { (s : WavSpecEx) (file : Begun) (known : List Known) (r : Recorder) (m : MediumState)
         → Directed s file known r m → r.number ≡ 0
@@ -233,6 +237,19 @@ pub fn a_recording_is_kept()
     ensures ascends { (s : WavSpecEx) (file : Begun) (known : List Known) (r : Recorder) (m : MediumState)
         → Directed s file known r m → IsSynced (handed_in file)
         → Ascends m.past m.flushed (length m.past) }
+    ensures cut { (s : WavSpecEx) (file : Begun) (known : List Known) (r : Recorder) (m : MediumState)
+        → Directed s file known r m → r.number ≡ 0
+        → (log : Log) × (log.state ≡ m) × (kept : Kept log_kind s file known log)
+        × ((cut : List ℕ) → AgreeTo (end_of r) cut m.contents → Counts s (start_of s file)
+        (found_in file ++ accepted_by_all kept.left.recorded.calls) cut) }
+    ensures cut_survives { (s : WavSpecEx) (file : Begun) (known : List Known) (r : Recorder)
+        (m : MediumState) → Directed s file known r m → r.number ≡ 0 → IsSynced (handed_in file)
+        → (log : Log) × (log.state ≡ m) × (kept : KeptWithin log_kind s file known log m)
+        × (begins_at kept.left.recorded.calls m.past ≤ m.flushed → (sector : ℕ) (contents : List ℕ)
+        → 1 ≤ sector → (start_of s file - 4) / sector ≡ (start_of s file - 1) / sector
+        → SurvivesLoss sector m.start m.past m.flushed (length m.past) contents
+        → (cut : List ℕ) → AgreeTo (end_of r) cut contents → Counts s (start_of s file)
+        (found_in file ++ accepted_by_all kept.left.recorded.calls) cut) }
 {}
 
 /// Other orders of effects don't serve. Where the RIFF size is left out, and isn't right already, nothing is

@@ -101,7 +101,8 @@ pub use hound_spec::{
 pub use hound_walk::{one_answer, read_wave_header, written_is_head};
 pub use hound_writer::{
     Action, Effect, FileState, FoundFile, Recorder, RecorderError, Report, SampleWriter16,
-    WavWriter, a_block_is_its_samples, a_recorder_directs, one_append_answer,
+    WavWriter, a_block_is_its_samples, a_cut_is_ignored, a_recorder_directs,
+    an_effect_may_be_repeated, one_append_answer,
 };
 pub use laws::{
     a_batch_is_its_values, a_checkpoint_holds, a_checkpoint_publishes, a_recording_is_kept,

@@ -123,10 +123,25 @@ const ODD_FILE: &[u8; 48] = b"RIFF\x28\0\0\0WAVEfmt \x10\0\0\0\x01\0\x01\0\x44\x
 // Whether all blocks are saved, synced, and are this file.
 fn saves(alloc: Global, spec_ex: WavSpecEx, blocks: &[&[u8]], file: &[u8]) -> hound::Result<bool> {
     let mut journal = Journal::new(alloc, Vec::new(alloc))?;
-    let count = record_by_effects(&mut journal, spec_ex, blocks)?;
+    let count = record_by_effects(&mut journal, spec_ex, blocks, &[])?;
     let taken = journal.taken();
     let bytes = journal.bytes_after(alloc, taken)?;
     Ok(count == blocks.len() && journal.flushed() == taken && bytes.as_slice() == file)
+}
+
+// Whether that file is left where the reports of these effects are lost, and so many bytes were written.
+fn repeats(
+    alloc: Global,
+    blocks: &[&[u8]],
+    lost: &[bool],
+    file: &[u8],
+    written: usize,
+) -> hound::Result<bool> {
+    let mut journal = Journal::new(alloc, Vec::new(alloc))?;
+    let count = record_by_effects(&mut journal, integers(1, 44100, 16, 2), blocks, lost)?;
+    let taken = journal.taken();
+    let bytes = journal.bytes_after(alloc, taken)?;
+    Ok(count == blocks.len() && bytes.as_slice() == file && taken == written)
 }
 
 // Whether the blocks that were saved are read, and nothing else than samples of the blocks, wherever
@@ -136,7 +151,7 @@ fn keeps(alloc: Global, blocks: &[&[u8]]) -> hound::Result<bool> {
     for fail_from in 2..40u64 {
         let mut journal = Journal::new(alloc, Vec::new(alloc))?;
         journal.fail(fail_from, u64::MAX);
-        let count = record_by_effects(&mut journal, integers(1, 44100, 16, 2), blocks)?;
+        let count = record_by_effects(&mut journal, integers(1, 44100, 16, 2), blocks, &[])?;
         let bytes = journal.bytes_after(alloc, journal.taken())?;
         let found = read_all::<i16, _>(alloc, WavReader::new(&bytes[..])?)?;
         let least = [0, 1, 3, 4][count.min(3)];
@@ -158,7 +173,7 @@ fn appended(
 ) -> hound::Result<(Vec<i16>, usize)> {
     let mut journal = Journal::new(alloc, file.to_vec(alloc)?)?;
     journal.fail(fail_from, u64::MAX);
-    let count = append_by_effects(&mut journal, file, blocks).unwrap_or(0);
+    let count = append_by_effects(&mut journal, file, blocks, &[]).unwrap_or(0);
     let bytes = journal.bytes_after(alloc, journal.taken())?;
     Ok((
         read_all::<i16, _>(alloc, WavReader::new(&bytes[..])?)?,
@@ -181,7 +196,7 @@ fn resumes(alloc: Global, file: &[u8], blocks: &[&[u8]]) -> hound::Result<bool> 
     }
     let cut = &file[..file.len().saturating_sub(1)];
     let mut journal = Journal::new(alloc, cut.to_vec(alloc)?)?;
-    let refused = append_by_effects(&mut journal, cut, blocks).is_err();
+    let refused = append_by_effects(&mut journal, cut, blocks, &[]).is_err();
     Ok(last == 3 && refused && journal.taken() == 0)
 }
 
@@ -297,6 +312,9 @@ fn effects_leave_what_was_saved(rt: HostRuntime) -> Result<(), Fail> {
     let odd: &[&[u8]] = &ODD;
     assert!(rt; saves(alloc, integers(1, 44100, 16, 2), blocks, &FOUR_SAMPLES)?);
     assert!(rt; saves(alloc, integers(1, 44100, 8, 1), odd, ODD_FILE)?);
+    // The header, the blocks, two sizes for each, and again the first block twice and a size three times.
+    let lost = [true, true, false, false, true, true, true];
+    assert!(rt; repeats(alloc, blocks, &lost, &FOUR_SAMPLES, 44 + 8 + 3 * 8 + 2 * 2 + 3 * 4)?);
     assert!(rt; keeps(alloc, blocks)?);
     assert!(rt; resumes(alloc, &FOUR_SAMPLES, blocks)?);
     Ok(())

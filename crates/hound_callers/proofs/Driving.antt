@@ -58,7 +58,7 @@ not_at_rest Pending other = absurd (other refl)
 not_at_rest Done other = refl
 not_at_rest Failed other = refl
 
-not_pending : (b : Bool) → report_for b ≡ Pending → ⊥
+pub not_pending : (b : Bool) → report_for b ≡ Pending → ⊥
 not_pending true is = cc
 not_pending false is = cc
 
@@ -131,6 +131,11 @@ pub is_made : (report : Report) → (report ≡ Pending → ⊥) → (b : Bool) 
 is_made Pending other = absurd (other refl)
 is_made Done other = (true, refl)
 is_made Failed other = (false, refl)
+
+pub pending_or_made : (report : Report) → (report ≡ Pending) ⊎ ((b : Bool) × (report ≡ report_for b))
+pending_or_made Pending = inl refl
+pending_or_made Done = inr (true, refl)
+pending_or_made Failed = inr (false, refl)
 
 pub one_at_most : (report : Report) → step_of report ≤ 1
 one_at_most Pending = omega arith
@@ -544,7 +549,7 @@ module _ (s : WavSpecEx) (file : Begun) (known : List Known) (asked : Recorder) 
         (wrote r mid result told d (ap (λ (x : Recorder). x.task) is)
         (ap (λ (x : Recorder). x.has_rest) is ∙ is_asked.2)
         (rw is (long two)) (rw place at did) (subst (λ b. HasEnded b r mid told) (sym same) ended));
-    cut = λ b r mid at told d rest (is, same) ended.
+    cut = λ b r mid at told d rest same ended.
         subst (λ m. Directed s file (known ++ marked (asked_as s asked block) false ∷ []) mid m) (sym same)
         (cut (known ++ marked (asked_as s asked block) false ∷ []) r mid b told d rest ended);
     handed = λ mid r at len none d goes. only mid r none (handed mid r at len d goes).1;

@@ -2,3 +2,4 @@ pub mod Publishing
 pub mod Performing
 pub mod Driving
 pub mod Resuming
+pub mod Repeating

@@ -2,16 +2,16 @@
 use Rattle.std.proofs.lemmas.Bool.{false≢true}
 use Rattle.std.proofs.lemmas.Grind.{flat_map-append, common_steps}
 use Rattle.std.proofs.lemmas.List.{append-nil, map-append}
-use Rattle.std.proofs.Common.{◌≡◌, ◌<◌, ◌≤◌, ◌+◌, ◌-◌, ◌*◌, ◌/◌, ◌%◌, ℕ, Bool, true, false, List, [], ◌∷◌, ◌++◌, drop, drop-cons, get_or, length, length-take, take, inl, inr, OnErr, OnOk, Result, Ok, Err, IsErr, is_ok, refl, sym, ◌∙◌, ap, subst, append_assoc, arith}
+use Rattle.std.proofs.Common.{◌≡◌, ◌<◌, ◌≤◌, ◌+◌, ◌-◌, ◌*◌, ◌/◌, ◌%◌, ℕ, Bool, true, false, List, [], ◌∷◌, ◌++◌, drop, drop-cons, get_or, length, length-append, length-take, take, inl, inr, OnErr, OnOk, Result, Ok, Err, IsErr, is_ok, refl, sym, ◌∙◌, ap, subst, append_assoc, arith}
 use Rattle.std.proofs.Math.Nat.{div-add-mod', mul-div_cancel, mul-mod_left}
 use Rattle.std.specs.Prelude.{◌==◌, if◌then◌else◌}
 use Rattle.std.specs.Borrow.{Bor}
 use Rattle.std.specs.List.{AllByRecursion, flat_map}
 use Rattle.hound.proofs.Knowing.{accepted as accepted_of_known, lasts, length-concat, reads_all}
-use Rattle.hound.specs.{Abandons, AreBytes, AsksForBlock, Asked, Begun, Directed, KeptWithin, Known, Log, MediumState, GivesUp, TakesBlock, Recorder, RecorderError, WavSpecEx, accepted_as_seen, accepted_by_all, field, found_in, if_marked, length_with, log_kind, marked, overlay, publish, seen, start_of}
+use Rattle.hound.specs.{Abandons, AreBytes, AsksForBlock, Asked, Begun, Directed, KeptWithin, Known, Log, MediumState, PutsAll, placed, GivesUp, TakesBlock, Recorder, RecorderError, WavSpecEx, accepted_as_seen, accepted_by_all, field, found_in, if_marked, Repeats, length_with, log_kind, marked, overlay, publish, seen, start_of}
 use Rattle.hound.specs.declared.Report.TheVariants.{Pending}
 use Rattle.hound.specs.declared.RecorderError.TheVariants.{NotWritable, UnfinishedFrame, TooLong, Truncated, CutOff, HasChunksAfterData, NeedsCheckpoint, SyncFailed}
-use Rattle.hound_callers.specs.Recorder.{IsReady, IsRefused, ReadsBlocks, Saves, Stops, StopsAt, StopsIn, samples_of}
+use Rattle.hound_callers.specs.Recorder.{IsDirected, IsReady, IsRefused, ReadsBlocks, Saves, Stops, StopsAt, StopsIn, samples_of}
 use Rattle.hound_callers.specs.Recording.{published_calls}
 use Rattle.hound_callers.proofs.Publishing.{accepted, last_call}
 
@@ -75,7 +75,7 @@ on_err (Err e) here = here refl
 
 -- a block of which nothing was written
 pub stopped_before : (s : WavSpecEx) (file : Begun) (known : List Known) (r : Recorder) (block : Bor (List ℕ))
-    (m : MediumState) → IsRefused r block → IsReady r → Directed s file known r m
+    (m : MediumState) → IsRefused r block → IsReady r → IsDirected s file known r m
     → Stops s file known block r m
 stopped_before s file known r block m refused ready directed =
     ([], inl (refused, refl), ready.0, rw append-nil directed)
@@ -140,17 +140,25 @@ pub saves : (s : WavSpecEx) (file : Begun) (blocks : List (Bor (List ℕ))) (n :
     → ((known : List Known) (r : Recorder) (m : MediumState) → Directed s file known r m → r.number ≡ 0
     → (log : Log) × (log.state ≡ m) × KeptWithin log_kind s file known log m)
     → (more : List (Asked × Bool)) × StopsAt s r (drop n blocks) more × (r.number ≡ 0)
-    × Directed s file (seen (published_calls (samples_of s) (take n blocks) ++ more)) r m
+    × IsDirected s file (seen (published_calls (samples_of s) (take n blocks) ++ more)) r m
     → Saves s file blocks n m
-saves s file blocks n r m within keeps (more, stops, none, directed) =
-    let (log, here, kept) = keeps _ r m directed none in (
+saves s file blocks n r m within keeps (more, stops, none, (once, directed, repeats)) =
+    let (log, here, kept) = keeps _ r once directed none in
+    let calls = seen (published_calls (samples_of s) (take n blocks) ++ more) in (
       more,
       r,
       log,
-      here,
+      subst (λ once. Repeats once m) (sym here) repeats,
       stops,
-      directed,
-      kept,
-      λ publishes some. reads_saved s file (take n blocks) r (drop n blocks) more log m kept here stops publishes
-          (omega (arith, some, within, length-take n blocks)),
+      subst (λ once. Directed s file calls r once) (sym here) directed,
+      subst (λ once. KeptWithin log_kind s file calls log once) (sym here) kept,
+      λ publishes some. subst (ReadsBlocks s file (take n blocks)) (sym repeats.contents)
+          (reads_saved s file (take n blocks) r (drop n blocks) more log once kept here stops publishes
+          (omega (arith, some, within, length-take n blocks))),
     )
+
+-- a medium that was synced before a header was written
+pub flushed_first : {T E : Type 0} {bytes : List ℕ} {result : Result T E} (old new : MediumState) → old.flushed ≡ length old.past
+    → PutsAll true bytes result old new → new.flushed ≤ length new.past
+flushed_first {bytes = bytes} old new synced puts =
+    omega (arith, synced, puts.takes.flushed, ap length (puts.takes.past refl), length-append old.past (placed old.place (take puts.count bytes)))

@@ -3,10 +3,11 @@ use Rattle.std.specs.Prelude.{◌≡◌, ◌⊎◌, ℕ, ◌+◌, ◌*◌, ◌/�
 use Rattle.std.specs.declared.io.Error.{Error as IoFault}
 use Rattle.std.specs.Borrow.{Bor}
 use Rattle.std.specs.List.{AllByRecursion, flat_map}
-use Rattle.hound.specs.{Action, AppendsRecorder, Asked, Begun, Directed, Error, IsRefusal, KeptWithin, Known, Log, MediumState, Performs, Places, PutsAt, ReadsAs, Readable, Recorder, RecorderError, Refusal, Report, Unreadable, WavSpecEx, found_in, greatest_u32, if_marked, length_with, log_kind, padded, publish, riff_size, seen, start_of, whole_containers, write}
-use Rattle.hound.specs.declared.Action.TheVariants.{Perform, WriteBlock}
+use Rattle.hound.specs.{Action, AppendsRecorder, Asked, Begun, Directed, Error, Flushes, IsRefusal, IsSaid, KeptWithin, Known, Log, MediumState, Performs, Places, PutsAt, ReadsAs, Readable, Repeats, Recorder, RecorderError, Refusal, Report, Unreadable, WavSpecEx, bytes_of, found_in, greatest_u32, if_marked, length_with, log_kind, padded, publish, riff_size, seen, start_of, whole_containers, write}
+use Rattle.hound.specs.declared.Action.TheVariants.{Cut, Perform, Read, WriteBlock}
+use Rattle.hound.specs.declared.Effect.TheVariants.{Pad, Size, Sync}
 use Rattle.hound.specs.declared.RecorderError.TheVariants.{Truncated, HasChunksAfterData}
-use Rattle.hound.specs.declared.Report.TheVariants.{Done, Failed}
+use Rattle.hound.specs.declared.Report.TheVariants.{Done, Failed, Pending}
 use Rattle.hound.specs.declared.Error.TheVariants.{FormatError, Unsupported}
 use Rattle.hound_callers.specs.Recording.{published_calls}
 
@@ -15,13 +16,44 @@ abbrev pub report_for : Bool → Report
 report_for true = Done
 report_for false = Failed
 
--- what a caller does for an action, which reports this: a medium is neither read nor cut off
+-- what an action does, whose end is reported: a medium is neither read nor cut off
 abbrev pub DoesAction : Action → List ℕ → Report → MediumState → MediumState → Type 0
 DoesAction (Perform effect) block report old new = (result : Result (Unit {0}) IoFault)
     × (report ≡ report_for (is_ok result)) × Performs effect result old new
 DoesAction (WriteBlock at len) block report old new = (result : Result (Unit {0}) IoFault)
     × (report ≡ report_for (is_ok result)) × PutsAt true at block result old new
-DoesAction _ block report old new = (report ≡ Failed) × (new ≡ old)
+DoesAction _ block report old new = new ≡ old
+
+-- the bytes that an action writes, and their place
+abbrev pub bytes_for : Action → List ℕ → List ℕ
+bytes_for (Perform (Pad at)) block = 0 ∷ []
+bytes_for (Perform (Size at size)) block = bytes_of 4 size
+bytes_for (WriteBlock at len) block = block
+bytes_for _ block = []
+
+abbrev pub place_for : Action → ℕ
+place_for (Perform (Pad at)) = at
+place_for (Perform (Size at size)) = at
+place_for (WriteBlock at len) = at
+place_for _ = 0
+
+-- the end of a write is reported, or the report is lost
+abbrev pub IsReportOf : {T E : Type 0} → Result T E → Report → Type 0
+IsReportOf result report = (report ≡ Pending) ⊎ (report ≡ report_for (is_ok result))
+
+-- What a caller does for an action, and how it reports it. The report of a write may be lost; a sync is reported
+-- as done only if it is. A medium is neither read nor cut off.
+abbrev pub TriesAction : Action → List ℕ → Report → MediumState → MediumState → Type 0
+TriesAction (Perform Sync) block report old new = (result said : Result (Unit {0}) IoFault)
+    × IsSaid said result × (report ≡ report_for (is_ok said)) × Flushes result old new
+TriesAction (Read at len) block report old new = new ≡ old
+TriesAction (Cut at) block report old new = new ≡ old
+TriesAction action block report old new = (result : Result (Unit {0}) IoFault) × IsReportOf result report
+    × PutsAt true (place_for action) (bytes_for action block) result old new
+
+-- a file as a recorder directed it, where effects may have been performed again
+abbrev pub IsDirected : WavSpecEx → Begun → List Known → Recorder → MediumState → Type 0
+IsDirected s file known r m = (once : MediumState) × Directed s file known r once × Repeats once m
 
 -- a recorder of which nothing failed, with nothing under way
 abbrev pub IsReady : Recorder → Type 0
@@ -71,7 +103,7 @@ StopsAt s r (block ∷ blocks) calls = StopsIn s r block calls
 -- after these calls the saving of a block has stopped
 abbrev pub Stops : WavSpecEx → Begun → List Known → Bor (List ℕ) → Recorder → MediumState → Type 0
 Stops s file known block r m = (calls : List (Asked × Bool)) × StopsIn s r block calls
-    × (r.number ≡ 0) × Directed s file (known ++ seen calls) r m
+    × (r.number ≡ 0) × IsDirected s file (known ++ seen calls) r m
 
 -- an error of the format with this text
 abbrev pub SaysFormat : List ℕ → Error → Type 0
@@ -101,11 +133,12 @@ ReadsBlocks s file blocks contents =
 
 -- So many of these blocks were saved, each by a write and a checkpoint, and then a recorder stopped at
 -- the next one. Whatever sectors keep what was written since the file was synced, what is left counts, and has lost
--- no sample of a checkpoint. Unless a checkpoint failed, the file is read as those blocks.
+-- no sample of a checkpoint: so it is where each effect was performed once, and no other state was there.
+-- Unless a checkpoint failed, the file is read as those blocks.
 abbrev pub Saves : WavSpecEx → Begun → List (Bor (List ℕ)) → ℕ → MediumState → Type 0
-Saves s file blocks n m = (more : List (Asked × Bool)) × (r : Recorder) × (log : Log) × (log.state ≡ m)
+Saves s file blocks n m = (more : List (Asked × Bool)) × (r : Recorder) × (log : Log) × Repeats log.state m
     × StopsAt s r (drop n blocks) more
-    × Directed s file (seen (published_calls (samples_of s) (take n blocks) ++ more)) r m
-    × KeptWithin log_kind s file (seen (published_calls (samples_of s) (take n blocks) ++ more)) log m
+    × Directed s file (seen (published_calls (samples_of s) (take n blocks) ++ more)) r log.state
+    × KeptWithin log_kind s file (seen (published_calls (samples_of s) (take n blocks) ++ more)) log log.state
     × (AllByRecursion (λ (one : Known). one.asked ≡ publish → ⊥) (seen more) → 0 < n →
     ReadsBlocks s file (take n blocks) m.contents)

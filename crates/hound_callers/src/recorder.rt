@@ -1,13 +1,15 @@
 // Recorders whose caller performs the effects, on a medium.
-ghost use Rattle.std.specs.Prelude.{◌≡◌, ◌⊎◌, ◌≤◌, ℕ, List, [], ◌++◌, ◌∷◌, Bool, IfErr, IfOk, OnErr, OnOk, drop, is_ok, length, take};
-ghost use Rattle.hound.specs.{Asked, Begun, Directed, IsIoError, IsNotBegun, IsSynced, Known, Performs, PutsAt, Readable, Recorder, WavSpecEx, one_more, WhereKeeps, WhereTells, new_file, resumed_file, seen};
+ghost use Rattle.std.specs.Prelude.{◌≡◌, ◌⊎◌, ◌≤◌, ◌+◌, ℕ, List, [], ◌++◌, ◌∷◌, Bool, true, false, if◌then◌else◌, IfErr, IfOk, OnErr, OnOk, Result, drop, is_ok, length, take};
+ghost use Rattle.std.specs.declared.io.Error.{Error as IoFault};
+ghost use Rattle.hound.specs.{Asked, Begun, Flushes, IsIoError, IsNotBegun, IsSaid, IsSynced, Known, PutsAt, Readable, Recorder, WavSpecEx, one_more, WhereKeeps, WhereTells, new_file, resumed_file, seen};
 ghost use Rattle.hound.specs.declared.Report.TheVariants.{Pending};
-ghost use Rattle.hound_callers.specs.Recorder.{DoesAction, IsAsked, IsErrorOf, IsNotResumed, IsReady, Saves, Stops, StopsAt, asked_as, once_done, samples_of};
+ghost use Rattle.hound_callers.specs.Recorder.{IsAsked, IsDirected, IsErrorOf, IsNotResumed, IsReady, Saves, Stops, StopsAt, TriesAction, asked_as, once_done, report_for, samples_of};
 ghost use Rattle.hound_callers.specs.Recording.{published_calls};
 
 use hound::{
     Action, Effect, Error, FileState, FoundFile, Medium, Recorder, RecorderError, Report,
-    WavReader, WavSpecEx, a_recorder_directs, a_recording_is_kept, header_of, put_all,
+    WavReader, WavSpecEx, a_recorder_directs, a_recording_is_kept, an_effect_may_be_repeated,
+    header_of, put_all,
 };
 use std::{io, result};
 
@@ -20,49 +22,91 @@ fn write_at<M: Medium>(medium: &mut M, place: u64, bytes: &[u8]) -> io::Result<(
     put_all(medium, bytes)
 }
 
-// Performs an effect.
-fn perform_effect<M: Medium>(medium: &mut M, effect: Effect) -> io::Result<()>
-    ensures { WhereKeeps M.tells M.keeps
-        (Performs effect result (M.state medium.old) (M.state medium.new)) }
+// Syncs a medium. If its end isn't known, it counts as failed.
+fn sync<M: Medium>(medium: &mut M, is_lost: bool) -> io::Result<()>
+    ensures { WhereTells M.tells ((done : Result Unit IoFault) × IsSaid result done
+        × Flushes done (M.state medium.old) (M.state medium.new)) }
 {
-    match effect {
-        Effect::Sync => medium.flush(),
-        Effect::Pad(place) => write_at(medium, place, &[0]),
-        Effect::Size(place, size) => write_at(medium, place, &size.to_le_bytes()),
+    let result = medium.flush();
+    if is_lost {
+        Err(io::Error::from(io::ErrorKind::Interrupted))
+    } else {
+        result
     }
 }
 
-// Performs an action, the write of a block with these bytes, and reports how it ended. A medium isn't cut off.
-fn perform<M: Medium>(medium: &mut M, action: Action, block: &[u8]) -> Report
-    ensures ended { result ≡ Pending → ⊥ }
-    ensures does { WhereKeeps M.tells M.keeps
-        (DoesAction action block.now result (M.state medium.old) (M.state medium.new)) }
+// The report of an action that is done or not, unless it is lost.
+fn report_of(is_done: bool, is_lost: bool) -> Report
+    ensures { result ≡ (if is_lost then Pending else report_for is_done) }
 {
-    let done = match action {
-        Action::Perform(effect) => perform_effect(medium, effect).is_ok(),
+    if is_lost {
+        return Report::Pending;
+    }
+    if is_done {
+        Report::Done
+    } else {
+        Report::Failed
+    }
+}
+
+// Performs an action, the write of a block with these bytes, and reports how it ended, unless the report is lost:
+// then a sync has failed. A medium isn't cut off.
+fn perform<M: Medium>(medium: &mut M, action: Action, block: &[u8], is_lost: bool) -> Report
+    ensures ended { is_lost ≡ false → result ≡ Pending → ⊥ }
+    ensures tries { WhereKeeps M.tells M.keeps
+        (TriesAction action block.now result (M.state medium.old) (M.state medium.new)) }
+{
+    let is_done = match action {
+        Action::Perform(Effect::Sync) => return report_of(sync(medium, is_lost).is_ok(), false),
+        Action::Perform(Effect::Pad(place)) => write_at(medium, place, &[0]).is_ok(),
+        Action::Perform(Effect::Size(place, size)) => {
+            write_at(medium, place, &size.to_le_bytes()).is_ok()
+        }
         Action::WriteBlock(place, _) => write_at(medium, place, block).is_ok(),
         Action::Read(..) | Action::Cut(_) => false,
     };
-    if done { Report::Done } else { Report::Failed }
+    report_of(is_done, is_lost)
 }
 
-// Performs one action after the other of what was requested, up to its end or a failure.
+// Whether the next report is lost: as the list says of the first ones, and then no longer.
+fn is_next_lost(lost: &[bool], made: &mut usize) -> bool
+    requires { made.old ≤ length lost.now }
+    ensures within { made.new ≤ length lost.now }
+    ensures counted { result ≡ true → made.new ≡ made.old + 1 }
+    ensures grows { made.old ≤ made.new }
+{
+    match lost.get(*made) {
+        Some(is_lost) => {
+            *made += 1;
+            *is_lost
+        }
+        None => false,
+    }
+}
+
+// Performs one action after the other of what was requested, up to its end or a failure. An action whose report is
+// lost is performed again.
 fn perform_all<M: Medium>(
     medium: &mut M,
     recorder: &mut Recorder,
     block: &[u8],
+    lost: &[bool],
+    made: &mut usize,
 ) -> result::Result<(), RecorderError>
-    requires { IsAsked recorder.old (length block.now) }
+    requires asked { IsAsked recorder.old (length block.now) }
+    requires within { made.old ≤ length lost.now }
+    ensures within { made.new ≤ length lost.now }
     ensures done { OnOk result (recorder.new ≡ once_done recorder.old) }
     ensures directed { WhereKeeps M.tells M.keeps ((s : WavSpecEx) (file : Begun) (known : List Known)
-        → Directed s file known recorder.old (M.state medium.old) → (recorder.new.number ≡ 0)
-        × Directed s file (known ++ seen ((asked_as s recorder.old block.now, is_ok result) ∷ []))
+        → IsDirected s file known recorder.old (M.state medium.old) → (recorder.new.number ≡ 0)
+        × IsDirected s file (known ++ seen ((asked_as s recorder.old block.now, is_ok result) ∷ []))
         recorder.new (M.state medium.new)) }
 {
     a_recorder_directs();
+    an_effect_may_be_repeated();
     let mut report = Report::Pending;
     while let Some(action) = recorder.next(report)? {
-        report = perform(medium, action, block);
+        report = perform(medium, action, block, is_next_lost(lost, made));
     }
     Ok(())
 }
@@ -72,15 +116,19 @@ fn save_block<M: Medium>(
     medium: &mut M,
     recorder: &mut Recorder,
     block: &[u8],
+    lost: &[bool],
+    made: &mut usize,
 ) -> result::Result<(), RecorderError>
-    requires { IsReady recorder.old }
+    requires ready { IsReady recorder.old }
+    requires within { made.old ≤ length lost.now }
+    ensures within { made.new ≤ length lost.now }
     ensures counted { OnOk result (IsReady recorder.new) }
     ensures saved { OnOk result (WhereKeeps M.tells M.keeps ((s : WavSpecEx) (file : Begun) (known : List Known)
-        → Directed s file known recorder.old (M.state medium.old)
-        → Directed s file (known ++ seen (published_calls (samples_of s) (block.entry ∷ []))) recorder.new
+        → IsDirected s file known recorder.old (M.state medium.old)
+        → IsDirected s file (known ++ seen (published_calls (samples_of s) (block.entry ∷ []))) recorder.new
         (M.state medium.new))) }
     ensures stopped { OnErr result (WhereKeeps M.tells M.keeps ((s : WavSpecEx) (file : Begun) (known : List Known)
-        → Directed s file known recorder.old (M.state medium.old)
+        → IsDirected s file known recorder.old (M.state medium.old)
         → Stops s file known block.entry recorder.new (M.state medium.new))) }
 {
     a_recorder_directs();
@@ -89,23 +137,29 @@ fn save_block<M: Medium>(
         return Err(RecorderError::UnfinishedFrame);
     }
     recorder.write(Report::Pending, (block.len() / width) as u64)?;
-    perform_all(medium, recorder, block)?;
+    perform_all(medium, recorder, block, lost, made)?;
     recorder.checkpoint(Report::Pending);
-    perform_all(medium, recorder, block)
+    perform_all(medium, recorder, block, lost, made)
 }
 
 // Saves blocks until a call fails or a block doesn't fit, and returns how many were saved.
-fn save_blocks<M: Medium>(medium: &mut M, recorder: &mut Recorder, blocks: &[&[u8]]) -> usize
+fn save_blocks<M: Medium>(
+    medium: &mut M,
+    recorder: &mut Recorder,
+    blocks: &[&[u8]],
+    lost: &[bool],
+) -> usize
     requires ready { IsReady recorder.old }
     ensures within { result ≤ length blocks.now }
     ensures saved { WhereKeeps M.tells M.keeps ((s : WavSpecEx) (file : Begun)
-        → Directed s file [] recorder.old (M.state medium.old) → (more : List (Asked × Bool))
+        → IsDirected s file [] recorder.old (M.state medium.old) → (more : List (Asked × Bool))
         × StopsAt s recorder.new (drop result blocks.now) more × (recorder.new.number ≡ 0)
-        × Directed s file (seen (published_calls (samples_of s) (take result blocks.now) ++ more))
+        × IsDirected s file (seen (published_calls (samples_of s) (take result blocks.now) ++ more))
         recorder.new (M.state medium.new)) }
 {
+    let mut made = 0;
     for i in 0..blocks.len() {
-        if save_block(medium, recorder, blocks[i]).is_err() {
+        if save_block(medium, recorder, blocks[i], lost, &mut made).is_err() {
             return i;
         }
     }
@@ -114,13 +168,16 @@ fn save_blocks<M: Medium>(medium: &mut M, recorder: &mut Recorder, blocks: &[&[u
 
 /// Records blocks of containers into a new file, with a checkpoint after each, until a call fails or a
 /// block doesn't fit, and returns how many blocks were saved. It writes the bytes and performs the
-/// effects itself. It is an error if the file isn't begun (`refused`).
+/// effects itself, as programs in other languages do: of the first effects those reports are lost that
+/// `lost` says, as of a program that was interrupted, and what has no report is performed again. It is an error if the
+/// file isn't begun (`refused`).
 ///
 /// The medium must be at 0, and synced: of a new one nothing has been written yet.
 pub fn record_by_effects<M: Medium>(
     medium: &mut M,
     spec_ex: WavSpecEx,
     blocks: &[&[u8]],
+    lost: &[bool],
 ) -> hound::Result<usize>
     requires place { WhereTells M.tells ((M.state medium.old).place ≡ 0) }
     requires synced { WhereKeeps M.tells M.keeps (IsSynced (M.state medium.old)) }
@@ -131,11 +188,12 @@ pub fn record_by_effects<M: Medium>(
 {
     a_recorder_directs();
     a_recording_is_kept();
+    an_effect_may_be_repeated();
     let Ok(mut recorder) = Recorder::begin(spec_ex) else {
         return Err(Error::Unsupported);
     };
     put_all(medium, header_of(spec_ex, 0, 0).as_slice())?;
-    Ok(save_blocks(medium, &mut recorder, blocks))
+    Ok(save_blocks(medium, &mut recorder, blocks, lost))
 }
 
 // The error for one of a recorder.
@@ -156,6 +214,7 @@ pub fn append_by_effects<M: Medium>(
     medium: &mut M,
     contents: &[u8],
     blocks: &[&[u8]],
+    lost: &[bool],
 ) -> hound::Result<usize>
     requires contents { WhereTells M.tells ((M.state medium.old).contents ≡ contents.now) }
     requires synced { WhereKeeps M.tells M.keeps (IsSynced (M.state medium.old)) }
@@ -170,6 +229,7 @@ pub fn append_by_effects<M: Medium>(
 {
     a_recorder_directs();
     a_recording_is_kept();
+    an_effect_may_be_repeated();
     let reader = WavReader::new(contents)?;
     let (spec_ex, samples) = (reader.spec_ex(), reader.len());
     let data_start = (contents.len() - reader.into_inner().len()) as u64;
@@ -189,5 +249,5 @@ pub fn append_by_effects<M: Medium>(
         Err(error) => return Err(error_of(error)),
     };
     medium.go(data_start + resumed.data_length as u64)?;
-    Ok(save_blocks(medium, &mut resumed, blocks))
+    Ok(save_blocks(medium, &mut resumed, blocks, lost))
 }

@@ -30,3 +30,5 @@ pub mod Checkpoint
 pub mod Directing
 pub mod Acting
 pub mod Ordering
+pub mod Repeating
+pub mod Cutting

@@ -36,6 +36,10 @@ abbrev pub resumed_file : WavSpecEx → ℕ → ℕ → MediumState → Begun
 resumed_file s samples start old =
     appended old start (containers s.bytes_per_sample samples (drop start old.contents))
 
+-- two files agree up to a place: what follows may differ, or be cut off
+abbrev pub AgreeTo : ℕ → List ℕ → List ℕ → Type 0
+AgreeTo n a b = (take n a ≡ take n b) × (n ≤ length a) × (n ≤ length b)
+
 -- all that was written to a medium is flushed
 abbrev pub IsSynced : MediumState → Type 0
 IsSynced m = m.flushed ≡ length m.past

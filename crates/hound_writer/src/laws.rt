@@ -1,7 +1,9 @@
 // What holds for all bytes that are to be appended to, and for all samples that are written.
-ghost use Rattle.std.specs.Prelude.{◌≡◌, ◌⊎◌, ◌<◌, ◌≤◌, ◌*◌, ℕ, Bool, true, List, [], ◌∷◌, ◌++◌, None, Some, Ok, Err, Result, is_ok, length};
+ghost use Rattle.std.specs.Prelude.{◌≡◌, ◌⊎◌, ◌<◌, ◌≤◌, ◌*◌, ℕ, Bool, true, List, [], ◌∷◌, ◌++◌, None, Some, Ok, Err, Result, is_ok, length, max, take, ◌+◌};
 ghost use Rattle.std.specs.declared.io.Error.{Error as IoFault};
-ghost use Rattle.hound_medium.specs.{MediumState, WhereTells};
+ghost use Rattle.hound_durable.specs.{SurvivesLoss};
+ghost use Rattle.hound_medium.specs.{Flushes, MediumState, WhereTells, overlay, placed};
+ghost use Rattle.hound_number.specs.{AreBytes};
 ghost use Rattle.hound_spec.specs.declared.spec.WavSpecEx.{WavSpecEx};
 ghost use Rattle.hound_writer.specs.Accepting.{Accepts, AcceptsEach, containers_in};
 ghost use Rattle.hound_writer.specs.Appending.{HasOneAppendAnswer};
@@ -10,7 +12,8 @@ ghost use Rattle.hound_writer.specs.Effects.{Log, Performs};
 ghost use Rattle.hound_writer.specs.Parts.{PutsAt};
 ghost use Rattle.hound_writer.specs.Machine.{GivesUp, GoesOn, HasEnded, TakesBlock, end_of};
 ghost use Rattle.hound_writer.specs.Recorder.{BeginsRecorder};
-ghost use Rattle.hound_writer.specs.Recording.{Directed, Opened, Resumed, block_known, cut_known, resumed_file};
+ghost use Rattle.hound_writer.specs.Recording.{AgreeTo, Directed, Opened, Resumed, block_known, cut_known, resumed_file};
+ghost use Rattle.hound_writer.specs.Repeating.{IsSaid, Repeats, written_first};
 ghost use Rattle.hound_writer.specs.Resuming.{Resumes};
 ghost use Rattle.hound_writer.specs.Writer.{WriterState, IsWhole, accepted_samples, data_length};
 ghost use Rattle.hound_writer.specs.declared.effects.Action.TheVariants.{Perform, WriteBlock};
@@ -87,4 +90,40 @@ pub fn a_recorder_directs()
     ensures failed { (s : WavSpecEx) (file : Begun) (known : List Known) (old new : Recorder)
         (m : MediumState) (error : RecorderError) → Directed s file known old m → old.condition ≤ 1
         → GoesOn old new (Err error) → ⊥ }
+{}
+
+/// An effect whose end isn't reported may be performed again: what was written then is written once more, at
+/// the same place. Of some first bytes of it that were written before (`again`) there may be more then, and once
+/// its end is reported, it is as if it had been performed once, with this report (`written`, `synced`). An effect is
+/// reported as done only if it is, and a sync is always reported.
+///
+/// Such a file has no state that the other hasn't ([`Repeats`](crate)), and a loss of power leaves nothing
+/// of it that it wouldn't leave of the other (`survives`).
+pub fn an_effect_may_be_repeated()
+    ensures once { (m : MediumState) → m.flushed ≤ length m.past → Repeats m m }
+    ensures begun { (at : ℕ) (bytes : List ℕ) (m again : MediumState) → Repeats m again
+        → Repeats (written_first at bytes 0 m) again }
+    ensures again { (at : ℕ) (bytes : List ℕ) (m : Log) (n : ℕ) (old new : MediumState)
+        (result : Result Unit IoFault) → n ≤ length bytes → Repeats (written_first at bytes n m.state) old
+        → PutsAt true at bytes result old new
+        → (n : ℕ) × (n ≤ length bytes) × Repeats (written_first at bytes n m.state) new }
+    ensures written { (at : ℕ) (bytes : List ℕ) (m : Log) (n : ℕ) (old new : MediumState)
+        (result said : Result Unit IoFault) → n ≤ length bytes → Repeats (written_first at bytes n m.state) old
+        → PutsAt true at bytes result old new → IsSaid said result → AreBytes new.contents
+        → (once : Log) × PutsAt true at bytes said m.state once.state × Repeats once.state new }
+    ensures synced { (m : Log) (old new : MediumState) (result said : Result Unit IoFault)
+        → Repeats m.state old → Flushes result old new → IsSaid said result
+        → (once : Log) × Flushes said m.state once.state × Repeats once.state new }
+    ensures survives { (once again : MediumState) (r : Repeats once again) (sector f k : ℕ) (contents : List ℕ)
+        → k ≤ length again.past → SurvivesLoss sector again.start again.past f k contents
+        → SurvivesLoss sector once.start once.past (r.state f) (r.state k) contents }
+{}
+
+/// What a cut leaves agrees up to its place with what was there (`cut`), and goes on to agree as more is written
+/// before that place or after it (`written`): what is cut off, or isn't, is ignored until it is overwritten.
+pub fn a_cut_is_ignored()
+    ensures cut { (n : ℕ) (contents : List ℕ) → n ≤ length contents → AgreeTo n (take n contents) contents }
+    ensures written { (n at : ℕ) (bytes cut : List ℕ) (old new : MediumState) (result : Result Unit IoFault)
+        → AgreeTo n cut old.contents → at ≤ n → (puts : PutsAt true at bytes result old new)
+        → AgreeTo (max n (at + puts.count)) (overlay cut (placed at (take puts.count bytes))) new.contents }
 {}

@@ -20,7 +20,10 @@ mod write;
 
 pub use batch::SampleWriter16;
 pub use effects::{Action, Effect, Report, checkpoint_effect};
-pub use laws::{a_block_is_its_samples, a_recorder_directs, one_append_answer};
+pub use laws::{
+    a_block_is_its_samples, a_cut_is_ignored, a_recorder_directs, an_effect_may_be_repeated,
+    one_append_answer,
+};
 pub use patch::patch as patch_sizes;
 pub use recorder::{Recorder, RecorderError};
 pub use resuming::{FileState, FoundFile};

@@ -85,7 +85,10 @@ returns-clause-saved g c tells keeps =
       counted = counted;
       all = sym (ap length contents);
       goes = rw size at (c.in_ok-go.ensures tells);
-    }) c.in-Ok.ensures size in (
+    }) c.in-Ok.ensures size in
+    let goes = c.in_ok-go.ensures tells in
+    let once = c.an_effect_may_be_repeated.ensures.once log.state
+    (omega (arith, goes.flushed, c.requires.synced tells keeps, ap length goes.stays.past)) in (
       s,
       samples,
       start,
@@ -94,5 +97,5 @@ returns-clause-saved g c tells keeps =
           c.save_blocks.ensures.within
           (λ known r m d none. c.a_recording_is_kept.ensures.survives s (resumed_file s samples start old) known r m d none
           (c.requires.synced tells keeps))
-          (c.save_blocks.ensures.saved tells keeps s (resumed_file s samples start old) begun),
+          (c.save_blocks.ensures.saved tells keeps s (resumed_file s samples start old) (log.state, begun, once)),
     )

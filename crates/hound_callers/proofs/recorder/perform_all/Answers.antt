@@ -1,61 +1,62 @@
-use Rattle.std.proofs.Common.{None, ap, arith, inl, inr, length, refl}
+use Rattle.std.proofs.Common.{None, ap, inl, length, refl, subst, sym}
 use Rattle.std.specs.Prelude.{⊤}
 use Rattle.hound.specs.{Recorder}
 use Rattle.hound_callers.specs.Recorder.{DoesAction}
-use Rattle.hound_callers.proofs.Driving.{KnownAt, begins, begins_few, is_made, laws_of, next_err, next_none, next_some, no_laws, not_failed, not_at_rest, one_at_most}
-use Rattle.hound_callers.proofs.Performing.{log_of, not_ok}
+use Rattle.hound_callers.proofs.Driving.{IsWithin, KnownAt, begins, begins_few, laws_of, next_err, next_none, next_some, no_laws, not_failed, not_at_rest, one_at_most, settled_low, come, step_of}
+use Rattle.hound_callers.proofs.Performing.{not_ok}
+use Rattle.hound_callers.proofs.Repeating.{Again, all_done, begins_directed, come_again, comes, has_action, has_failed, is_tried, smaller}
 use Rattle.hound_callers.proofs.recorder.perform_all.Goals as goal
 
 pub loop-action-init : goal.loop-action-init
 loop-action-init g c =
     let M = g.M.Placed in
-    let within = begins c.args.recorder.now (length c.args.block.now) c.requires in
+    let within = begins c.args.recorder.now (length c.args.block.now) c.requires.asked in
     record {
       within = (None, within);
       action = inl refl;
-      far = begins_few c.args.recorder.now (length c.args.block.now) c.requires;
-      directed = λ tells keeps s file known d. (M.state c.args.medium.now, None, within, d, inl refl, λ _. refl);
+      far = begins_few c.args.recorder.now (length c.args.block.now) c.requires.asked;
+      made = c.requires.within;
+      directed = λ tells keeps s file known (once, d, repeats). begins_directed s file known c.args.recorder.now
+          c.args.block.now once (M.state c.args.medium.now) within d repeats;
     }
 
 pub loop-action-preserved : goal.loop-action-preserved
 loop-action-preserved g c =
     let asked = c.args.recorder.now in
-    let report = c.perform-report.result in
     let (over, within) = c.loop-action.invariant.within in
     let next = rw c.in-Some.is at c.in_ok-action.ensures in
-    let (o, w, k, goes, more, far) = next_some asked (length c.args.block.now) c.requires c.loop-action.report
+    let (o, w, k, goes, more, far) = next_some asked (length c.args.block.now) c.requires.asked c.loop-action.report
     (λ _ _. ⊤) (λ _ _. ⊤) (λ _. ⊤) (no_laws asked c.loop-action.report) c.loop-action.recorder c.next.new.self over
     c.in-Some.action within tt c.loop-action.invariant.action next in
-    let (made, is) = is_made report c.perform-report.ensures.ended in
     record {
-      within = (o, w report);
-      action = inr (made, is, c.in-Some.action, goes, tt);
+      within = (o, w c.perform-report.result);
+      action = has_action c.perform-report.result c.next.new.self c.in-Some.action goes;
       far = far;
-      directed = λ tells keeps s file known d. (
+      made = c.is_next_lost.ensures.within;
+      directed = λ tells keeps s file known d.
           let M = g.M.Placed in
-          let end = c.loop-action.medium in
-          let log = log_of _ (g.met.M.Medium.replays end tells keeps) (g.met.M.Placed.bytes end tells) in
-          let (before, over, within, k, has, still) = c.loop-action.invariant.directed tells keeps s file known d in
+          let (before, end, over, within, k, has, still, way) = c.loop-action.invariant.directed tells keeps s file known d in
           let says = c.a_recorder_directs.ensures in
-          let asked = c.args.recorder.now in
-          let laws = laws_of s file known asked c.args.block.now c.requires c.loop-action.report before log
-          (λ old mid new effect result told. says.performed s file known old mid new before log effect result told)
-          (λ old new result told d three rest long. says.wrote s file known old new before log c.args.block.now result told d three rest long)
+          let law = c.an_effect_may_be_repeated.ensures in
+          let again : Again = record { begun = law.begun; again = law.again; written = law.written; synced = law.synced } in
+          let laws = laws_of s file known asked c.args.block.now c.requires.asked c.loop-action.report before end
+          (λ old mid new effect result told. says.performed s file known old mid new before end effect result told)
+          (λ old new result told d three rest long. says.wrote s file known old new before end c.args.block.now result told d three rest long)
           (λ known old new ok told. says.cut s file known old new before ok told)
-          (λ old new place len. says.handed s file known old new log.state place len)
-          (λ old new. says.saved s file known old new log.state) still in
-          let (o, w, k, goes, more, far) = next_some asked (length c.args.block.now) c.requires c.loop-action.report
+          (λ old new place len. says.handed s file known old new end.state place len)
+          (λ old new. says.saved s file known old new end.state) still in
+          let (o, w, k, goes, more, far) = next_some asked (length c.args.block.now) c.requires.asked c.loop-action.report
           (λ o r. KnownAt s file known asked c.args.block.now before o r)
-          (λ o r. KnownAt s file known asked c.args.block.now log.state o r)
-          (λ action. DoesAction action c.args.block.now c.loop-action.report before log.state) laws
-          c.loop-action.recorder c.next.new.self over c.in-Some.action within k has next in (
-            log.state,
-            o,
-            w report,
-            k,
-            inr (made, is, c.in-Some.action, goes, c.perform-report.ensures.does tells keeps),
-            λ pending. absurd (c.perform-report.ensures.ended pending),
-          ));
+          (λ o r. KnownAt s file known asked c.args.block.now end.state o r)
+          (λ action. DoesAction action c.args.block.now c.loop-action.report before end.state) laws
+          c.loop-action.recorder c.next.new.self over c.in-Some.action within k has next in
+          let was = is_tried again c.args.block.now c.loop-action.report
+          c.loop-action.recorder c.next.new.self c.in-Some.action end.state _ way next in
+          let (once, came) = comes again c.args.block.now c.in-Some.action
+          c.perform-report.result end _ _ (g.met.M.Placed.bytes c.perform-report.new.medium tells) was
+          (c.perform-report.ensures.tries tells keeps) in
+          come_again s file known asked c.args.block.now c.perform-report.result c.next.new.self c.in-Some.action o
+          end.state once _ (w c.perform-report.result) k goes came;
     }
 
 pub loop-action-smaller : goal.loop-action-smaller
@@ -63,62 +64,78 @@ loop-action-smaller g c =
     let asked = c.args.recorder.now in
     let (over, within) = c.loop-action.invariant.within in
     let next = rw c.in-Some.is at c.in_ok-action.ensures in
-    let (o, w, k, goes, more, far) = next_some asked (length c.args.block.now) c.requires c.loop-action.report
+    let (o, w, k, goes, more, far) = next_some asked (length c.args.block.now) c.requires.asked c.loop-action.report
     (λ _ _. ⊤) (λ _ _. ⊤) (λ _. ⊤) (no_laws asked c.loop-action.report) c.loop-action.recorder c.next.new.self over
     c.in-Some.action within tt c.loop-action.invariant.action next in
-    let step = not_at_rest c.perform-report.result c.perform-report.ensures.ended in
     let low = one_at_most c.loop-action.report in
-    omega (arith, more, far, step, low, c.loop-action.invariant.far)
+    smaller c.is_next_lost.result (come c.loop-action.recorder) (come c.next.new.self) (step_of c.loop-action.report)
+    (step_of c.perform-report.result) c.loop-action.made c.is_next_lost.new.made (length c.args.lost.now)
+    more far low c.is_next_lost.ensures.counted c.is_next_lost.ensures.grows c.is_next_lost.ensures.within
+    (λ kept. not_at_rest c.perform-report.result (c.perform-report.ensures.ended kept))
 
 pub returns-clause-done : goal.returns-clause-done
 returns-clause-done g c =
     let asked = c.args.recorder.now in
     let (over, within) = c.loop-action.invariant.within in
-    (next_none asked (length c.args.block.now) c.requires c.loop-action.report
+    (next_none asked (length c.args.block.now) c.requires.asked c.loop-action.report
     (λ _ _. ⊤) (λ _ _. ⊤) (λ _. ⊤) (no_laws asked c.loop-action.report) c.loop-action.recorder c.next.new.self over
     within tt c.loop-action.invariant.action (rw c.in_default.is at c.in_ok-action.ensures)).0
 
 pub returns-clause-directed : goal.returns-clause-directed
 returns-clause-directed g c tells keeps s file known d =
-    let M = g.M.Placed in
-    let end = c.loop-action.medium in
-    let log = log_of _ (g.met.M.Medium.replays end tells keeps) (g.met.M.Placed.bytes end tells) in
-    let (before, over, within, k, has, still) = c.loop-action.invariant.directed tells keeps s file known d in
+    let (before, end, over, within, k, has, still, way) = c.loop-action.invariant.directed tells keeps s file known d in
     let says = c.a_recorder_directs.ensures in
+    let law = c.an_effect_may_be_repeated.ensures in
+    let again : Again = record { begun = law.begun; again = law.again; written = law.written; synced = law.synced } in
     let asked = c.args.recorder.now in
-    let laws = laws_of s file known asked c.args.block.now c.requires c.loop-action.report before log
-    (λ old mid new effect result told. says.performed s file known old mid new before log effect result told)
-    (λ old new result told d three rest long. says.wrote s file known old new before log c.args.block.now result told d three rest long)
+    let next = rw c.in_default.is at c.in_ok-action.ensures in
+    let laws = laws_of s file known asked c.args.block.now c.requires.asked c.loop-action.report before end
+    (λ old mid new effect result told. says.performed s file known old mid new before end effect result told)
+    (λ old new result told d three rest long. says.wrote s file known old new before end c.args.block.now result told d three rest long)
     (λ known old new ok told. says.cut s file known old new before ok told)
-    (λ old new place len. says.handed s file known old new log.state place len)
-    (λ old new. says.saved s file known old new log.state) still in
-    let (is, k) = next_none asked (length c.args.block.now) c.requires c.loop-action.report
+    (λ old new place len. says.handed s file known old new end.state place len)
+    (λ old new. says.saved s file known old new end.state) still in
+    let (is, k) = next_none asked (length c.args.block.now) c.requires.asked c.loop-action.report
     (λ o r. KnownAt s file known asked c.args.block.now before o r)
-    (λ o r. KnownAt s file known asked c.args.block.now log.state o r)
-    (λ action. DoesAction action c.args.block.now c.loop-action.report before log.state) laws
+    (λ o r. KnownAt s file known asked c.args.block.now end.state o r)
+    (λ action. DoesAction action c.args.block.now c.loop-action.report before end.state) laws
     c.loop-action.recorder c.next.new.self over
-    within k has (rw c.in_default.is at c.in_ok-action.ensures) in
-    (ap (λ (x : Recorder). x.number) is, k)
+    within k has next in (
+      ap (λ (x : Recorder). x.number) is,
+      (end.state, k, all_done again c.args.block.now c.loop-action.report c.loop-action.recorder c.next.new.self end.state _ way next),
+    )
 
 pub returns-in_err-action-clause-directed : goal.returns-in_err-action-clause-directed
 returns-in_err-action-clause-directed g c tells keeps s file known d =
-    let M = g.M.Placed in
-    let end = c.loop-action.medium in
-    let log = log_of _ (g.met.M.Medium.replays end tells keeps) (g.met.M.Placed.bytes end tells) in
-    let (before, over, within, k, has, still) = c.loop-action.invariant.directed tells keeps s file known d in
+    let (before, end, over, within, k, has, still, way) = c.loop-action.invariant.directed tells keeps s file known d in
     let says = c.a_recorder_directs.ensures in
+    let law = c.an_effect_may_be_repeated.ensures in
+    let again : Again = record { begun = law.begun; again = law.again; written = law.written; synced = law.synced } in
     let asked = c.args.recorder.now in
-    let laws = laws_of s file known asked c.args.block.now c.requires c.loop-action.report before log
-    (λ old mid new effect result told. says.performed s file known old mid new before log effect result told)
-    (λ old new result told d three rest long. says.wrote s file known old new before log c.args.block.now result told d three rest long)
+    let laws = laws_of s file known asked c.args.block.now c.requires.asked c.loop-action.report before end
+    (λ old mid new effect result told. says.performed s file known old mid new before end effect result told)
+    (λ old new result told d three rest long. says.wrote s file known old new before end c.args.block.now result told d three rest long)
     (λ known old new ok told. says.cut s file known old new before ok told)
-    (λ old new place len. says.handed s file known old new log.state place len)
-    (λ old new. says.saved s file known old new log.state) still in
-    rw (not_ok c.from_residual.result c.from_residual.ensures.0)
-    (next_err asked (length c.args.block.now) c.requires c.loop-action.report
+    (λ old new place len. says.handed s file known old new end.state place len)
+    (λ old new. says.saved s file known old new end.state) still in
+    let failed = not_failed s file known asked c.args.block.now c.requires.asked c.loop-action.report before end
+    (λ known old new error. says.failed s file known old new end.state error) c.next.new.self c.in_err-action.field-0.0 in
+    let (none, k2) = next_err asked (length c.args.block.now) c.requires.asked c.loop-action.report
     (λ o r. KnownAt s file known asked c.args.block.now before o r)
-    (λ o r. KnownAt s file known asked c.args.block.now log.state o r)
-    (λ action. DoesAction action c.args.block.now c.loop-action.report before log.state) laws
-    c.loop-action.recorder c.next.new.self over c.in_err-action.field-0.0
-    (not_failed s file known asked c.args.block.now c.requires c.loop-action.report before log
-    (λ known old new error. says.failed s file known old new log.state error) c.next.new.self c.in_err-action.field-0.0) within k has c.in_err-action.ensures)
+    (λ o r. KnownAt s file known asked c.args.block.now end.state o r)
+    (λ action. DoesAction action c.args.block.now c.loop-action.report before end.state) laws
+    c.loop-action.recorder c.next.new.self over c.in_err-action.field-0.0 failed within k has c.in_err-action.ensures in
+    rw (not_ok c.from_residual.result c.from_residual.ensures.0) (
+      none,
+      (
+        end.state,
+        k2,
+        has_failed again c.args.block.now c.loop-action.report c.loop-action.recorder
+            c.next.new.self c.in_err-action.field-0.0 end.state _
+            (λ pending goes. failed over c.loop-action.recorder
+            (subst (λ m. KnownAt s file known asked c.args.block.now m over c.loop-action.recorder) (sym (still pending)) k)
+            (settled_low asked (length c.args.block.now) c.requires.asked c.loop-action.recorder over
+            (inl (subst (λ x. IsWithin asked x c.loop-action.recorder over) pending within))) goes)
+            way c.in_err-action.ensures,
+      ),
+    )

@@ -1,5 +1,5 @@
 use Rattle.hound.specs.{new_file}
-use Rattle.hound_callers.proofs.Performing.{log_of, saves}
+use Rattle.hound_callers.proofs.Performing.{flushed_first, log_of, saves}
 use Rattle.hound_callers.proofs.recorder.record_by_effects.Goals as goal
 
 pub returns-clause-saved : goal.returns-clause-saved
@@ -13,6 +13,8 @@ returns-clause-saved g c tells keeps =
       begins = c.requires.place tells;
       puts = rw (keeps, c.as_slice.ensures, c.header_of.ensures) at (c.in_ok-put_all.ensures tells);
     }) c.in-Ok.ensures in
+    let once = c.an_effect_may_be_repeated.ensures.once log.state (flushed_first old (M.state mid) (c.requires.synced tells keeps)
+    (rw keeps at (c.in_ok-put_all.ensures tells))) in
     saves s (new_file old) c.args.blocks.now c.save_blocks.result c.save_blocks.new.recorder _ c.save_blocks.ensures.within
     (λ known r m d none. c.a_recording_is_kept.ensures.survives s (new_file old) known r m d none (c.requires.synced tells keeps))
-    (c.save_blocks.ensures.saved tells keeps s (new_file old) begun)
+    (c.save_blocks.ensures.saved tells keeps s (new_file old) (log.state, begun, once))

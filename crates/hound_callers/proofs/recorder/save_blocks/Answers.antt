@@ -1,8 +1,7 @@
 use Rattle.std.proofs.Common.{◌≡◌, [], append-nil, arith, length, subst, sym}
 use Rattle.std.proofs.lemmas.List.{map-append}
-use Rattle.hound.specs.{Directed}
 use Rattle.hound.proofs.Knowing.{at_ok}
-use Rattle.hound_callers.specs.Recorder.{samples_of}
+use Rattle.hound_callers.specs.Recorder.{IsDirected, samples_of}
 use Rattle.hound_callers.proofs.Performing.{at_err, none_left, none_saved}
 use Rattle.hound_callers.proofs.Publishing.{seen_more}
 use Rattle.hound_callers.proofs.recorder.save_blocks.Goals as goal
@@ -12,9 +11,10 @@ loop-i-preserved g c =
     let ok = c.if-is_err.ensures.negation in
     record {
       within = omega (arith, c.loop-i-test.true);
+      made = c.save_block.ensures.within;
       ready = at_ok c.save_block.result ok c.save_block.ensures.counted;
       directed = λ tells keeps s file d.
-          subst (λ l. Directed s file l c.save_block.new.recorder (g.M.Placed.state c.save_block.new.medium))
+          subst (λ l. IsDirected s file l c.save_block.new.recorder (g.M.Placed.state c.save_block.new.medium))
           (sym (seen_more (samples_of s) c.args.blocks.now c.loop-i.i _ c.loop-i-test.true))
           (at_ok c.save_block.result ok c.save_block.ensures.saved tells keeps s file _
           (c.loop-i.invariant.directed tells keeps s file d));

@@ -1,6 +1,6 @@
 use Rattle.std.proofs.Common.{◌≤◌, [], length, take}
-use Rattle.hound.specs.{Begun, Directed, WavSpecEx, WhereKeeps, seen}
-use Rattle.hound_callers.specs.Recorder.{IsReady, samples_of}
+use Rattle.hound.specs.{Begun, WavSpecEx, WhereKeeps, seen}
+use Rattle.hound_callers.specs.Recorder.{IsDirected, IsReady, samples_of}
 use Rattle.hound_callers.specs.Recording.{published_calls}
 use Rattle.hound_callers.proofs.recorder.save_blocks.Given as goal
 
@@ -9,8 +9,9 @@ invariant-loop-i g l =
     let M = g.M.Placed in
     record {
       within : l.i ≤ length l.blocks;
+      made : l.made ≤ length l.lost;
       ready : IsReady l.recorder;
       directed : WhereKeeps M.tells M.keeps ((s : WavSpecEx) (file : Begun)
-          → Directed s file [] l.fn.recorder (M.state l.fn.medium)
-          → Directed s file (seen (published_calls (samples_of s) (take l.i l.blocks))) l.recorder (M.state l.medium));
+          → IsDirected s file [] l.fn.recorder (M.state l.fn.medium)
+          → IsDirected s file (seen (published_calls (samples_of s) (take l.i l.blocks))) l.recorder (M.state l.medium));
     }

@@ -1,0 +1,205 @@
+-- Actions that are performed again until their end is reported.
+use Rattle.std.proofs.Common.{List, [], ◌∷◌, length, is_ok, ◌≡◌, ◌⊎◌, ◌<◌, ◌≤◌, ◌+◌, ◌-◌, ◌*◌, ℕ, Bool, true, false, inl, inr, Option, None, Some, Result, Ok, Err, refl, sym, ◌∙◌, ap, subst, arith}
+use Rattle.std.specs.Prelude.{⊤}
+use Rattle.std.specs.declared.io.Error.{Error as IoFault}
+use Rattle.hound.specs.{Action, Advances, AreBytes, Begun, Directed, Effect, Flushes, Known, WavSpecEx, GoesOn, IsSaid, IsSaved, Log, MediumState, NextEffect, PutsAt, Recorder, RecorderError, Repeats, Report, Settles, bytes_of, ThenGoesOn, written_first}
+use Rattle.hound.specs.declared.Action.TheVariants.{Cut, Perform, Read, WriteBlock}
+use Rattle.hound.specs.declared.Effect.TheVariants.{Pad, Size, Sync}
+use Rattle.hound.specs.declared.Report.TheVariants.{Done, Failed, Pending}
+use Rattle.hound.proofs.Recorders.{same_next}
+use Rattle.hound_callers.specs.Recorder.{DoesAction, IsReportOf, TriesAction, bytes_for, place_for, report_for}
+use Rattle.hound_callers.proofs.Driving.{HasAction, IsWithin, KnownAt, not_pending, pending_or_made}
+
+-- a write was begun, once or more often, and a beginning of its bytes is there
+abbrev pub Tried : Action → List ℕ → MediumState → MediumState → Type 0
+Tried (Perform Sync) block m now = Repeats m now
+Tried (Cut at) block m now = Repeats m now
+Tried (Read at len) block m now = Repeats m now
+Tried action block m now = (n : ℕ) × (n ≤ length (bytes_for action block))
+    × Repeats (written_first (place_for action) (bytes_for action block) n m) now
+
+-- each effect was performed once so far, or again one that the recorder returns again
+abbrev pub IsOnTheWay : Report → Recorder → List ℕ → MediumState → MediumState → Type 0
+IsOnTheWay report r block m now = Repeats m now
+    ⊎ ((report ≡ Pending) × (action : Action) × GoesOn r r (Ok (Some action)) × Tried action block m now)
+
+-- what became of an action: it isn't reported, or it was done so
+abbrev pub Comes : Action → List ℕ → Report → MediumState → MediumState → MediumState → Type 0
+Comes action block report before end now =
+    ((report ≡ Pending) × (end ≡ before) × Tried action block end now)
+    ⊎ ((b : Bool) × (report ≡ report_for b) × DoesAction action block report before end × Repeats end now)
+
+-- the clauses of the law
+pub record Again : Type 0 where
+  pub begun : (at : ℕ) (bytes : List ℕ) (m now : MediumState) → Repeats m now → Repeats (written_first at bytes 0 m) now
+  pub again : (at : ℕ) (bytes : List ℕ) (m : Log) (n : ℕ) (old new : MediumState) (result : Result (Unit {0}) IoFault)
+      → n ≤ length bytes → Repeats (written_first at bytes n m.state) old → PutsAt true at bytes result old new
+      → (n : ℕ) × (n ≤ length bytes) × Repeats (written_first at bytes n m.state) new
+  pub written : (at : ℕ) (bytes : List ℕ) (m : Log) (n : ℕ) (old new : MediumState) (result said : Result (Unit {0}) IoFault)
+      → n ≤ length bytes → Repeats (written_first at bytes n m.state) old → PutsAt true at bytes result old new
+      → IsSaid said result → AreBytes new.contents
+      → (once : Log) × PutsAt true at bytes said m.state once.state × Repeats once.state new
+  pub synced : (m : Log) (old new : MediumState) (result said : Result (Unit {0}) IoFault) → Repeats m.state old
+      → Flushes result old new → IsSaid said result
+      → (once : Log) × Flushes said m.state once.state × Repeats once.state new
+
+module _ (laws : Again) (block : List ℕ) where
+  begun : (action : Action) (m now : MediumState) → Repeats m now → Tried action block m now
+  begun (Perform Sync) m now repeats = repeats
+  begun (Perform (Pad at)) m now repeats = (0, omega arith, laws.begun at (0 ∷ []) m now repeats)
+  begun (Perform (Size at size)) m now repeats = (0, omega arith, laws.begun at (bytes_of 4 size) m now repeats)
+  begun (WriteBlock at len) m now repeats = (0, omega arith, laws.begun at block m now repeats)
+  begun (Cut at) m now repeats = repeats
+  begun (Read at len) m now repeats = repeats
+
+  -- a write, by its report
+  writes : (at : ℕ) (bytes : List ℕ) (m : Log) (old new : MediumState) (report : Report) (result : Result (Unit {0}) IoFault)
+      → AreBytes new.contents → (n : ℕ) × (n ≤ length bytes) × Repeats (written_first at bytes n m.state) old
+      → IsReportOf result report → PutsAt true at bytes result old new
+      → (once : Log) × (((report ≡ Pending) × (once.state ≡ m.state)
+      × ((n : ℕ) × (n ≤ length bytes) × Repeats (written_first at bytes n once.state) new))
+      ⊎ ((b : Bool) × (report ≡ report_for b)
+      × ((result : Result (Unit {0}) IoFault) × (report ≡ report_for (is_ok result)) × PutsAt true at bytes result m.state once.state)
+      × Repeats once.state new))
+  writes at bytes m old new report result small (n, within, repeats) (inl pending) puts =
+      (m, inl (pending, refl, laws.again at bytes m n old new result within repeats puts))
+  writes at bytes m old new report result small (n, within, repeats) (inr is) puts =
+      let (once, did, now) = laws.written at bytes m n old new result result within repeats puts (λ ok. ok) small in
+      (once, inr (is_ok result, is, (result, is, did), now))
+
+  -- nothing is done
+  rests : (report : Report) (m : Log) (old new : MediumState) → Repeats m.state old → new ≡ old
+      → (once : Log) × (((report ≡ Pending) × (once.state ≡ m.state) × Repeats once.state new)
+      ⊎ ((b : Bool) × (report ≡ report_for b) × (once.state ≡ m.state) × Repeats once.state new))
+  rests Pending m old new repeats same = (m, inl (refl, refl, subst (Repeats m.state) (sym same) repeats))
+  rests Done m old new repeats same = (m, inr (true, refl, refl, subst (Repeats m.state) (sym same) repeats))
+  rests Failed m old new repeats same = (m, inr (false, refl, refl, subst (Repeats m.state) (sym same) repeats))
+
+  -- what is known once an action was performed
+  pub comes : (action : Action) (report : Report) (m : Log) (old new : MediumState) → AreBytes new.contents
+      → Tried action block m.state old → TriesAction action block report old new
+      → (once : Log) × Comes action block report m.state once.state new
+  comes (Perform Sync) report m old new small was (result, said, is, reported, flushes) =
+      let (once, did, now) = laws.synced m old new result said was flushes is in
+      (once, inr (is_ok said, reported, (said, reported, did), now))
+  comes (Perform (Pad at)) report m old new small was (result, is, puts) =
+      writes at (0 ∷ []) m old new report result small was is puts
+  comes (Perform (Size at size)) report m old new small was (result, is, puts) =
+      writes at (bytes_of 4 size) m old new report result small was is puts
+  comes (WriteBlock at len) report m old new small was (result, is, puts) =
+      writes at block m old new report result small was is puts
+  comes (Cut at) report m old new small was same = rests report m old new was same
+  comes (Read at len) report m old new small was same = rests report m old new was same
+
+  -- a recorder that returned an action returns no other, and doesn't end
+  saved_none : (r saved : Recorder) → r.task ≡ 3 → IsSaved r saved → saved ≡ r
+  saved_none r saved three (inl (clear, same)) = same
+  saved_none r saved three (inr (two, next)) = absurd (omega (arith, two, three))
+
+  not_done : (r after other : Recorder) (effect : Effect) → NextEffect true r after (Ok (Some effect))
+      → NextEffect true r other (Ok None) → ⊥
+  not_done r after other effect next none =
+      let (is, same) = same_next r after other (Some effect) (Ok None) next none in cc
+
+  pub goes_same : (r new : Recorder) (a b : Action) (m now : MediumState) → GoesOn r r (Ok (Some a))
+      → GoesOn r new (Ok (Some b)) → Tried a block m now → Tried b block m now
+  goes_same r new (Perform e) (Perform f) m now (some, few, rest, same, saves, after, next) (_, _, _, _, _, other, step) was =
+      let (is, one) = same_next r after other (Some e) (Ok (Some f)) next step in
+      let e_is : e ≡ f = cc in subst (λ e. Tried (Perform e) block m now) e_is was
+  goes_same r new (Perform e) (WriteBlock at len) m now (some, few, rest, same, saves, after, next) (_, _, saved, how, _, _, _) was =
+      absurd (by how)
+    where
+      by : IsSaved r saved → ⊥
+      by (inl (inl high, _)) = omega (arith, high, few)
+      by (inl (inr (two, clean, none), _)) = let more = saves two in omega (arith, more, clean, none)
+      by (inr (two, none)) = not_done r after saved e next none
+  goes_same r new (Perform e) (Cut at) m now (some, few, rest, _, _, _, _) (_, cuts, _, _) was = absurd (omega (arith, rest, cuts))
+  goes_same r new (Perform e) (Read at len) m now goes never was = absurd never
+  goes_same r new (WriteBlock at len) (Perform f) m now (some, rest, saved, how, there, long, is) (_, few, _, _, _, _, _) was =
+      absurd (let three = ap (λ (x : Recorder). x.task) is in omega (arith, few, three))
+  goes_same r new (WriteBlock at len) (WriteBlock to size) m now (some, rest, saved, how, there, long, is) (_, _, saved2, how2, there2, _, _) was =
+      let three = ap (λ (x : Recorder). x.task) is in
+      let one = saved_none r saved three how in
+      let two = saved_none r saved2 three how2 in
+      let place : at ≡ to = there.3 ∙ ap (λ (x : Recorder). x.data_start + x.data_length) (one ∙ sym two) ∙ sym there2.3 in
+      subst (λ at. Tried (WriteBlock at len) block m now) place was
+  goes_same r new (WriteBlock at len) (Cut to) m now (some, rest, _, _, _, _, _) (_, cuts, _, _) was = absurd (omega (arith, rest, cuts))
+  goes_same r new (WriteBlock at len) (Read to size) m now goes never was = absurd never
+  goes_same r new (Cut at) (Perform f) m now (_, cuts, _, _) (_, _, rest, _, _, _, _) was = absurd (omega (arith, rest, cuts))
+  goes_same r new (Cut at) (WriteBlock to size) m now (_, cuts, _, _) (_, rest, _, _, _, _, _) was = absurd (omega (arith, rest, cuts))
+  goes_same r new (Cut at) (Cut to) m now goes again was = was
+  goes_same r new (Cut at) (Read to size) m now goes never was = absurd never
+  goes_same r new (Read at len) b m now never again was = absurd never
+
+  goes_none : (r new : Recorder) (a : Action) → GoesOn r r (Ok (Some a)) → GoesOn r new (Ok None) → ⊥
+  goes_none r new (Perform e) (some, few, rest, same, saves, after, next) (inl (idle, _)) = omega (arith, some, idle)
+  goes_none r new (Perform e) (some, few, rest, same, saves, after, next) (inr (one, _, x, none, _)) = not_done r after x e next none
+  goes_none r new (WriteBlock at len) (some, rest, _, _, _, _, _) (inl (idle, _)) = omega (arith, some, idle)
+  goes_none r new (WriteBlock at len) (some, rest, _, _, _, _, _) (inr (one, _, _, _, _)) = omega (arith, some, one)
+  goes_none r new (Cut at) (some, cuts, _, _) (inl (idle, _)) = omega (arith, some, idle)
+  goes_none r new (Cut at) (some, cuts, _, _) (inr (one, rest, _, _, _)) = omega (arith, cuts, rest)
+  goes_none r new (Read at len) never none = absurd never
+
+  -- without a report it continues from where it was
+  unreported : (report : Report) (r new : Recorder) (next : Result (Option Action) RecorderError) → report ≡ Pending
+      → Advances report r new next → GoesOn r new next
+  unreported report r new next pending (mid, told, settles, on) =
+      let (same, ok) = subst (λ x. Settles x r mid told) pending settles in
+      subst (λ x. GoesOn x new next) same (subst (λ x. ThenGoesOn x mid new next) ok on)
+
+  pub is_tried : (report : Report) (r new : Recorder) (action : Action) (m now : MediumState)
+      → IsOnTheWay report r block m now → Advances report r new (Ok (Some action)) → Tried action block m now
+  is_tried report r new action m now (inl repeats) next = begun action m now repeats
+  is_tried report r new action m now (inr (pending, a, goes, was)) next =
+      goes_same r new a action m now goes (unreported report r new (Ok (Some action)) pending next) was
+
+  pub all_done : (report : Report) (r new : Recorder) (m now : MediumState)
+      → IsOnTheWay report r block m now → Advances report r new (Ok None) → Repeats m now
+  all_done report r new m now (inl repeats) next = repeats
+  all_done report r new m now (inr (pending, a, goes, was)) next =
+      absurd (goes_none r new a goes (unreported report r new (Ok None) pending next))
+
+  pub has_failed : (report : Report) (r new : Recorder) (error : RecorderError) (m now : MediumState)
+      → (report ≡ Pending → GoesOn r new (Err error) → ⊥) → IsOnTheWay report r block m now → Advances report r new (Err error) → Repeats m now
+  has_failed report r new error m now never (inl repeats) next = repeats
+  has_failed report r new error m now never (inr (pending, a, goes, was)) next =
+      absurd (never pending (unreported report r new (Err error) pending next))
+
+-- What is known while actions are performed: what came of the last one that is reported, and whether another was
+-- begun.
+abbrev pub IsUnderWay : WavSpecEx → Begun → List Known → Recorder → List ℕ → Report → Recorder → MediumState → Type 0
+IsUnderWay s file known asked block report r now = (before : MediumState) × (end : Log) × (over : Option Bool)
+    × IsWithin asked report r over × KnownAt s file known asked block before over r
+    × HasAction report (λ action. DoesAction action block report before end.state) r
+    × (report ≡ Pending → end.state ≡ before) × IsOnTheWay report r block end.state now
+
+pub begins_directed : (s : WavSpecEx) (file : Begun) (known : List Known) (asked : Recorder) (block : List ℕ)
+    (once now : MediumState) → IsWithin asked Pending asked None → Directed s file known asked once → Repeats once now
+    → IsUnderWay s file known asked block Pending asked now
+begins_directed s file known asked block once now within d repeats =
+    let here = d.in_step.state in
+    (once, d.in_step.log, None, within, d, inl refl, (λ _. here), inl (subst (λ m. Repeats m now) (sym here) repeats))
+
+pub come_again : (s : WavSpecEx) (file : Begun) (known : List Known) (asked : Recorder) (block : List ℕ) (report : Report)
+    (r : Recorder) (action : Action) (over : Option Bool) (before : MediumState) (end : Log) (now : MediumState)
+    → IsWithin asked report r over → KnownAt s file known asked block before over r → GoesOn r r (Ok (Some action))
+    → Comes action block report before end.state now → IsUnderWay s file known asked block report r now
+come_again s file known asked block report r action over before end now within known_at goes (inl (pending, same, was)) =
+    (before, end, over, within, known_at, inl pending, (λ _. same), inr (pending, action, goes, was))
+come_again s file known asked block report r action over before end now within known_at goes (inr (b, is, did, repeats)) =
+    (before, end, over, within, known_at, inr (b, is, action, goes, did), (λ pending. absurd (not_pending b (sym is ∙ pending))), inl repeats)
+
+-- an action was returned, and may have been reported
+pub has_action : (report : Report) (r : Recorder) (action : Action) → GoesOn r r (Ok (Some action)) → HasAction report (λ _. ⊤) r
+has_action report r action goes = by (pending_or_made report)
+  where
+    by : (report ≡ Pending) ⊎ ((b : Bool) × (report ≡ report_for b)) → HasAction report (λ _. ⊤) r
+    by (inl pending) = inl pending
+    by (inr (b, is)) = inr (b, is, action, goes, tt)
+
+-- each turn comes closer to the end, or uses up one of the reports that may be lost
+pub smaller : (is_lost : Bool) (from to reported now made after all : ℕ) → from + reported ≤ to → to ≤ 10 → reported ≤ 1
+    → (is_lost ≡ true → after ≡ made + 1) → made ≤ after → after ≤ all → (is_lost ≡ false → now ≡ 1)
+    → 2 * (10 - to) + (1 - now) + 2 * (all - after) < 2 * (10 - from) + (1 - reported) + 2 * (all - made)
+smaller true from to reported now made after all more far low counted grows within kept = omega (arith, counted refl, more, far, low, within)
+smaller false from to reported now made after all more far low counted grows within kept = omega (arith, kept refl, more, far, low, grows, within)
