@@ -314,7 +314,15 @@ fn effects_leave_what_was_saved(rt: HostRuntime) -> Result<(), Fail> {
     assert!(rt; saves(alloc, integers(1, 44100, 8, 1), odd, ODD_FILE)?);
     // The header, the blocks, two sizes for each, and again the first block twice and a size three times.
     let lost = [true, true, false, false, true, true, true];
-    assert!(rt; repeats(alloc, blocks, &lost, &FOUR_SAMPLES, 44 + 8 + 3 * 8 + 2 * 2 + 3 * 4)?);
+    assert!(rt;
+        repeats(
+            alloc,
+            blocks,
+            &lost,
+            &FOUR_SAMPLES,
+            44 + 8 + 3 * 8 + 2 * 2 + 3 * 4
+        )?
+    );
     assert!(rt; keeps(alloc, blocks)?);
     assert!(rt; resumes(alloc, &FOUR_SAMPLES, blocks)?);
     Ok(())

@@ -67,7 +67,7 @@ frames_of : (c k : ℕ) → k % c ≡ 0 → (frames : ℕ) × (k ≡ frames * c)
 frames_of c k whole = (k / c, let all = div-add-mod' k c in omega (arith, all, whole))
 
 -- a recorder that has nothing to do, of a file in step with it
-idle : (s : WavSpecEx) (file : Begun) (frames : ℕ) (r : Recorder) (m : MediumState) → InStep s file [] r true m
+pub idle : (s : WavSpecEx) (file : Begun) (frames : ℕ) (r : Recorder) (m : MediumState) → InStep s file [] r true m
     → r.channels ≡ s.spec.channels → r.data_length ≡ frames * r.channels * r.bytes_per_sample
     → r.samples ≡ 0 → r.task ≡ 0 → Directed s file [] r m
 idle s file frames r m d channels whole none task = record {

@@ -1,7 +1,6 @@
 -- What follows the place of a cut is ignored until it is overwritten.
 use Rattle.std.proofs.lemmas.Grind.{common_steps}
-use Rattle.std.proofs.lemmas.List.{take-take}
-use Rattle.std.proofs.Common.{◌≡◌, ℕ, zero, suc, ◌+◌, ◌≤◌, max, true, List, [], ◌∷◌, drop, get_or, length, take, Result, refl, sym, ◌∙◌, ap, subst, arith, length-take}
+use Rattle.std.proofs.Common.{◌≡◌, ℕ, zero, suc, ◌+◌, ◌≤◌, max, true, List, [], ◌∷◌, drop, get_or, length, take, Result, refl, ap, subst, arith, length-take}
 use Rattle.std.specs.declared.io.Error.{Error as IoFault}
 use Rattle.hound_medium.specs.{MediumState, overlay, placed, put_at}
 use Rattle.hound_medium.proofs.Overlays.{length-put_at}

@@ -41,7 +41,7 @@ use Rattle.hound_writer.proofs.Samples.{samples_out}
 use Rattle.hound_writer.proofs.AtMost.{at_most_more}
 
 -- what a call with this mark did
-record IsCall (asked : Asked) (ok : Bool) (old new : WriterState Log) : Type 0 where
+pub record IsCall (asked : Asked) (ok : Bool) (old new : WriterState Log) : Type 0 where
   pub answer : Result (Unit {0}) Error
   pub does : Does log_kind asked answer old new
   pub mark : mark_of answer ≡ ok
@@ -64,7 +64,7 @@ is_zero zero = (true, (λ _. refl), (λ _. refl))
 is_zero (suc n) = (false, (λ is. absurd (false≢true is)), (λ e. absurd (omega (arith, e))))
 
 -- the effects of a checkpoint are a call that publishes
-save_call : (clean : Bool) (r : Result (Unit {0}) IoFault) (w : WriterState Log) (m : Log) → IsIdle w
+pub save_call : (clean : Bool) (r : Result (Unit {0}) IoFault) (w : WriterState Log) (m : Log) → IsIdle w
     → Performed (if clean then checkpoint w.data_start w.bytes_written
     else Sync ∷ checkpoint w.data_start w.bytes_written) r w.medium m
     → IsCall publish (is_ok r) w (record w { medium = m })
@@ -163,7 +163,7 @@ step_new s old log r opens (writable, is) =
     (λ synced. (data_start s, header_in_order s old log.state opens synced, λ _. rw is (omega arith)))
 
 -- a file that was there, as a walk found it
-no_fault : (s : WavSpecEx) (samples start : ℕ) → 1 ≤ s.bytes_per_sample → samples % s.spec.channels ≡ 0
+pub no_fault : (s : WavSpecEx) (samples start : ℕ) → 1 ≤ s.bytes_per_sample → samples % s.spec.channels ≡ 0
     → IsPair s.spec.sample_format s.spec.bits_per_sample s.bytes_per_sample
     → riff_size start (samples * s.bytes_per_sample) ≤ greatest_u32
     → head_fault s (samples * s.bytes_per_sample) start ≡ None

@@ -32,3 +32,4 @@ pub mod Acting
 pub mod Ordering
 pub mod Repeating
 pub mod Cutting
+pub mod Mending

@@ -14,7 +14,7 @@ pub use Rattle.hound_writer.specs.Effects.{Log, Performed, Performs, checkpoint,
 pub use Rattle.hound_writer.specs.Recorder.{AppendsRecorder, BeginsRecorder, HasData, HasFailed, HasNoData, NextEffect, Places, Reports, advanced, effects_of, length_with, recorder_of}
 pub use Rattle.hound_writer.specs.Resuming.{ContinuesAfter, Resumes, ResumesAfter, ends_whole, found_frame, kept_as, kept_length, rest_follows, resumed_recorder}
 pub use Rattle.hound_writer.specs.Machine.{Abandons, Advances, AsksForBlock, AsksForCheckpoint, EffectEnds, EndsEffect, GivesUp, GoesOn, HasEnded, IsClear, IsSaved, SavesFirst, Settles, TakesBlock, ThenGoesOn, end_of, saved_of}
-pub use Rattle.hound_writer.specs.Recording.{AgreeTo, Directed, InStep, IsIdle, IsOrdered, IsRecorderOf, IsSynced, Opened, Resumed, block_known, cut_known, resumed_file}
+pub use Rattle.hound_writer.specs.Recording.{AgreeTo, Directed, InStep, IsCutOff, IsIdle, IsOrdered, IsRecorderOf, IsSynced, Opened, Resumed, block_known, cut_known, resumed_file, writer_of}
 pub use Rattle.hound_writer.specs.Repeating.{IsSaid, Repeats, written_first}
 pub mod Accepting
 pub mod Appending

@@ -6,11 +6,11 @@ use Rattle.hound_medium.specs.{Goes, MediumState, PutsAll}
 use Rattle.hound_sample.specs.{containers}
 use Rattle.hound_spec.specs.declared.spec.WavSpecEx.{WavSpecEx}
 use Rattle.hound_spec.specs.{header}
-use Rattle.hound_walk.specs.{IsSoundSpec, Readable}
+use Rattle.hound_walk.specs.{Head, IsSoundSpec, Readable}
 use Rattle.hound_writer.specs.Accepting.{whole_containers}
 use Rattle.hound_writer.specs.Calls.{Begun, Known, Recorded, appended, handed_in, marked, publish, write}
 use Rattle.hound_writer.specs.Effects.{Log, Performed, log_kind}
-use Rattle.hound_writer.specs.Parts.{CountsAtMost}
+use Rattle.hound_writer.specs.Parts.{CountsAtMost, of_fields}
 use Rattle.hound_writer.specs.Machine.{saved_of}
 use Rattle.hound_writer.specs.Recorder.{Places, effects_of}
 use Rattle.hound_writer.specs.Writer.{WriterState, IsSound}
@@ -30,6 +30,17 @@ pub record Resumed (f : FoundFile) (samples : ℕ) (old new : MediumState) : Typ
   pub counted : f.data_length ≡ samples * f.spec_ex.bytes_per_sample
   pub all : f.length ≡ length old.contents
   pub goes : Goes {T = Unit {0}} {E = IoFault} (f.data_start + f.data_length) (Ok tt) old new
+
+-- A recording was cut off: the header of its file counts no more than n bytes of samples, which it holds.
+pub record IsCutOff (f : FoundFile) (n : ℕ) (m : MediumState) : Type 0 where
+  pub sound : IsSoundSpec f.spec_ex
+  pub head : Head m.contents f.spec_ex f.data_length f.data_start
+  pub counted : f.data_length ≤ n
+  pub held : f.data_start + n ≤ length m.contents
+
+-- a writer of the file of a recorder, which holds the samples of that
+abbrev pub writer_of : WavSpecEx → Recorder → Log → WriterState Log
+writer_of s r m = of_fields m s r.data_start r.data_length [] []
 
 -- the file of a recording that was resumed
 abbrev pub resumed_file : WavSpecEx → ℕ → ℕ → MediumState → Begun

@@ -1,5 +1,5 @@
 -- A file for which effects were performed again whose end was not reported.
-use Rattle.std.specs.Prelude.{◌≡◌, ℕ, ◌≤◌, List, ◌++◌, length, take, Bool, true, Result, is_ok}
+use Rattle.std.specs.Prelude.{◌≡◌, ℕ, ◌≤◌, List, ◌++◌, length, take, true, Result, is_ok}
 use Rattle.hound_medium.specs.{MediumState, moment, overlay, placed}
 
 -- a medium after the first n of these bytes were written at a place

@@ -2,17 +2,19 @@
 ghost use Rattle.std.specs.Prelude.{◌≡◌, ◌⊎◌, ◌<◌, ◌≤◌, ◌*◌, ℕ, Bool, true, List, [], ◌∷◌, ◌++◌, None, Some, Ok, Err, Result, is_ok, length, max, take, ◌+◌};
 ghost use Rattle.std.specs.declared.io.Error.{Error as IoFault};
 ghost use Rattle.hound_durable.specs.{SurvivesLoss};
-ghost use Rattle.hound_medium.specs.{Flushes, MediumState, WhereTells, overlay, placed};
+ghost use Rattle.hound_medium.specs.{Flushes, Goes, MediumState, WhereTells, overlay, placed};
 ghost use Rattle.hound_number.specs.{AreBytes};
+ghost use Rattle.hound_spec.specs.declared.error.Error.{Error};
 ghost use Rattle.hound_spec.specs.declared.spec.WavSpecEx.{WavSpecEx};
 ghost use Rattle.hound_writer.specs.Accepting.{Accepts, AcceptsEach, containers_in};
 ghost use Rattle.hound_writer.specs.Appending.{HasOneAppendAnswer};
 ghost use Rattle.hound_writer.specs.Calls.{Begun, Known, marked, new_file, publish};
-ghost use Rattle.hound_writer.specs.Effects.{Log, Performs};
+ghost use Rattle.hound_writer.specs.Effects.{Log, Performed, Performs, log_kind};
 ghost use Rattle.hound_writer.specs.Parts.{PutsAt};
+ghost use Rattle.hound_writer.specs.Publishing.{LeavesWriter};
 ghost use Rattle.hound_writer.specs.Machine.{GivesUp, GoesOn, HasEnded, TakesBlock, end_of};
-ghost use Rattle.hound_writer.specs.Recorder.{BeginsRecorder};
-ghost use Rattle.hound_writer.specs.Recording.{AgreeTo, Directed, Opened, Resumed, block_known, cut_known, resumed_file};
+ghost use Rattle.hound_writer.specs.Recorder.{BeginsRecorder, effects_of, recorder_of};
+ghost use Rattle.hound_writer.specs.Recording.{AgreeTo, Directed, IsCutOff, Opened, Resumed, block_known, cut_known, resumed_file, writer_of};
 ghost use Rattle.hound_writer.specs.Repeating.{IsSaid, Repeats, written_first};
 ghost use Rattle.hound_writer.specs.Resuming.{Resumes};
 ghost use Rattle.hound_writer.specs.Writer.{WriterState, IsWhole, accepted_samples, data_length};
@@ -52,6 +54,9 @@ pub fn a_block_is_its_samples<S: Sample, M: Medium>()
 /// cuts off what follows, or not (`cut`), and reports each result, until there is no more (`saved`). An error
 /// comes only of what it reports, or once a sync has failed (`failed`).
 ///
+/// Of a recording that was cut off, and is mended, the first checkpoint publishes the samples that the file
+/// holds as a `flush` of them does, up to an effect that fails (`mended`). Once it is done, the calls begin.
+///
 /// Each block is a call for its samples, and each checkpoint a `flush`. The clauses take the contracts of
 /// the recorder's methods, and those of hound_c, as they are.
 pub fn a_recorder_directs()
@@ -61,6 +66,15 @@ pub fn a_recorder_directs()
         (r : Recorder) → Resumed f samples old log.state → Resumes f mends overwrites (Ok r)
         → r.data_length ≡ f.data_length
         → Directed f.spec_ex (resumed_file f.spec_ex samples f.data_start old) [] r log.state }
+    ensures mended { (f : FoundFile) (mends overwrites : Bool) (old end : Log) (r : Recorder)
+        (result : Result Unit IoFault) → Resumes f mends overwrites (Ok r) → IsCutOff f r.data_length old.state
+        → Performed (effects_of r) result old end
+        → ((answer : Result Unit Error) × LeavesWriter log_kind answer (writer_of f.spec_ex r old)
+        (writer_of f.spec_ex r end))
+        × (is_ok result ≡ true → (m : Log) → Goes {T = Unit} {E = IoFault} (end_of r) (Ok tt) end.state m.state
+        → (samples : ℕ) × (r.data_length ≡ samples * f.spec_ex.bytes_per_sample)
+        × Directed f.spec_ex (resumed_file f.spec_ex samples f.data_start end.state) []
+        (recorder_of f.spec_ex f.data_start r.data_length) m.state) }
     ensures asked { (s : WavSpecEx) (file : Begun) (known : List Known) (old end new : Recorder)
         (m : MediumState) (samples : ℕ) → Directed s file known old m → GivesUp old end
         → Directed s file known (record end { task = 1 }) m

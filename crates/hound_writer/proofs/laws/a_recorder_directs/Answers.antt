@@ -1,4 +1,5 @@
 use Rattle.hound_writer.proofs.Acting.{directing_asked, directing_cut, directing_failed, directing_handed, directing_new, directing_performed, directing_resumed, directing_saved, directing_wrote}
+use Rattle.hound_writer.proofs.Mending.{mended}
 use Rattle.hound_writer.proofs.laws.a_recorder_directs.Goals as goal
 
 pub returns-clause-new : goal.returns-clause-new
@@ -6,6 +7,9 @@ returns-clause-new c = directing_new
 
 pub returns-clause-resumed : goal.returns-clause-resumed
 returns-clause-resumed c = directing_resumed
+
+pub returns-clause-mended : goal.returns-clause-mended
+returns-clause-mended c = mended
 
 pub returns-clause-asked : goal.returns-clause-asked
 returns-clause-asked c = directing_asked
