@@ -35,6 +35,10 @@ export interface Damage extends Spec {
   frames: number;
   /** How many bytes of a torn frame follow them. */
   leftOver: number;
+  /** How many bytes are before the first frame. */
+  dataStart: number;
+  /** How many bytes of samples the header counted. */
+  dataLength: number;
 }
 
 export interface Part {

@@ -128,6 +128,8 @@ function lengthOf(file) {
   throw new TypeError("file is neither a Uint8Array nor a Blob");
 }
 
+const sizeOf = (part) => part.size ?? part.length;
+
 /** A part of a file, as the file is: nothing of it is read. */
 const partOf = (file, from, to) => file instanceof Blob ? file.slice(from, to) : file.subarray(from, to);
 
@@ -136,12 +138,9 @@ async function bytesOf(file, from, to) {
   return file instanceof Blob ? new Uint8Array(await part.arrayBuffer()) : part;
 }
 
-/** A Blob of these parts. */
-const blobOf = (parts) => new Blob(parts, { type: "audio/wav" });
-
-/** A file of these parts, of the kind that a file is. */
-function joined(file, parts) {
-  if (file instanceof Blob) return blobOf(parts);
+/** A file of these parts: a Blob, or one array. */
+function joined(parts, isBlob) {
+  if (isBlob) return new Blob(parts, { type: "audio/wav" });
   const whole = new Uint8Array(parts.reduce((sum, part) => sum + part.length, 0));
   let place = 0;
   for (const part of parts) {
@@ -151,8 +150,9 @@ function joined(file, parts) {
   return whole;
 }
 
-// The kinds of effects in hound.h, and the report that one is done.
-const [READ, WRITE, WRITE_BLOCK, DONE] = [1, 2, 3, 1];
+// Of hound.h: the kinds of effects, how one ended, and how many bytes it has at most.
+const [READ, WRITE, WRITE_BLOCK, SYNC, CUT] = [1, 2, 3, 4, 5];
+const [DONE, FAILED, EFFECT_BYTES] = [1, 2, 40];
 
 /** A walk, a repairer or a recorder. The memory of the instance has it only during a call. */
 class Machine {
@@ -172,7 +172,7 @@ class Machine {
   /** The effect that is requested. Its bytes are a part of the machine. */
   get effect() {
     const length = this.view.getUint32(8, true);
-    return { place: Number(this.view.getBigUint64(0, true)), length, kind: this.view.getUint16(12, true), bytes: this.bytes.subarray(16, 16 + Math.min(length, 40)) };
+    return { place: Number(this.view.getBigUint64(0, true)), length, kind: this.view.getUint16(12, true), bytes: this.bytes.subarray(16, 16 + Math.min(length, EFFECT_BYTES)) };
   }
 
   /** Reports the effect as done; what was read is fewer bytes only where the file ends. */
@@ -266,12 +266,16 @@ export async function read(file, { start = 0, frames = Infinity, type } = {}) {
   return samples;
 }
 
+/** How many bytes a sample takes; an error where the type isn't written. */
+function widthOf(type) {
+  new type.array(shared.bytes.buffer, shared.at(FIRST), 1).fill(0);
+  return checked(shared.call("encode_" + type.call, shared.at(SPEC), shared.at(FIRST), 1, shared.at(SECOND), BLOCK_BYTES));
+}
+
 /** The containers of samples of a spec. */
 function encoded(type, samples, spec) {
-  const width = spec.bytesPerSample || Math.ceil(spec.bitsPerSample / 8);
-  const out = new Uint8Array(samples.length * width);
   shared.putSpec(spec);
-  encode(type, samples.subarray(0, 0), out.subarray(0, 0)); // An error where the type isn't written, also without samples.
+  const width = widthOf(type), out = new Uint8Array(samples.length * width);
   for (let first = 0; first < samples.length; first += BLOCK) {
     encode(type, samples.subarray(first, first + BLOCK), out.subarray(first * width, (first + BLOCK) * width));
   }
@@ -292,12 +296,12 @@ export async function write(samples, { sampleRate, channels = 1, bitsPerSample, 
   const size = checked(shared.call("size", shared.at(SPEC), samples.length));
   const length = checked(shared.call("header", shared.at(SPEC), samples.length, shared.at(HEADER), FIRST - HEADER));
   const header = shared.bytes.slice(HEADER, HEADER + length), data = encoded(type, samples, spec);
-  return joined(data, [header, data, new Uint8Array(size - length - data.length)]);
+  return joined([header, data, new Uint8Array(size - length - data.length)], false);
 }
 
 const STATES = ["whole", "cutOff", "hasChunksAfterData"];
-// The modes of a repairer.
-const [FIND_DAMAGE, REPAIR, REPAIR_TO_END] = [0, 1, 2];
+// The modes of a repairer, and what a recorder may do.
+const [FIND_DAMAGE, REPAIR, REPAIR_TO_END, OVERWRITE] = [0, 1, 2, 2];
 
 /** What a repairer of this mode finds in a file of so many bytes, once all that it requests is performed. */
 function repairBy(size, mode, perform) {
@@ -305,8 +309,9 @@ function repairBy(size, mode, perform) {
   repairer.call("repairer_begin", size, mode, shared.at(MACHINE));
   return performAll(repairer, "repairer_next", perform, (code) => {
     checked(code);
-    const [frames, leftOver, state] = [12, 16, 20].map((n) => shared.view.getUint32(FOUND + n, true));
-    return { report: { state: STATES[state], frames, leftOver, ...shared.specAt(FOUND) }, found: shared.bytes.slice(FOUND, FOUND + 48) };
+    const [frames, leftOver, state, dataLength] = [12, 16, 20, 40].map((n) => shared.view.getUint32(FOUND + n, true));
+    const report = { state: STATES[state], frames, leftOver, ...shared.specAt(FOUND), dataStart: Number(shared.view.getBigUint64(FOUND + 24, true)), dataLength };
+    return { report, found: shared.bytes.slice(FOUND, FOUND + 48) };
   });
 }
 
@@ -316,15 +321,29 @@ export async function findDamage(file) {
   return report;
 }
 
-/** A file after bytes were written at places, none of which was written twice. */
-function written(file, writes) {
-  const parts = [];
-  let end = 0;
-  for (const { place, bytes } of writes.sort((a, b) => a.place - b.place)) {
-    parts.push(partOf(file, end, place), bytes);
-    end = place + bytes.length;
+/** What a file becomes by effects: its own parts and those that were written, one after the other. The file stays. */
+class Overlay {
+  constructor(parts) {
+    this.parts = parts;
   }
-  return joined(file, [...parts, partOf(file, end, Math.max(end, lengthOf(file)))]);
+
+  /** The parts from one place to another. */
+  between(from, to) {
+    let start = 0;
+    return this.parts.flatMap((part) => {
+      const place = start;
+      start += sizeOf(part);
+      if (from <= place && place < start && start <= to) return [part]; // A part of a part of a part .. of a Blob would take long.
+      return place < to && start > from ? [partOf(part, Math.max(from - place, 0), Math.min(to, start) - place)] : [];
+    });
+  }
+
+  /** Performs an effect that isn't a read; no sync is of use here. */
+  perform({ kind, place, bytes }, block) {
+    const given = kind === WRITE ? bytes.slice() : block;
+    if (kind === CUT) this.parts = this.between(0, place);
+    if (kind === WRITE || kind === WRITE_BLOCK) this.parts = [...this.between(0, place), given, ...this.between(place + sizeOf(given), Infinity)];
+  }
 }
 
 /**
@@ -333,12 +352,9 @@ function written(file, writes) {
  * `toEnd` all that follows the header of the data is taken for samples, also what looks like chunks.
  */
 export async function repair(file, { toEnd = false } = {}) {
-  const readPart = readerOf(file), writes = [];
-  const { report } = await repairBy(lengthOf(file), toEnd ? REPAIR_TO_END : REPAIR, (effect) => {
-    if (effect.kind === WRITE) writes.push({ place: effect.place, bytes: effect.bytes.slice() });
-    return effect.kind === READ ? readPart(effect) : undefined; // No sync is of use here.
-  });
-  return { ...report, file: writes.length > 0 ? written(file, writes) : file };
+  const readPart = readerOf(file), repaired = new Overlay([file]);
+  const { report } = await repairBy(lengthOf(file), toEnd ? REPAIR_TO_END : REPAIR, (effect) => effect.kind === READ ? readPart(effect) : repaired.perform(effect));
+  return { ...report, file: repaired.parts.length > 1 ? joined(repaired.parts, file instanceof Blob) : file };
 }
 
 async function readAt(handle, { place, length }) {
@@ -376,31 +392,31 @@ export async function repairFile(path, { toEnd = false } = {}) {
   }
 }
 
-// The files that `append` has made: their recorders and parts, which an append to one of them takes over. A Blob of a Blob of
-// a Blob .. can't be read at some depth, so parts of about one length are joined, and a file of many blocks has few of them.
+// The Blobs that `append` has made: their recorders, specs and parts, which an append to one of them takes over.
 const made = new WeakMap();
 
-/** What is appended to: a recorder, the bytes before the data, and parts of the data. */
+/** What is appended to. */
 async function opened(file, overwrite) {
   const { found } = await repairBy(lengthOf(file), FIND_DAMAGE, readerOf(file)), recorder = new Machine(88);
   shared.bytes.set(found, FOUND);
-  checked(recorder.call("recorder_resume", shared.at(FOUND), overwrite ? 2 : 0, shared.at(MACHINE)));
-  const spec = shared.specAt(FOUND), dataStart = Number(recorder.view.getBigUint64(56, true));
-  const parts = [partOf(file, dataStart, dataStart + recorder.view.getUint32(64, true))];
-  return { recorder, spec, head: await bytesOf(file, 0, dataStart), parts };
+  checked(recorder.call("recorder_resume", shared.at(FOUND), overwrite ? OVERWRITE : 0, shared.at(MACHINE)));
+  return { recorder, spec: shared.specAt(FOUND), parts: [file] };
 }
 
-/** Performs what is requested of a recorder: a block is a part of the data, and bytes after these are the pad byte. */
-function record({ recorder, head, parts }, block) {
-  let pad = new Uint8Array(0);
-  for (let code; (code = checked(recorder.call("recorder_next", shared.at(MACHINE)))) === 1;) {
-    const { effect } = recorder, { place, bytes, kind } = effect;
-    if (kind === WRITE_BLOCK) parts.push(block);
-    if (kind === WRITE && place < head.length) head.set(bytes, place);
-    if (kind === WRITE && place >= head.length) pad = bytes.slice();
+/** Performs all that a recorder requests, which is a block or nothing more. */
+function record(recorder, overlay, block) {
+  while (checked(recorder.call("recorder_next", shared.at(MACHINE))) === 1) {
+    const { effect } = recorder;
+    overlay.perform(effect, block);
     recorder.report(effect);
   }
-  return pad;
+}
+
+/** Joins the Blobs at the end, as long as one isn't much longer than the next: so a file of many blocks has few parts,
+    and none is a Blob of a Blob of a Blob .. that can't be read. */
+function join(parts) {
+  const isBlob = (part) => part instanceof Blob;
+  while (parts.slice(-2).filter(isBlob).length === 2 && parts.at(-2).size < 2 * parts.at(-1).size) parts.push(new Blob(parts.splice(-2)));
 }
 
 /**
@@ -409,18 +425,16 @@ function record({ recorder, head, parts }, block) {
  * A recording that was cut off is an error, and so are chunks or a tag after the data, unless they may be overwritten.
  */
 export async function append(file, samples, { overwrite = false } = {}) {
-  const type = typeOf(samples), given = samples.slice();
-  const before = made.get(file) ?? await opened(file, overwrite), recorder = new Machine(88);
-  const data = encoded(type, given, before.spec), isBlob = file instanceof Blob;
-  recorder.bytes.set(before.recorder.bytes);
-  const longer = { recorder, spec: before.spec, head: before.head.slice(), parts: [...before.parts] };
+  const type = typeOf(samples), given = samples.slice(), isBlob = file instanceof Blob;
+  const { recorder: before, spec, parts } = made.get(file) ?? await opened(file, overwrite);
+  const recorder = new Machine(88), overlay = new Overlay(parts), data = encoded(type, given, spec);
+  recorder.bytes.set(before.bytes);
   checked(recorder.call("recorder_write", shared.at(MACHINE), given.length));
-  record(longer, isBlob ? new Blob([data]) : data);
+  record(recorder, overlay, isBlob ? new Blob([data]) : data);
+  join(overlay.parts);
   recorder.call("recorder_checkpoint", shared.at(MACHINE));
-  const pad = record(longer), { head, parts } = longer;
-  if (!isBlob) return joined(file, [head, ...parts, pad]);
-  while (parts.length > 1 && parts.at(-2).size < 2 * parts.at(-1).size) parts.push(new Blob(parts.splice(-2)));
-  const whole = blobOf([head, ...parts, pad]);
-  made.set(whole, longer);
-  return whole;
+  record(recorder, overlay);
+  const longer = joined(overlay.parts, isBlob);
+  if (isBlob) made.set(longer, { recorder, spec, parts: overlay.parts });
+  return longer;
 }

@@ -17,20 +17,11 @@ const HINTS = {
   ENDED: LOST,
   NO_DATA_CHUNK: LOST,
   NO_FMT_CHUNK: LOST,
-  NO_RIFF_TAG: `It is no WAV file, or its beginning was lost: then ${RAW}.`,
+  NO_RIFF_TAG: `It is no WAV file, or another kind of it (RF64, BW64, RIFX, a tag in front), which an audio editor may read. Or its beginning was lost: then ${RAW}.`,
   NO_WAVE_TAG: `It is another RIFF file, or its beginning was lost: then ${RAW}.`,
   UNSUPPORTED: `Its sound is compressed, or its header is damaged; this page reads plain samples only. ${KEEP}`,
   NOT_WRITABLE: READS,
   BITS_NOT_32: READS,
-};
-// The same by the first four bytes of a file without a RIFF tag, or the first three.
-const OTHER = "which this page doesn't read: try an audio editor.";
-const TAGS = {
-  RF64: `It is RF64, for long recordings, ${OTHER}`,
-  BW64: `It is BW64, for long recordings, ${OTHER}`,
-  RIFX: `It is a WAV file with its bytes in the other order, ${OTHER}`,
-  ID3: `A tag (ID3) is in front of the sound, ${OTHER}`,
-  "\0\0\0\0": `It begins with zeros. If all its bytes are zeros, no sound is left in it; if not, ${RAW}.`,
 };
 const CARD = "Record nothing more on the card it came from: a recovery program may find the sound there.";
 // How many samples are read at once to be drawn, how many channels are drawn at most, how many frames are shown at least,
@@ -51,12 +42,12 @@ function say(text, kind = "") {
   said.className = kind;
 }
 
-/** Why a file can't be read; `tag` is its first four bytes, if they are known. */
-function failure(file, error, tag = "") {
-  if (error.code === "ENDED" && file.size < 64) return `${file.name} ${file.size ? "ends before any sound" : "is empty"}. ${CARD}`;
+/** Why a file can't be read. */
+function failure(file, error) {
+  if (error.code === "ENDED" && file.size < LEAST) return `${file.name} ${file.size ? "ends before any sound" : "is empty"}. ${CARD}`;
   const large = `it has ${number(file.size)} bytes. Keep it:`;
-  if (error.code === "TOO_LONG" || error instanceof RangeError && file.size > 0xffffffff + 8) return `${file.name} is too large for a WAV file: ${large} ${RAW}.`;
-  if (error instanceof HoundError) return `${file.name} can't be read: ${error.message}.\n${TAGS[tag] ?? TAGS[tag.slice(0, 3)] ?? HINTS[error.code] ?? DAMAGED}`;
+  if (error.code === "TOO_LONG") return `${file.name} is too large for a WAV file: ${large} ${RAW}.`;
+  if (error instanceof HoundError) return `${file.name} can't be read: ${error.message}.\n${HINTS[error.code] ?? DAMAGED}`;
   if (error instanceof RangeError) return `${file.name} is too large for this browser: ${large} a newer one, or another one, may repair it.`;
   return `${file.name} could not be read: ${error.message}`;
 }
@@ -64,25 +55,19 @@ function failure(file, error, tag = "") {
 const lengthOfTime = ({ frames, sampleRate }) => sampleRate ? frames / sampleRate : 0;
 const framesOf = (found) => counted(found.frames, "frame") + (found.sampleRate ? ` (${time(lengthOfTime(found))})` : "");
 
-/** What a file says of itself: whether its length, at byte 4, is wrong, how many bytes follow the sound that its header
-    counts, and whether they may be sound, too: they are more, or something is between that and an ID3v1 tag at the end. */
-async function claims(file, { dataStart, channels, bytesPerSample }) {
-  const numberAt = async (place) => new DataView(await file.slice(place, place + 4).arrayBuffer()).getUint32(0, true);
-  const length = 8 + await numberAt(4), sound = await numberAt(dataStart - 4), end = dataStart + sound, rest = file.size - end;
-  const isTagged = rest > 128 && await file.slice(-128, -125).text() === "TAG";
-  const mayBeSound = rest > sound || isTagged && (await findDamage(file.slice(0, -128))).frames * channels * bytesPerSample > sound;
-  return { isWrong: length < end || length > file.size + 1, rest, mayBeSound };
+/** How many bytes follow the sound that the header counts, and whether they may be sound, too: they are more. */
+function claims(file, { dataStart, dataLength }) {
+  const rest = file.size - dataStart - dataLength;
+  return { rest, mayBeSound: rest > dataLength };
 }
 
 /** What is said of a file that was looked at, and repaired to its end if that was requested. */
-function verdict(found, { isWrong, rest, mayBeSound }, toEnd) {
+function verdict(found, { rest, mayBeSound }, toEnd) {
   const { state, frames, leftOver } = found;
   if (state === "hasChunksAfterData") {
     const [counts, what] = frames ? [`only ${framesOf(found)}`, "the rest of the recording"] : ["no sound", "the recording"];
     if (mayBeSound) return [`The header counts ${counts}, but ${counted(rest, "byte")} follow. They may be ${what}: repair the file to its end, and listen.`, "cut"];
-    const follow = "Other data follow the sound, as a title or markers (chunks or a tag).";
-    if (isWrong) return [`${follow} Only the file's length, at byte 4, is wrong: if a program rejects it, export it from an audio editor.`, "cut"];
-    return [`${follow} There is nothing to repair.`, "good"];
+    return ["Other data follow the sound, as a title or markers (chunks or a tag): it needs no repair. If a program rejects the file, export it from an audio editor.", "good"];
   }
   if (frames === 0) return [`The file has a header and no sound: nothing can be brought back from it. ${CARD}`, "bad"];
   if (state === "whole") return ["The file is whole: both of its sizes are right. There is nothing to repair.", "good"];
@@ -296,8 +281,8 @@ async function open(file, toEnd = false) {
   try {
     const head = await info(file).catch(() => null), left = await repair(file, { toEnd });
     // If the header counts half a frame, and chunks or a tag seem to follow, nothing is read of the file unless it is repaired.
-    const isTorn = !head && left.state === "hasChunksAfterData", repaired = isTorn ? await repair(file, { toEnd: true }) : left;
-    const { dataStart } = await info(repaired.file), found = { ...repaired, dataStart }, says = await claims(file, found);
+    const isTorn = !head && left.state === "hasChunksAfterData", found = isTorn ? await repair(file, { toEnd: true }) : left;
+    const says = claims(file, found);
     if (!isCurrent()) return;
     showRows(rows(file, head, found));
     result.hidden = false;
@@ -319,9 +304,8 @@ async function open(file, toEnd = false) {
     await look(0, found.frames);
     if (isCurrent()) said.dataset.done = mine;
   } catch (error) {
-    const tag = await file.slice(0, 4).text().catch(() => "");
     if (!isCurrent()) return;
-    say(failure(file, error, tag), "bad");
+    say(failure(file, error), "bad");
     said.dataset.done = mine;
   }
 }

@@ -108,8 +108,8 @@ test("a file that was cut off is repaired", async () => {
   for (const [counted, riff] of [[0, 36], [4, 40], [400, 436], [0xffffffff, 0xffffffff], [10, 46], [3, 39]]) {
     const cut = byHand(data, { channels: 2, counted, riff }), before = cut.slice();
     for (const file of kinds(cut)) {
-      const { state, frames, leftOver } = await findDamage(file);
-      assert.deepEqual({ state, frames, leftOver }, { state: "cutOff", frames: 2, leftOver: 2 });
+      const { state, frames, leftOver, dataStart, dataLength } = await findDamage(file);
+      assert.deepEqual({ state, frames, leftOver, dataStart, dataLength }, { state: "cutOff", frames: 2, leftOver: 2, dataStart: 44, dataLength: counted });
       const repaired = await repair(file);
       assert.deepEqual(await bytes(repaired.file), good);
       assert.deepEqual((await repair(repaired.file)).state, "whole");
@@ -167,8 +167,11 @@ test("frames are appended", async () => {
 
 test("an append overwrites only what it may", async () => {
   const one = Int16Array.of(7), followed = byHand([1, 0], { after: LIST });
-  await fails(append(followed, one), "CHUNKS_FOLLOW");
-  assert.deepEqual(await append(followed, one, { overwrite: true }), byHand([1, 0, 7, 0]));
+  for (const file of kinds(followed)) {
+    await fails(append(file, one), "CHUNKS_FOLLOW");
+    assert.deepEqual(await bytes(await append(file, one, { overwrite: true })), byHand([1, 0, 7, 0]));
+    assert.deepEqual(await bytes(await append(file, one.subarray(1), { overwrite: true })), byHand([1, 0]));
+  }
   for (const overwrite of [false, true]) {
     for (const cut of [byHand([1, 0, 2, 0], { counted: 0 }), byHand([1, 0, 2, 0], { counted: 3 })]) await fails(append(cut, one, { overwrite }), "IS_CUT_OFF");
     await fails(append(byHand([1, 0], { counted: 4 }), one, { overwrite }), "TRUNCATED");
