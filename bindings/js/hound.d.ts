@@ -1,5 +1,5 @@
 /** A file, which must not change before a call over it has ended. Of a Blob only what is needed is read, when it is. */
-export type WavFile = Uint8Array | Blob;
+export type WavFile = Uint8Array | ArrayBuffer | Blob;
 
 /** The arrays of samples, by the names of their types. Integers are signed at every width, also at 8 bits. */
 export interface Arrays {
@@ -9,8 +9,8 @@ export interface Arrays {
   float32: Float32Array;
 }
 
-/** Interleaved samples: a frame has one of each channel. */
-export type Samples = Arrays[keyof Arrays];
+/** Interleaved samples: a frame has one of each channel. Or an array for each channel, all of one type and length. */
+export type Samples = Arrays[keyof Arrays] | Int8Array[] | Int16Array[] | Int32Array[] | Float32Array[];
 
 export interface Spec {
   sampleRate: number;
@@ -48,14 +48,26 @@ export interface Part {
   frames?: number;
 }
 
+/** The spec of a new file; that of another one will do. */
 export interface Format {
   sampleRate: number;
-  /** 1 without it. */
+  /** Without it as many as there are arrays of samples, or 1. */
   channels?: number;
   /** The width of the samples' type without it. */
   bitsPerSample?: number;
   /** As many as the bits need without it. */
   bytesPerSample?: number;
+  /** Without it floats are stored as they are if `bitsPerSample` is 32, and as integers if not. */
+  isFloat?: boolean;
+}
+
+/**
+ * Floats that are stored as integers are multiplied by 2^(bits - 1) and rounded, of two to the even one; a NaN is 0. What
+ * the bits don't hold is clipped, as 1.0 is.
+ */
+export interface Clipping {
+  /** It is called with how many samples were clipped, if any were; without it `console.warn` says so. */
+  onClipped?: (count: number) => void;
 }
 
 /** A call failed. */
@@ -69,22 +81,26 @@ export class HoundError extends Error {
 export function info(file: WavFile): Promise<Info>;
 
 /**
- * Reads frames, and returns their samples. Without `type` it is the narrowest one from 16 bits on that reads the file. Of
- * a file that holds fewer frames than its header counts these are read, and a read that starts after them is an error.
+ * Reads frames, and returns their samples: interleaved, or with `planar` an array for each channel. Without `type` it is
+ * the narrowest one from 16 bits on that reads the file. With "float32" integers are divided by 2^(bits - 1), so their full
+ * scale is 1; floats keep their bits. Of a file that holds fewer frames than its header counts these are read, and a read
+ * that starts after them is an error.
  */
-export function read<T extends keyof Arrays>(file: WavFile, options: Part & { type: T }): Promise<Arrays[T]>;
-export function read(file: WavFile, options?: Part): Promise<Int16Array | Int32Array | Float32Array>;
+export function read<T extends keyof Arrays>(file: WavFile, options: Part & { type: T; planar?: false }): Promise<Arrays[T]>;
+export function read<T extends keyof Arrays>(file: WavFile, options: Part & { type: T; planar: true }): Promise<Arrays[T][]>;
+export function read(file: WavFile, options?: Part & { planar?: false }): Promise<Int16Array | Int32Array | Float32Array>;
+export function read(file: WavFile, options: Part & { planar: true }): Promise<Int16Array[] | Int32Array[] | Float32Array[]>;
 
-/** Makes the file of these samples. */
-export function write(samples: Samples, format: Format): Promise<Uint8Array>;
+/** Makes the file of these samples, as they are at the call. */
+export function write(samples: Samples, format: Format & Clipping): Promise<Uint8Array>;
 
 /**
  * Returns the file with whole frames appended after the samples that its header counts. A recording that was cut off is
  * an error, and so are chunks or a tag after the data, unless they may be overwritten. The samples are those of the call.
  * A Uint8Array is copied by each call: append many blocks to a Blob, of which no byte is copied.
  */
-export function append(file: Uint8Array, samples: Samples, options?: { overwrite?: boolean }): Promise<Uint8Array>;
-export function append(file: Blob, samples: Samples, options?: { overwrite?: boolean }): Promise<Blob>;
+export function append(file: Uint8Array | ArrayBuffer, samples: Samples, options?: { overwrite?: boolean } & Clipping): Promise<Uint8Array>;
+export function append(file: Blob, samples: Samples, options?: { overwrite?: boolean } & Clipping): Promise<Blob>;
 
 /** Reports what `repair` would find, or fails as it would. */
 export function findDamage(file: WavFile): Promise<Damage>;
@@ -96,7 +112,7 @@ export function findDamage(file: WavFile): Promise<Damage>;
  *
  * A Blob of Node's `openAsBlob` is read when the result is: don't write that to the same path. `repairFile` does it.
  */
-export function repair(file: Uint8Array, options?: { toEnd?: boolean }): Promise<Damage & { file: Uint8Array }>;
+export function repair(file: Uint8Array | ArrayBuffer, options?: { toEnd?: boolean }): Promise<Damage & { file: Uint8Array }>;
 export function repair(file: Blob, options?: { toEnd?: boolean }): Promise<Damage & { file: Blob }>;
 
 /**

@@ -1,7 +1,8 @@
 // WAV files, read, written, appended to and repaired by proved code: the exports of crates/hound_c in WebAssembly.
 //
-// A file is a Uint8Array or a Blob, of which only what is needed is read. Samples are interleaved typed arrays. No call
-// changes its arguments. A file must not change before the promise of a call over it is settled; samples may.
+// A file is a Uint8Array, an ArrayBuffer, or a Blob, of which only what is needed is read. Samples are an interleaved typed
+// array, or an array of one for each channel. No call changes its arguments. A file must not change before the promise of
+// a call over it is settled; samples may.
 import { module } from "./module.js";
 
 // Each error, its code in hound.h without the sign, and its sentence there.
@@ -62,9 +63,9 @@ const BLOCK_BYTES = 4 * BLOCK;
 const [SPEC, MACHINE, FOUND, HEADER, FIRST, SECOND] = [0, 16, 192, 256, PAGE, PAGE + BLOCK_BYTES];
 
 // Which argument of a call has 32 bits.
-const WORDS = { repairer_begin: 1, recorder_resume: 1 };
+const WORDS = { repairer_begin: 1, recorder_resume: 1, to_f32: 2, from_f32: 2 };
 
-/** An instance of the module and so much memory of it: no two calls use it at once. */
+/** An instance of the module, and so much memory of it. */
 class Memory {
   constructor({ exports }, size) {
     const { memory } = exports;
@@ -94,8 +95,20 @@ class Memory {
   }
 }
 
-// The instance of all calls over small arguments. They are synchronous, so none is made during another.
-const shared = new Memory(await WebAssembly.instantiate(module), SECOND + BLOCK_BYTES);
+// The instance of all calls, which the first one loads. What uses it is synchronous, so no two calls do at once.
+let shared, loading;
+
+async function load() {
+  try {
+    shared = new Memory(await WebAssembly.instantiate(await module()), SECOND + BLOCK_BYTES);
+  } finally {
+    loading = undefined; // After an error the next call tries it again.
+  }
+}
+
+async function ready() {
+  if (!shared) await (loading ??= load());
+}
 
 // The types of samples: their arrays, and the calls that decode and encode them.
 const TYPES = {
@@ -118,14 +131,42 @@ function typeNamed(name) {
 
 function typeOf(samples) {
   const type = Object.values(TYPES).find(({ array }) => samples instanceof array);
-  if (!type) throw new TypeError("samples is no Int8Array, Int16Array, Int32Array or Float32Array");
+  if (!type) throw new TypeError("samples is no Int8Array, Int16Array, Int32Array or Float32Array, and no array of these");
   return type;
 }
 
-function lengthOf(file) {
-  if (file instanceof Uint8Array) return file.length;
-  if (file instanceof Blob) return file.size;
-  throw new TypeError("file is neither a Uint8Array nor a Blob");
+/** An array by which samples are copied: by that of their type a NaN could get other bits. */
+const exact = (samples) => samples instanceof Float32Array ? new Int32Array(samples.buffer, samples.byteOffset, samples.length) : samples;
+
+/** A copy of the samples that are given, interleaved, with their type, and the number of channels if each has an array. */
+function taken(samples) {
+  if (!Array.isArray(samples)) return { type: typeOf(samples), all: samples.slice() };
+  const type = typeOf(samples[0]), channels = samples.length, all = new type.array(channels * samples[0].length), out = exact(all);
+  samples.forEach((channel, i) => {
+    if (typeOf(channel) !== type) throw new TypeError("samples has arrays of different types");
+    if (channel.length !== samples[0].length) throw new RangeError("samples has arrays of different lengths");
+    exact(channel).forEach((value, frame) => { out[frame * channels + i] = value; });
+  });
+  return { type, all, channels };
+}
+
+/** An array for each channel of interleaved samples. */
+function planarOf(all, channels) {
+  return Array.from({ length: channels }, (_, i) => {
+    const channel = new all.constructor(all.length / channels), from = exact(all);
+    exact(channel).forEach((_, frame, out) => { out[frame] = from[frame * channels + i]; });
+    return channel;
+  });
+}
+
+function checkChannels(given, channels) {
+  if (given !== undefined && given !== channels) throw new RangeError(`samples has ${given} arrays, and there are ${channels} channels`);
+}
+
+function fileOf(file) {
+  if (file instanceof ArrayBuffer) return new Uint8Array(file);
+  if (file instanceof Uint8Array || file instanceof Blob) return file;
+  throw new TypeError("file is no Uint8Array, ArrayBuffer or Blob");
 }
 
 const sizeOf = (part) => part.size ?? part.length;
@@ -197,7 +238,7 @@ async function performAll(machine, name, perform, found) {
 
 /** Reads parts of a file. Of a Blob the last page is kept, for many chunks that are short. */
 function readerOf(file) {
-  const size = lengthOf(file);
+  const size = sizeOf(file);
   let from = 0, page = new Uint8Array(0);
   return async ({ place, length }) => {
     const end = Math.min(place + length, size);
@@ -209,7 +250,7 @@ function readerOf(file) {
 
 /** Walks over what is before the data. */
 function walkOver(file) {
-  const size = lengthOf(file), readPart = ({ place, length }) => bytesOf(file, Math.min(place, size), Math.min(place + length, size));
+  const size = sizeOf(file), readPart = ({ place, length }) => bytesOf(file, Math.min(place, size), Math.min(place + length, size));
   return performAll(new Machine(80), "walk_next", readPart, (code) => {
     checked(code);
     const samples = shared.view.getUint32(FOUND + 12, true), dataStart = Number(shared.view.getBigUint64(FOUND + 16, true));
@@ -219,39 +260,53 @@ function walkOver(file) {
 
 /** What the header of a file says. The data needn't all be there. */
 export async function info(file) {
-  const { spec, samples, dataStart } = await walkOver(file);
+  const given = fileOf(file);
+  await ready();
+  const { spec, samples, dataStart } = await walkOver(given);
   return { ...spec, frames: samples / spec.channels, dataStart };
 }
 
+/** The type that is stored where samples of a type are read or written: floats may be scaled to integers. */
+const storedAs = (type, spec) => type.isFloat && !spec.isFloat ? TYPES.int32 : type;
+
 /** Decodes containers into the front of an array. */
-function decode(type, bytes, out) {
+function decode(type, spec, bytes, out) {
+  const stored = storedAs(type, spec);
+  shared.putSpec(spec);
   shared.bytes.set(bytes, FIRST);
-  const count = checked(shared.call("decode_" + type.call, shared.at(SPEC), shared.at(FIRST), bytes.length, shared.at(SECOND), out.length));
-  out.set(new type.array(shared.bytes.buffer, shared.at(SECOND), count));
+  const count = checked(shared.call("decode_" + stored.call, shared.at(SPEC), shared.at(FIRST), bytes.length, shared.at(SECOND), out.length));
+  if (type !== stored) checked(shared.call("to_f32", shared.at(SECOND), count, spec.bitsPerSample, shared.at(FIRST), count));
+  out.set(new type.array(shared.bytes.buffer, shared.at(type === stored ? SECOND : FIRST), count));
 }
 
-function encode(type, samples, out) {
-  new type.array(shared.bytes.buffer, shared.at(FIRST), samples.length).set(samples);
-  checked(shared.call("encode_" + type.call, shared.at(SPEC), shared.at(FIRST), samples.length, shared.at(SECOND), out.length));
-  out.set(shared.bytes.subarray(SECOND, SECOND + out.length));
+/** Encodes samples into an array, and returns how many were clipped. */
+function encode(type, spec, samples, out) {
+  const stored = storedAs(type, spec), count = samples.length;
+  shared.putSpec(spec);
+  new type.array(shared.bytes.buffer, shared.at(FIRST), count).set(samples);
+  shared.view.setBigUint64(FOUND, 0n, true);
+  if (type !== stored) checked(shared.call("from_f32", shared.at(FIRST), count, spec.bitsPerSample, shared.at(SECOND), count, shared.at(FOUND)));
+  const [from, to] = type === stored ? [FIRST, SECOND] : [SECOND, FIRST];
+  checked(shared.call("encode_" + stored.call, shared.at(SPEC), shared.at(from), count, shared.at(to), out.length));
+  out.set(shared.bytes.subarray(to, to + out.length));
+  return Number(shared.view.getBigUint64(FOUND, true));
 }
 
 /**
  * Reads frames from number `start` on, at most so many, and returns their samples.
  *
- * Without `type` it is the narrowest one from 16 bits on that reads the file. Of a file that holds fewer frames than its
- * header counts these are read, and a read that starts after them is an error.
+ * Without `type` it is the narrowest one from 16 bits on that reads the file. Integers are also read as floats, each
+ * divided by 2^(bits - 1). Of a file that holds fewer frames than its header counts these are read, and a read that
+ * starts after them is an error.
  */
-export async function read(file, { start = 0, frames = Infinity, type } = {}) {
-  const length = lengthOf(file);
+export async function read(file, { start = 0, frames = Infinity, type, planar = false } = {}) {
+  const given = fileOf(file), length = sizeOf(given);
   integer("start", start, 0, Number.MAX_SAFE_INTEGER);
   if (frames !== Infinity) integer("frames", frames, 0, Number.MAX_SAFE_INTEGER);
   if (type !== undefined) typeNamed(type);
-  const found = await info(file);
-  const { channels, bytesPerSample, dataStart } = found;
+  const found = await info(given), { channels, bytesPerSample, dataStart } = found;
   const form = typeNamed(type ?? (found.isFloat ? "float32" : found.bitsPerSample <= 16 ? "int16" : "int32"));
-  shared.putSpec(found);
-  decode(form, new Uint8Array(0), new form.array(0)); // An error where the type doesn't read the file.
+  decode(form, found, new Uint8Array(0), new form.array(0)); // An error where the type doesn't read the file.
   const counted = Math.max(Math.min(frames, found.frames - start), 0);
   const count = Math.min(counted, Math.floor((length - dataStart) / (channels * bytesPerSample)) - start);
   if (count <= 0 && counted > 0) throw new HoundError("TRUNCATED");
@@ -259,44 +314,63 @@ export async function read(file, { start = 0, frames = Infinity, type } = {}) {
   const place = dataStart + start * channels * bytesPerSample;
   for (let first = 0; first < samples.length; first += BLOCK) {
     const block = samples.subarray(first, first + BLOCK), from = place + first * bytesPerSample;
-    const bytes = await bytesOf(file, from, from + block.length * bytesPerSample);
-    shared.putSpec(found);
-    decode(form, bytes, block);
+    decode(form, found, await bytesOf(given, from, from + block.length * bytesPerSample), block);
   }
-  return samples;
+  return planar ? planarOf(samples, channels) : samples;
 }
 
 /** How many bytes a sample takes; an error where the type isn't written. */
-function widthOf(type) {
-  new type.array(shared.bytes.buffer, shared.at(FIRST), 1).fill(0);
-  return checked(shared.call("encode_" + type.call, shared.at(SPEC), shared.at(FIRST), 1, shared.at(SECOND), BLOCK_BYTES));
+function widthOf(type, spec) {
+  const stored = storedAs(type, spec);
+  shared.putSpec(spec);
+  new stored.array(shared.bytes.buffer, shared.at(FIRST), 1).fill(0);
+  return checked(shared.call("encode_" + stored.call, shared.at(SPEC), shared.at(FIRST), 1, shared.at(SECOND), BLOCK_BYTES));
 }
 
-/** The containers of samples of a spec. */
+/** The containers of samples of a spec, and how many samples were clipped. */
 function encoded(type, samples, spec) {
-  shared.putSpec(spec);
-  const width = widthOf(type), out = new Uint8Array(samples.length * width);
+  const width = widthOf(type, spec), data = new Uint8Array(samples.length * width);
+  let clipped = 0;
   for (let first = 0; first < samples.length; first += BLOCK) {
-    encode(type, samples.subarray(first, first + BLOCK), out.subarray(first * width, (first + BLOCK) * width));
+    clipped += encode(type, spec, samples.subarray(first, first + BLOCK), data.subarray(first * width, (first + BLOCK) * width));
   }
-  return out;
+  return { data, clipped };
+}
+
+function warn(clipped) {
+  console.warn(`hound_bindings: samples out of full scale were clipped: ${clipped}`);
+}
+
+/** The spec of a file of samples of a type. Floats are stored as integers where these have other bits, or it is said. */
+function specFor(type, { sampleRate, channels = 1, bitsPerSample, bytesPerSample = 0, isFloat }) {
+  const bits = integer("bitsPerSample", bitsPerSample ?? type.bits, 1, 0xffff);
+  if (isFloat !== undefined && typeof isFloat !== "boolean") throw new TypeError(`isFloat is ${String(isFloat)}, and not a boolean`);
+  return {
+    sampleRate: integer("sampleRate", sampleRate, 1, 0xffffffff),
+    channels: integer("channels", channels, 1, 0xffff),
+    bitsPerSample: bits,
+    bytesPerSample: integer("bytesPerSample", bytesPerSample, 0, 0xffff),
+    isFloat: isFloat ?? (type.isFloat && bits === type.bits),
+  };
+}
+
+/** The header of a file of so many samples. */
+function headerOf(spec, samples) {
+  shared.putSpec(spec);
+  const length = checked(shared.call("header", shared.at(SPEC), samples, shared.at(HEADER), FIRST - HEADER));
+  return shared.bytes.slice(HEADER, HEADER + length);
 }
 
 /** Makes the file of these samples. `bitsPerSample` is the width of the samples unless it is given. */
-export async function write(samples, { sampleRate, channels = 1, bitsPerSample, bytesPerSample = 0 } = {}) {
-  const type = typeOf(samples);
-  const spec = {
-    sampleRate: integer("sampleRate", sampleRate, 1, 0xffffffff),
-    channels: integer("channels", channels, 1, 0xffff),
-    bitsPerSample: integer("bitsPerSample", bitsPerSample ?? type.bits, 1, 0xffff),
-    bytesPerSample: integer("bytesPerSample", bytesPerSample, 0, 0xffff),
-    isFloat: type.isFloat,
-  };
+export async function write(samples, { onClipped = warn, ...format } = {}) {
+  const { type, all, channels } = taken(samples), spec = specFor(type, { ...format, channels: format.channels ?? channels });
+  checkChannels(channels, spec.channels);
+  await ready();
   shared.putSpec(spec);
-  const size = checked(shared.call("size", shared.at(SPEC), samples.length));
-  const length = checked(shared.call("header", shared.at(SPEC), samples.length, shared.at(HEADER), FIRST - HEADER));
-  const header = shared.bytes.slice(HEADER, HEADER + length), data = encoded(type, samples, spec);
-  return joined([header, data, new Uint8Array(size - length - data.length)], false);
+  const size = checked(shared.call("size", shared.at(SPEC), all.length)), header = headerOf(spec, all.length);
+  const { data, clipped } = encoded(type, all, spec), file = joined([header, data, new Uint8Array(size - header.length - data.length)], false);
+  if (clipped > 0) onClipped(clipped);
+  return file;
 }
 
 const STATES = ["whole", "cutOff", "hasChunksAfterData"];
@@ -317,7 +391,9 @@ function repairBy(size, mode, perform) {
 
 /** Reports what `repair` would find, or fails as it would. */
 export async function findDamage(file) {
-  const { report } = await repairBy(lengthOf(file), FIND_DAMAGE, readerOf(file));
+  const given = fileOf(file);
+  await ready();
+  const { report } = await repairBy(sizeOf(given), FIND_DAMAGE, readerOf(given));
   return report;
 }
 
@@ -352,9 +428,10 @@ class Overlay {
  * `toEnd` all that follows the header of the data is taken for samples, also what looks like chunks.
  */
 export async function repair(file, { toEnd = false } = {}) {
-  const readPart = readerOf(file), repaired = new Overlay([file]);
-  const { report } = await repairBy(lengthOf(file), toEnd ? REPAIR_TO_END : REPAIR, (effect) => effect.kind === READ ? readPart(effect) : repaired.perform(effect));
-  return { ...report, file: repaired.parts.length > 1 ? joined(repaired.parts, file instanceof Blob) : file };
+  const given = fileOf(file), readPart = readerOf(given), repaired = new Overlay([given]);
+  await ready();
+  const { report } = await repairBy(sizeOf(given), toEnd ? REPAIR_TO_END : REPAIR, (effect) => effect.kind === READ ? readPart(effect) : repaired.perform(effect));
+  return { ...report, file: repaired.parts.length > 1 ? joined(repaired.parts, given instanceof Blob) : given };
 }
 
 async function readAt(handle, { place, length }) {
@@ -380,7 +457,7 @@ async function writeAt(handle, { place, bytes }) {
  * the data length, a missing pad byte, and last the RIFF size.
  */
 export async function repairFile(path, { toEnd = false } = {}) {
-  const { open } = await import(/* webpackIgnore: true */ "node:fs/promises");
+  const [{ open }] = await Promise.all([import(/* webpackIgnore: true */ "node:fs/promises"), ready()]);
   const handle = await open(path, "r+");
   const perform = (effect) => effect.kind === READ ? readAt(handle, effect) : effect.kind === WRITE ? writeAt(handle, effect) : handle.sync();
   try {
@@ -397,7 +474,7 @@ const made = new WeakMap();
 
 /** What is appended to. */
 async function opened(file, overwrite) {
-  const { found } = await repairBy(lengthOf(file), FIND_DAMAGE, readerOf(file)), recorder = new Machine(88);
+  const { found } = await repairBy(sizeOf(file), FIND_DAMAGE, readerOf(file)), recorder = new Machine(88);
   shared.bytes.set(found, FOUND);
   checked(recorder.call("recorder_resume", shared.at(FOUND), overwrite ? OVERWRITE : 0, shared.at(MACHINE)));
   return { recorder, spec: shared.specAt(FOUND), parts: [file] };
@@ -424,17 +501,20 @@ function join(parts) {
  *
  * A recording that was cut off is an error, and so are chunks or a tag after the data, unless they may be overwritten.
  */
-export async function append(file, samples, { overwrite = false } = {}) {
-  const type = typeOf(samples), given = samples.slice(), isBlob = file instanceof Blob;
-  const { recorder: before, spec, parts } = made.get(file) ?? await opened(file, overwrite);
-  const recorder = new Machine(88), overlay = new Overlay(parts), data = encoded(type, given, spec);
+export async function append(file, samples, { overwrite = false, onClipped = warn } = {}) {
+  const given = fileOf(file), { type, all, channels } = taken(samples), isBlob = given instanceof Blob;
+  await ready();
+  const { recorder: before, spec, parts } = made.get(given) ?? await opened(given, overwrite);
+  checkChannels(channels, spec.channels);
+  const recorder = new Machine(88), overlay = new Overlay(parts), { data, clipped } = encoded(type, all, spec);
   recorder.bytes.set(before.bytes);
-  checked(recorder.call("recorder_write", shared.at(MACHINE), given.length));
+  checked(recorder.call("recorder_write", shared.at(MACHINE), all.length));
   record(recorder, overlay, isBlob ? new Blob([data]) : data);
   join(overlay.parts);
   recorder.call("recorder_checkpoint", shared.at(MACHINE));
   record(recorder, overlay);
   const longer = joined(overlay.parts, isBlob);
   if (isBlob) made.set(longer, { recorder, spec, parts: overlay.parts });
+  if (clipped > 0) onClipped(clipped);
   return longer;
 }

@@ -6,13 +6,18 @@ export async function uses(blob: Blob, bytes: Uint8Array): Promise<string> {
   const any: Int16Array | Int32Array | Float32Array = await read(bytes);
   const written: Uint8Array = await write(wide, { sampleRate: 8000, channels: 2, bitsPerSample: 24, bytesPerSample: 4 });
   const longer: Blob = await append(blob, any, { overwrite: true });
+  const [left, right]: Float32Array[] = await read(new ArrayBuffer(44), { type: "float32", planar: true });
+  await append(bytes, await read(blob, { planar: true }), { onClipped: (count: number) => count.toFixed() });
   const found: Damage = await findDamage(written);
   const mended: Blob = (await repair(longer, { toEnd: true })).file;
   const head: Info = await info(mended);
+  await write([left!, right!], { ...head, bitsPerSample: 16 });
   // @ts-expect-error: a repaired Uint8Array is no Blob.
   const wrong: Blob = (await repair(bytes)).file;
   // @ts-expect-error: there is no such type.
   await read(wrong, { type: "int24" });
+  // @ts-expect-error: the arrays have two types.
+  await write([left!, wide], head);
   // @ts-expect-error: the rate is missing.
   await write(wide, { channels: 2 });
   return found.state === "cutOff" ? new HoundError("IS_CUT_OFF").code : `${head.frames} ${head.isFloat}`;
