@@ -50,8 +50,10 @@ export class HoundError extends Error {
   }
 }
 
+const errorOf = (code) => new HoundError(NAMES.get(-Number(code)));
+
 function checked(code) {
-  if (code < 0) throw new HoundError(NAMES.get(-Number(code)));
+  if (code < 0) throw errorOf(code);
   return Number(code);
 }
 
@@ -224,6 +226,11 @@ class Machine {
     }
     this.view.setUint16(14, DONE, true);
   }
+
+  /** Reports it as failed. */
+  fail() {
+    this.view.setUint16(14, FAILED, true);
+  }
 }
 
 /** Performs all that a walk or a repairer requests, and returns what `found` gives for its last code. */
@@ -350,7 +357,7 @@ function specFor(type, { sampleRate, channels = 1, bitsPerSample, bytesPerSample
     channels: integer("channels", channels, 1, 0xffff),
     bitsPerSample: bits,
     bytesPerSample: integer("bytesPerSample", bytesPerSample, 0, 0xffff),
-    isFloat: isFloat ?? (type.isFloat && bits === type.bits),
+    isFloat: isFloat ?? (type.isFloat === true && bits === type.bits),
   };
 }
 
@@ -444,7 +451,7 @@ async function readAt(handle, { place, length }) {
   return bytes;
 }
 
-async function writeAt(handle, { place, bytes }) {
+async function writeAt(handle, bytes, place) {
   for (let count = 0; count < bytes.length;) {
     const { bytesWritten } = await handle.write(bytes, count, bytes.length - count, place + count);
     if (bytesWritten === 0) throw new Error("nothing could be written");
@@ -452,36 +459,161 @@ async function writeAt(handle, { place, bytes }) {
   }
 }
 
+async function cutAt(handle, place) {
+  if ((await handle.stat()).size > place) await handle.truncate(place);
+}
+
+/** Performs an effect on a file of Node. What isn't durable isn't synced: the system has what was written. */
+async function performOn(handle, durable, effect, block) {
+  switch (effect.kind) {
+    case READ: return readAt(handle, effect);
+    case WRITE: return writeAt(handle, effect.bytes, effect.place);
+    case WRITE_BLOCK: return writeAt(handle, block, effect.place);
+    case SYNC: return durable ? handle.sync() : undefined;
+    case CUT: return cutAt(handle, effect.place);
+  }
+}
+
+/** Node's files, once the module is there, too. */
+async function files() {
+  const [fs] = await Promise.all([import(/* webpackIgnore: true */ "node:fs/promises"), ready()]);
+  return fs;
+}
+
 /**
  * Repairs a file at a path in place, in Node, and returns how it was found. Each step is synced: the file as it was found,
  * the data length, a missing pad byte, and last the RIFF size.
  */
 export async function repairFile(path, { toEnd = false } = {}) {
-  const [{ open }] = await Promise.all([import(/* webpackIgnore: true */ "node:fs/promises"), ready()]);
-  const handle = await open(path, "r+");
-  const perform = (effect) => effect.kind === READ ? readAt(handle, effect) : effect.kind === WRITE ? writeAt(handle, effect) : handle.sync();
+  const { open } = await files(), handle = await open(path, "r+");
   try {
     const { size } = await handle.stat();
-    const { report } = await repairBy(size, toEnd ? REPAIR_TO_END : REPAIR, perform);
+    const { report } = await repairBy(size, toEnd ? REPAIR_TO_END : REPAIR, (effect) => performOn(handle, true, effect));
     return report;
   } finally {
     await handle.close();
   }
 }
 
+/** What a file of so many bytes, which is looked at, is appended to by. */
+async function resumed(size, perform, allowed) {
+  const { found } = await repairBy(size, FIND_DAMAGE, perform), recorder = new Machine(88);
+  shared.bytes.set(found, FOUND);
+  checked(recorder.call("recorder_resume", shared.at(FOUND), allowed, shared.at(MACHINE)));
+  return { recorder, spec: shared.specAt(FOUND) };
+}
+
+/** A file that is recorded. What is requested of it is performed one after the other. */
+class Recorder {
+  #handle;
+  #machine;
+  #durable;
+  #last = Promise.resolve();
+  #closing;
+
+  constructor(handle, durable, { recorder, spec }) {
+    this.#handle = handle;
+    this.#durable = durable;
+    this.#machine = recorder;
+    this.spec = Object.freeze(spec);
+  }
+
+  /** Writes whole frames after the last ones. After a write that failed it makes a checkpoint first. */
+  async write(samples, { onClipped = warn } = {}) {
+    this.#checkOpen();
+    const { type, all, channels } = taken(samples);
+    checkChannels(channels, this.spec.channels);
+    const { data, clipped } = encoded(type, all, this.spec);
+    await this.#queue(() => this.#perform("recorder_write", data, all.length));
+    if (clipped > 0) onClipped(clipped);
+  }
+
+  /** Makes a checkpoint: the header counts all frames that are written. */
+  async flush() {
+    this.#checkOpen();
+    await this.#queue(() => this.#perform("recorder_checkpoint"));
+  }
+
+  /** Makes a checkpoint and closes the file, after an error, too. */
+  close() {
+    this.#closing ??= this.#queue(() => this.#perform("recorder_checkpoint").finally(() => this.#handle.close()));
+    return this.#closing;
+  }
+
+  #checkOpen() {
+    if (this.#closing) throw new Error("the recorder is closed");
+  }
+
+  #queue(task) {
+    const done = this.#last.then(task);
+    this.#last = done.catch(() => {});
+    return done;
+  }
+
+  /** Performs all effects of a request. What fails is reported as failed, and is the error if the recorder says so. */
+  async #perform(request, block, ...numbers) {
+    const machine = this.#machine;
+    let fault, code;
+    checked(machine.call(request, shared.at(MACHINE), ...numbers));
+    while ((code = machine.call("recorder_next", shared.at(MACHINE))) === 1) {
+      try {
+        const { effect } = machine;
+        machine.report(effect, await performOn(this.#handle, this.#durable, effect, block));
+      } catch (error) {
+        fault ??= error;
+        machine.fail();
+      }
+    }
+    if (code < 0) throw fault ?? errorOf(code);
+  }
+}
+
+/** Opens a file, and closes it again if it can't be recorded to. */
+async function recorderOf(path, flags, durable, prepare) {
+  const fs = await files(), handle = await fs.open(path, flags);
+  try {
+    return new Recorder(handle, durable, await prepare(handle, () => syncFolder(fs, path)));
+  } catch (error) {
+    await handle.close();
+    throw error;
+  }
+}
+
+/** Stores the name of a file, where the system opens folders. */
+async function syncFolder({ open, realpath }, path) {
+  if (process.platform === "win32") return;
+  const { dirname } = await import(/* webpackIgnore: true */ "node:path"), folder = await open(dirname(await realpath(path)));
+  await folder.sync().finally(() => folder.close());
+}
+
+/** Records a new file at a path, in Node, in the place of one that is there unless that is to be an error. */
+export async function record(path, format, { durable = false, exclusive = false } = {}) {
+  const spec = specFor({}, format ?? {}), recorder = new Machine(88);
+  const { constants } = await files(), header = headerOf(spec, 0);
+  checked(recorder.call("recorder_begin", shared.at(SPEC), shared.at(MACHINE)));
+  spec.bytesPerSample = widthOf(spec.isFloat ? TYPES.float32 : TYPES.int32, spec);
+  return recorderOf(path, constants.O_RDWR | constants.O_CREAT | (exclusive ? constants.O_EXCL : 0), durable, async (handle, syncName) => {
+    if (durable) await syncName();
+    await handle.truncate(0);
+    if (durable) await handle.sync();
+    await writeAt(handle, header, 0);
+    return { recorder, spec };
+  });
+}
+
+/** Records after the frames of a file at a path, in Node. What `append` rejects is an error. */
+export async function appendTo(path, { durable = false } = {}) {
+  return recorderOf(path, "r+", durable, async (handle, syncName) => {
+    if (durable) await handle.sync().then(syncName);
+    return resumed((await handle.stat()).size, (effect) => performOn(handle, durable, effect), 0);
+  });
+}
+
 // The Blobs that `append` has made: their recorders, specs and parts, which an append to one of them takes over.
 const made = new WeakMap();
 
-/** What is appended to. */
-async function opened(file, overwrite) {
-  const { found } = await repairBy(sizeOf(file), FIND_DAMAGE, readerOf(file)), recorder = new Machine(88);
-  shared.bytes.set(found, FOUND);
-  checked(recorder.call("recorder_resume", shared.at(FOUND), overwrite ? OVERWRITE : 0, shared.at(MACHINE)));
-  return { recorder, spec: shared.specAt(FOUND), parts: [file] };
-}
-
-/** Performs all that a recorder requests, which is a block or nothing more. */
-function record(recorder, overlay, block) {
+/** Performs all that a recorder requests on an overlay. */
+function performOver(overlay, recorder, block) {
   while (checked(recorder.call("recorder_next", shared.at(MACHINE))) === 1) {
     const { effect } = recorder;
     overlay.perform(effect, block);
@@ -504,15 +636,15 @@ function join(parts) {
 export async function append(file, samples, { overwrite = false, onClipped = warn } = {}) {
   const given = fileOf(file), { type, all, channels } = taken(samples), isBlob = given instanceof Blob;
   await ready();
-  const { recorder: before, spec, parts } = made.get(given) ?? await opened(given, overwrite);
+  const { recorder: before, spec, parts = [given] } = made.get(given) ?? await resumed(sizeOf(given), readerOf(given), overwrite ? OVERWRITE : 0);
   checkChannels(channels, spec.channels);
   const recorder = new Machine(88), overlay = new Overlay(parts), { data, clipped } = encoded(type, all, spec);
   recorder.bytes.set(before.bytes);
   checked(recorder.call("recorder_write", shared.at(MACHINE), all.length));
-  record(recorder, overlay, isBlob ? new Blob([data]) : data);
+  performOver(overlay, recorder, isBlob ? new Blob([data]) : data);
   join(overlay.parts);
   recorder.call("recorder_checkpoint", shared.at(MACHINE));
-  record(recorder, overlay);
+  performOver(overlay, recorder);
   const longer = joined(overlay.parts, isBlob);
   if (isBlob) made.set(longer, { recorder, spec, parts: overlay.parts });
   if (clipped > 0) onClipped(clipped);

@@ -1,5 +1,5 @@
 // What hound.d.ts declares: `tsc` accepts this file, where each call has its arguments and its result.
-import { HoundError, append, findDamage, info, read, repair, write, type Damage, type Info } from "../hound.js";
+import { HoundError, append, appendTo, findDamage, info, read, record, repair, write, type Damage, type Info, type Recorder } from "../hound.js";
 
 export async function uses(blob: Blob, bytes: Uint8Array): Promise<string> {
   const wide: Int32Array = await read(blob, { type: "int32", start: 1, frames: 2 });
@@ -12,6 +12,11 @@ export async function uses(blob: Blob, bytes: Uint8Array): Promise<string> {
   const mended: Blob = (await repair(longer, { toEnd: true })).file;
   const head: Info = await info(mended);
   await write([left!, right!], { ...head, bitsPerSample: 16 });
+  const recorder: Recorder = await record("take.wav", { ...head, bitsPerSample: 24 }, { durable: true, exclusive: true });
+  await recorder.write([left!, right!], { onClipped: () => {} });
+  await (await appendTo(new URL("file:///take.wav"), { durable: true })).close();
+  // @ts-expect-error: without samples the bits are needed.
+  await record("take.wav", { sampleRate: 8000 });
   // @ts-expect-error: a repaired Uint8Array is no Blob.
   const wrong: Blob = (await repair(bytes)).file;
   // @ts-expect-error: there is no such type.
