@@ -102,18 +102,27 @@ export function write(samples: Samples, format: Format & Clipping): Promise<Uint
 export function append(file: Uint8Array | ArrayBuffer, samples: Samples, options?: { overwrite?: boolean } & Clipping): Promise<Uint8Array>;
 export function append(file: Blob, samples: Samples, options?: { overwrite?: boolean } & Clipping): Promise<Blob>;
 
+export interface RepairOptions {
+  toEnd?: boolean;
+  /** The format of the samples, where the header is lost. */
+  like?: Format & { bitsPerSample: number };
+  /** How many bytes of what is left aren't samples, at the front; 0 without it. */
+  skip?: number;
+}
+
 /** Reports what `repair` would find, or fails as it would. */
 export function findDamage(file: WavFile): Promise<Damage>;
 
 /**
  * Repairs a file whose recording was cut off, and returns how it was found and the repaired file, in which only the two
  * sizes and a missing pad byte differ. A file that is whole, or that chunks or a tag follow, is returned as it is; with
- * `toEnd` all that follows the header of the data is taken for samples, also what looks like chunks.
+ * `toEnd` all that follows the header of the data is taken for samples, also what looks like chunks. Where the header is lost
+ * all that follows the first `skip` bytes is, and a header like that of another file, or of this format, comes before it.
  *
  * A Blob of Node's `openAsBlob` is read when the result is: don't write that to the same path. `repairFile` does it.
  */
-export function repair(file: Uint8Array | ArrayBuffer, options?: { toEnd?: boolean }): Promise<Damage & { file: Uint8Array }>;
-export function repair(file: Blob, options?: { toEnd?: boolean }): Promise<Damage & { file: Blob }>;
+export function repair(file: Uint8Array | ArrayBuffer, options?: RepairOptions): Promise<Damage & { file: Uint8Array }>;
+export function repair(file: Blob, options?: RepairOptions): Promise<Damage & { file: Blob }>;
 
 /**
  * Repairs a file at a path in place, in Node, and returns how it was found. Each step is synced: the file as it was found,

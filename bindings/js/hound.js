@@ -432,12 +432,20 @@ class Overlay {
 /**
  * Repairs a file whose recording was cut off, and returns how it was found and the repaired file, in which only the two
  * sizes and a missing pad byte differ. A file that is whole, or that chunks or a tag follow, is returned as it is; with
- * `toEnd` all that follows the header of the data is taken for samples, also what looks like chunks.
+ * `toEnd` all that follows the header of the data is taken for samples, also what looks like chunks. Where the header is lost
+ * all that follows the first `skip` bytes is, and a header like that of another file comes before it.
  */
-export async function repair(file, { toEnd = false } = {}) {
-  const given = fileOf(file), readPart = readerOf(given), repaired = new Overlay([given]);
+export async function repair(file, { toEnd = false, like, skip = 0 } = {}) {
+  const whole = fileOf(file), spec = like && specFor({}, like);
+  integer("skip", skip, 0, sizeOf(whole));
   await ready();
-  const { report } = await repairBy(sizeOf(given), toEnd ? REPAIR_TO_END : REPAIR, (effect) => effect.kind === READ ? readPart(effect) : repaired.perform(effect));
+  const given = like ? joined([headerOf(spec, 0), partOf(whole, skip, sizeOf(whole))], whole instanceof Blob) : whole;
+  return repairedFile(given, like || toEnd ? REPAIR_TO_END : REPAIR);
+}
+
+async function repairedFile(given, mode) {
+  const readPart = readerOf(given), repaired = new Overlay([given]);
+  const { report } = await repairBy(sizeOf(given), mode, (effect) => effect.kind === READ ? readPart(effect) : repaired.perform(effect));
   return { ...report, file: repaired.parts.length > 1 ? joined(repaired.parts, given instanceof Blob) : given };
 }
 

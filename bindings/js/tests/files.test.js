@@ -214,6 +214,25 @@ test("with toEnd chunks and a tag are taken for samples", async () => {
   await fails(repair(byHand([1, 0], { channels: 0 }), { toEnd: true }), "ZERO_CHANNELS");
 });
 
+test("a lost header is made like another one", async () => {
+  const data = [1, 0, 2, 0, 3, 0, 4, 0], like = await info(byHand([], { channels: 2 }));
+  for (const lost of [Array(44).fill(0), [7], []]) {
+    for (const file of kinds(Uint8Array.from([...lost, ...data]))) {
+      const { state, frames, leftOver, file: found } = await repair(file, { like, skip: lost.length });
+      assert.deepEqual({ state, frames, leftOver }, { state: "cutOff", frames: 2, leftOver: 0 });
+      assert.deepEqual(await bytes(found), byHand(data, { channels: 2 }));
+    }
+  }
+  const torn = await repair(Uint8Array.from([...data, 9]), { like });
+  assert.deepEqual([torn.frames, torn.leftOver, torn.file], [2, 1, byHand(data, { channels: 2, after: [9], riff: 44 })]);
+  const odd = await repair(Uint8Array.of(5, 6, 7), { like: { sampleRate: 8000, bitsPerSample: 8 } });
+  assert.deepEqual(odd.file, byHand([5, 6, 7], { bits: 8, after: [0] }));
+  assert.equal((await repair(new Uint8Array(2), { like, skip: 2 })).frames, 0);
+  await assert.rejects(repair(Uint8Array.from(data), { like, skip: 9 }), { name: "RangeError", message: /^skip / });
+  await assert.rejects(repair(Uint8Array.from(data), { like: { sampleRate: 8000 } }), { name: "TypeError", message: /^bitsPerSample / });
+  await fails(repair(Uint8Array.from(data), { like: { sampleRate: 8000, bitsPerSample: 12 } }), "NOT_WRITABLE");
+});
+
 test("frames are appended", async () => {
   for (const file of kinds(byHand([1, 0, 2, 0]))) {
     assert.deepEqual(await bytes(await append(file, Int16Array.of(3, -1))), byHand([1, 0, 2, 0, 3, 0, 255, 255]));

@@ -11,6 +11,7 @@ export async function uses(blob: Blob, bytes: Uint8Array): Promise<string> {
   const found: Damage = await findDamage(written);
   const mended: Blob = (await repair(longer, { toEnd: true })).file;
   const head: Info = await info(mended);
+  await repair(mended, { like: head, skip: 44 });
   await write([left!, right!], { ...head, bitsPerSample: 16 });
   const recorder: Recorder = await record("take.wav", { ...head, bitsPerSample: 24 }, { durable: true, exclusive: true });
   await recorder.write([left!, right!], { onClipped: () => {} });
