@@ -1,29 +1,33 @@
-// The page: it looks at a file that is dropped or chosen, draws it, plays it, and saves the repaired one.
+// The page: it looks at files that are dropped or chosen, draws one, plays it, and saves the repaired ones.
 import { HoundError, findDamage, info, read, repair, write } from "../hound.js";
 
 const element = (id) => document.getElementById(id);
-const [drop, said, busy, stop, result, save, choice, end, wave, place, axis, zoom, player, facts] =
-  ["drop", "said", "busy", "stop", "result", "save", "choice", "end", "wave", "place", "axis", "zoom", "player", "facts"].map(element);
-const [input, audio, canvas, progress] = ["input", "audio", "canvas", "progress"].map((name) => document.querySelector(name));
+const [drop, list, all, lost, said, busy, stop, result, save, choice, end, wave, place, axis, zoom, player, facts] =
+  ["drop", "list", "all", "lost", "said", "busy", "stop", "result", "save", "choice", "end", "wave", "place", "axis", "zoom", "player", "facts"].map(element);
+const [input, audio, canvas, progress, table] = ["input", "audio", "canvas", "progress", "tbody"].map((name) => document.querySelector(name));
 
 // What is said of a file that can't be read, where hound.h's sentence is too short for somebody who knows no format.
-const KNOWN = "if you know its rate, channels and bits";
-const RAW = `an audio editor can import it as raw data, ${KNOWN}`;
-const KEEP = `Keep the file: an audio editor may read it, or import it as raw data, ${KNOWN}.`;
-const LOST = `Where its sound begins wasn't found, but sound may be in it. Keep the file: ${RAW}.`;
-const DAMAGED = `Its header is damaged, or of a kind that this page doesn't read. ${KEEP}`;
-const READS = `This page reads integers of 8, 16, 24 and 32 bits, and floats of 32 bits. ${KEEP}`;
+const CHOOSE = "Keep the file. Choose what was recorded, and listen.";
+const LOST = `Where its sound begins wasn't found, but sound may be in it. ${CHOOSE}`;
+const DAMAGED = `Its header is damaged, or of a kind that this page doesn't read. ${CHOOSE}`;
+const READS = `This page reads integers of 8, 16, 24 and 32 bits, and floats of 32 bits: an audio editor may read it. If its header is damaged: ${CHOOSE}`;
 const HINTS = {
   ENDED: LOST,
   NO_DATA_CHUNK: LOST,
   NO_FMT_CHUNK: LOST,
-  NO_RIFF_TAG: `It is no WAV file, or another kind of it (RF64, BW64, RIFX, a tag in front), which an audio editor may read. Or its beginning was lost: then ${RAW}.`,
-  NO_WAVE_TAG: `It is another RIFF file, or its beginning was lost: then ${RAW}.`,
-  UNSUPPORTED: `Its sound is compressed, or its header is damaged; this page reads plain samples only. ${KEEP}`,
+  NO_RIFF_TAG: `It is no WAV file, or another kind of it (RF64, BW64, RIFX, a tag in front), which an audio editor may read. Or its beginning was lost: ${CHOOSE}`,
+  NO_WAVE_TAG: `It is another RIFF file, or its beginning was lost: ${CHOOSE}`,
+  UNSUPPORTED: `Its sound is compressed, and an audio editor may read it; or its header is damaged: ${CHOOSE}`,
   NOT_WRITABLE: READS,
   BITS_NOT_32: READS,
 };
 const CARD = "Record nothing more on the card it came from: a recovery program may find the sound there.";
+// What samples may be, the usual ones first, the rates of most recorders, and the channels that are guessed.
+const FORMS = [[16, 2], [24, 3], [32, 4, true], [8, 1], [32, 4], [24, 4]]
+  .map(([bitsPerSample, bytesPerSample, isFloat = false]) => ({ bitsPerSample, bytesPerSample, isFloat }));
+const RATES = [8000, 11025, 16000, 22050, 32000, 44100, 48000, 88200, 96000, 192000], CHANNELS = [1, 2, 4, 6, 8];
+// From how many places of a file a guess is made, of how many bytes each, and what number of bytes all samples are a part of.
+const PLACES = 16, PART = 6144, COMMON = 12;
 // How many samples are read at once to be drawn, how many channels are drawn at most, how many frames are shown at least,
 // and how many samples a copy has at most.
 const AT_ONCE = 1 << 20, LANES = 32, LEAST = 64, COPIED = 1 << 28;
@@ -46,7 +50,7 @@ function say(text, kind = "") {
 function failure(file, error) {
   if (error.code === "ENDED" && file.size < LEAST) return `${file.name} ${file.size ? "ends before any sound" : "is empty"}. ${CARD}`;
   const large = `it has ${number(file.size)} bytes. Keep it:`;
-  if (error.code === "TOO_LONG") return `${file.name} is too large for a WAV file: ${large} ${RAW}.`;
+  if (error.code === "TOO_LONG") return `${file.name} is too large for a WAV file: ${large} an audio editor may read it as RF64, or import it as raw data, if you know its rate, channels and bits.`;
   if (error instanceof HoundError) return `${file.name} can't be read: ${error.message}.\n${HINTS[error.code] ?? DAMAGED}`;
   if (error instanceof RangeError) return `${file.name} is too large for this browser: ${large} a newer one, or another one, may repair it.`;
   return `${file.name} could not be read: ${error.message}`;
@@ -89,18 +93,21 @@ function otherChoice({ rest, mayBeSound }, toEnd) {
 /** The name of a file that is saved: `a repaired.wav` for `a.wav`, and `a repaired 2.wav` for that. */
 const repairedName = (name) => name.replace(/( repaired( \d+)?)?(\.wave?)?$/i, (_, again, count = 1) => ` repaired${again ? ` ${Number(count) + 1}` : ""}.wav`);
 
+function formText({ bitsPerSample, bytesPerSample, isFloat }) {
+  return `${isFloat ? "floats" : "integers"} of ${bitsPerSample} bits${bytesPerSample * 8 === bitsPerSample ? "" : ` in ${bytesPerSample} bytes`}`;
+}
+
 /** The header's fields, with a hint for each that needs one. */
-function rows(file, head, found) {
-  const { sampleRate, channels, bitsPerSample, bytesPerSample, isFloat, dataStart } = found;
-  const width = bytesPerSample * 8 === bitsPerSample ? "" : ` in ${bytesPerSample} bytes`;
+function rows(file, { head, found, begins }) {
+  const { sampleRate, channels } = found;
   return [
     ["File", `${file.name}, ${counted(file.size, "byte")}`],
     ["Duration", `${sampleRate ? `${time(lengthOfTime(found))}, ` : ""}${counted(found.frames, "frame")}`, "A frame has one sample of each channel."],
-    ["Sample rate", `${number(sampleRate)} Hz`, sampleRate ? "Frames a second." : "It is lost. An audio editor can import the file as raw data, if you know it."],
+    ["Sample rate", `${number(sampleRate)} Hz`, sampleRate ? "Frames a second." : "It is lost: choose it."],
     ["Channels", number(channels), ...(channels > LANES ? [`The first ${LANES} are drawn.`] : [])],
-    ["Samples", `${isFloat ? "floats" : "integers"} of ${bitsPerSample} bits${width}`],
-    ["Sound begins", `at byte ${number(dataStart)}`],
-    ...(found.state === "cutOff" ? [["Header", head ? `counts ${counted(head.frames, "frame")}` : "counts no whole frames", "The repaired file counts all whole frames that are there."]] : []),
+    ["Samples", formText(found)],
+    ["Sound begins", `at byte ${number(begins)}`],
+    ...(found.state === "cutOff" && head !== undefined ? [["Header", head ? `counts ${counted(head.frames, "frame")}` : "counts no whole frames", "The repaired file counts all whole frames that are there."]] : []),
     ...(found.leftOver ? [["Left over", counted(found.leftOver, "byte"), `${found.leftOver === 1 ? "It stays" : "They stay"} in the file, after the last whole frame.`]] : []),
   ];
 }
@@ -273,51 +280,221 @@ function play(found, isCurrent) {
   audio.src = urlOf(found.file);
 }
 
-/** Looks at a file; `toEnd` is whether all of it is taken for sound. */
-async function open(file, toEnd = false) {
+/** What is found of a file, and what is said of that; `toEnd` is whether all of it is taken for sound. */
+async function judged(file, toEnd) {
+  const head = await info(file).catch(() => null), left = await repair(file, { toEnd });
+  // If the header counts half a frame, and chunks or a tag seem to follow, nothing is read of the file unless it is repaired.
+  const isTorn = !head && left.state === "hasChunksAfterData", found = isTorn ? await repair(file, { toEnd: true }) : left;
+  const says = claims(file, found);
+  return { head, found, begins: found.dataStart, says, words: verdict(found, says, toEnd || isTorn) };
+}
+
+/** The same of a file whose header is lost: all after so many bytes is sound like that. */
+async function judgedAs(file, { like, skip }) {
+  const found = await repair(file, { like, skip });
+  return { found, begins: skip, words: [`${framesOf(found)} of that ${found.frames === 1 ? "is" : "are"} there. Listen: if it is noise, or too fast or slow, choose otherwise.`, "cut"] };
+}
+
+/** How far samples are from a smooth line, as a part of how far each is from the one before; of noise it is 3. */
+function roughness(blocks, channels) {
+  let rough = 0, steps = 0;
+  for (const block of blocks) {
+    for (let i = 2 * channels; i < block.length; i++) {
+      const step = block[i] - block[i - channels];
+      rough += (step - block[i - channels] + block[i - 2 * channels]) ** 2;
+      steps += step ** 2;
+    }
+  }
+  return rough / steps;
+}
+
+/** What was recorded in a file whose header is lost, by what makes its samples smooth; nothing if nothing does. */
+async function guessed(file) {
+  const places = Array.from({ length: PLACES }, (_, i) => COMMON * Math.floor(file.size * (i + 0.5) / PLACES / COMMON)), all = [];
+  const parts = await Promise.all(places.map((from) => file.slice(from, from + PART).arrayBuffer()));
+  for (const form of FORMS) {
+    for (let skip = 0; skip < form.bytesPerSample; skip++) {
+      const mono = { ...form, sampleRate: 1, channels: 1 }, blocks = [];
+      for (const part of parts) blocks.push(await read((await repair(part, { like: mono, skip: Math.min(skip, part.byteLength) })).file, { type: "float32" }));
+      for (const channels of CHANNELS) all.push({ like: { ...form, channels, sampleRate: 48000 }, skip, rough: roughness(blocks, channels) });
+    }
+  }
+  const best = all.reduce((least, { rough }) => rough < least ? rough : least, 1); // Some are no numbers.
+  const guess = all.find(({ rough }) => rough < 1 && rough <= 2 * best);
+  return guess && inStep(file, guess);
+}
+
+/** Where the lost header was as long as a new one, channels begin after it. */
+async function inStep(file, { like, skip }) {
+  const { dataStart } = await repair(file.slice(0, 0), { like }), first = dataStart % (like.channels * like.bytesPerSample);
+  return { like, skip: first % like.bytesPerSample === skip ? first : skip };
+}
+
+/** Offers a choice of what was recorded, which begins as this. */
+function offer(file, { like, skip }, text) {
+  element("guess").textContent = text;
+  const { form, channels, rate, skip: bytes } = lost.elements;
+  form.value = FORMS.findIndex((one) => ["bitsPerSample", "bytesPerSample", "isFloat"].every((name) => one[name] === like[name]));
+  [channels.value, rate.value, bytes.value, bytes.max] = [like.channels, like.sampleRate, skip, file.size];
+  lost.hidden = false;
+  lost.onchange = () => {
+    if (!lost.reportValidity()) return;
+    element("guess").textContent = "This is what you chose.";
+    const [channels, sampleRate, skip] = ["channels", "rate", "skip"].map((name) => lost.elements[name].valueAsNumber);
+    open(file, { like: { ...FORMS[form.value], channels, sampleRate }, skip });
+  };
+}
+
+/** Guesses what was recorded where a header can't be read, and offers other choices; or says that there is nothing to choose. */
+async function withoutHeader(file, error, isCurrent) {
+  if (!(error instanceof HoundError) || error.code === "TOO_LONG" || file.size < LEAST) throw error;
+  const guess = await guessed(file), given = guess ?? { like: { ...FORMS[0], channels: 2, sampleRate: 48000 }, skip: 0 };
+  const text = guess ? "This is a guess, by which samples are smooth; the rate can't be guessed. What was before the sound may be a click." : "Nothing in it is smooth, as sound is: there may be none.";
+  const seen = await judgedAs(file, given);
+  if (isCurrent()) offer(file, given, text);
+  return { ...seen, words: [failure(file, error), "bad"] };
+}
+
+/** Shows what is found of a file. */
+function show(file, { found, says, words }, toEnd, isCurrent) {
+  result.hidden = false;
+  for (const part of [wave, axis]) part.hidden = found.frames === 0;
+  audio.hidden = lengthOfTime(found) === 0;
+  if (!audio.hidden) play(found, isCurrent);
+  if (found.state === "cutOff" && found.frames) {
+    const name = repairedName(file.name);
+    Object.assign(save, { href: urlOf(found.file), hidden: false, download: name, textContent: `Save the repaired file as ${name}` });
+  }
+  if (says && (toEnd || found.state === "hasChunksAfterData")) {
+    [choice.firstChild.textContent, end.textContent] = otherChoice(says, toEnd);
+    end.onclick = () => open(file, { toEnd: !toEnd });
+    choice.hidden = false;
+  }
+  say(...words);
+  zoom.hidden = found.frames <= LEAST;
+  shown = { file, found };
+  return look(0, found.frames);
+}
+
+/** Looks at a file; all of it is taken for sound with `toEnd`, and what it is after so many bytes is given by `like` and `skip`. */
+async function open(file, { toEnd = false, like, skip } = {}) {
   const mine = ++turn, isCurrent = () => mine === turn;
   clear();
+  if (!like) lost.hidden = true;
   say(`Looking at ${file.name}.`);
   try {
-    const head = await info(file).catch(() => null), left = await repair(file, { toEnd });
-    // If the header counts half a frame, and chunks or a tag seem to follow, nothing is read of the file unless it is repaired.
-    const isTorn = !head && left.state === "hasChunksAfterData", found = isTorn ? await repair(file, { toEnd: true }) : left;
-    const says = claims(file, found);
+    const seen = await (like ? judgedAs(file, { like, skip }) : judged(file, toEnd).catch((error) => withoutHeader(file, error, isCurrent)));
     if (!isCurrent()) return;
-    showRows(rows(file, head, found));
-    result.hidden = false;
-    for (const part of [wave, axis]) part.hidden = found.frames === 0;
-    audio.hidden = lengthOfTime(found) === 0;
-    if (!audio.hidden) play(found, isCurrent);
-    if (found.state === "cutOff" && found.frames) {
-      const name = repairedName(file.name);
-      Object.assign(save, { href: urlOf(found.file), hidden: false, download: name, textContent: `Save the repaired file as ${name}` });
-    }
-    if (toEnd || found.state === "hasChunksAfterData") {
-      [choice.firstChild.textContent, end.textContent] = otherChoice(says, toEnd);
-      end.onclick = () => open(file, !toEnd);
-      choice.hidden = false;
-    }
-    say(...verdict(found, says, toEnd || isTorn));
-    zoom.hidden = found.frames <= LEAST;
-    shown = { file, found };
-    await look(0, found.frames);
-    if (isCurrent()) said.dataset.done = mine;
+    showRows(rows(file, seen));
+    if (!like && seen.says && seen.found.sampleRate === 0) offer(file, { like: { ...seen.found, sampleRate: 48000 }, skip: seen.begins }, "Its rate is lost: choose one.");
+    await show(file, seen, toEnd, isCurrent);
   } catch (error) {
     if (!isCurrent()) return;
     say(failure(file, error), "bad");
-    said.dataset.done = mine;
+  }
+  if (isCurrent()) said.dataset.done = mine;
+}
+
+/** What a table says of a file, and whether it is repaired. */
+function summary({ found, says }) {
+  if (found.state === "hasChunksAfterData") return says.mayBeSound ? "may be cut off: look at it" : "other data follow the sound";
+  if (found.frames === 0) return "no sound";
+  return found.state === "whole" ? "whole" : "was cut off";
+}
+
+/** Adds a file to the table, and returns its repaired form, if there is one. */
+async function listed(file, isCurrent) {
+  const seen = await judged(file, false).catch((error) => ({ error }));
+  if (!isCurrent()) return null;
+  const cells = ["", seen.error ? "" : time(lengthOfTime(seen.found)), seen.error ? seen.error.message : summary(seen)].map((text) => Object.assign(document.createElement("td"), { textContent: text }));
+  const row = document.createElement("tr"), button = Object.assign(document.createElement("button"), { type: "button", textContent: file.name, onclick: () => open(file) });
+  cells[0].append(button);
+  row.append(...cells);
+  table.append(row);
+  return seen.found?.state === "cutOff" && seen.found.frames ? [repairedName(file.name), seen.found.file] : null;
+}
+
+/** Saves files one after the other. */
+async function saveAll(files) {
+  for (const [download, file] of files) {
+    const href = URL.createObjectURL(file);
+    Object.assign(document.createElement("a"), { download, href }).click();
+    await new Promise((resolve) => setTimeout(resolve, 250)); // A browser passes over what comes at once.
+    setTimeout(() => URL.revokeObjectURL(href), 60000);
   }
 }
 
-input.onchange = () => input.files[0] && open(input.files[0]);
+/** Looks at a file, or lists what several are. */
+async function openAll(files) {
+  list.hidden = all.hidden = files.length < 2;
+  if (files.length === 1) return open(files[0]);
+  const mine = ++turn, isCurrent = () => mine === turn, repaired = [];
+  clear();
+  lost.hidden = true;
+  table.replaceChildren();
+  say(`Looking at ${counted(files.length, "file")}.`);
+  for (const file of files) {
+    const one = await listed(file, isCurrent);
+    if (!isCurrent()) return;
+    if (one) repaired.push(one);
+  }
+  say(files.length ? `${counted(files.length, "file")}, of which ${number(repaired.length)} ${repaired.length === 1 ? "was" : "were"} cut off and can be saved repaired.` : "There are no WAV files in it.");
+  all.hidden = repaired.length === 0;
+  all.textContent = `Save ${counted(repaired.length, "repaired file")}`;
+  all.onclick = () => saveAll(repaired);
+  said.dataset.done = mine;
+}
+
+const byName = (a, b) => a.name.localeCompare(b.name, undefined, { numeric: true });
+
+/** The files of a folder that are named as WAV files, and of the folders in it. */
+async function filesOf(folder) {
+  const found = [], folders = [];
+  for await (const one of folder.values()) (one.kind === "directory" ? folders : found).push(one);
+  const files = await Promise.all(found.filter(({ name }) => /\.wave?$/i.test(name)).map((one) => one.getFile()));
+  const within = [];
+  for (const one of folders.sort(byName)) within.push(...await filesOf(one));
+  return [...files.sort(byName), ...within];
+}
+
+/** A folder of a browser that has the older interface, in the form of the newer one. */
+const folderOf = (entry) => ({
+  kind: "directory", name: entry.name,
+  async *values() {
+    const reader = entry.createReader(), next = () => new Promise((resolve, reject) => reader.readEntries(resolve, reject));
+    for (let some; (some = await next()).length > 0;) {
+      for (const one of some) yield one.isDirectory ? folderOf(one) : { kind: "file", name: one.name, getFile: () => new Promise((resolve, reject) => one.file(resolve, reject)) };
+    }
+  },
+});
+
+/** The folder that is dropped; nothing if it is none. */
+async function folderIn(item) {
+  if (!item.getAsFileSystemHandle) {
+    const entry = item.webkitGetAsEntry?.();
+    return entry?.isDirectory ? folderOf(entry) : null;
+  }
+  const handle = await item.getAsFileSystemHandle(); // Where a page is opened from the disk Chromium reads no entry.
+  return handle?.kind === "directory" ? handle : null;
+}
+
+async function openDropped({ items, files }) {
+  const given = [...files], folders = await Promise.all([...items].filter(({ kind }) => kind === "file").map(folderIn)); // All is gone after the first await.
+  if (!folders.some((folder) => folder)) return openAll(given);
+  const found = await Promise.all(folders.map((folder, i) => folder ? filesOf(folder) : [given[i]]));
+  return openAll(found.flat());
+}
+
+const openGiven = (work) => work.catch((error) => say(`That can't be read: ${error.message}`, "bad"));
+
+input.onchange = () => input.files.length && openGiven(openAll([...input.files]));
 for (const kind of ["dragover", "dragleave", "drop"]) {
   document.addEventListener(kind, (event) => {
     event.preventDefault();
     drop.classList.toggle("over", kind === "dragover");
-    if (kind !== "drop" || !event.dataTransfer.files[0]) return;
-    input.files = event.dataTransfer.files; // So its name is shown there.
-    open(input.files[0]);
+    if (kind !== "drop" || !event.dataTransfer.files.length) return;
+    input.files = event.dataTransfer.files; // So their names are shown there.
+    openGiven(openDropped(event.dataTransfer));
   });
 }
 
@@ -350,4 +527,7 @@ stop.onclick = () => {
 };
 addEventListener("resize", redraw);
 matchMedia("(prefers-color-scheme: dark)").addEventListener("change", redraw);
+lost.onsubmit = (event) => event.preventDefault();
+lost.elements.form.append(...FORMS.map((form, i) => new Option(formText(form), i)));
+element("rates").append(...RATES.map((rate) => new Option(rate)));
 say("");
