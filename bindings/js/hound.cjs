@@ -4,7 +4,7 @@ let loaded;
 const loading = import("./hound.js").then((module) => (loaded = module));
 
 /** Arguments as they are at the call. */
-const copied = (one) => Array.isArray(one) ? one.map(copied) : ArrayBuffer.isView(one) ? one.slice() : one;
+const copied = (one) => Array.isArray(one) ? one.map(copied) : ArrayBuffer.isView(one) && one.slice ? one.slice() : one;
 
 async function after(name, given) {
   await loading;

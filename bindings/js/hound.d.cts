@@ -66,7 +66,7 @@ export interface Format {
  * the bits don't hold is clipped, as 1.0 is.
  */
 export interface Clipping {
-  /** It is called with how many samples were clipped, if any were; without it `console.warn` says so. */
+  /** It is called with how many samples are clipped, if any are; without it `console.warn` says so. */
   onClipped?: (count: number) => void;
 }
 
@@ -125,9 +125,8 @@ export function repair(file: Uint8Array | ArrayBuffer, options?: RepairOptions):
 export function repair(file: Blob, options?: RepairOptions): Promise<Damage & { file: Blob }>;
 
 /**
- * Repairs a file at a path in place, in Node, and returns how it was found. Each step is synced: the file as it was found,
- * the data length, a missing pad byte, and last the RIFF size, so it can be repaired again after an error. Node has no
- * locks: no other program may write the file meanwhile.
+ * Repairs a file at a path in place, in Node, and returns how it was found. Each step is synced, so that a file can be
+ * repaired again after an error, a kill or a loss of power. Node has no locks: no other program may write it meanwhile.
  */
 export function repairFile(path: string | URL, options?: { toEnd?: boolean }): Promise<Damage>;
 

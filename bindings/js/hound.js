@@ -488,10 +488,7 @@ async function files() {
   return fs;
 }
 
-/**
- * Repairs a file at a path in place, in Node, and returns how it was found. Each step is synced: the file as it was found,
- * the data length, a missing pad byte, and last the RIFF size.
- */
+/** Repairs a file at a path in place, in Node, and returns how it was found. Each step is synced. */
 export async function repairFile(path, { toEnd = false } = {}) {
   const { open } = await files(), handle = await open(path, "r+");
   try {
@@ -532,8 +529,8 @@ class Recorder {
     const { type, all, channels } = taken(samples);
     checkChannels(channels, this.spec.channels);
     const { data, clipped } = encoded(type, all, this.spec);
-    await this.#queue(() => this.#perform("recorder_write", data, all.length));
     if (clipped > 0) onClipped(clipped);
+    await this.#queue(() => this.#perform("recorder_write", data, all.length));
   }
 
   /** Makes a checkpoint: the header counts all frames that are written. */
