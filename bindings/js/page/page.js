@@ -1,5 +1,5 @@
 // The page: it looks at files that are dropped or chosen, draws one, plays it, and saves the repaired ones.
-import { HoundError, findDamage, info, read, repair, write } from "../hound.js";
+import { HoundError, info, read, repair, write } from "../hound.js";
 
 const element = (id) => document.getElementById(id);
 const [drop, list, all, lost, said, busy, stop, result, save, choice, end, wave, place, axis, zoom, player, facts] =
@@ -26,8 +26,9 @@ const CARD = "Record nothing more on the card it came from: a recovery program m
 const FORMS = [[16, 2], [24, 3], [32, 4, true], [8, 1], [32, 4], [24, 4]]
   .map(([bitsPerSample, bytesPerSample, isFloat = false]) => ({ bitsPerSample, bytesPerSample, isFloat }));
 const RATES = [8000, 11025, 16000, 22050, 32000, 44100, 48000, 88200, 96000, 192000], CHANNELS = [1, 2, 4, 6, 8];
-// From how many places of a file a guess is made, of how many bytes each, and what number of bytes all samples are a part of.
-const PLACES = 16, PART = 6144, COMMON = 12;
+// From how many places of a file a guess is made, of how many bytes each, what number of bytes all pairs of samples are a part of, and
+// from where on they are too rough to be sound.
+const PLACES = 16, PART = 6144, COMMON = 24, NOISE = 0.8;
 // How many samples are read at once to be drawn, how many channels are drawn at most, how many frames are shown at least,
 // and how many samples a copy has at most.
 const AT_ONCE = 1 << 20, LANES = 32, LEAST = 64, COPIED = 1 << 28;
@@ -295,32 +296,50 @@ async function judgedAs(file, { like, skip }) {
   return { found, begins: skip, words: [`${framesOf(found)} of that ${found.frames === 1 ? "is" : "are"} there. Listen: if it is noise, or too fast or slow, choose otherwise.`, "cut"] };
 }
 
-/** How far samples are from a smooth line, as a part of how far each is from the one before; of noise it is 3. */
+/** How little samples are like those of the frame before: near 0 if they are smooth, 1 if they are noise or none. */
 function roughness(blocks, channels) {
-  let rough = 0, steps = 0;
+  let like = 0, later = 0, earlier = 0;
   for (const block of blocks) {
-    for (let i = 2 * channels; i < block.length; i++) {
-      const step = block[i] - block[i - channels];
-      rough += (step - block[i - channels] + block[i - 2 * channels]) ** 2;
-      steps += step ** 2;
+    const middles = new Float64Array(channels);
+    for (let i = 0; i < block.length; i++) middles[i % channels] += block[i];
+    middles.forEach((sum, channel) => { middles[channel] = sum / Math.ceil((block.length - channel) / channels); });
+    for (let i = channels; i < block.length; i++) {
+      const middle = middles[i % channels], a = block[i] - middle, b = block[i - channels] - middle;
+      like += a * b;
+      later += a * a;
+      earlier += b * b;
     }
   }
-  return rough / steps;
+  return like > 0 ? 1 - like / later * (like / earlier) : 1;
+}
+
+/** Whether samples come in pairs: the steps within them are far from as large as those between them. */
+function isPaired(blocks) {
+  const steps = [0, 0];
+  for (const block of blocks) for (let i = 1; i < block.length; i++) steps[i % 2] += (block[i] - block[i - 1]) ** 2;
+  return Math.max(...steps) > 2 * Math.min(...steps);
+}
+
+/** The number of channels of samples, by what makes them smooth, and how rough they are then. */
+function channelsOf(blocks) {
+  const [best] = CHANNELS.map((channels) => ({ channels, rough: roughness(blocks, channels) })).sort((a, b) => a.rough - b.rough);
+  return best.channels === 1 && isPaired(blocks) ? { ...best, channels: 2 } : best;
 }
 
 /** What was recorded in a file whose header is lost, by what makes its samples smooth; nothing if nothing does. */
 async function guessed(file) {
+  if (file.size < PLACES * LEAST) return null; // A few samples may be smooth by chance.
   const places = Array.from({ length: PLACES }, (_, i) => COMMON * Math.floor(file.size * (i + 0.5) / PLACES / COMMON)), all = [];
   const parts = await Promise.all(places.map((from) => file.slice(from, from + PART).arrayBuffer()));
-  for (const form of FORMS) {
+  for (const form of FORMS.slice(0, -1)) { // The last one is as smooth as integers of 32 bits, which have the same sound.
     for (let skip = 0; skip < form.bytesPerSample; skip++) {
       const mono = { ...form, sampleRate: 1, channels: 1 }, blocks = [];
       for (const part of parts) blocks.push(await read((await repair(part, { like: mono, skip: Math.min(skip, part.byteLength) })).file, { type: "float32" }));
-      for (const channels of CHANNELS) all.push({ like: { ...form, channels, sampleRate: 48000 }, skip, rough: roughness(blocks, channels) });
+      const { channels, rough } = channelsOf(blocks);
+      all.push({ like: { ...form, channels, sampleRate: 48000 }, skip, rough });
     }
   }
-  const best = all.reduce((least, { rough }) => rough < least ? rough : least, 1); // Some are no numbers.
-  const guess = all.find(({ rough }) => rough < 1 && rough <= 2 * best);
+  const best = Math.min(...all.map(({ rough }) => rough)), guess = all.find(({ rough }) => rough < NOISE && rough <= 2 * best);
   return guess && inStep(file, guess);
 }
 
@@ -349,7 +368,7 @@ function offer(file, { like, skip }, text) {
 async function withoutHeader(file, error, isCurrent) {
   if (!(error instanceof HoundError) || error.code === "TOO_LONG" || file.size < LEAST) throw error;
   const guess = await guessed(file), given = guess ?? { like: { ...FORMS[0], channels: 2, sampleRate: 48000 }, skip: 0 };
-  const text = guess ? "This is a guess, by which samples are smooth; the rate can't be guessed. What was before the sound may be a click." : "Nothing in it is smooth, as sound is: there may be none.";
+  const text = guess ? "This is a guess, by which samples are smooth; the rate can't be guessed. What was before the sound may be a click." : "No guess: nothing in it is smooth, as sound is, or it is too short.";
   const seen = await judgedAs(file, given);
   if (isCurrent()) offer(file, given, text);
   return { ...seen, words: [failure(file, error), "bad"] };
