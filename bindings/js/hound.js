@@ -147,16 +147,18 @@ function taken(samples) {
   samples.forEach((channel, i) => {
     if (typeOf(channel) !== type) throw new TypeError("samples has arrays of different types");
     if (channel.length !== samples[0].length) throw new RangeError("samples has arrays of different lengths");
-    exact(channel).forEach((value, frame) => { out[frame * channels + i] = value; });
+    const from = exact(channel);
+    for (let frame = 0; frame < from.length; frame++) out[frame * channels + i] = from[frame];
   });
   return { type, all, channels };
 }
 
 /** An array for each channel of interleaved samples. */
 function planarOf(all, channels) {
+  const from = exact(all);
   return Array.from({ length: channels }, (_, i) => {
-    const channel = new all.constructor(all.length / channels), from = exact(all);
-    exact(channel).forEach((_, frame, out) => { out[frame] = from[frame * channels + i]; });
+    const channel = new all.constructor(all.length / channels), out = exact(channel);
+    for (let frame = 0; frame < out.length; frame++) out[frame] = from[frame * channels + i];
     return channel;
   });
 }
