@@ -457,7 +457,8 @@ async function openAll(files) {
     if (!isCurrent()) return;
     if (one) repaired.push(one);
   }
-  say(files.length ? `${counted(files.length, "file")}, of which ${number(repaired.length)} ${repaired.length === 1 ? "was" : "were"} cut off and can be saved repaired.` : "There are no WAV files in it.");
+  const cutOff = repaired.length ? `${number(repaired.length)} ${repaired.length === 1 ? "was" : "were"} cut off and can be saved repaired` : "none can be repaired";
+  say(files.length ? `${counted(files.length, "file")}, of which ${cutOff}.` : "There are no WAV files in it.");
   all.hidden = repaired.length === 0;
   all.textContent = `Save ${counted(repaired.length, "repaired file")}`;
   all.onclick = () => saveAll(repaired);
