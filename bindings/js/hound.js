@@ -1,7 +1,8 @@
 // WAV files, read, written, appended to and repaired by proved code: the exports of crates/hound_c in WebAssembly.
 //
-// A file is a Uint8Array or a Blob, of which only what is needed is read. Samples are interleaved typed arrays. No call
-// changes its arguments. A file must not change before the promise of a call over it is settled; samples may.
+// A file is a Uint8Array, an ArrayBuffer, or a Blob, of which only what is needed is read. Samples are an interleaved typed
+// array, or an array of one for each channel. No call changes its arguments. A file must not change before the promise of
+// a call over it is settled; samples may.
 import { module } from "./module.js";
 
 // Each error, its code in hound.h without the sign, and its sentence there.
@@ -49,8 +50,10 @@ export class HoundError extends Error {
   }
 }
 
+const errorOf = (code) => new HoundError(NAMES.get(-Number(code)));
+
 function checked(code) {
-  if (code < 0) throw new HoundError(NAMES.get(-Number(code)));
+  if (code < 0) throw errorOf(code);
   return Number(code);
 }
 
@@ -62,9 +65,9 @@ const BLOCK_BYTES = 4 * BLOCK;
 const [SPEC, MACHINE, FOUND, HEADER, FIRST, SECOND] = [0, 16, 192, 256, PAGE, PAGE + BLOCK_BYTES];
 
 // Which argument of a call has 32 bits.
-const WORDS = { repairer_begin: 1, recorder_resume: 1 };
+const WORDS = { repairer_begin: 1, recorder_resume: 1, to_f32: 2, from_f32: 2 };
 
-/** An instance of the module and so much memory of it: no two calls use it at once. */
+/** An instance of the module, and so much memory of it. */
 class Memory {
   constructor({ exports }, size) {
     const { memory } = exports;
@@ -94,8 +97,20 @@ class Memory {
   }
 }
 
-// The instance of all calls over small arguments. They are synchronous, so none is made during another.
-const shared = new Memory(await WebAssembly.instantiate(module), SECOND + BLOCK_BYTES);
+// The instance of all calls, which the first one loads. What uses it is synchronous, so no two calls do at once.
+let shared, loading;
+
+async function load() {
+  try {
+    shared = new Memory(await WebAssembly.instantiate(await module()), SECOND + BLOCK_BYTES);
+  } finally {
+    loading = undefined; // After an error the next call tries it again.
+  }
+}
+
+async function ready() {
+  if (!shared) await (loading ??= load());
+}
 
 // The types of samples: their arrays, and the calls that decode and encode them.
 const TYPES = {
@@ -118,15 +133,47 @@ function typeNamed(name) {
 
 function typeOf(samples) {
   const type = Object.values(TYPES).find(({ array }) => samples instanceof array);
-  if (!type) throw new TypeError("samples is no Int8Array, Int16Array, Int32Array or Float32Array");
+  if (!type) throw new TypeError("samples is no Int8Array, Int16Array, Int32Array or Float32Array, and no array of these");
   return type;
 }
 
-function lengthOf(file) {
-  if (file instanceof Uint8Array) return file.length;
-  if (file instanceof Blob) return file.size;
-  throw new TypeError("file is neither a Uint8Array nor a Blob");
+/** An array by which samples are copied: by that of their type a NaN could get other bits. */
+const exact = (samples) => samples instanceof Float32Array ? new Int32Array(samples.buffer, samples.byteOffset, samples.length) : samples;
+
+/** A copy of the samples that are given, interleaved, with their type, and the number of channels if each has an array. */
+function taken(samples) {
+  if (!Array.isArray(samples)) return { type: typeOf(samples), all: samples.slice() };
+  const type = typeOf(samples[0]), channels = samples.length, all = new type.array(channels * samples[0].length), out = exact(all);
+  samples.forEach((channel, i) => {
+    if (typeOf(channel) !== type) throw new TypeError("samples has arrays of different types");
+    if (channel.length !== samples[0].length) throw new RangeError("samples has arrays of different lengths");
+    const from = exact(channel);
+    for (let frame = 0; frame < from.length; frame++) out[frame * channels + i] = from[frame];
+  });
+  return { type, all, channels };
 }
+
+/** An array for each channel of interleaved samples. */
+function planarOf(all, channels) {
+  const from = exact(all);
+  return Array.from({ length: channels }, (_, i) => {
+    const channel = new all.constructor(all.length / channels), out = exact(channel);
+    for (let frame = 0; frame < out.length; frame++) out[frame] = from[frame * channels + i];
+    return channel;
+  });
+}
+
+function checkChannels(given, channels) {
+  if (given !== undefined && given !== channels) throw new RangeError(`samples has ${given} arrays, and there are ${channels} channels`);
+}
+
+function fileOf(file) {
+  if (file instanceof ArrayBuffer) return new Uint8Array(file);
+  if (file instanceof Uint8Array || file instanceof Blob) return file;
+  throw new TypeError("file is no Uint8Array, ArrayBuffer or Blob");
+}
+
+const sizeOf = (part) => part.size ?? part.length;
 
 /** A part of a file, as the file is: nothing of it is read. */
 const partOf = (file, from, to) => file instanceof Blob ? file.slice(from, to) : file.subarray(from, to);
@@ -136,12 +183,9 @@ async function bytesOf(file, from, to) {
   return file instanceof Blob ? new Uint8Array(await part.arrayBuffer()) : part;
 }
 
-/** A Blob of these parts. */
-const blobOf = (parts) => new Blob(parts, { type: "audio/wav" });
-
-/** A file of these parts, of the kind that a file is. */
-function joined(file, parts) {
-  if (file instanceof Blob) return blobOf(parts);
+/** A file of these parts: a Blob, or one array. */
+function joined(parts, isBlob) {
+  if (isBlob) return new Blob(parts, { type: "audio/wav" });
   const whole = new Uint8Array(parts.reduce((sum, part) => sum + part.length, 0));
   let place = 0;
   for (const part of parts) {
@@ -151,8 +195,9 @@ function joined(file, parts) {
   return whole;
 }
 
-// The kinds of effects in hound.h, and the report that one is done.
-const [READ, WRITE, WRITE_BLOCK, DONE] = [1, 2, 3, 1];
+// Of hound.h: the kinds of effects, how one ended, and how many bytes it has at most.
+const [READ, WRITE, WRITE_BLOCK, SYNC, CUT] = [1, 2, 3, 4, 5];
+const [DONE, FAILED, EFFECT_BYTES] = [1, 2, 40];
 
 /** A walk, a repairer or a recorder. The memory of the instance has it only during a call. */
 class Machine {
@@ -172,7 +217,7 @@ class Machine {
   /** The effect that is requested. Its bytes are a part of the machine. */
   get effect() {
     const length = this.view.getUint32(8, true);
-    return { place: Number(this.view.getBigUint64(0, true)), length, kind: this.view.getUint16(12, true), bytes: this.bytes.subarray(16, 16 + Math.min(length, 40)) };
+    return { place: Number(this.view.getBigUint64(0, true)), length, kind: this.view.getUint16(12, true), bytes: this.bytes.subarray(16, 16 + Math.min(length, EFFECT_BYTES)) };
   }
 
   /** Reports the effect as done; what was read is fewer bytes only where the file ends. */
@@ -182,6 +227,11 @@ class Machine {
       this.view.setUint32(8, part.length, true);
     }
     this.view.setUint16(14, DONE, true);
+  }
+
+  /** Reports it as failed. */
+  fail() {
+    this.view.setUint16(14, FAILED, true);
   }
 }
 
@@ -197,7 +247,7 @@ async function performAll(machine, name, perform, found) {
 
 /** Reads parts of a file. Of a Blob the last page is kept, for many chunks that are short. */
 function readerOf(file) {
-  const size = lengthOf(file);
+  const size = sizeOf(file);
   let from = 0, page = new Uint8Array(0);
   return async ({ place, length }) => {
     const end = Math.min(place + length, size);
@@ -209,7 +259,7 @@ function readerOf(file) {
 
 /** Walks over what is before the data. */
 function walkOver(file) {
-  const size = lengthOf(file), readPart = ({ place, length }) => bytesOf(file, Math.min(place, size), Math.min(place + length, size));
+  const size = sizeOf(file), readPart = ({ place, length }) => bytesOf(file, Math.min(place, size), Math.min(place + length, size));
   return performAll(new Machine(80), "walk_next", readPart, (code) => {
     checked(code);
     const samples = shared.view.getUint32(FOUND + 12, true), dataStart = Number(shared.view.getBigUint64(FOUND + 16, true));
@@ -219,39 +269,53 @@ function walkOver(file) {
 
 /** What the header of a file says. The data needn't all be there. */
 export async function info(file) {
-  const { spec, samples, dataStart } = await walkOver(file);
+  const given = fileOf(file);
+  await ready();
+  const { spec, samples, dataStart } = await walkOver(given);
   return { ...spec, frames: samples / spec.channels, dataStart };
 }
 
+/** The type that is stored where samples of a type are read or written: floats may be scaled to integers. */
+const storedAs = (type, spec) => type.isFloat && !spec.isFloat ? TYPES.int32 : type;
+
 /** Decodes containers into the front of an array. */
-function decode(type, bytes, out) {
+function decode(type, spec, bytes, out) {
+  const stored = storedAs(type, spec);
+  shared.putSpec(spec);
   shared.bytes.set(bytes, FIRST);
-  const count = checked(shared.call("decode_" + type.call, shared.at(SPEC), shared.at(FIRST), bytes.length, shared.at(SECOND), out.length));
-  out.set(new type.array(shared.bytes.buffer, shared.at(SECOND), count));
+  const count = checked(shared.call("decode_" + stored.call, shared.at(SPEC), shared.at(FIRST), bytes.length, shared.at(SECOND), out.length));
+  if (type !== stored) checked(shared.call("to_f32", shared.at(SECOND), count, spec.bitsPerSample, shared.at(FIRST), count));
+  out.set(new type.array(shared.bytes.buffer, shared.at(type === stored ? SECOND : FIRST), count));
 }
 
-function encode(type, samples, out) {
-  new type.array(shared.bytes.buffer, shared.at(FIRST), samples.length).set(samples);
-  checked(shared.call("encode_" + type.call, shared.at(SPEC), shared.at(FIRST), samples.length, shared.at(SECOND), out.length));
-  out.set(shared.bytes.subarray(SECOND, SECOND + out.length));
+/** Encodes samples into an array, and returns how many were clipped. */
+function encode(type, spec, samples, out) {
+  const stored = storedAs(type, spec), count = samples.length;
+  shared.putSpec(spec);
+  new type.array(shared.bytes.buffer, shared.at(FIRST), count).set(samples);
+  shared.view.setBigUint64(FOUND, 0n, true);
+  if (type !== stored) checked(shared.call("from_f32", shared.at(FIRST), count, spec.bitsPerSample, shared.at(SECOND), count, shared.at(FOUND)));
+  const [from, to] = type === stored ? [FIRST, SECOND] : [SECOND, FIRST];
+  checked(shared.call("encode_" + stored.call, shared.at(SPEC), shared.at(from), count, shared.at(to), out.length));
+  out.set(shared.bytes.subarray(to, to + out.length));
+  return Number(shared.view.getBigUint64(FOUND, true));
 }
 
 /**
  * Reads frames from number `start` on, at most so many, and returns their samples.
  *
- * Without `type` it is the narrowest one from 16 bits on that reads the file. Of a file that holds fewer frames than its
- * header counts these are read, and a read that starts after them is an error.
+ * Without `type` it is the narrowest one from 16 bits on that reads the file. Integers are also read as floats, each
+ * divided by 2^(bits - 1). Of a file that holds fewer frames than its header counts these are read, and a read that
+ * starts after them is an error.
  */
-export async function read(file, { start = 0, frames = Infinity, type } = {}) {
-  const length = lengthOf(file);
+export async function read(file, { start = 0, frames = Infinity, type, planar = false } = {}) {
+  const given = fileOf(file), length = sizeOf(given);
   integer("start", start, 0, Number.MAX_SAFE_INTEGER);
   if (frames !== Infinity) integer("frames", frames, 0, Number.MAX_SAFE_INTEGER);
   if (type !== undefined) typeNamed(type);
-  const found = await info(file);
-  const { channels, bytesPerSample, dataStart } = found;
+  const found = await info(given), { channels, bytesPerSample, dataStart } = found;
   const form = typeNamed(type ?? (found.isFloat ? "float32" : found.bitsPerSample <= 16 ? "int16" : "int32"));
-  shared.putSpec(found);
-  decode(form, new Uint8Array(0), new form.array(0)); // An error where the type doesn't read the file.
+  decode(form, found, new Uint8Array(0), new form.array(0)); // An error where the type doesn't read the file.
   const counted = Math.max(Math.min(frames, found.frames - start), 0);
   const count = Math.min(counted, Math.floor((length - dataStart) / (channels * bytesPerSample)) - start);
   if (count <= 0 && counted > 0) throw new HoundError("TRUNCATED");
@@ -259,45 +323,68 @@ export async function read(file, { start = 0, frames = Infinity, type } = {}) {
   const place = dataStart + start * channels * bytesPerSample;
   for (let first = 0; first < samples.length; first += BLOCK) {
     const block = samples.subarray(first, first + BLOCK), from = place + first * bytesPerSample;
-    const bytes = await bytesOf(file, from, from + block.length * bytesPerSample);
-    shared.putSpec(found);
-    decode(form, bytes, block);
+    decode(form, found, await bytesOf(given, from, from + block.length * bytesPerSample), block);
   }
-  return samples;
+  return planar ? planarOf(samples, channels) : samples;
 }
 
-/** The containers of samples of a spec. */
-function encoded(type, samples, spec) {
-  const width = spec.bytesPerSample || Math.ceil(spec.bitsPerSample / 8);
-  const out = new Uint8Array(samples.length * width);
+/** How many bytes a sample takes; an error where the type isn't written. */
+function widthOf(type, spec) {
+  const stored = storedAs(type, spec);
   shared.putSpec(spec);
-  encode(type, samples.subarray(0, 0), out.subarray(0, 0)); // An error where the type isn't written, also without samples.
+  new stored.array(shared.bytes.buffer, shared.at(FIRST), 1).fill(0);
+  return checked(shared.call("encode_" + stored.call, shared.at(SPEC), shared.at(FIRST), 1, shared.at(SECOND), BLOCK_BYTES));
+}
+
+/** The containers of samples of a spec, and how many samples were clipped. */
+function encoded(type, samples, spec) {
+  const width = widthOf(type, spec), data = new Uint8Array(samples.length * width);
+  let clipped = 0;
   for (let first = 0; first < samples.length; first += BLOCK) {
-    encode(type, samples.subarray(first, first + BLOCK), out.subarray(first * width, (first + BLOCK) * width));
+    clipped += encode(type, spec, samples.subarray(first, first + BLOCK), data.subarray(first * width, (first + BLOCK) * width));
   }
-  return out;
+  return { data, clipped };
+}
+
+function warn(clipped) {
+  console.warn(`hound_bindings: samples out of full scale were clipped: ${clipped}`);
+}
+
+/** The spec of a file of samples of a type. Floats are stored as integers where these have other bits, or it is said. */
+function specFor(type, { sampleRate, channels = 1, bitsPerSample, bytesPerSample = 0, isFloat }) {
+  const bits = integer("bitsPerSample", bitsPerSample ?? type.bits, 1, 0xffff);
+  if (isFloat !== undefined && typeof isFloat !== "boolean") throw new TypeError(`isFloat is ${String(isFloat)}, and not a boolean`);
+  return {
+    sampleRate: integer("sampleRate", sampleRate, 1, 0xffffffff),
+    channels: integer("channels", channels, 1, 0xffff),
+    bitsPerSample: bits,
+    bytesPerSample: integer("bytesPerSample", bytesPerSample, 0, 0xffff),
+    isFloat: isFloat ?? (type.isFloat === true && bits === type.bits),
+  };
+}
+
+/** The header of a file of so many samples. */
+function headerOf(spec, samples) {
+  shared.putSpec(spec);
+  const length = checked(shared.call("header", shared.at(SPEC), samples, shared.at(HEADER), FIRST - HEADER));
+  return shared.bytes.slice(HEADER, HEADER + length);
 }
 
 /** Makes the file of these samples. `bitsPerSample` is the width of the samples unless it is given. */
-export async function write(samples, { sampleRate, channels = 1, bitsPerSample, bytesPerSample = 0 } = {}) {
-  const type = typeOf(samples);
-  const spec = {
-    sampleRate: integer("sampleRate", sampleRate, 1, 0xffffffff),
-    channels: integer("channels", channels, 1, 0xffff),
-    bitsPerSample: integer("bitsPerSample", bitsPerSample ?? type.bits, 1, 0xffff),
-    bytesPerSample: integer("bytesPerSample", bytesPerSample, 0, 0xffff),
-    isFloat: type.isFloat,
-  };
+export async function write(samples, { onClipped = warn, ...format } = {}) {
+  const { type, all, channels } = taken(samples), spec = specFor(type, { ...format, channels: format.channels ?? channels });
+  checkChannels(channels, spec.channels);
+  await ready();
   shared.putSpec(spec);
-  const size = checked(shared.call("size", shared.at(SPEC), samples.length));
-  const length = checked(shared.call("header", shared.at(SPEC), samples.length, shared.at(HEADER), FIRST - HEADER));
-  const header = shared.bytes.slice(HEADER, HEADER + length), data = encoded(type, samples, spec);
-  return joined(data, [header, data, new Uint8Array(size - length - data.length)]);
+  const size = checked(shared.call("size", shared.at(SPEC), all.length)), header = headerOf(spec, all.length);
+  const { data, clipped } = encoded(type, all, spec), file = joined([header, data, new Uint8Array(size - header.length - data.length)], false);
+  if (clipped > 0) onClipped(clipped);
+  return file;
 }
 
 const STATES = ["whole", "cutOff", "hasChunksAfterData"];
-// The modes of a repairer.
-const [FIND_DAMAGE, REPAIR, REPAIR_TO_END] = [0, 1, 2];
+// The modes of a repairer, and what a recorder may do.
+const [FIND_DAMAGE, REPAIR, REPAIR_TO_END, OVERWRITE] = [0, 1, 2, 2];
 
 /** What a repairer of this mode finds in a file of so many bytes, once all that it requests is performed. */
 function repairBy(size, mode, perform) {
@@ -305,40 +392,63 @@ function repairBy(size, mode, perform) {
   repairer.call("repairer_begin", size, mode, shared.at(MACHINE));
   return performAll(repairer, "repairer_next", perform, (code) => {
     checked(code);
-    const [frames, leftOver, state] = [12, 16, 20].map((n) => shared.view.getUint32(FOUND + n, true));
-    return { report: { state: STATES[state], frames, leftOver, ...shared.specAt(FOUND) }, found: shared.bytes.slice(FOUND, FOUND + 48) };
+    const [frames, leftOver, state, dataLength] = [12, 16, 20, 40].map((n) => shared.view.getUint32(FOUND + n, true));
+    const report = { state: STATES[state], frames, leftOver, ...shared.specAt(FOUND), dataStart: Number(shared.view.getBigUint64(FOUND + 24, true)), dataLength };
+    return { report, found: shared.bytes.slice(FOUND, FOUND + 48) };
   });
 }
 
 /** Reports what `repair` would find, or fails as it would. */
 export async function findDamage(file) {
-  const { report } = await repairBy(lengthOf(file), FIND_DAMAGE, readerOf(file));
+  const given = fileOf(file);
+  await ready();
+  const { report } = await repairBy(sizeOf(given), FIND_DAMAGE, readerOf(given));
   return report;
 }
 
-/** A file after bytes were written at places, none of which was written twice. */
-function written(file, writes) {
-  const parts = [];
-  let end = 0;
-  for (const { place, bytes } of writes.sort((a, b) => a.place - b.place)) {
-    parts.push(partOf(file, end, place), bytes);
-    end = place + bytes.length;
+/** What a file becomes by effects: its own parts and those that were written, one after the other. The file stays. */
+class Overlay {
+  constructor(parts) {
+    this.parts = parts;
   }
-  return joined(file, [...parts, partOf(file, end, Math.max(end, lengthOf(file)))]);
+
+  /** The parts from one place to another. */
+  between(from, to) {
+    let start = 0;
+    return this.parts.flatMap((part) => {
+      const place = start;
+      start += sizeOf(part);
+      if (from <= place && place < start && start <= to) return [part]; // A part of a part of a part .. of a Blob would take long.
+      return place < to && start > from ? [partOf(part, Math.max(from - place, 0), Math.min(to, start) - place)] : [];
+    });
+  }
+
+  /** Performs an effect that isn't a read; no sync is of use here. */
+  perform({ kind, place, bytes }, block) {
+    const given = kind === WRITE ? bytes.slice() : block;
+    if (kind === CUT) this.parts = this.between(0, place);
+    if (kind === WRITE || kind === WRITE_BLOCK) this.parts = [...this.between(0, place), given, ...this.between(place + sizeOf(given), Infinity)];
+  }
 }
 
 /**
  * Repairs a file whose recording was cut off, and returns how it was found and the repaired file, in which only the two
  * sizes and a missing pad byte differ. A file that is whole, or that chunks or a tag follow, is returned as it is; with
- * `toEnd` all that follows the header of the data is taken for samples, also what looks like chunks.
+ * `toEnd` all that follows the header of the data is taken for samples, also what looks like chunks. Where the header is lost
+ * all that follows the first `skip` bytes is, and a header like that of another file comes before it.
  */
-export async function repair(file, { toEnd = false } = {}) {
-  const readPart = readerOf(file), writes = [];
-  const { report } = await repairBy(lengthOf(file), toEnd ? REPAIR_TO_END : REPAIR, (effect) => {
-    if (effect.kind === WRITE) writes.push({ place: effect.place, bytes: effect.bytes.slice() });
-    return effect.kind === READ ? readPart(effect) : undefined; // No sync is of use here.
-  });
-  return { ...report, file: writes.length > 0 ? written(file, writes) : file };
+export async function repair(file, { toEnd = false, like, skip = 0 } = {}) {
+  const whole = fileOf(file), spec = like && specFor({}, like);
+  integer("skip", skip, 0, sizeOf(whole));
+  await ready();
+  const given = like ? joined([headerOf(spec, 0), partOf(whole, skip, sizeOf(whole))], whole instanceof Blob) : whole;
+  return repairedFile(given, like || toEnd ? REPAIR_TO_END : REPAIR);
+}
+
+async function repairedFile(given, mode) {
+  const readPart = readerOf(given), repaired = new Overlay([given]);
+  const { report } = await repairBy(sizeOf(given), mode, (effect) => effect.kind === READ ? readPart(effect) : repaired.perform(effect));
+  return { ...report, file: repaired.parts.length > 1 ? joined(repaired.parts, given instanceof Blob) : given };
 }
 
 async function readAt(handle, { place, length }) {
@@ -351,7 +461,7 @@ async function readAt(handle, { place, length }) {
   return bytes;
 }
 
-async function writeAt(handle, { place, bytes }) {
+async function writeAt(handle, bytes, place) {
   for (let count = 0; count < bytes.length;) {
     const { bytesWritten } = await handle.write(bytes, count, bytes.length - count, place + count);
     if (bytesWritten === 0) throw new Error("nothing could be written");
@@ -359,48 +469,170 @@ async function writeAt(handle, { place, bytes }) {
   }
 }
 
-/**
- * Repairs a file at a path in place, in Node, and returns how it was found. Each step is synced: the file as it was found,
- * the data length, a missing pad byte, and last the RIFF size.
- */
+async function cutAt(handle, place) {
+  if ((await handle.stat()).size > place) await handle.truncate(place);
+}
+
+/** Performs an effect on a file of Node. What isn't durable isn't synced: the system has what was written. */
+async function performOn(handle, durable, effect, block) {
+  switch (effect.kind) {
+    case READ: return readAt(handle, effect);
+    case WRITE: return writeAt(handle, effect.bytes, effect.place);
+    case WRITE_BLOCK: return writeAt(handle, block, effect.place);
+    case SYNC: return durable ? handle.sync() : undefined;
+    case CUT: return cutAt(handle, effect.place);
+  }
+}
+
+/** Node's files, once the module is there, too. */
+async function files() {
+  const [fs] = await Promise.all([import(/* webpackIgnore: true */ "node:fs/promises"), ready()]);
+  return fs;
+}
+
+/** Repairs a file at a path in place, in Node, and returns how it was found. Each step is synced. */
 export async function repairFile(path, { toEnd = false } = {}) {
-  const { open } = await import(/* webpackIgnore: true */ "node:fs/promises");
-  const handle = await open(path, "r+");
-  const perform = (effect) => effect.kind === READ ? readAt(handle, effect) : effect.kind === WRITE ? writeAt(handle, effect) : handle.sync();
+  const { open } = await files(), handle = await open(path, "r+");
   try {
     const { size } = await handle.stat();
-    const { report } = await repairBy(size, toEnd ? REPAIR_TO_END : REPAIR, perform);
+    const { report } = await repairBy(size, toEnd ? REPAIR_TO_END : REPAIR, (effect) => performOn(handle, true, effect));
     return report;
   } finally {
     await handle.close();
   }
 }
 
-// The files that `append` has made: their recorders and parts, which an append to one of them takes over. A Blob of a Blob of
-// a Blob .. can't be read at some depth, so parts of about one length are joined, and a file of many blocks has few of them.
-const made = new WeakMap();
-
-/** What is appended to: a recorder, the bytes before the data, and parts of the data. */
-async function opened(file, overwrite) {
-  const { found } = await repairBy(lengthOf(file), FIND_DAMAGE, readerOf(file)), recorder = new Machine(88);
+/** What a file of so many bytes, which is looked at, is appended to by. */
+async function resumed(size, perform, allowed) {
+  const { found } = await repairBy(size, FIND_DAMAGE, perform), recorder = new Machine(88);
   shared.bytes.set(found, FOUND);
-  checked(recorder.call("recorder_resume", shared.at(FOUND), overwrite ? 2 : 0, shared.at(MACHINE)));
-  const spec = shared.specAt(FOUND), dataStart = Number(recorder.view.getBigUint64(56, true));
-  const parts = [partOf(file, dataStart, dataStart + recorder.view.getUint32(64, true))];
-  return { recorder, spec, head: await bytesOf(file, 0, dataStart), parts };
+  checked(recorder.call("recorder_resume", shared.at(FOUND), allowed, shared.at(MACHINE)));
+  return { recorder, spec: shared.specAt(FOUND) };
 }
 
-/** Performs what is requested of a recorder: a block is a part of the data, and bytes after these are the pad byte. */
-function record({ recorder, head, parts }, block) {
-  let pad = new Uint8Array(0);
-  for (let code; (code = checked(recorder.call("recorder_next", shared.at(MACHINE)))) === 1;) {
-    const { effect } = recorder, { place, bytes, kind } = effect;
-    if (kind === WRITE_BLOCK) parts.push(block);
-    if (kind === WRITE && place < head.length) head.set(bytes, place);
-    if (kind === WRITE && place >= head.length) pad = bytes.slice();
+/** A file that is recorded. What is requested of it is performed one after the other. */
+class Recorder {
+  #handle;
+  #machine;
+  #durable;
+  #last = Promise.resolve();
+  #closing;
+
+  constructor(handle, durable, { recorder, spec }) {
+    this.#handle = handle;
+    this.#durable = durable;
+    this.#machine = recorder;
+    this.spec = Object.freeze(spec);
+  }
+
+  /** Writes whole frames after the last ones. After a write that failed it makes a checkpoint first. */
+  async write(samples, { onClipped = warn } = {}) {
+    this.#checkOpen();
+    const { type, all, channels } = taken(samples);
+    checkChannels(channels, this.spec.channels);
+    const { data, clipped } = encoded(type, all, this.spec);
+    if (clipped > 0) onClipped(clipped);
+    await this.#queue(() => this.#perform("recorder_write", data, all.length));
+  }
+
+  /** Makes a checkpoint: the header counts all frames that are written. */
+  async flush() {
+    this.#checkOpen();
+    await this.#queue(() => this.#perform("recorder_checkpoint"));
+  }
+
+  /** Makes a checkpoint and closes the file, after an error, too. */
+  close() {
+    this.#closing ??= this.#queue(() => this.#perform("recorder_checkpoint").finally(() => this.#handle.close()));
+    return this.#closing;
+  }
+
+  #checkOpen() {
+    if (this.#closing) throw new Error("the recorder is closed");
+  }
+
+  #queue(task) {
+    const done = this.#last.then(task);
+    this.#last = done.catch(() => {});
+    return done;
+  }
+
+  /** Performs all effects of a request. What fails is reported as failed, and is the error if the recorder says so. */
+  async #perform(request, block, ...numbers) {
+    const machine = this.#machine;
+    let fault, code;
+    checked(machine.call(request, shared.at(MACHINE), ...numbers));
+    while ((code = machine.call("recorder_next", shared.at(MACHINE))) === 1) {
+      try {
+        const { effect } = machine;
+        machine.report(effect, await performOn(this.#handle, this.#durable, effect, block));
+      } catch (error) {
+        fault ??= error;
+        machine.fail();
+      }
+    }
+    if (code < 0) throw fault ?? errorOf(code);
+  }
+}
+
+/** Opens a file, and closes it again if it can't be recorded to. */
+async function recorderOf(path, flags, durable, prepare) {
+  const fs = await files(), handle = await fs.open(path, flags);
+  try {
+    return new Recorder(handle, durable, await prepare(handle, () => syncFolder(fs, path)));
+  } catch (error) {
+    await handle.close();
+    throw error;
+  }
+}
+
+/** Stores the name of a file, where the system opens folders. */
+async function syncFolder({ open, realpath }, path) {
+  if (process.platform === "win32") return;
+  const { dirname } = await import(/* webpackIgnore: true */ "node:path"), folder = await open(dirname(await realpath(path)));
+  await folder.sync().finally(() => folder.close());
+}
+
+/** Records a new file at a path, in Node, in the place of one that is there unless that is to be an error. */
+export async function record(path, format, { durable = false, exclusive = false } = {}) {
+  const spec = specFor({}, format ?? {}), recorder = new Machine(88);
+  const { constants } = await files(), header = headerOf(spec, 0);
+  checked(recorder.call("recorder_begin", shared.at(SPEC), shared.at(MACHINE)));
+  spec.bytesPerSample = widthOf(spec.isFloat ? TYPES.float32 : TYPES.int32, spec);
+  return recorderOf(path, constants.O_RDWR | constants.O_CREAT | (exclusive ? constants.O_EXCL : 0), durable, async (handle, syncName) => {
+    if (durable) await syncName();
+    await handle.truncate(0);
+    if (durable) await handle.sync();
+    await writeAt(handle, header, 0);
+    return { recorder, spec };
+  });
+}
+
+/** Records after the frames of a file at a path, in Node. What `append` rejects is an error. */
+export async function appendTo(path, { durable = false } = {}) {
+  return recorderOf(path, "r+", durable, async (handle, syncName) => {
+    if (durable) await handle.sync().then(syncName);
+    return resumed((await handle.stat()).size, (effect) => performOn(handle, durable, effect), 0);
+  });
+}
+
+// The Blobs that `append` has made: their recorders, specs and parts, which an append to one of them takes over.
+const made = new WeakMap();
+
+/** Performs all that a recorder requests on an overlay. */
+function performOver(overlay, recorder, block) {
+  while (checked(recorder.call("recorder_next", shared.at(MACHINE))) === 1) {
+    const { effect } = recorder;
+    overlay.perform(effect, block);
     recorder.report(effect);
   }
-  return pad;
+}
+
+/** Joins the Blobs at the end, as long as one isn't much longer than the next: so a file of many blocks has few parts,
+    and none is a Blob of a Blob of a Blob .. that can't be read. */
+function join(parts) {
+  const isBlob = (part) => part instanceof Blob;
+  while (parts.slice(-2).filter(isBlob).length === 2 && parts.at(-2).size < 2 * parts.at(-1).size) parts.push(new Blob(parts.splice(-2)));
 }
 
 /**
@@ -408,19 +640,20 @@ function record({ recorder, head, parts }, block) {
  *
  * A recording that was cut off is an error, and so are chunks or a tag after the data, unless they may be overwritten.
  */
-export async function append(file, samples, { overwrite = false } = {}) {
-  const type = typeOf(samples), given = samples.slice();
-  const before = made.get(file) ?? await opened(file, overwrite), recorder = new Machine(88);
-  const data = encoded(type, given, before.spec), isBlob = file instanceof Blob;
-  recorder.bytes.set(before.recorder.bytes);
-  const longer = { recorder, spec: before.spec, head: before.head.slice(), parts: [...before.parts] };
-  checked(recorder.call("recorder_write", shared.at(MACHINE), given.length));
-  record(longer, isBlob ? new Blob([data]) : data);
+export async function append(file, samples, { overwrite = false, onClipped = warn } = {}) {
+  const given = fileOf(file), { type, all, channels } = taken(samples), isBlob = given instanceof Blob;
+  await ready();
+  const { recorder: before, spec, parts = [given] } = made.get(given) ?? await resumed(sizeOf(given), readerOf(given), overwrite ? OVERWRITE : 0);
+  checkChannels(channels, spec.channels);
+  const recorder = new Machine(88), overlay = new Overlay(parts), { data, clipped } = encoded(type, all, spec);
+  recorder.bytes.set(before.bytes);
+  checked(recorder.call("recorder_write", shared.at(MACHINE), all.length));
+  performOver(overlay, recorder, isBlob ? new Blob([data]) : data);
+  join(overlay.parts);
   recorder.call("recorder_checkpoint", shared.at(MACHINE));
-  const pad = record(longer), { head, parts } = longer;
-  if (!isBlob) return joined(file, [head, ...parts, pad]);
-  while (parts.length > 1 && parts.at(-2).size < 2 * parts.at(-1).size) parts.push(new Blob(parts.splice(-2)));
-  const whole = blobOf([head, ...parts, pad]);
-  made.set(whole, longer);
-  return whole;
+  performOver(overlay, recorder);
+  const longer = joined(overlay.parts, isBlob);
+  if (isBlob) made.set(longer, { recorder, spec, parts: overlay.parts });
+  if (clipped > 0) onClipped(clipped);
+  return longer;
 }

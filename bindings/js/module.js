@@ -6,6 +6,7 @@ async function load(url) {
   return response.arrayBuffer();
 }
 
-const beside = load(new URL("./hound_c32.wasm", import.meta.url));
-
-export const module = await WebAssembly.compile(await beside.catch(() => load(new URL("../lib/hound_c32.wasm", import.meta.url))));
+export async function module() {
+  const beside = load(new URL("./hound_c32.wasm", import.meta.url));
+  return WebAssembly.compile(await beside.catch(() => load(new URL("../lib/hound_c32.wasm", import.meta.url))));
+}

@@ -1,38 +1,34 @@
-// The page: it looks at a file that is dropped or chosen, draws it, plays it, and saves the repaired one.
-import { HoundError, findDamage, info, read, repair, write } from "../hound.js";
+// The page: it looks at files that are dropped or chosen, draws one, plays it, and saves the repaired ones.
+import { HoundError, info, read, repair, write } from "../hound.js";
 
 const element = (id) => document.getElementById(id);
-const [drop, said, busy, stop, result, save, choice, end, wave, place, axis, zoom, player, facts] =
-  ["drop", "said", "busy", "stop", "result", "save", "choice", "end", "wave", "place", "axis", "zoom", "player", "facts"].map(element);
-const [input, audio, canvas, progress] = ["input", "audio", "canvas", "progress"].map((name) => document.querySelector(name));
+const [drop, list, all, lost, said, busy, stop, result, save, choice, end, wave, place, axis, zoom, player, facts] =
+  ["drop", "list", "all", "lost", "said", "busy", "stop", "result", "save", "choice", "end", "wave", "place", "axis", "zoom", "player", "facts"].map(element);
+const [input, audio, canvas, progress, table] = ["input", "audio", "canvas", "progress", "tbody"].map((name) => document.querySelector(name));
 
 // What is said of a file that can't be read, where hound.h's sentence is too short for somebody who knows no format.
-const KNOWN = "if you know its rate, channels and bits";
-const RAW = `an audio editor can import it as raw data, ${KNOWN}`;
-const KEEP = `Keep the file: an audio editor may read it, or import it as raw data, ${KNOWN}.`;
-const LOST = `Where its sound begins wasn't found, but sound may be in it. Keep the file: ${RAW}.`;
-const DAMAGED = `Its header is damaged, or of a kind that this page doesn't read. ${KEEP}`;
-const READS = `This page reads integers of 8, 16, 24 and 32 bits, and floats of 32 bits. ${KEEP}`;
+const CHOOSE = "Keep the file. Choose what was recorded, and listen.";
+const LOST = `Where its sound begins wasn't found, but sound may be in it. ${CHOOSE}`;
+const DAMAGED = `Its header is damaged, or of a kind that this page doesn't read. ${CHOOSE}`;
+const READS = `This page reads integers of 8, 16, 24 and 32 bits, and floats of 32 bits: an audio editor may read it. If its header is damaged: ${CHOOSE}`;
 const HINTS = {
   ENDED: LOST,
   NO_DATA_CHUNK: LOST,
   NO_FMT_CHUNK: LOST,
-  NO_RIFF_TAG: `It is no WAV file, or its beginning was lost: then ${RAW}.`,
-  NO_WAVE_TAG: `It is another RIFF file, or its beginning was lost: then ${RAW}.`,
-  UNSUPPORTED: `Its sound is compressed, or its header is damaged; this page reads plain samples only. ${KEEP}`,
+  NO_RIFF_TAG: `It is no WAV file, or another kind of it (RF64, BW64, RIFX, a tag in front), which an audio editor may read. Or its beginning was lost: ${CHOOSE}`,
+  NO_WAVE_TAG: `It is another RIFF file, or its beginning was lost: ${CHOOSE}`,
+  UNSUPPORTED: `Its sound is compressed, and an audio editor may read it; or its header is damaged: ${CHOOSE}`,
   NOT_WRITABLE: READS,
   BITS_NOT_32: READS,
 };
-// The same by the first four bytes of a file without a RIFF tag, or the first three.
-const OTHER = "which this page doesn't read: try an audio editor.";
-const TAGS = {
-  RF64: `It is RF64, for long recordings, ${OTHER}`,
-  BW64: `It is BW64, for long recordings, ${OTHER}`,
-  RIFX: `It is a WAV file with its bytes in the other order, ${OTHER}`,
-  ID3: `A tag (ID3) is in front of the sound, ${OTHER}`,
-  "\0\0\0\0": `It begins with zeros. If all its bytes are zeros, no sound is left in it; if not, ${RAW}.`,
-};
 const CARD = "Record nothing more on the card it came from: a recovery program may find the sound there.";
+// What samples may be, the usual ones first, the rates of most recorders, and the channels that are guessed.
+const FORMS = [[16, 2], [24, 3], [32, 4, true], [8, 1], [32, 4], [24, 4]]
+  .map(([bitsPerSample, bytesPerSample, isFloat = false]) => ({ bitsPerSample, bytesPerSample, isFloat }));
+const RATES = [8000, 11025, 16000, 22050, 32000, 44100, 48000, 88200, 96000, 192000], CHANNELS = [1, 2, 4, 6, 8];
+// From how many places of a file a guess is made, of how many bytes each, what number of bytes all pairs of samples are a part of, and
+// from where on they are too rough to be sound.
+const PLACES = 16, PART = 6144, COMMON = 24, NOISE = 0.8;
 // How many samples are read at once to be drawn, how many channels are drawn at most, how many frames are shown at least,
 // and how many samples a copy has at most.
 const AT_ONCE = 1 << 20, LANES = 32, LEAST = 64, COPIED = 1 << 28;
@@ -51,12 +47,12 @@ function say(text, kind = "") {
   said.className = kind;
 }
 
-/** Why a file can't be read; `tag` is its first four bytes, if they are known. */
-function failure(file, error, tag = "") {
-  if (error.code === "ENDED" && file.size < 64) return `${file.name} ${file.size ? "ends before any sound" : "is empty"}. ${CARD}`;
+/** Why a file can't be read. */
+function failure(file, error) {
+  if (error.code === "ENDED" && file.size < LEAST) return `${file.name} ${file.size ? "ends before any sound" : "is empty"}. ${CARD}`;
   const large = `it has ${number(file.size)} bytes. Keep it:`;
-  if (error.code === "TOO_LONG" || error instanceof RangeError && file.size > 0xffffffff + 8) return `${file.name} is too large for a WAV file: ${large} ${RAW}.`;
-  if (error instanceof HoundError) return `${file.name} can't be read: ${error.message}.\n${TAGS[tag] ?? TAGS[tag.slice(0, 3)] ?? HINTS[error.code] ?? DAMAGED}`;
+  if (error.code === "TOO_LONG") return `${file.name} is too large for a WAV file: ${large} an audio editor may read it as RF64, or import it as raw data, if you know its rate, channels and bits.`;
+  if (error instanceof HoundError) return `${file.name} can't be read: ${error.message}.\n${HINTS[error.code] ?? DAMAGED}`;
   if (error instanceof RangeError) return `${file.name} is too large for this browser: ${large} a newer one, or another one, may repair it.`;
   return `${file.name} could not be read: ${error.message}`;
 }
@@ -64,25 +60,19 @@ function failure(file, error, tag = "") {
 const lengthOfTime = ({ frames, sampleRate }) => sampleRate ? frames / sampleRate : 0;
 const framesOf = (found) => counted(found.frames, "frame") + (found.sampleRate ? ` (${time(lengthOfTime(found))})` : "");
 
-/** What a file says of itself: whether its length, at byte 4, is wrong, how many bytes follow the sound that its header
-    counts, and whether they may be sound, too: they are more, or something is between that and an ID3v1 tag at the end. */
-async function claims(file, { dataStart, channels, bytesPerSample }) {
-  const numberAt = async (place) => new DataView(await file.slice(place, place + 4).arrayBuffer()).getUint32(0, true);
-  const length = 8 + await numberAt(4), sound = await numberAt(dataStart - 4), end = dataStart + sound, rest = file.size - end;
-  const isTagged = rest > 128 && await file.slice(-128, -125).text() === "TAG";
-  const mayBeSound = rest > sound || isTagged && (await findDamage(file.slice(0, -128))).frames * channels * bytesPerSample > sound;
-  return { isWrong: length < end || length > file.size + 1, rest, mayBeSound };
+/** How many bytes follow the sound that the header counts, and whether they may be sound, too: they are more. */
+function claims(file, { dataStart, dataLength }) {
+  const rest = file.size - dataStart - dataLength;
+  return { rest, mayBeSound: rest > dataLength };
 }
 
 /** What is said of a file that was looked at, and repaired to its end if that was requested. */
-function verdict(found, { isWrong, rest, mayBeSound }, toEnd) {
+function verdict(found, { rest, mayBeSound }, toEnd) {
   const { state, frames, leftOver } = found;
   if (state === "hasChunksAfterData") {
     const [counts, what] = frames ? [`only ${framesOf(found)}`, "the rest of the recording"] : ["no sound", "the recording"];
     if (mayBeSound) return [`The header counts ${counts}, but ${counted(rest, "byte")} follow. They may be ${what}: repair the file to its end, and listen.`, "cut"];
-    const follow = "Other data follow the sound, as a title or markers (chunks or a tag).";
-    if (isWrong) return [`${follow} Only the file's length, at byte 4, is wrong: if a program rejects it, export it from an audio editor.`, "cut"];
-    return [`${follow} There is nothing to repair.`, "good"];
+    return ["Other data follow the sound, as a title or markers (chunks or a tag): it needs no repair. If a program rejects the file, export it from an audio editor.", "good"];
   }
   if (frames === 0) return [`The file has a header and no sound: nothing can be brought back from it. ${CARD}`, "bad"];
   if (state === "whole") return ["The file is whole: both of its sizes are right. There is nothing to repair.", "good"];
@@ -104,18 +94,21 @@ function otherChoice({ rest, mayBeSound }, toEnd) {
 /** The name of a file that is saved: `a repaired.wav` for `a.wav`, and `a repaired 2.wav` for that. */
 const repairedName = (name) => name.replace(/( repaired( \d+)?)?(\.wave?)?$/i, (_, again, count = 1) => ` repaired${again ? ` ${Number(count) + 1}` : ""}.wav`);
 
+function formText({ bitsPerSample, bytesPerSample, isFloat }) {
+  return `${isFloat ? "floats" : "integers"} of ${bitsPerSample} bits${bytesPerSample * 8 === bitsPerSample ? "" : ` in ${bytesPerSample} bytes`}`;
+}
+
 /** The header's fields, with a hint for each that needs one. */
-function rows(file, head, found) {
-  const { sampleRate, channels, bitsPerSample, bytesPerSample, isFloat, dataStart } = found;
-  const width = bytesPerSample * 8 === bitsPerSample ? "" : ` in ${bytesPerSample} bytes`;
+function rows(file, { head, found, begins }) {
+  const { sampleRate, channels } = found;
   return [
     ["File", `${file.name}, ${counted(file.size, "byte")}`],
     ["Duration", `${sampleRate ? `${time(lengthOfTime(found))}, ` : ""}${counted(found.frames, "frame")}`, "A frame has one sample of each channel."],
-    ["Sample rate", `${number(sampleRate)} Hz`, sampleRate ? "Frames a second." : "It is lost. An audio editor can import the file as raw data, if you know it."],
+    ["Sample rate", `${number(sampleRate)} Hz`, sampleRate ? "Frames a second." : "It is lost: choose it."],
     ["Channels", number(channels), ...(channels > LANES ? [`The first ${LANES} are drawn.`] : [])],
-    ["Samples", `${isFloat ? "floats" : "integers"} of ${bitsPerSample} bits${width}`],
-    ["Sound begins", `at byte ${number(dataStart)}`],
-    ...(found.state === "cutOff" ? [["Header", head ? `counts ${counted(head.frames, "frame")}` : "counts no whole frames", "The repaired file counts all whole frames that are there."]] : []),
+    ["Samples", formText(found)],
+    ["Sound begins", `at byte ${number(begins)}`],
+    ...(found.state === "cutOff" && head !== undefined ? [["Header", head ? `counts ${counted(head.frames, "frame")}` : "counts no whole frames", "The repaired file counts all whole frames that are there."]] : []),
     ...(found.leftOver ? [["Left over", counted(found.leftOver, "byte"), `${found.leftOver === 1 ? "It stays" : "They stay"} in the file, after the last whole frame.`]] : []),
   ];
 }
@@ -288,52 +281,240 @@ function play(found, isCurrent) {
   audio.src = urlOf(found.file);
 }
 
-/** Looks at a file; `toEnd` is whether all of it is taken for sound. */
-async function open(file, toEnd = false) {
+/** What is found of a file, and what is said of that; `toEnd` is whether all of it is taken for sound. */
+async function judged(file, toEnd) {
+  const head = await info(file).catch(() => null), left = await repair(file, { toEnd });
+  // If the header counts half a frame, and chunks or a tag seem to follow, nothing is read of the file unless it is repaired.
+  const isTorn = !head && left.state === "hasChunksAfterData", found = isTorn ? await repair(file, { toEnd: true }) : left;
+  const says = claims(file, found);
+  return { head, found, begins: found.dataStart, says, words: verdict(found, says, toEnd || isTorn) };
+}
+
+/** The same of a file whose header is lost: all after so many bytes is sound like that. */
+async function judgedAs(file, { like, skip }) {
+  const found = await repair(file, { like, skip });
+  return { found, begins: skip, words: [`${framesOf(found)} of that ${found.frames === 1 ? "is" : "are"} there. Listen: if it is noise, or too fast or slow, choose otherwise.`, "cut"] };
+}
+
+/** How little samples are like those of the frame before: near 0 if they are smooth, 1 if they are noise or none. */
+function roughness(blocks, channels) {
+  let like = 0, later = 0, earlier = 0;
+  for (const block of blocks) {
+    const middles = new Float64Array(channels);
+    for (let i = 0; i < block.length; i++) middles[i % channels] += block[i];
+    middles.forEach((sum, channel) => { middles[channel] = sum / Math.ceil((block.length - channel) / channels); });
+    for (let i = channels; i < block.length; i++) {
+      const middle = middles[i % channels], a = block[i] - middle, b = block[i - channels] - middle;
+      like += a * b;
+      later += a * a;
+      earlier += b * b;
+    }
+  }
+  return like > 0 ? 1 - like / later * (like / earlier) : 1;
+}
+
+/** Whether samples come in pairs: the steps within them are far from as large as those between them. */
+function isPaired(blocks) {
+  const steps = [0, 0];
+  for (const block of blocks) for (let i = 1; i < block.length; i++) steps[i % 2] += (block[i] - block[i - 1]) ** 2;
+  return Math.max(...steps) > 2 * Math.min(...steps);
+}
+
+/** The number of channels of samples, by what makes them smooth, and how rough they are then. */
+function channelsOf(blocks) {
+  const [best] = CHANNELS.map((channels) => ({ channels, rough: roughness(blocks, channels) })).sort((a, b) => a.rough - b.rough);
+  return best.channels === 1 && isPaired(blocks) ? { ...best, channels: 2 } : best;
+}
+
+/** What was recorded in a file whose header is lost, by what makes its samples smooth; nothing if nothing does. */
+async function guessed(file) {
+  if (file.size < PLACES * LEAST) return null; // A few samples may be smooth by chance.
+  const places = Array.from({ length: PLACES }, (_, i) => COMMON * Math.floor(file.size * (i + 0.5) / PLACES / COMMON)), all = [];
+  const parts = await Promise.all(places.map((from) => file.slice(from, from + PART).arrayBuffer()));
+  for (const form of FORMS.slice(0, -1)) { // The last one is as smooth as integers of 32 bits, which have the same sound.
+    for (let skip = 0; skip < form.bytesPerSample; skip++) {
+      const mono = { ...form, sampleRate: 1, channels: 1 }, blocks = [];
+      for (const part of parts) blocks.push(await read((await repair(part, { like: mono, skip: Math.min(skip, part.byteLength) })).file, { type: "float32" }));
+      const { channels, rough } = channelsOf(blocks);
+      all.push({ like: { ...form, channels, sampleRate: 48000 }, skip, rough });
+    }
+  }
+  const best = Math.min(...all.map(({ rough }) => rough)), guess = all.find(({ rough }) => rough < NOISE && rough <= 2 * best);
+  return guess && inStep(file, guess);
+}
+
+/** Where the lost header was as long as a new one, channels begin after it. */
+async function inStep(file, { like, skip }) {
+  const { dataStart } = await repair(file.slice(0, 0), { like }), first = dataStart % (like.channels * like.bytesPerSample);
+  return { like, skip: first % like.bytesPerSample === skip ? first : skip };
+}
+
+/** Offers a choice of what was recorded, which begins as this. */
+function offer(file, { like, skip }, text) {
+  element("guess").textContent = text;
+  const { form, channels, rate, skip: bytes } = lost.elements;
+  form.value = FORMS.findIndex((one) => ["bitsPerSample", "bytesPerSample", "isFloat"].every((name) => one[name] === like[name]));
+  [channels.value, rate.value, bytes.value, bytes.max] = [like.channels, like.sampleRate, skip, file.size];
+  lost.hidden = false;
+  lost.onchange = () => {
+    if (!lost.reportValidity()) return;
+    element("guess").textContent = "This is what you chose.";
+    const [channels, sampleRate, skip] = ["channels", "rate", "skip"].map((name) => lost.elements[name].valueAsNumber);
+    open(file, { like: { ...FORMS[form.value], channels, sampleRate }, skip });
+  };
+}
+
+/** Guesses what was recorded where a header can't be read, and offers other choices; or says that there is nothing to choose. */
+async function withoutHeader(file, error, isCurrent) {
+  if (!(error instanceof HoundError) || error.code === "TOO_LONG" || file.size < LEAST) throw error;
+  const guess = await guessed(file), given = guess ?? { like: { ...FORMS[0], channels: 2, sampleRate: 48000 }, skip: 0 };
+  const text = guess ? "This is a guess, by which samples are smooth; the rate can't be guessed. What was before the sound may be a click." : "No guess: nothing in it is smooth, as sound is, or it is too short.";
+  const seen = await judgedAs(file, given);
+  if (isCurrent()) offer(file, given, text);
+  return { ...seen, words: [failure(file, error), "bad"] };
+}
+
+/** Shows what is found of a file. */
+function show(file, { found, says, words }, toEnd, isCurrent) {
+  result.hidden = false;
+  for (const part of [wave, axis]) part.hidden = found.frames === 0;
+  audio.hidden = lengthOfTime(found) === 0;
+  if (!audio.hidden) play(found, isCurrent);
+  if (found.state === "cutOff" && found.frames) {
+    const name = repairedName(file.name);
+    Object.assign(save, { href: urlOf(found.file), hidden: false, download: name, textContent: `Save the repaired file as ${name}` });
+  }
+  if (says && (toEnd || found.state === "hasChunksAfterData")) {
+    [choice.firstChild.textContent, end.textContent] = otherChoice(says, toEnd);
+    end.onclick = () => open(file, { toEnd: !toEnd });
+    choice.hidden = false;
+  }
+  say(...words);
+  zoom.hidden = found.frames <= LEAST;
+  shown = { file, found };
+  return look(0, found.frames);
+}
+
+/** Looks at a file; all of it is taken for sound with `toEnd`, and what it is after so many bytes is given by `like` and `skip`. */
+async function open(file, { toEnd = false, like, skip } = {}) {
   const mine = ++turn, isCurrent = () => mine === turn;
   clear();
+  if (!like) lost.hidden = true;
   say(`Looking at ${file.name}.`);
   try {
-    const head = await info(file).catch(() => null), left = await repair(file, { toEnd });
-    // If the header counts half a frame, and chunks or a tag seem to follow, nothing is read of the file unless it is repaired.
-    const isTorn = !head && left.state === "hasChunksAfterData", repaired = isTorn ? await repair(file, { toEnd: true }) : left;
-    const { dataStart } = await info(repaired.file), found = { ...repaired, dataStart }, says = await claims(file, found);
+    const seen = await (like ? judgedAs(file, { like, skip }) : judged(file, toEnd).catch((error) => withoutHeader(file, error, isCurrent)));
     if (!isCurrent()) return;
-    showRows(rows(file, head, found));
-    result.hidden = false;
-    for (const part of [wave, axis]) part.hidden = found.frames === 0;
-    audio.hidden = lengthOfTime(found) === 0;
-    if (!audio.hidden) play(found, isCurrent);
-    if (found.state === "cutOff" && found.frames) {
-      const name = repairedName(file.name);
-      Object.assign(save, { href: urlOf(found.file), hidden: false, download: name, textContent: `Save the repaired file as ${name}` });
-    }
-    if (toEnd || found.state === "hasChunksAfterData") {
-      [choice.firstChild.textContent, end.textContent] = otherChoice(says, toEnd);
-      end.onclick = () => open(file, !toEnd);
-      choice.hidden = false;
-    }
-    say(...verdict(found, says, toEnd || isTorn));
-    zoom.hidden = found.frames <= LEAST;
-    shown = { file, found };
-    await look(0, found.frames);
-    if (isCurrent()) said.dataset.done = mine;
+    showRows(rows(file, seen));
+    if (!like && seen.says && seen.found.sampleRate === 0) offer(file, { like: { ...seen.found, sampleRate: 48000 }, skip: seen.begins }, "Its rate is lost: choose one.");
+    await show(file, seen, toEnd, isCurrent);
   } catch (error) {
-    const tag = await file.slice(0, 4).text().catch(() => "");
     if (!isCurrent()) return;
-    say(failure(file, error, tag), "bad");
-    said.dataset.done = mine;
+    say(failure(file, error), "bad");
+  }
+  if (isCurrent()) said.dataset.done = mine;
+}
+
+/** What a table says of a file, and whether it is repaired. */
+function summary({ found, says }) {
+  if (found.state === "hasChunksAfterData") return says.mayBeSound ? "may be cut off: look at it" : "other data follow the sound";
+  if (found.frames === 0) return "no sound";
+  return found.state === "whole" ? "whole" : "was cut off";
+}
+
+/** Adds a file to the table, and returns its repaired form, if there is one. */
+async function listed(file, isCurrent) {
+  const seen = await judged(file, false).catch((error) => ({ error }));
+  if (!isCurrent()) return null;
+  const cells = ["", seen.error ? "" : time(lengthOfTime(seen.found)), seen.error ? seen.error.message : summary(seen)].map((text) => Object.assign(document.createElement("td"), { textContent: text }));
+  const row = document.createElement("tr"), button = Object.assign(document.createElement("button"), { type: "button", textContent: file.name, onclick: () => open(file) });
+  cells[0].append(button);
+  row.append(...cells);
+  table.append(row);
+  return seen.found?.state === "cutOff" && seen.found.frames ? [repairedName(file.name), seen.found.file] : null;
+}
+
+/** Saves files one after the other. */
+async function saveAll(files) {
+  for (const [download, file] of files) {
+    const href = URL.createObjectURL(file);
+    Object.assign(document.createElement("a"), { download, href }).click();
+    await new Promise((resolve) => setTimeout(resolve, 250)); // A browser passes over what comes at once.
+    setTimeout(() => URL.revokeObjectURL(href), 60000);
   }
 }
 
-input.onchange = () => input.files[0] && open(input.files[0]);
+/** Looks at a file, or lists what several are. */
+async function openAll(files) {
+  list.hidden = all.hidden = files.length < 2;
+  if (files.length === 1) return open(files[0]);
+  const mine = ++turn, isCurrent = () => mine === turn, repaired = [];
+  clear();
+  lost.hidden = true;
+  table.replaceChildren();
+  say(`Looking at ${counted(files.length, "file")}.`);
+  for (const file of files) {
+    const one = await listed(file, isCurrent);
+    if (!isCurrent()) return;
+    if (one) repaired.push(one);
+  }
+  const cutOff = repaired.length ? `${number(repaired.length)} ${repaired.length === 1 ? "was" : "were"} cut off and can be saved repaired` : "none can be repaired";
+  say(files.length ? `${counted(files.length, "file")}, of which ${cutOff}.` : "There are no WAV files in it.");
+  all.hidden = repaired.length === 0;
+  all.textContent = `Save ${counted(repaired.length, "repaired file")}`;
+  all.onclick = () => saveAll(repaired);
+  said.dataset.done = mine;
+}
+
+const byName = (a, b) => a.name.localeCompare(b.name, undefined, { numeric: true });
+
+/** The files of a folder that are named as WAV files, and of the folders in it. */
+async function filesOf(folder) {
+  const found = [], folders = [];
+  for await (const one of folder.values()) (one.kind === "directory" ? folders : found).push(one);
+  const files = await Promise.all(found.filter(({ name }) => /\.wave?$/i.test(name)).map((one) => one.getFile()));
+  const within = [];
+  for (const one of folders.sort(byName)) within.push(...await filesOf(one));
+  return [...files.sort(byName), ...within];
+}
+
+/** A folder of a browser that has the older interface, in the form of the newer one. */
+const folderOf = (entry) => ({
+  kind: "directory", name: entry.name,
+  async *values() {
+    const reader = entry.createReader(), next = () => new Promise((resolve, reject) => reader.readEntries(resolve, reject));
+    for (let some; (some = await next()).length > 0;) {
+      for (const one of some) yield one.isDirectory ? folderOf(one) : { kind: "file", name: one.name, getFile: () => new Promise((resolve, reject) => one.file(resolve, reject)) };
+    }
+  },
+});
+
+/** The folder that is dropped; nothing if it is none. */
+async function folderIn(item) {
+  if (!item.getAsFileSystemHandle) {
+    const entry = item.webkitGetAsEntry?.();
+    return entry?.isDirectory ? folderOf(entry) : null;
+  }
+  const handle = await item.getAsFileSystemHandle(); // Where a page is opened from the disk Chromium reads no entry.
+  return handle?.kind === "directory" ? handle : null;
+}
+
+async function openDropped({ items, files }) {
+  const given = [...files], folders = await Promise.all([...items].filter(({ kind }) => kind === "file").map(folderIn)); // All is gone after the first await.
+  if (!folders.some((folder) => folder)) return openAll(given);
+  const found = await Promise.all(folders.map((folder, i) => folder ? filesOf(folder) : [given[i]]));
+  return openAll(found.flat());
+}
+
+const openGiven = (work) => work.catch((error) => say(`That can't be read: ${error.message}`, "bad"));
+
+input.onchange = () => input.files.length && openGiven(openAll([...input.files]));
 for (const kind of ["dragover", "dragleave", "drop"]) {
   document.addEventListener(kind, (event) => {
     event.preventDefault();
     drop.classList.toggle("over", kind === "dragover");
-    if (kind !== "drop" || !event.dataTransfer.files[0]) return;
-    input.files = event.dataTransfer.files; // So its name is shown there.
-    open(input.files[0]);
+    if (kind !== "drop" || !event.dataTransfer.files.length) return;
+    input.files = event.dataTransfer.files; // So their names are shown there.
+    openGiven(openDropped(event.dataTransfer));
   });
 }
 
@@ -366,4 +547,7 @@ stop.onclick = () => {
 };
 addEventListener("resize", redraw);
 matchMedia("(prefers-color-scheme: dark)").addEventListener("change", redraw);
+lost.onsubmit = (event) => event.preventDefault();
+lost.elements.form.append(...FORMS.map((form, i) => new Option(formText(form), i)));
+element("rates").append(...RATES.map((rate) => new Option(rate)));
 say("");

@@ -12,9 +12,9 @@ const u16 = (n) => [n & 255, n >> 8 & 255];
 const u32 = (n) => [...u16(n), ...u16(n >>> 16)];
 
 /** A PCM file of these data, whose header may count others. */
-function byHand(data, { counted = data.length, after = [], riff, channels = 1, bits = 16 } = {}) {
+function byHand(data, { counted = data.length, after = [], riff, channels = 1, bits = 16, tag = 1 } = {}) {
   const frame = channels * Math.ceil(bits / 8);
-  const fmt = [...u32(16), ...u16(1), ...u16(channels), ...u32(8000), ...u32(8000 * frame), ...u16(frame), ...u16(bits)];
+  const fmt = [...u32(16), ...u16(tag), ...u16(channels), ...u32(8000), ...u32(8000 * frame), ...u16(frame), ...u16(bits)];
   const rest = [...text("WAVEfmt "), ...fmt, ...text("data"), ...u32(counted), ...data, ...after];
   return Uint8Array.from([...text("RIFF"), ...u32(riff ?? rest.length), ...rest]);
 }
@@ -68,6 +68,70 @@ test("24 bits take three bytes or four, and floats keep their bits", async () =>
   assert.equal((await info(floats)).isFloat, true);
 });
 
+test("integers are read as floats whose full scale is 1", async () => {
+  for (const [bits, data, floats] of [
+    [8, [192, 0, 128, 255], [0.5, -1, 0, 127 / 128]],
+    [16, [0, 64, 0, 128, 1, 0], [0.5, -1, 1 / 32768]],
+    [24, [0, 0, 64, 0, 0, 128, 1, 0, 0], [0.5, -1, 1 / 8388608]],
+    [32, [0, 0, 0, 192, 0, 0, 0, 1], [-0.5, 1 / 128]],
+  ]) {
+    for (const file of kinds(byHand(data, { bits }))) assert.deepEqual(await read(file, { type: "float32" }), Float32Array.from(floats));
+  }
+  await fails(read(byHand([0, 0, 0, 63], { bits: 32, tag: 3 }), { type: "int32" }), "OTHER_FORMAT");
+});
+
+test("floats are rounded to integers, of two to the even one, and what is clipped is counted", async () => {
+  const floats = Float32Array.of(0.5, -1, 1, 2, -3, NaN, 0.5 / 32768, 1.5 / 32768, 2.5 / 32768), counts = [];
+  const onClipped = (count) => counts.push(count), data = [0, 64, 0, 128, 255, 127, 255, 127, 0, 128, 0, 0, 0, 0, 2, 0, 2, 0];
+  assert.deepEqual(await write(floats, { sampleRate: 8000, bitsPerSample: 16, onClipped }), byHand(data));
+  for (const file of kinds(byHand([7, 0]))) assert.deepEqual(await bytes(await append(file, floats, { onClipped })), byHand([7, 0, ...data]));
+  assert.deepEqual(counts, [3, 3, 3]);
+  assert.deepEqual(await write(Float32Array.of(0.5, -1), { sampleRate: 8000, bitsPerSample: 8, onClipped }), byHand([192, 0], { bits: 8 }));
+  assert.deepEqual([...(await write(Float32Array.of(0.5), { sampleRate: 8000, isFloat: false })).slice(-4)], [0, 0, 0, 64]);
+  const long = await write(new Float32Array(600001).fill(2), { sampleRate: 8000, bitsPerSample: 16, onClipped });
+  assert.deepEqual([long.length, ...long.slice(-2)], [44 + 2 * 600001, 255, 127]);
+  assert.deepEqual(counts, [3, 3, 3, 600001]);
+});
+
+test("without a call for it a warning says what is clipped", async (t) => {
+  const { mock } = t.mock.method(console, "warn", () => {});
+  await write(Float32Array.of(0, 1), { sampleRate: 8000, bitsPerSample: 24 });
+  await append(byHand([]), Float32Array.of(-2, 0.5));
+  await write(Float32Array.of(2), { sampleRate: 8000 }); // A float is stored as it is.
+  assert.deepEqual(mock.calls.map((call) => call.arguments), Array(2).fill(["hound_bindings: samples out of full scale were clipped: 1"]));
+});
+
+test("a file of 24 bits is the same by way of floats, with its spec", async () => {
+  for (const bytesPerSample of [3, 4]) {
+    const samples = Int32Array.of(1, -1, 8388607, -8388608, 1234567, -7), file = await write(samples, { sampleRate: 48000, channels: 2, bitsPerSample: 24, bytesPerSample });
+    assert.deepEqual(await write(await read(file, { type: "float32" }), await info(file)), file);
+  }
+});
+
+test("each channel has an array, as Web Audio has them", async () => {
+  const file = byHand([1, 0, 2, 0, 3, 0, 4, 0], { channels: 2 }), [left, right] = [Int16Array.of(1, 3), Int16Array.of(2, 4)];
+  assert.deepEqual(await write([left, right], { sampleRate: 8000 }), file);
+  for (const kind of kinds(file)) {
+    assert.deepEqual(await read(kind, { planar: true }), [left, right]);
+    assert.deepEqual(await read(kind, { planar: true, type: "float32", start: 1 }), [Float32Array.of(3 / 32768), Float32Array.of(4 / 32768)]);
+    assert.deepEqual(await bytes(await append(kind, [Float32Array.of(0.5), Float32Array.of(-0.5)])), byHand([1, 0, 2, 0, 3, 0, 4, 0, 0, 64, 0, 192], { channels: 2 }));
+  }
+  const nan = new Float32Array(Uint8Array.of(1, 0, 128, 127, 0, 0, 128, 63).buffer); // A signalling NaN, and 1.
+  const floats = await write([nan, nan], { sampleRate: 8000 });
+  assert.deepEqual([...floats.slice(-16)], [1, 0, 128, 127, 1, 0, 128, 127, 0, 0, 128, 63, 0, 0, 128, 63]);
+  assert.deepEqual((await read(floats, { planar: true })).map(({ buffer }) => [...new Uint8Array(buffer)]), Array(2).fill([1, 0, 128, 127, 0, 0, 128, 63]));
+});
+
+test("an ArrayBuffer is taken for its bytes", async () => {
+  const { buffer } = byHand([1, 0, 2, 0], { counted: 0 });
+  assert.equal((await info(buffer)).frames, 0);
+  assert.equal((await findDamage(buffer)).frames, 2);
+  const { file } = await repair(buffer);
+  assert.deepEqual(file, byHand([1, 0, 2, 0]));
+  assert.deepEqual(await read(file.buffer), Int16Array.of(1, 2));
+  assert.deepEqual(await append(file.buffer, Int16Array.of(3)), byHand([1, 0, 2, 0, 3, 0]));
+});
+
 test("the header and a part of the frames are read of both kinds", async () => {
   const data = Array.from({ length: 20 }, (_, i) => [i, 0]).flat();
   for (const file of kinds(byHand(data, { channels: 2, after: LIST }))) {
@@ -77,7 +141,6 @@ test("the header and a part of the frames are read of both kinds", async () => {
     assert.deepEqual(await read(file, { start: 3, frames: 2 }), Int16Array.of(6, 7, 8, 9));
     assert.deepEqual(await read(file, { start: 9, type: "int32" }), Int32Array.of(18, 19));
     assert.equal((await read(file, { start: 10 })).length, 0);
-    await fails(read(file, { type: "float32" }), "OTHER_FORMAT");
     await fails(read(file, { type: "int8" }), "TOO_WIDE");
   }
 });
@@ -108,8 +171,8 @@ test("a file that was cut off is repaired", async () => {
   for (const [counted, riff] of [[0, 36], [4, 40], [400, 436], [0xffffffff, 0xffffffff], [10, 46], [3, 39]]) {
     const cut = byHand(data, { channels: 2, counted, riff }), before = cut.slice();
     for (const file of kinds(cut)) {
-      const { state, frames, leftOver } = await findDamage(file);
-      assert.deepEqual({ state, frames, leftOver }, { state: "cutOff", frames: 2, leftOver: 2 });
+      const { state, frames, leftOver, dataStart, dataLength } = await findDamage(file);
+      assert.deepEqual({ state, frames, leftOver, dataStart, dataLength }, { state: "cutOff", frames: 2, leftOver: 2, dataStart: 44, dataLength: counted });
       const repaired = await repair(file);
       assert.deepEqual(await bytes(repaired.file), good);
       assert.deepEqual((await repair(repaired.file)).state, "whole");
@@ -151,6 +214,25 @@ test("with toEnd chunks and a tag are taken for samples", async () => {
   await fails(repair(byHand([1, 0], { channels: 0 }), { toEnd: true }), "ZERO_CHANNELS");
 });
 
+test("a lost header is made like another one", async () => {
+  const data = [1, 0, 2, 0, 3, 0, 4, 0], like = await info(byHand([], { channels: 2 }));
+  for (const lost of [Array(44).fill(0), [7], []]) {
+    for (const file of kinds(Uint8Array.from([...lost, ...data]))) {
+      const { state, frames, leftOver, file: found } = await repair(file, { like, skip: lost.length });
+      assert.deepEqual({ state, frames, leftOver }, { state: "cutOff", frames: 2, leftOver: 0 });
+      assert.deepEqual(await bytes(found), byHand(data, { channels: 2 }));
+    }
+  }
+  const torn = await repair(Uint8Array.from([...data, 9]), { like });
+  assert.deepEqual([torn.frames, torn.leftOver, torn.file], [2, 1, byHand(data, { channels: 2, after: [9], riff: 44 })]);
+  const odd = await repair(Uint8Array.of(5, 6, 7), { like: { sampleRate: 8000, bitsPerSample: 8 } });
+  assert.deepEqual(odd.file, byHand([5, 6, 7], { bits: 8, after: [0] }));
+  assert.equal((await repair(new Uint8Array(2), { like, skip: 2 })).frames, 0);
+  await assert.rejects(repair(Uint8Array.from(data), { like, skip: 9 }), { name: "RangeError", message: /^skip / });
+  await assert.rejects(repair(Uint8Array.from(data), { like: { sampleRate: 8000 } }), { name: "TypeError", message: /^bitsPerSample / });
+  await fails(repair(Uint8Array.from(data), { like: { sampleRate: 8000, bitsPerSample: 12 } }), "NOT_WRITABLE");
+});
+
 test("frames are appended", async () => {
   for (const file of kinds(byHand([1, 0, 2, 0]))) {
     assert.deepEqual(await bytes(await append(file, Int16Array.of(3, -1))), byHand([1, 0, 2, 0, 3, 0, 255, 255]));
@@ -161,14 +243,17 @@ test("frames are appended", async () => {
     assert.deepEqual(await bytes(await append(two, Int8Array.of(0))), byHand([1, 127, 128], { bits: 8, after: [0] }));
   }
   await fails(append(byHand([], { channels: 2 }), Int16Array.of(1)), "UNFINISHED_FRAME");
-  await fails(append(byHand([]), Float32Array.of(1)), "OTHER_FORMAT");
+  await fails(append(byHand([], { bits: 32, tag: 3 }), Int32Array.of(1)), "OTHER_FORMAT");
   await fails(append(byHand([], { bits: 8 }), Int16Array.of(128)), "TOO_WIDE");
 });
 
 test("an append overwrites only what it may", async () => {
   const one = Int16Array.of(7), followed = byHand([1, 0], { after: LIST });
-  await fails(append(followed, one), "CHUNKS_FOLLOW");
-  assert.deepEqual(await append(followed, one, { overwrite: true }), byHand([1, 0, 7, 0]));
+  for (const file of kinds(followed)) {
+    await fails(append(file, one), "CHUNKS_FOLLOW");
+    assert.deepEqual(await bytes(await append(file, one, { overwrite: true })), byHand([1, 0, 7, 0]));
+    assert.deepEqual(await bytes(await append(file, one.subarray(1), { overwrite: true })), byHand([1, 0]));
+  }
   for (const overwrite of [false, true]) {
     for (const cut of [byHand([1, 0, 2, 0], { counted: 0 }), byHand([1, 0, 2, 0], { counted: 3 })]) await fails(append(cut, one, { overwrite }), "IS_CUT_OFF");
     await fails(append(byHand([1, 0], { counted: 4 }), one, { overwrite }), "TRUNCATED");
@@ -179,11 +264,12 @@ test("a byte after odd data that isn't 0 is a sample, and nothing is appended ov
   for (const file of kinds(byHand([1, 2, 3], { bits: 8, after: [4] }))) await fails(append(file, Int8Array.of(5)), "IS_CUT_OFF");
 });
 
-test("the samples that are appended are those of the call", async () => {
+test("the samples that are written or appended are those of the call", async () => {
   for (const file of kinds(byHand([1, 0]))) {
-    const samples = Int16Array.of(7, 8), longer = append(file, samples);
+    const samples = Int16Array.of(7, 8), longer = append(file, samples), other = write(samples, { sampleRate: 8000 });
     samples.fill(9);
     assert.deepEqual(await read(await longer), Int16Array.of(1, 7, 8));
+    assert.deepEqual(await read(await other), Int16Array.of(7, 8));
   }
 });
 
@@ -243,12 +329,18 @@ test("an argument out of range is named", async () => {
   const file = byHand([1, 0]), one = Int16Array.of(1);
   for (const [call, kind, name] of [
     [() => info("a.wav"), TypeError, "file"],
-    [() => info(file.buffer), TypeError, "file"],
+    [() => info(new DataView(file.buffer)), TypeError, "file"],
     [() => repair(null), TypeError, "file"],
     [() => findDamage([1]), TypeError, "file"],
     [() => append(undefined, one), TypeError, "file"],
     [() => append(file, [1]), TypeError, "samples"],
     [() => write(Float64Array.of(1), { sampleRate: 1 }), TypeError, "samples"],
+    [() => write([], { sampleRate: 1 }), TypeError, "samples"],
+    [() => write([one, Int8Array.of(1)], { sampleRate: 1 }), TypeError, "samples"],
+    [() => write([one, Int16Array.of(1, 2)], { sampleRate: 1 }), RangeError, "samples"],
+    [() => write([one, one], { sampleRate: 1, channels: 1 }), RangeError, "samples"],
+    [() => append(file, [one, one]), RangeError, "samples"],
+    [() => write(one, { sampleRate: 1, isFloat: 0 }), TypeError, "isFloat"],
     [() => write(one), TypeError, "sampleRate"],
     [() => write(one, { sampleRate: "8000" }), TypeError, "sampleRate"],
     [() => write(one, { sampleRate: 0 }), RangeError, "sampleRate"],

@@ -5,7 +5,7 @@ import { HoundError, findDamage, repair, write } from "../hound.js";
 import { module } from "../module.js";
 
 const FILES = 400, LONG = 1 << 21, PAGE = 65536;
-const { exports: hound } = new WebAssembly.Instance(module);
+const { exports: hound } = await WebAssembly.instantiate(await module());
 const start = PAGE * hound.memory.grow(LONG / PAGE + 3);
 
 /** What hound_repair or hound_repair_to_end finds in a whole file, and leaves of it; or its error's code. */

@@ -1,0 +1,46 @@
+#!/usr/bin/env node
+// Looks at files, or repairs them in place.
+import { openAsBlob } from "node:fs";
+import { access } from "node:fs/promises";
+import { findDamage, info, repairFile } from "./hound.js";
+
+const USAGE = `usage: hound_bindings info FILE..               says what each file is
+       hound_bindings repair [--to-end] FILE..  repairs each in place: copy what you have only once
+
+With --to-end all that follows the header of the data is taken for samples.
+The status is 0 if all files could be read or repaired, 1 if one couldn't, and 2 after this text.`;
+
+const number = (n) => n.toLocaleString("en");
+const counted = (n, what) => `${number(n)} ${what}${n === 1 ? "" : "s"}`;
+const STATES = { whole: "whole", cutOff: "cut off", hasChunksAfterData: "chunks or a tag follow the sound" };
+
+function text({ state, frames, leftOver, sampleRate, channels, bitsPerSample, isFloat }) {
+  const seconds = sampleRate ? ` (${(frames / sampleRate).toFixed(3)} s)` : "", left = leftOver ? `, ${counted(leftOver, "byte")} left over` : "";
+  const spec = `${sampleRate} Hz, ${counted(channels, "channel")}, ${isFloat ? "floats" : "integers"} of ${bitsPerSample} bits`;
+  return `${STATES[state]}, ${counted(frames, "frame")}${seconds}${left}, ${spec}`;
+}
+
+/** What a file is; where it was cut off, and its header can be read, with what that counts. */
+async function look(path) {
+  await access(path); // A Blob's error has no reason.
+  const file = await openAsBlob(path), found = await findDamage(file), head = await info(file).catch(() => null);
+  return `${text(found)}${found.state === "cutOff" && head ? `; the header counts ${counted(head.frames, "frame")}` : ""}`;
+}
+
+async function main([command, ...files]) {
+  const toEnd = command === "repair" && files[0] === "--to-end" && files.shift() !== undefined;
+  const work = { info: look, repair: async (path) => `found ${text(await repairFile(path, { toEnd }))}` }[command];
+  if (!work || files.length === 0 || files.some((file) => file.startsWith("--"))) return console.error(USAGE), 2;
+  let status = 0;
+  for (const path of files) {
+    try {
+      console.log(`${path}: ${await work(path)}`);
+    } catch (error) {
+      console.error(`${path}: ${error.message}`);
+      status = 1;
+    }
+  }
+  return status;
+}
+
+process.exitCode = await main(process.argv.slice(2));

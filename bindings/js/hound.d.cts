@@ -1,0 +1,156 @@
+/** A file, which must not change before a call over it has ended. Of a Blob only what is needed is read, when it is. */
+export type WavFile = Uint8Array | ArrayBuffer | Blob;
+
+/** The arrays of samples, by the names of their types. Integers are signed at every width, also at 8 bits. */
+export interface Arrays {
+  int8: Int8Array;
+  int16: Int16Array;
+  int32: Int32Array;
+  float32: Float32Array;
+}
+
+/** Interleaved samples: a frame has one of each channel. Or an array for each channel, all of one type and length. */
+export type Samples = Arrays[keyof Arrays] | Int8Array[] | Int16Array[] | Int32Array[] | Float32Array[];
+
+export interface Spec {
+  sampleRate: number;
+  channels: number;
+  bitsPerSample: number;
+  /** How many bytes a sample takes in the file. */
+  bytesPerSample: number;
+  isFloat: boolean;
+}
+
+export interface Info extends Spec {
+  /** How many frames the header counts. */
+  frames: number;
+  /** How many bytes are before the first frame. */
+  dataStart: number;
+}
+
+export interface Damage extends Spec {
+  /** How the file was found. */
+  state: "whole" | "cutOff" | "hasChunksAfterData";
+  /** How many whole frames the file holds. */
+  frames: number;
+  /** How many bytes of a torn frame follow them. */
+  leftOver: number;
+  /** How many bytes are before the first frame. */
+  dataStart: number;
+  /** How many bytes of samples the header counted. */
+  dataLength: number;
+}
+
+export interface Part {
+  /** The first frame that is read; 0 without it. */
+  start?: number;
+  /** How many frames are read at most; all without it. */
+  frames?: number;
+}
+
+/** The spec of a new file; that of another one will do. */
+export interface Format {
+  sampleRate: number;
+  /** Without it as many as there are arrays of samples, or 1. */
+  channels?: number;
+  /** The width of the samples' type without it. */
+  bitsPerSample?: number;
+  /** As many as the bits need without it. */
+  bytesPerSample?: number;
+  /** Without it floats are stored as they are if `bitsPerSample` is 32, and as integers if not. */
+  isFloat?: boolean;
+}
+
+/**
+ * Floats that are stored as integers are multiplied by 2^(bits - 1) and rounded, of two to the even one; a NaN is 0. What
+ * the bits don't hold is clipped, as 1.0 is.
+ */
+export interface Clipping {
+  /** It is called with how many samples are clipped, if any are; without it `console.warn` says so. */
+  onClipped?: (count: number) => void;
+}
+
+/** A call failed. */
+export class HoundError extends Error {
+  constructor(code: string);
+  /** The name of the cause in hound.h, without HOUND_. */
+  readonly code: string;
+}
+
+/** What the header of a file says. The data needn't all be there. */
+export function info(file: WavFile): Promise<Info>;
+
+/**
+ * Reads frames, and returns their samples: interleaved, or with `planar` an array for each channel. Without `type` it is
+ * the narrowest one from 16 bits on that reads the file. With "float32" integers are divided by 2^(bits - 1), so their full
+ * scale is 1; floats keep their bits. Of a file that holds fewer frames than its header counts these are read, and a read
+ * that starts after them is an error.
+ */
+export function read<T extends keyof Arrays>(file: WavFile, options: Part & { type: T; planar?: false }): Promise<Arrays[T]>;
+export function read<T extends keyof Arrays>(file: WavFile, options: Part & { type: T; planar: true }): Promise<Arrays[T][]>;
+export function read(file: WavFile, options?: Part & { planar?: false }): Promise<Int16Array | Int32Array | Float32Array>;
+export function read(file: WavFile, options: Part & { planar: true }): Promise<Int16Array[] | Int32Array[] | Float32Array[]>;
+
+/** Makes the file of these samples, as they are at the call. */
+export function write(samples: Samples, format: Format & Clipping): Promise<Uint8Array>;
+
+/**
+ * Returns the file with whole frames appended after the samples that its header counts. A recording that was cut off is
+ * an error, and so are chunks or a tag after the data, unless they may be overwritten. The samples are those of the call.
+ * A Uint8Array is copied by each call: append many blocks to a Blob, of which no byte is copied.
+ */
+export function append(file: Uint8Array | ArrayBuffer, samples: Samples, options?: { overwrite?: boolean } & Clipping): Promise<Uint8Array>;
+export function append(file: Blob, samples: Samples, options?: { overwrite?: boolean } & Clipping): Promise<Blob>;
+
+export interface RepairOptions {
+  toEnd?: boolean;
+  /** The format of the samples, where the header is lost. */
+  like?: Format & { bitsPerSample: number };
+  /** How many bytes of what is left aren't samples, at the front; 0 without it. */
+  skip?: number;
+}
+
+/** Reports what `repair` would find, or fails as it would. */
+export function findDamage(file: WavFile): Promise<Damage>;
+
+/**
+ * Repairs a file whose recording was cut off, and returns how it was found and the repaired file, in which only the two
+ * sizes and a missing pad byte differ. A file that is whole, or that chunks or a tag follow, is returned as it is; with
+ * `toEnd` all that follows the header of the data is taken for samples, also what looks like chunks. Where the header is lost
+ * all that follows the first `skip` bytes is, and a header like that of another file, or of this format, comes before it.
+ *
+ * A Blob of Node's `openAsBlob` is read when the result is: don't write that to the same path. `repairFile` does it.
+ */
+export function repair(file: Uint8Array | ArrayBuffer, options?: RepairOptions): Promise<Damage & { file: Uint8Array }>;
+export function repair(file: Blob, options?: RepairOptions): Promise<Damage & { file: Blob }>;
+
+/**
+ * Repairs a file at a path in place, in Node, and returns how it was found. Each step is synced, so that a file can be
+ * repaired again after an error, a kill or a loss of power. Node has no locks: no other program may write it meanwhile.
+ */
+export function repairFile(path: string | URL, options?: { toEnd?: boolean }): Promise<Damage>;
+
+/**
+ * Records a new file at a path, in Node, in the place of one that is there; with `exclusive` that is an error. With
+ * `durable` the samples of a checkpoint survive a loss of power, without it a kill. Node has no locks.
+ */
+export function record(path: string | URL, format: Format & { bitsPerSample: number }, options?: { durable?: boolean; exclusive?: boolean }): Promise<Recorder>;
+
+/** Records after the frames of a file at a path, in Node. What `append` rejects is an error. */
+export function appendTo(path: string | URL, options?: { durable?: boolean }): Promise<Recorder>;
+
+/**
+ * A file that is recorded. Calls are performed one after the other, in the order in which they are made. After an error a
+ * block is in the file only if its `write` was fulfilled, and the next call makes a checkpoint first; after a sync that
+ * failed each call is an error. Whenever the program is killed, the header counts only samples that were written, at least
+ * those of the last checkpoint, and a repair finds the others.
+ */
+export interface Recorder {
+  readonly spec: Readonly<Spec>;
+  /** Writes whole frames, as they are at the call. Floats are scaled where the file has integers. */
+  write(samples: Samples, options?: Clipping): Promise<void>;
+  /** Makes a checkpoint: the header counts all frames that are written. */
+  flush(): Promise<void>;
+  /** Makes a checkpoint and closes the file, after an error, too. An unclosed one keeps its last checkpoint. */
+  close(): Promise<void>;
+}

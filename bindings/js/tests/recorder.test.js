@@ -1,0 +1,222 @@
+// Files that are recorded in Node: with calls at once, with system calls that fail, and by programs that are killed.
+import assert from "node:assert/strict";
+import { test } from "node:test";
+import { spawn, spawnSync } from "node:child_process";
+import fs from "node:fs/promises";
+import os from "node:os";
+import path from "node:path";
+import { HoundError, append, appendTo, info, read, record, repairFile } from "../hound.js";
+
+const SPEC = { sampleRate: 8000, channels: 2, bitsPerSample: 16 };
+const folder = await fs.mkdtemp(path.join(os.tmpdir(), "hound-")), take = path.join(folder, "take.wav");
+test.after(() => fs.rm(folder, { recursive: true }));
+const fails = (promise, code) => assert.rejects(promise, (error) => error instanceof HoundError && error.code === code);
+
+/** Some frames of two channels, which differ from those of each other number. */
+const block = (number) => Int16Array.from({ length: 6 }, (_, i) => 10 * number + i);
+
+/** The file of these blocks in the canonical layout, made from the format alone. */
+function fileOf(blocks) {
+  const data = blocks.flatMap((one) => [...one]), file = Buffer.alloc(44 + 2 * data.length);
+  for (const [place, text] of [[0, "RIFF"], [8, "WAVEfmt "], [36, "data"]]) file.write(text, place, "latin1");
+  for (const [place, value] of [[4, file.length - 8], [16, 16], [24, 8000], [28, 32000], [40, 2 * data.length]]) file.writeUInt32LE(value, place);
+  for (const [place, value] of [[20, 1], [22, 2], [32, 4], [34, 16]]) file.writeUInt16LE(value, place);
+  data.forEach((sample, i) => file.writeInt16LE(sample, 44 + 2 * i));
+  return file;
+}
+
+const content = () => fs.readFile(take);
+
+test("a checkpoint is what a reader finds, and a closed file is canonical", async () => {
+  for (const durable of [false, true]) {
+    const recorder = await record(take, SPEC, { durable });
+    assert.deepEqual(recorder.spec, { ...SPEC, bytesPerSample: 2, isFloat: false });
+    await recorder.write(block(1));
+    assert.equal((await info(await content())).frames, 0);
+    await recorder.flush();
+    assert.deepEqual(await content(), fileOf([block(1)]));
+    await recorder.write([Float32Array.of(0.5), Float32Array.of(-0.5)]);
+    await recorder.close();
+    assert.deepEqual(await content(), fileOf([block(1), [16384, -16384]]));
+    await recorder.close();
+    for (const call of [() => recorder.write(block(2)), () => recorder.flush()]) await assert.rejects(call(), { message: "the recorder is closed" });
+  }
+});
+
+test("calls at once are performed in their order, with the samples of the call", async () => {
+  const recorder = await record(take, SPEC), samples = new Int16Array(6), calls = [];
+  for (let i = 0; i < 50; i++) {
+    samples.set(block(i));
+    calls.push(recorder.write(samples));
+    if (i % 7 === 0) calls.push(recorder.flush());
+  }
+  await Promise.all([...calls, recorder.close()]);
+  assert.deepEqual(await content(), fileOf(Array.from({ length: 50 }, (_, i) => block(i))));
+});
+
+test("arguments and files that can't be recorded to", async () => {
+  await fs.writeFile(take, "older");
+  await assert.rejects(record(take, { sampleRate: 8000 }), { name: "TypeError", message: /^bitsPerSample / });
+  await fails(record(take, { ...SPEC, bitsPerSample: 12 }), "NOT_WRITABLE");
+  await assert.rejects(record(take, SPEC, { exclusive: true }), { code: "EEXIST" });
+  assert.equal(String(await content()), "older");
+  await assert.rejects(record(path.join(folder, "none", "a.wav"), SPEC), { code: "ENOENT" });
+  const recorder = await record(take, SPEC);
+  await fails(recorder.write(Int16Array.of(1)), "UNFINISHED_FRAME");
+  await fails(recorder.write(Int32Array.of(1, 40000)), "TOO_WIDE");
+  await assert.rejects(recorder.write([block(1)]), RangeError);
+  await recorder.write(block(2));
+  await recorder.close();
+  assert.deepEqual(await content(), fileOf([block(2)]));
+});
+
+test("a file is appended to, by what append rejects elsewhere", async () => {
+  await fs.writeFile(take, fileOf([block(1)]));
+  for (const durable of [false, true]) {
+    const recorder = await appendTo(take, { durable });
+    await recorder.write(block(2));
+    await recorder.close();
+  }
+  assert.deepEqual(await content(), fileOf([block(1), block(2), block(2)]));
+  for (const [bytes, code] of [
+    [Buffer.concat([fileOf([block(1)]), Buffer.from("LIST\x04\0\0\0INFO", "latin1")]), "CHUNKS_FOLLOW"],
+    [Buffer.concat([fileOf([block(1)]), Buffer.alloc(8, 1)]), "IS_CUT_OFF"],
+    [fileOf([block(1)]).subarray(0, 50), "TRUNCATED"],
+    [Buffer.from("RIFX"), "NO_RIFF_TAG"],
+  ]) {
+    await fs.writeFile(take, bytes);
+    await fails(appendTo(take), code);
+    await fails(append(bytes, block(2)), code);
+    assert.deepEqual(await content(), bytes);
+  }
+});
+
+/** Has each call of the system made by `made` while something is done: its name, what makes it, and its arguments. */
+async function system(t, made, during) {
+  const handle = await fs.open(take, "w"), kind = Object.getPrototypeOf(handle), mocks = [];
+  await handle.close();
+  for (const name of ["write", "truncate", "sync", "stat"]) {
+    const real = kind[name];
+    mocks.push(t.mock.method(kind, name, function (...given) {
+      return made(name, (...changed) => real.apply(this, changed), given);
+    }));
+  }
+  await during().finally(() => mocks.forEach(({ mock }) => mock.restore()));
+}
+
+test("what is durable is synced before the header counts it, and what was written in part is continued", async (t) => {
+  for (const durable of [false, true]) {
+    const calls = [], kinds = () => calls.filter((name, i) => name !== calls[i - 1]).join();
+    await system(t, (name, real, [bytes, from, length, place]) => {
+      if (name !== "write") return calls.push(name), real(bytes);
+      calls.push(place < 44 ? "header" : "block");
+      return real(bytes, from, Math.min(length, 3), place);
+    }, async () => {
+      const recorder = await record(take, SPEC, { durable });
+      assert.equal(kinds(), durable ? "sync,truncate,sync,header" : "truncate,header"); // The first sync is the folder's.
+      calls.length = 0;
+      await recorder.write(block(1));
+      await recorder.flush();
+      assert.deepEqual(await content(), fileOf([block(1)]));
+      assert.match(kinds(), durable ? /^block,sync,header,sync(,header,sync)?$/ : /^block,header$/);
+      await recorder.close();
+    });
+  }
+});
+
+/** Makes one call of the system fail: a write after half of its bytes. The calls that came are counted. */
+async function failing(t, number, during) {
+  let calls = 0;
+  await system(t, async (name, real, [bytes, from, length, place]) => {
+    if (calls++ !== number) return name === "write" ? real(bytes, from, length, place) : real(bytes);
+    if (name === "write") await real(bytes, from, length >> 1, place);
+    throw Object.assign(new Error("injected"), { code: "EIO", sync: name === "sync" });
+  }, during);
+  return calls;
+}
+
+test("after an error a block is in the file only if its write was fulfilled", async (t) => {
+  for (const durable of [false, true]) {
+    let calls = Infinity, lost = 0, number = 0;
+    for (; number < calls; number++) {
+      const held = [];
+      let stored = 0, isClosed = false, broken;
+      calls = await failing(t, number, async () => {
+        const recorder = await record(take, SPEC, { durable }).catch((error) => error);
+        if (recorder instanceof Error) return assert.equal(recorder.code, "EIO");
+        const tried = (promise, then) => promise.then(then, (error) => {
+          if (broken) assert.equal(error.code, "SYNC_FAILED");
+          else assert.equal(error.code, "EIO");
+          broken ||= error.sync;
+          lost++;
+        });
+        for (let i = 1; i < 10; i++) {
+          await tried(recorder.write(block(i)), () => held.push(block(i)));
+          if (i % 3 === 0) await tried(recorder.flush(), () => { stored = held.length; });
+        }
+        await tried(recorder.close(), () => { isClosed = true; });
+      });
+      const file = await content(), left = file.length < 44 ? 0 : (await read(file)).length / 6;
+      assert.ok(isClosed ? file.equals(fileOf(held)) : left >= stored && left <= held.length, `call ${number}: ${left} of ${stored} to ${held.length}`);
+      if (number < calls) calls = Infinity; // There may be more of them where none fails.
+      if (left) assert.deepEqual(await read(file), Int16Array.from(held.slice(0, left).flatMap((one) => [...one])));
+    }
+    assert.ok(number > 15 && lost > 10, `${number} calls, ${lost} lost`);
+  }
+});
+
+test("a program that is killed leaves what its header counts, and a repair invents nothing", async () => {
+  const program = `
+    import fs from "node:fs";
+    import { record } from ${JSON.stringify(new URL("../hound.js", import.meta.url))};
+    const recorder = await record(${JSON.stringify(take)}, { sampleRate: 8000, bitsPerSample: 16 });
+    for (let i = 0;; i += 500) {
+      await recorder.write(Int16Array.from({ length: 500 }, (_, k) => (i + k) % 30000));
+      if (i % 1500) continue;
+      await recorder.flush();
+      fs.writeSync(1, (i + 500) + "\\n");
+    }`;
+  for (let round = 0; round < 12; round++) {
+    const child = spawn(process.execPath, ["--input-type=module", "-e", program], { stdio: ["ignore", "pipe", "inherit"] });
+    let said = "";
+    child.stdout.on("data", (part) => {
+      if (said === "") setTimeout(() => child.kill("SIGKILL"), 3 * Math.random() + 20 * (round % 3));
+      said += part;
+    });
+    await new Promise((resolve) => child.on("close", resolve));
+    const flushed = Number(said.trimEnd().split("\n").at(-1)), right = (samples) => samples.every((sample, i) => sample === i % 30000);
+    const before = await read(await content());
+    assert.ok(before.length >= flushed && flushed > 0 && right(before), `${before.length} of ${flushed}`);
+    await repairFile(take);
+    const after = await read(await content());
+    assert.ok(after.length >= before.length && right(after));
+  }
+});
+
+test("require gives the same, with the samples of the call", async () => {
+  const program = `
+    const hound = require("../hound.cjs"), samples = Int16Array.of(7, 8), written = hound.write([samples], { sampleRate: 8000 });
+    samples.fill(9);
+    written.then(hound.read).then((read) => console.log(read.join(), Object.keys(hound).sort().join()));
+    hound.info(new ArrayBuffer(3)).catch((error) => console.log(error instanceof hound.HoundError, new Error() instanceof hound.HoundError, error.code));`;
+  const { stdout } = spawnSync(process.execPath, ["-e", program], { cwd: new URL(".", import.meta.url), encoding: "utf8" });
+  const { default: _, ...all } = await import("../hound.js");
+  assert.deepEqual(stdout.trimEnd().split("\n").sort(), [`7,8 ${Object.keys(all).sort()}`, "true false ENDED"]);
+});
+
+test("the command says what files are, and repairs them", async () => {
+  const cut = path.join(folder, "cut.wav"), other = path.join(folder, "other.txt"), command = new URL("../command.js", import.meta.url).pathname;
+  const run = (...words) => (({ status, stdout, stderr }) => [status, stdout, stderr])(spawnSync(process.execPath, [command, ...words], { encoding: "utf8" }));
+  await fs.writeFile(take, fileOf([block(1)]));
+  await fs.writeFile(cut, Buffer.concat([fileOf([block(1)]), Buffer.from([1, 2, 3, 4, 5])]));
+  await fs.writeFile(other, "text");
+  const spec = "8000 Hz, 2 channels, integers of 16 bits\n";
+  assert.deepEqual(run("info", take, cut), [0, `${take}: whole, 3 frames (0.000 s), ${spec}${cut}: cut off, 4 frames (0.001 s), 1 byte left over, ${spec.trim()}; the header counts 3 frames\n`, ""]);
+  assert.deepEqual(run("repair", other, cut), [1, `${cut}: found cut off, 4 frames (0.001 s), 1 byte left over, ${spec}`, `${other}: no RIFF tag found\n`]);
+  assert.deepEqual(run("info", cut), [0, `${cut}: whole, 4 frames (0.001 s), 1 byte left over, ${spec}`, ""]);
+  await fs.writeFile(cut, Buffer.concat([fileOf([block(1)]), Buffer.from("LIST\x04\0\0\0INFO", "latin1")]));
+  assert.equal(run("repair", cut)[1], `${cut}: found chunks or a tag follow the sound, 3 frames (0.000 s), ${spec}`);
+  assert.equal(run("repair", "--to-end", cut)[1], `${cut}: found cut off, 6 frames (0.001 s), ${spec}`);
+  for (const words of [[], ["info"], ["repair", "--to-end"], ["info", "--to-end", take], ["show", take], ["repair", "--help"]]) assert.deepEqual(run(...words).slice(0, 2), [2, ""]);
+  assert.match(run("info", path.join(folder, "none.wav"))[2], /none\.wav: .*(ENOENT|no such file)/i);
+});
