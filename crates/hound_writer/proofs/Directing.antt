@@ -272,7 +272,7 @@ step_block s file known old new m end samples place bytes result d (clean, none,
     ))
 
 -- one effect more was performed
-performed_more : (effects : List Effect) (k : ℕ) (effect : Effect) (r : Result (Unit {0}) IoFault)
+pub performed_more : (effects : List Effect) (k : ℕ) (effect : Effect) (r : Result (Unit {0}) IoFault)
     (first mid last : Log) → Some effect ≡ nth effects k → Performed (take k effects) (Ok tt) first mid
     → Performs effect r mid.state last.state → Performed (take (suc k) effects) r first last
 performed_more [] k effect r first mid last is before did = cc
@@ -291,7 +291,7 @@ performed_more (one ∷ effects) (suc k) effect r first mid last is (m, Ok x, do
 performed_more (one ∷ effects) (suc k) effect r first mid last is (m, Err e, done, (other, same)) did = cc
 
 -- the effects so far are all, if none is left or the last one failed
-performed_all : (effects : List Effect) (k : ℕ) (r : Result (Unit {0}) IoFault) (first last : Log)
+pub performed_all : (effects : List Effect) (k : ℕ) (r : Result (Unit {0}) IoFault) (first last : Log)
     → (is_ok r ≡ true → None ≡ nth effects k) → Performed (take k effects) r first last
     → Performed effects r first last
 performed_all [] zero r first last all did = did
