@@ -1,10 +1,10 @@
 // The recorders of `hound_callers`, each run once.
-use hound::{Durable, Journal, Step, Tape, WavReader, WavSpecEx, WavWriter};
+use hound::{Durable, FileState, FoundFile, Journal, Step, Tape, WavReader, WavSpecEx, WavWriter};
 use hound_callers::{
-    append_blocks, append_by_effects, finish, finish_durable, opened_meanwhile, pack_one,
-    publish_and_continue, record_at_once, record_batch, record_by_effects, record_mixed,
-    record_safely, record_steps, record_twelve, record_twelve_and_repair,
-    record_twelve_through_a_loss, write_if_short,
+    append_blocks, append_by_effects, continue_by_effects, finish, finish_durable,
+    opened_meanwhile, pack_one, publish_and_continue, record_at_once, record_batch,
+    record_by_effects, record_mixed, record_safely, record_steps, record_twelve,
+    record_twelve_and_repair, record_twelve_through_a_loss, write_if_short,
 };
 use hound_test_helpers::{FOUR_SAMPLES, empty_tape, integers, read_all, sixteen, tape_of};
 use hound_types::Twelve;
@@ -200,6 +200,28 @@ fn resumes(alloc: Global, file: &[u8], blocks: &[&[u8]]) -> hound::Result<bool> 
     Ok(last == 3 && refused && journal.taken() == 0)
 }
 
+// Whether a recording is continued whose header counts nothing yet, and which ends with a part of a sample.
+fn mends(alloc: Global, file: &[u8], blocks: &[&[u8]], lost: &[bool]) -> hound::Result<bool> {
+    let mut cut = file.to_vec(alloc)?;
+    for i in (4..8).chain(40..44) {
+        cut[i] = 0;
+    }
+    cut.try_push(9)?;
+    let found = FoundFile {
+        spec_ex: integers(1, 44100, 16, 2),
+        data_start: 44,
+        data_length: 0,
+        length: cut.len() as u64,
+        frames: 4,
+        state: FileState::CutOff,
+    };
+    let mut journal = Journal::new(alloc, cut)?;
+    let count = continue_by_effects(&mut journal, found, blocks, lost);
+    let bytes = journal.bytes_after(alloc, journal.taken())?;
+    let all = read_all::<i16, _>(alloc, WavReader::new(&bytes[..])?)?;
+    Ok(count == Ok(3) && all.as_slice() == &[2i16, -3, 5, -7, 2, -3, 5, -7])
+}
+
 fn takes_a_batch(alloc: Global) -> hound::Result<bool> {
     let mut writer = WavWriter::new(empty_tape(alloc), sixteen(1))?;
     record_batch(alloc, &mut writer, &[300, -301])?;
@@ -325,6 +347,7 @@ fn effects_leave_what_was_saved(rt: HostRuntime) -> Result<(), Fail> {
     );
     assert!(rt; keeps(alloc, blocks)?);
     assert!(rt; resumes(alloc, &FOUR_SAMPLES, blocks)?);
+    assert!(rt; mends(alloc, &FOUR_SAMPLES, blocks, &lost)?);
     Ok(())
 }
 

@@ -93,7 +93,7 @@ fails after last CutOff n has (is, _, never) = absurd never
 fails after last HasChunksAfterData n has (is, _, never) = absurd never
 
 -- what the end of an effect makes of the recorder
-abbrev Shape : Result (Unit {0}) RecorderError → Recorder → Recorder → Type 0
+abbrev pub Shape : Result (Unit {0}) RecorderError → Recorder → Recorder → Type 0
 Shape (Ok x) r mid = mid ≡ record r { number = r.number + 1 }
 Shape (Err error) r mid = mid.number ≡ 0
 
@@ -104,7 +104,7 @@ shape_by false r after mid effect told next (last, error, failed, err, is) =
     let has : HasData after after.data_length = rw next.4 next.2 in
     rw err (ap (λ (x : Recorder). x.number) is ∙ fails after last error 0 has failed)
 
-shape : (b : Bool) (r mid : Recorder) (effect : Effect) (told : Result (Unit {0}) RecorderError)
+pub shape : (b : Bool) (r mid : Recorder) (effect : Effect) (told : Result (Unit {0}) RecorderError)
     → r.task ≡ 1 → r.has_rest ≡ 0 → GoesOn r r (Ok (Some (Perform effect))) → HasEnded b r mid told → Shape told r mid
 shape b r mid effect told one rest goes (inl (idle, _, _)) = absurd (omega (arith, one, idle))
 shape b r mid effect told one rest goes (inr (inl (_, cuts, _, _, _))) = absurd (omega (arith, rest, cuts))
@@ -143,6 +143,15 @@ one_at_most Done = omega arith
 one_at_most Failed = omega arith
 
 module _ (asked : Recorder) (n : ℕ) (is_asked : IsAsked asked n) where
+  -- a block that is requested has a place
+  is_clean : asked.task ≡ 2 → asked.condition ≡ 0
+  is_clean two = by is_asked.3
+    where
+      by : (asked.task ≡ 1) ⊎ ((asked.task ≡ 2) × (n ≡ asked.samples * asked.bytes_per_sample)
+          × ((place : ℕ) × Places asked asked.samples (Ok place))) → asked.condition ≡ 0
+      by (inl one) = absurd (omega (arith, one, two))
+      by (inr (_, _, (place, places))) = places.0
+
   -- once a block is written, or has failed
   abbrev Wrote : Bool → Recorder → Type 0
   Wrote true mid = mid ≡ once_done asked
@@ -152,7 +161,8 @@ module _ (asked : Recorder) (n : ℕ) (is_asked : IsAsked asked n) where
       → x ≡ (if b then record r { data_length = length_with r r.samples } else record r { condition = 1 })
       → mid ≡ record x { task = (if b then 0 else 4); has_rest = (if b then 0 else 1) } → Wrote b mid
   wrote_shape true r x mid two is counts ended =
-      let (none, clean, rest, what) = is_asked in
+      let (none, low, rest, what) = is_asked in
+      let clean = is_clean two in
       rw (ended, counts, is) (λ i. record asked {
         data_length = if sym two i == 1 then asked.data_length else length_with asked asked.samples;
         number = none i;
@@ -337,7 +347,7 @@ module _ (asked : Recorder) (n : ℕ) (is_asked : IsAsked asked n) where
           (λ _. inr (inr (inl (two, this, refl)))),
           known,
           subst (λ r. GoesOn r r (Ok (Some (WriteBlock at len)))) (sym this)
-              (omega arith, is_asked.2, x, inl (inl (omega arith), refl), (is_asked.1, is_asked.0, has, place), all, refl),
+              (omega arith, is_asked.2, x, inl (inl (omega arith), refl), (is_clean two, is_asked.0, has, place), all, refl),
           omega (arith, few, number, is_number, is_task),
         )
 
@@ -354,7 +364,7 @@ module _ (asked : Recorder) (n : ℕ) (is_asked : IsAsked asked n) where
         absurd (let more = goes.4 (ap (λ (x : Recorder). x.task) is ∙ two) in
         let number = ap (λ (x : Recorder). x.number) is in
         let condition = ap (λ (x : Recorder). x.condition) is in
-        omega (arith, more, number, condition, is_asked.0, is_asked.1))
+        omega (arith, more, number, condition, is_asked.0, is_clean two))
     goes_on mid r over (WriteBlock at len) (inl (inr (inl (two, p, is, none)))) known (some, rest, saved, how, places, long, same) =
         let number : mid.number ≡ asked.number = ap (λ (x : Recorder). x.number) is in
         let task : mid.task ≡ asked.task = ap (λ (x : Recorder). x.task) is in
@@ -367,7 +377,7 @@ module _ (asked : Recorder) (n : ℕ) (is_asked : IsAsked asked n) where
         as_asked (inl (clear, one)) = ap (λ (x : Recorder). record x { task = 3 }) (one ∙ is)
         as_asked (inr (_, next)) = ap (λ (x : Recorder). record x { task = 3 }) next.4
             ∙ (λ i. record (is i) { number = 0; condition = 0; task = 3 })
-            ∙ (λ i. record asked { number = sym is_asked.0 i; condition = sym is_asked.1 i; task = 3 })
+            ∙ (λ i. record asked { number = sym is_asked.0 i; condition = sym (is_clean two) i; task = 3 })
     goes_on mid r over (Cut at) (inl (inr (inl (two, _, is, none)))) known goes =
         absurd (let rest = ap (λ (x : Recorder). x.has_rest) is in omega (arith, goes.1, rest, is_asked.2))
     goes_on mid r over (Perform effect) (inl (inr (inr (inl (two, is, none))))) known goes =

@@ -3,3 +3,4 @@ pub mod Performing
 pub mod Driving
 pub mod Resuming
 pub mod Repeating
+pub mod Mending

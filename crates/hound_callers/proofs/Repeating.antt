@@ -167,11 +167,17 @@ module _ (laws : Again) (block : List ℕ) where
 
 -- What is known while actions are performed: what came of the last one that is reported, and whether another was
 -- begun.
-abbrev pub IsUnderWay : WavSpecEx → Begun → List Known → Recorder → List ℕ → Report → Recorder → MediumState → Type 0
-IsUnderWay s file known asked block report r now = (before : MediumState) × (end : Log) × (over : Option Bool)
-    × IsWithin asked report r over × KnownAt s file known asked block before over r
+abbrev pub IsUnderWayBy : (MediumState → Option Bool → Recorder → Type 0) → Recorder → List ℕ → Report → Recorder
+    → MediumState → Type 0
+IsUnderWayBy known_at asked block report r now = (before : MediumState) × (end : Log) × (over : Option Bool)
+    × IsWithin asked report r over × known_at before over r
     × HasAction report (λ action. DoesAction action block report before end.state) r
     × (report ≡ Pending → end.state ≡ before) × IsOnTheWay report r block end.state now
+
+-- the same of calls
+abbrev pub IsUnderWay : WavSpecEx → Begun → List Known → Recorder → List ℕ → Report → Recorder → MediumState → Type 0
+IsUnderWay s file known asked block report r now =
+    IsUnderWayBy (λ m over r. KnownAt s file known asked block m over r) asked block report r now
 
 pub begins_directed : (s : WavSpecEx) (file : Begun) (known : List Known) (asked : Recorder) (block : List ℕ)
     (once now : MediumState) → IsWithin asked Pending asked None → Directed s file known asked once → Repeats once now
@@ -180,14 +186,14 @@ begins_directed s file known asked block once now within d repeats =
     let here = d.in_step.state in
     (once, d.in_step.log, None, within, d, inl refl, (λ _. here), inl (subst (λ m. Repeats m now) (sym here) repeats))
 
-pub come_again : (s : WavSpecEx) (file : Begun) (known : List Known) (asked : Recorder) (block : List ℕ) (report : Report)
-    (r : Recorder) (action : Action) (over : Option Bool) (before : MediumState) (end : Log) (now : MediumState)
-    → IsWithin asked report r over → KnownAt s file known asked block before over r → GoesOn r r (Ok (Some action))
-    → Comes action block report before end.state now → IsUnderWay s file known asked block report r now
-come_again s file known asked block report r action over before end now within known_at goes (inl (pending, same, was)) =
-    (before, end, over, within, known_at, inl pending, (λ _. same), inr (pending, action, goes, was))
-come_again s file known asked block report r action over before end now within known_at goes (inr (b, is, did, repeats)) =
-    (before, end, over, within, known_at, inr (b, is, action, goes, did), (λ pending. absurd (not_pending b (sym is ∙ pending))), inl repeats)
+pub come_again : (known_at : MediumState → Option Bool → Recorder → Type 0) (asked : Recorder) (block : List ℕ)
+    (report : Report) (r : Recorder) (action : Action) (over : Option Bool) (before : MediumState) (end : Log)
+    (now : MediumState) → IsWithin asked report r over → known_at before over r → GoesOn r r (Ok (Some action))
+    → Comes action block report before end.state now → IsUnderWayBy known_at asked block report r now
+come_again known_at asked block report r action over before end now within known goes (inl (pending, same, was)) =
+    (before, end, over, within, known, inl pending, (λ _. same), inr (pending, action, goes, was))
+come_again known_at asked block report r action over before end now within known goes (inr (b, is, did, repeats)) =
+    (before, end, over, within, known, inr (b, is, action, goes, did), (λ pending. absurd (not_pending b (sym is ∙ pending))), inl repeats)
 
 -- an action was returned, and may have been reported
 pub has_action : (report : Report) (r : Recorder) (action : Action) → GoesOn r r (Ok (Some action)) → HasAction report (λ _. ⊤) r

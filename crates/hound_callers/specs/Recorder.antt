@@ -3,10 +3,10 @@ use Rattle.std.specs.Prelude.{◌≡◌, ◌⊎◌, ℕ, ◌+◌, ◌*◌, ◌/�
 use Rattle.std.specs.declared.io.Error.{Error as IoFault}
 use Rattle.std.specs.Borrow.{Bor}
 use Rattle.std.specs.List.{AllByRecursion, flat_map}
-use Rattle.hound.specs.{Action, AppendsRecorder, Asked, Begun, Directed, Error, Flushes, IsRefusal, IsSaid, KeptWithin, Known, Log, MediumState, Performs, Places, PutsAt, ReadsAs, Readable, Repeats, Recorder, RecorderError, Refusal, Report, Unreadable, WavSpecEx, bytes_of, found_in, greatest_u32, if_marked, length_with, log_kind, padded, publish, riff_size, seen, start_of, whole_containers, write}
+use Rattle.hound.specs.{Action, AppendsRecorder, FoundFile, HasData, Head, IsSoundSpec, LeavesWriter, Resumes, resumed_file, writer_of, Asked, Begun, Directed, Error, Flushes, IsRefusal, IsSaid, KeptWithin, Known, Log, MediumState, Performed, Performs, Places, PutsAt, ReadsAs, Readable, Repeats, Recorder, RecorderError, Refusal, Report, Unreadable, WavSpecEx, bytes_of, effects_of, found_in, greatest_u32, if_marked, length_with, log_kind, padded, publish, riff_size, seen, start_of, whole_containers, write}
 use Rattle.hound.specs.declared.Action.TheVariants.{Cut, Perform, Read, WriteBlock}
 use Rattle.hound.specs.declared.Effect.TheVariants.{Pad, Size, Sync}
-use Rattle.hound.specs.declared.RecorderError.TheVariants.{Truncated, HasChunksAfterData}
+use Rattle.hound.specs.declared.RecorderError.TheVariants.{Truncated, HasChunksAfterData, UnfinishedFrame}
 use Rattle.hound.specs.declared.Report.TheVariants.{Done, Failed, Pending}
 use Rattle.hound.specs.declared.Error.TheVariants.{FormatError, Unsupported}
 use Rattle.hound_callers.specs.Recording.{published_calls}
@@ -60,9 +60,9 @@ abbrev pub IsReady : Recorder → Type 0
 IsReady r = (r.number ≡ 0) × (r.condition ≡ 0) × (r.task ≡ 0) × (r.has_rest ≡ 0)
     × (20 ≤ r.data_start) × (1 ≤ r.channels) × (1 ≤ r.bytes_per_sample)
 
--- such a recorder was requested a checkpoint, or for a block of so many bytes, which has a place
+-- a recorder was requested a checkpoint, or, where nothing failed, a block of so many bytes, which has a place
 abbrev pub IsAsked : Recorder → ℕ → Type 0
-IsAsked r n = (r.number ≡ 0) × (r.condition ≡ 0) × (r.has_rest ≡ 0)
+IsAsked r n = (r.number ≡ 0) × (r.condition ≤ 1) × (r.has_rest ≡ 0)
     × ((r.task ≡ 1) ⊎ ((r.task ≡ 2) × (n ≡ r.samples * r.bytes_per_sample)
     × ((place : ℕ) × Places r r.samples (Ok place))))
 
@@ -74,6 +74,11 @@ once_done r = record r {
   condition = 0;
   task = 0;
 }
+
+-- the effects of a checkpoint were performed, up to the first that failed, where this is an error
+abbrev pub PerformsAll : {T E : Type 0} → Recorder → Log → Result T E → MediumState → Type 0
+PerformsAll r start result m = (end : Log) × (performed : Result (Unit {0}) IoFault)
+    × (is_ok performed ≡ is_ok result) × Performed (effects_of r) performed start end × Repeats end.state m
 
 -- the samples of a block
 abbrev pub samples_of : WavSpecEx → Bor (List ℕ) → Result (List (List ℕ)) Refusal
@@ -142,3 +147,38 @@ Saves s file blocks n m = (more : List (Asked × Bool)) × (r : Recorder) × (lo
     × KeptWithin log_kind s file (seen (published_calls (samples_of s) (take n blocks) ++ more)) log log.state
     × (AllByRecursion (λ (one : Known). one.asked ≡ publish → ⊥) (seen more) → 0 < n →
     ReadsBlocks s file (take n blocks) m.contents)
+
+-- a recorder that continues a file, with nothing under way
+abbrev pub IsResumed : Recorder → Type 0
+IsResumed r = (r.number ≡ 0) × (r.condition ≤ 1) × (r.task ≡ 0) × (r.has_rest ≤ 1) × HasData r r.data_length
+
+-- the same once its file is mended
+abbrev pub once_mended : Recorder → Recorder
+once_mended r = record r { number = 0; condition = 0; task = 0; has_rest = 0 }
+
+-- a file was found as this says: it has such a head, and so many bytes
+pub record IsFound (f : FoundFile) (m : MediumState) : Type 0 where
+  pub sound : IsSoundSpec f.spec_ex
+  pub head : Head m.contents f.spec_ex f.data_length f.data_start
+  pub all : f.length ≡ length m.contents
+
+-- The first checkpoint of a recorder that continues such a file was performed, to its end or not: it has published
+-- the samples that the recorder keeps, as a `flush` does that may have failed.
+abbrev pub Mends : FoundFile → Recorder → MediumState → Log → Type 0
+Mends f r old end = (start : Log) × (answer : Result (Unit {0}) Error) × Resumes f true false (Ok r)
+    × (start.state ≡ old) × LeavesWriter log_kind answer (writer_of f.spec_ex r start) (writer_of f.spec_ex r end)
+
+-- a recorder doesn't continue such a file, or the header counts more than whole frames
+abbrev pub IsNotContinued : FoundFile → RecorderError → Type 0
+IsNotContinued f error = Resumes f true false (Err error)
+    ⊎ ((r : Recorder) × Resumes f true false (Ok r) × (r.data_length < f.data_length) × (error ≡ UnfinishedFrame))
+
+-- the first checkpoint has failed
+abbrev pub IsNotMended : FoundFile → MediumState → MediumState → Type 0
+IsNotMended f old new = (r : Recorder) × (end : Log) × Mends f r old end × Repeats end.state new
+
+-- The first checkpoint published what the file holds, and blocks were saved after that.
+abbrev pub Continues : FoundFile → MediumState → List (Bor (List ℕ)) → ℕ → MediumState → Type 0
+Continues f old blocks n new = (r : Recorder) × (end : Log) × (samples : ℕ) × Mends f r old end
+    × (r.data_length ≡ samples * f.spec_ex.bytes_per_sample)
+    × Saves f.spec_ex (resumed_file f.spec_ex samples f.data_start end.state) blocks n new

@@ -1,9 +1,9 @@
 // Recorders whose caller performs the effects, on a medium.
 ghost use Rattle.std.specs.Prelude.{◌≡◌, ◌⊎◌, ◌≤◌, ◌+◌, ℕ, List, [], ◌++◌, ◌∷◌, Bool, true, false, if◌then◌else◌, IfErr, IfOk, OnErr, OnOk, Result, drop, is_ok, length, take};
 ghost use Rattle.std.specs.declared.io.Error.{Error as IoFault};
-ghost use Rattle.hound.specs.{Asked, Begun, Flushes, IsIoError, IsNotBegun, IsSaid, IsSynced, Known, PutsAt, Readable, Recorder, WavSpecEx, one_more, WhereKeeps, WhereTells, new_file, resumed_file, seen};
+ghost use Rattle.hound.specs.{Asked, Begun, Flushes, IsIoError, IsNotBegun, IsSaid, HasData, IsSynced, Known, Log, PutsAt, Repeats, Readable, Recorder, WavSpecEx, one_more, WhereKeeps, WhereTells, new_file, resumed_file, seen};
 ghost use Rattle.hound.specs.declared.Report.TheVariants.{Pending};
-ghost use Rattle.hound_callers.specs.Recorder.{IsAsked, IsDirected, IsErrorOf, IsNotResumed, IsReady, Saves, Stops, StopsAt, TriesAction, asked_as, once_done, report_for, samples_of};
+ghost use Rattle.hound_callers.specs.Recorder.{Continues, IsFound, IsNotContinued, IsNotMended, IsResumed, once_mended, IsAsked, IsDirected, IsErrorOf, IsNotResumed, IsReady, PerformsAll, Saves, Stops, StopsAt, TriesAction, asked_as, once_done, report_for, samples_of};
 ghost use Rattle.hound_callers.specs.Recording.{published_calls};
 
 use hound::{
@@ -101,6 +101,9 @@ fn perform_all<M: Medium>(
         → IsDirected s file known recorder.old (M.state medium.old) → (recorder.new.number ≡ 0)
         × IsDirected s file (known ++ seen ((asked_as s recorder.old block.now, is_ok result) ∷ []))
         recorder.new (M.state medium.new)) }
+    ensures performed { WhereKeeps M.tells M.keeps ((start : Log) → Repeats start.state (M.state medium.old)
+        → recorder.old.task ≡ 1 → HasData recorder.old recorder.old.data_length
+        → PerformsAll recorder.old start result (M.state medium.new)) }
 {
     a_recorder_directs();
     an_effect_may_be_repeated();
@@ -194,6 +197,67 @@ pub fn record_by_effects<M: Medium>(
     };
     put_all(medium, header_of(spec_ex, 0, 0).as_slice())?;
     Ok(save_blocks(medium, &mut recorder, blocks, lost))
+}
+
+// Requests the checkpoint that comes first of a recorder that continues a recording which was cut off. Before it
+// what follows the data is cut off, which isn't done to a medium.
+fn begin_mending(recorder: &mut Recorder)
+    requires { IsResumed recorder.old }
+    ensures { recorder.new ≡ record recorder.old { task = 1; has_rest = 0 } }
+{
+    recorder.checkpoint(Report::Pending);
+    if recorder.has_rest > 0 {
+        let _ = recorder.next(Report::Pending);
+        let _ = recorder.next(Report::Failed);
+    }
+}
+
+// Mends the file of such a recorder by that checkpoint.
+fn mend<M: Medium>(
+    medium: &mut M,
+    recorder: &mut Recorder,
+    lost: &[bool],
+    made: &mut usize,
+) -> result::Result<(), RecorderError>
+    requires resumed { IsResumed recorder.old }
+    requires within { made.old ≤ length lost.now }
+    ensures within { made.new ≤ length lost.now }
+    ensures done { OnOk result (recorder.new ≡ once_mended recorder.old) }
+    ensures performed { WhereKeeps M.tells M.keeps ((start : Log) → Repeats start.state (M.state medium.old)
+        → PerformsAll recorder.old start result (M.state medium.new)) }
+{
+    begin_mending(recorder);
+    perform_all(medium, recorder, &[], lost, made)
+}
+
+/// Continues a recording that was cut off, of a file that was found so: by a checkpoint of all whole frames
+/// that it holds, and then as [`record_by_effects`] does. It is an error if a recorder doesn't continue it,
+/// or its header counts more than whole frames, and the file is as it was (`refused`); or the checkpoint fails, which then
+/// has left what a `flush` of these samples leaves that fails (`mended`).
+pub fn continue_by_effects<M: Medium>(
+    medium: &mut M,
+    found: FoundFile,
+    blocks: &[&[u8]],
+    lost: &[bool],
+) -> result::Result<usize, RecorderError>
+    requires found { WhereTells M.tells (IsFound found (M.state medium.old)) }
+    requires synced { WhereKeeps M.tells M.keeps (IsSynced (M.state medium.old)) }
+    ensures within { IfOk result (λ n. n ≤ length blocks.now) }
+    ensures refused { IfErr result (λ error. (IsNotContinued found error × (medium.new ≡ medium.old))
+        ⊎ WhereKeeps M.tells M.keeps (IsNotMended found (M.state medium.old) (M.state medium.new))) }
+    ensures saved { IfOk result (λ n. WhereKeeps M.tells M.keeps
+        (Continues found (M.state medium.old) blocks.now n (M.state medium.new))) }
+{
+    a_recorder_directs();
+    a_recording_is_kept();
+    an_effect_may_be_repeated();
+    let mut continued = Recorder::resume(found, true, false)?;
+    if continued.data_length < found.data_length {
+        return Err(RecorderError::UnfinishedFrame);
+    }
+    let mut made = 0;
+    mend(medium, &mut continued, lost, &mut made)?;
+    Ok(save_blocks(medium, &mut continued, blocks, lost))
 }
 
 // The error for one of a recorder.

@@ -1,8 +1,9 @@
 use Rattle.std.proofs.Common.{None, ap, inl, length, refl, subst, sym}
 use Rattle.std.specs.Prelude.{⊤}
-use Rattle.hound.specs.{Recorder}
+use Rattle.hound.specs.{Recorder, Repeats}
 use Rattle.hound_callers.specs.Recorder.{DoesAction}
 use Rattle.hound_callers.proofs.Driving.{IsWithin, KnownAt, begins, begins_few, laws_of, next_err, next_none, next_some, no_laws, not_failed, not_at_rest, one_at_most, settled_low, come, step_of}
+use Rattle.hound_callers.proofs.Mending.{PerformedAt, begins_effects, effect_laws, effects_not_failed}
 use Rattle.hound_callers.proofs.Performing.{not_ok}
 use Rattle.hound_callers.proofs.Repeating.{Again, all_done, begins_directed, come_again, comes, has_action, has_failed, is_tried, smaller}
 use Rattle.hound_callers.proofs.recorder.perform_all.Goals as goal
@@ -18,6 +19,8 @@ loop-action-init g c =
       made = c.requires.within;
       directed = λ tells keeps s file known (once, d, repeats). begins_directed s file known c.args.recorder.now
           c.args.block.now once (M.state c.args.medium.now) within d repeats;
+      performed = λ tells keeps start repeats one has. begins_effects c.args.recorder.now start c.args.block.now
+          (M.state c.args.medium.now) one c.requires.asked.0 has within repeats;
     }
 
 pub loop-action-preserved : goal.loop-action-preserved
@@ -55,8 +58,25 @@ loop-action-preserved g c =
           let (once, came) = comes again c.args.block.now c.in-Some.action
           c.perform-report.result end _ _ (g.met.M.Placed.bytes c.perform-report.new.medium tells) was
           (c.perform-report.ensures.tries tells keeps) in
-          come_again s file known asked c.args.block.now c.perform-report.result c.next.new.self c.in-Some.action o
-          end.state once _ (w c.perform-report.result) k goes came;
+          come_again (λ m over r. KnownAt s file known asked c.args.block.now m over r) asked c.args.block.now
+          c.perform-report.result c.next.new.self c.in-Some.action o end.state once _ (w c.perform-report.result) k goes came;
+      performed = λ tells keeps start repeats one has_data.
+          let M = g.M.Placed in
+          let (before, end, over, within, k, has, still, way) = c.loop-action.invariant.performed tells keeps start repeats one has_data in
+          let law = c.an_effect_may_be_repeated.ensures in
+          let again : Again = record { begun = law.begun; again = law.again; written = law.written; synced = law.synced } in
+          let laws = effect_laws asked start one c.args.block.now c.loop-action.report before end still in
+          let (o, w, k, goes, more, far) = next_some asked (length c.args.block.now) c.requires.asked c.loop-action.report
+          (λ o r. PerformedAt asked start before o r) (λ o r. PerformedAt asked start end.state o r)
+          (λ action. DoesAction action c.args.block.now c.loop-action.report before end.state) laws
+          c.loop-action.recorder c.next.new.self over c.in-Some.action within k has next in
+          let was = is_tried again c.args.block.now c.loop-action.report
+          c.loop-action.recorder c.next.new.self c.in-Some.action end.state _ way next in
+          let (once, came) = comes again c.args.block.now c.in-Some.action
+          c.perform-report.result end _ _ (g.met.M.Placed.bytes c.perform-report.new.medium tells) was
+          (c.perform-report.ensures.tries tells keeps) in
+          come_again (λ m over r. PerformedAt asked start m over r) asked c.args.block.now
+          c.perform-report.result c.next.new.self c.in-Some.action o end.state once _ (w c.perform-report.result) k goes came;
     }
 
 pub loop-action-smaller : goal.loop-action-smaller
@@ -138,4 +158,50 @@ returns-in_err-action-clause-directed g c tells keeps s file known d =
             (inl (subst (λ x. IsWithin asked x c.loop-action.recorder over) pending within))) goes)
             way c.in_err-action.ensures,
       ),
+    )
+
+pub returns-clause-performed : goal.returns-clause-performed
+returns-clause-performed g c tells keeps start repeats one has_data =
+    let (before, end, over, within, k, has, still, way) = c.loop-action.invariant.performed tells keeps start repeats one has_data in
+    let law = c.an_effect_may_be_repeated.ensures in
+    let again : Again = record { begun = law.begun; again = law.again; written = law.written; synced = law.synced } in
+    let asked = c.args.recorder.now in
+    let next = rw c.in_default.is at c.in_ok-action.ensures in
+    let laws = effect_laws asked start one c.args.block.now c.loop-action.report before end still in
+    let (is, (idle, log, here, (result, ok, done))) = next_none asked (length c.args.block.now) c.requires.asked c.loop-action.report
+    (λ o r. PerformedAt asked start before o r) (λ o r. PerformedAt asked start end.state o r)
+    (λ action. DoesAction action c.args.block.now c.loop-action.report before end.state) laws
+    c.loop-action.recorder c.next.new.self over within k has next in (
+      log,
+      result,
+      ok,
+      done,
+      subst (λ m. Repeats m (g.M.Placed.state c.loop-action.medium)) (sym here) (all_done again c.args.block.now c.loop-action.report c.loop-action.recorder
+          c.next.new.self end.state _ way next),
+    )
+
+pub returns-in_err-action-clause-performed : goal.returns-in_err-action-clause-performed
+returns-in_err-action-clause-performed g c tells keeps start repeats one has_data =
+    let (before, end, over, within, k, has, still, way) = c.loop-action.invariant.performed tells keeps start repeats one has_data in
+    let law = c.an_effect_may_be_repeated.ensures in
+    let again : Again = record { begun = law.begun; again = law.again; written = law.written; synced = law.synced } in
+    let asked = c.args.recorder.now in
+    let laws = effect_laws asked start one c.args.block.now c.loop-action.report before end still in
+    let failed = effects_not_failed asked start end.state c.next.new.self c.in_err-action.field-0.0 in
+    let (none, (idle, log, here, (result, bad, done))) = next_err asked (length c.args.block.now) c.requires.asked c.loop-action.report
+    (λ o r. PerformedAt asked start before o r) (λ o r. PerformedAt asked start end.state o r)
+    (λ action. DoesAction action c.args.block.now c.loop-action.report before end.state) laws
+    c.loop-action.recorder c.next.new.self over c.in_err-action.field-0.0 failed within k has c.in_err-action.ensures in
+    rw (not_ok c.from_residual.result c.from_residual.ensures.0) (
+      log,
+      result,
+      bad,
+      done,
+      subst (λ m. Repeats m (g.M.Placed.state c.loop-action.medium)) (sym here) (has_failed again c.args.block.now c.loop-action.report c.loop-action.recorder
+          c.next.new.self c.in_err-action.field-0.0 end.state _
+          (λ pending goes. failed over c.loop-action.recorder
+          (subst (λ m. PerformedAt asked start m over c.loop-action.recorder) (sym (still pending)) k)
+          (settled_low asked (length c.args.block.now) c.requires.asked c.loop-action.recorder over
+          (inl (subst (λ x. IsWithin asked x c.loop-action.recorder over) pending within))) goes)
+          way c.in_err-action.ensures),
     )

@@ -1,9 +1,10 @@
-use Rattle.std.proofs.Common.{◌≤◌, ◌+◌, ◌*◌, ◌-◌, List, Option, Bool, length}
+use Rattle.std.proofs.Common.{◌≡◌, ◌≤◌, ◌+◌, ◌*◌, ◌-◌, List, Option, Bool, length}
 use Rattle.std.specs.Prelude.{⊤}
-use Rattle.hound.specs.{Begun, Known, WavSpecEx, WhereKeeps}
+use Rattle.hound.specs.{Begun, HasData, Known, Log, Repeats, WavSpecEx, WhereKeeps}
 use Rattle.hound_callers.specs.Recorder.{IsDirected}
 use Rattle.hound_callers.proofs.Driving.{HasAction, IsWithin, come, step_of}
-use Rattle.hound_callers.proofs.Repeating.{IsUnderWay}
+use Rattle.hound_callers.proofs.Repeating.{IsUnderWay, IsUnderWayBy}
+use Rattle.hound_callers.proofs.Mending.{PerformedAt}
 use Rattle.hound_callers.proofs.recorder.perform_all.Given as goal
 
 abbrev pub invariant-loop-action : goal.invariant-loop-action
@@ -17,6 +18,10 @@ invariant-loop-action g l =
       directed : WhereKeeps M.tells M.keeps ((s : WavSpecEx) (file : Begun) (known : List Known)
           → IsDirected s file known l.fn.recorder (M.state l.fn.medium)
           → IsUnderWay s file known l.fn.recorder l.block l.report l.recorder (M.state l.medium));
+      performed : WhereKeeps M.tells M.keeps ((start : Log) → Repeats start.state (M.state l.fn.medium)
+          → l.fn.recorder.task ≡ 1 → HasData l.fn.recorder l.fn.recorder.data_length
+          → IsUnderWayBy (λ m over r. PerformedAt l.fn.recorder start m over r) l.fn.recorder l.block l.report l.recorder
+          (M.state l.medium));
     }
 
 abbrev pub decreases-loop-action : goal.decreases-loop-action

@@ -1,0 +1,250 @@
+-- What a checkpoint performs, also of a recording that was cut off.
+use Rattle.std.proofs.lemmas.Grind.{common_steps}
+use Rattle.std.proofs.lemmas.Bool.{false≢true}
+use Rattle.std.specs.declared.io.Error.{Error as IoFault}
+use Rattle.std.proofs.Common.{List, [], ◌∷◌, ◌++◌, is_ok, take, ◌≡◌, ◌≤◌, ◌+◌, ◌-◌, ◌%◌, ℕ, zero, suc, Bool, true, false, inl, inr, Option, None, Some, Result, Ok, Err, refl, sym, ◌∙◌, ap, subst, arith}
+use Rattle.std.specs.Prelude.{◌==◌, if◌then◌else◌, IfErr}
+use Rattle.hound.specs.{Begun, Directed, Effect, EffectEnds, FoundFile, Goes, IsCutOff, IsSynced, Resumes, ResumesAfter, kept_length, pad_effects, recorder_of, resumed_recorder, riff_size, size_effects, GoesOn, HasData, HasEnded, Log, MediumState, NextEffect, Performed, Performs, Recorder, RecorderError, Repeats, Report, Settles, effects_of, nth}
+use Rattle.hound.specs.declared.Action.TheVariants.{Perform}
+use Rattle.hound.specs.declared.RecorderError.TheVariants.{NotWritable, UnfinishedFrame, TooLong, Truncated, CutOff, HasChunksAfterData, NeedsCheckpoint, SyncFailed}
+use Rattle.hound.specs.declared.Effect.TheVariants.{Pad, Size, Sync}
+use Rattle.hound.specs.declared.Report.TheVariants.{Pending}
+use Rattle.hound.proofs.Recorders.{performed_all, performed_more, same_next}
+use Rattle.hound_callers.specs.Recorder.{DoesAction, IsFound, once_mended}
+use Rattle.hound_callers.proofs.Driving.{IsWithin, Laws, settles_as, shape, told_as}
+use Rattle.hound_callers.proofs.Repeating.{IsUnderWayBy}
+
+-- the effects of a checkpoint that were performed, by whether it is over
+abbrev pub PerformedAt : Recorder → Log → MediumState → Option Bool → Recorder → Type 0
+PerformedAt asked start m None r = (r.task ≡ 1) × HasData r r.data_length × (effects_of r ≡ effects_of asked)
+    × ((log : Log) × (log.state ≡ m) × Performed (take r.number (effects_of asked)) (Ok tt) start log)
+PerformedAt asked start m (Some ok) r = (r.task ≡ 0) × (log : Log) × (log.state ≡ m)
+    × ((result : Result (Unit {0}) IoFault) × (is_ok result ≡ ok) × Performed (effects_of asked) result start log)
+
+-- its end is an error exactly where the effect failed
+ended_as : (b : Bool) (r mid : Recorder) (effect : Effect) (told : Result (Unit {0}) RecorderError) → r.task ≡ 1
+    → r.has_rest ≡ 0 → GoesOn r r (Ok (Some (Perform effect))) → HasEnded b r mid told → is_ok told ≡ b
+ended_as b r mid effect told one rest goes (inl (idle, _, _)) = absurd (omega (arith, one, idle))
+ended_as b r mid effect told one rest goes (inr (inl (_, cuts, _, _, _))) = absurd (omega (arith, rest, cuts))
+ended_as b r mid effect told one rest goes (inr (inr (inl (_, cuts, _, _)))) = absurd (omega (arith, rest, cuts))
+ended_as b r mid effect told one rest goes (inr (inr (inr (inl (three, _, _, _, _))))) = absurd (omega (arith, one, three))
+ended_as b r mid effect told one rest (some, few, _, _, _, after, next) (inr (inr (inr (inr (_, _, _, (a, step, stepped, ends)))))) =
+    let (is, same) = same_next r after a (Some effect) step next stepped in
+    by b (subst (λ (x : Recorder × Result (Option Effect) RecorderError). EffectEnds b r x.0 x.1 mid told)
+    (λ i. (same i, is i)) ends)
+  where
+    by : (b : Bool) → EffectEnds b r after (Ok (Some effect)) mid told → is_ok told ≡ b
+    by true (ok, is) = ap is_ok ok
+    by false (last, error, failed, err, is) = ap is_ok err
+
+-- after an error nothing is under way
+ended_task : (b : Bool) (r mid : Recorder) (effect : Effect) (error : RecorderError) → r.task ≡ 1
+    → r.has_rest ≡ 0 → GoesOn r r (Ok (Some (Perform effect))) → HasEnded b r mid (Err error) → mid.task ≡ 0
+ended_task b r mid effect error one rest goes (inl (idle, _, _)) = absurd (omega (arith, one, idle))
+ended_task b r mid effect error one rest goes (inr (inl (_, cuts, _, _, _))) = absurd (omega (arith, rest, cuts))
+ended_task b r mid effect error one rest goes (inr (inr (inl (_, cuts, _, _)))) = absurd (omega (arith, rest, cuts))
+ended_task b r mid effect error one rest goes (inr (inr (inr (inl (three, _, _, _, _))))) = absurd (omega (arith, one, three))
+ended_task b r mid effect error one rest (some, few, _, _, _, after, next) (inr (inr (inr (inr (_, _, _, (a, step, stepped, ends)))))) =
+    let (is, same) = same_next r after a (Some effect) step next stepped in
+    by b (subst (λ (x : Recorder × Result (Option Effect) RecorderError). EffectEnds b r x.0 x.1 mid (Err error))
+    (λ i. (same i, is i)) ends)
+  where
+    by : (b : Bool) → EffectEnds b r after (Ok (Some effect)) mid (Err error) → mid.task ≡ 0
+    by true (ok, is) = absurd (false≢true (ap is_ok ok))
+    by false (last, other, failed, err, is) = ap (λ (x : Recorder). x.task) is
+
+-- a report of nothing changes nothing
+stays_idle : (b : Bool) (r mid : Recorder) (told : Result (Unit {0}) RecorderError) → r.task ≡ 0 → HasEnded b r mid told → mid ≡ r
+stays_idle b r mid told idle (inl (_, same, _)) = same
+stays_idle b r mid told idle (inr (inl (busy, _, _, _, _))) = absurd (omega (arith, idle, busy))
+stays_idle b r mid told idle (inr (inr (inl (four, _, _, _)))) = absurd (omega (arith, idle, four))
+stays_idle b r mid told idle (inr (inr (inr (inl (three, _, _, _, _))))) = absurd (omega (arith, idle, three))
+stays_idle b r mid told idle (inr (inr (inr (inr (busy, _, _, _))))) = absurd (omega (arith, idle, busy))
+
+ok_is : (result : Result (Unit {0}) IoFault) → is_ok result ≡ true → result ≡ Ok tt
+ok_is (Ok x) is = refl
+ok_is (Err e) is = absurd (false≢true is)
+
+module _ (asked : Recorder) (start : Log) (one : asked.task ≡ 1) (block : List ℕ) (report : Report) (before : MediumState)
+    (end : Log) where
+  -- an effect more
+  more : (told : Result (Unit {0}) RecorderError) (r mid : Recorder) (effect : Effect) (result : Result (Unit {0}) IoFault)
+      → PerformedAt asked start before None r → GoesOn r r (Ok (Some (Perform effect))) → Performs effect result before end.state
+      → HasEnded (is_ok result) r mid told → PerformedAt asked start end.state (told_as told) mid
+  more (Ok x) r mid effect result (task, has, same, (log, here, done)) (some, few, rest, is, saves, after, next) did ended =
+      let goes : GoesOn r r (Ok (Some (Perform effect))) = (some, few, rest, is, saves, after, next) in
+      let fine : is_ok result ≡ true = sym (ended_as (is_ok result) r mid effect (Ok x) task rest goes ended) in
+      let is_mid : mid ≡ record r { number = r.number + 1 } = shape (is_ok result) r mid effect (Ok x) task rest goes ended in
+      let number : suc r.number ≡ mid.number = omega (arith, ap (λ (x : Recorder). x.number) is_mid) in
+      let all = performed_more (effects_of asked) r.number effect result start log end
+      (next.3 ∙ ap (λ l. nth l r.number) same) done (subst (λ m. Performs effect result m end.state) (sym here) did) in (
+        ap (λ (x : Recorder). x.task) is_mid ∙ task,
+        subst (λ (r : Recorder). HasData r r.data_length) (sym is_mid) has,
+        ap effects_of is_mid ∙ same,
+        (
+          end,
+          refl,
+          subst (λ (x : ℕ × Result (Unit {0}) IoFault). Performed (take x.0 (effects_of asked)) x.1 start end)
+              (λ i. (number i, ok_is result fine i)) all,
+        ),
+      )
+  more (Err error) r mid effect result (task, has, same, (log, here, done)) (some, few, rest, is, saves, after, next) did ended =
+      let goes : GoesOn r r (Ok (Some (Perform effect))) = (some, few, rest, is, saves, after, next) in
+      let failed : is_ok result ≡ false = sym (ended_as (is_ok result) r mid effect (Err error) task rest goes ended) in
+      let all = performed_more (effects_of asked) r.number effect result start log end
+      (next.3 ∙ ap (λ l. nth l r.number) same) done (subst (λ m. Performs effect result m end.state) (sym here) did) in (
+        ended_task (is_ok result) r mid effect error task rest goes ended,
+        end,
+        refl,
+        (
+          result,
+          failed,
+          performed_all (effects_of asked) (suc r.number) result start end
+              (λ fine. absurd (false≢true (sym failed ∙ fine))) all,
+        ),
+      )
+
+  -- the clauses for the loop
+  pub effect_laws : (report ≡ Pending → end.state ≡ before) → Laws asked report (λ o r. PerformedAt asked start before o r)
+      (λ o r. PerformedAt asked start end.state o r) (λ action. DoesAction action block report before end.state)
+  effect_laws still = record {
+    same = λ pending over r known. subst (λ m. PerformedAt asked start m over r) (sym (still pending)) known;
+    performed = λ r mid effect told one known goes (result, is, did) settles.
+        more told r mid effect result known goes did
+        (settles_as (is_ok result) r mid told (subst (λ x. Settles x r mid told) is settles));
+    wrote = λ b r mid at len told two reported known is place did ended. absurd (omega (arith, one, two));
+    cut = λ b r mid at told known rest same ended.
+        let (idle, log, here, done) = known in
+        (ap (λ (x : Recorder). x.task) (stays_idle b r mid told idle ended) ∙ idle, log, here ∙ sym same, done);
+    handed = λ mid r at len none known goes. absurd (let task = known.0 in omega (arith, goes.0, task));
+    saved = λ mid r one task known goes. all_saved mid r known goes;
+  }
+    where
+      all_saved : (mid r : Recorder) → PerformedAt asked start end.state None mid → GoesOn mid r (Ok None)
+          → PerformedAt asked start end.state (Some true) r
+      all_saved mid r (task, has, same, (log, here, done)) (inl (idle, _)) = absurd (omega (arith, task, idle))
+      all_saved mid r (task, has, same, (log, here, done)) (inr (busy, rest, x, next, is)) = (
+        ap (λ (x : Recorder). x.task) is,
+        log,
+        here,
+        (
+          Ok tt,
+          refl,
+          performed_all (effects_of asked) mid.number (Ok tt) start log
+              (λ _. next.3 ∙ ap (λ l. nth l mid.number) same) done,
+        ),
+      )
+
+-- no error comes of what is to do
+no_error : (r new : Recorder) (error : RecorderError) → HasData r r.data_length → r.condition ≤ 1
+    → NextEffect true r new (Err error) → ⊥
+no_error r new SyncFailed has low (is, inl high) = omega (arith, low, high)
+no_error r new SyncFailed has low (is, inr ((_, _, bad), _)) = false≢true (sym bad)
+no_error r new NeedsCheckpoint has low (is, (_, _, bad), _) = false≢true (sym bad)
+no_error r new NotWritable has low (is, _, never) = grind (arith, common_steps)
+no_error r new TooLong has low (is, _, never) = grind (arith, common_steps)
+no_error r new UnfinishedFrame has low (is, _, never) = never
+no_error r new Truncated has low (is, _, never) = never
+no_error r new CutOff has low (is, _, never) = never
+no_error r new HasChunksAfterData has low (is, _, never) = never
+
+pub effects_not_failed : (asked : Recorder) (start : Log) (m : MediumState) (new : Recorder) (error : RecorderError)
+    (over : Option Bool) (mid : Recorder) → PerformedAt asked start m over mid → mid.condition ≤ 1
+    → GoesOn mid new (Err error) → ⊥
+effects_not_failed asked start m new error (Some b) mid (idle, _, _, _) low (busy, _, _, _) = omega (arith, idle, busy)
+effects_not_failed asked start m new error None mid (one, has, _, _) low (busy, rest, r, inl (failed, _)) =
+    no_error mid r error has low failed
+effects_not_failed asked start m new error None mid (one, has, _, _) low (busy, rest, r, inr (inl (inl high, _), _, _)) =
+    omega (arith, one, high)
+effects_not_failed asked start m new error None mid (one, has, _, _) low (busy, rest, r, inr (inl (inr (two, _, _), _), _, _)) =
+    omega (arith, one, two)
+effects_not_failed asked start m new error None mid (one, has, _, _) low (busy, rest, r, inr (inr (two, _), _, _)) =
+    omega (arith, one, two)
+
+-- where the loop begins
+pub begins_effects : (asked : Recorder) (start : Log) (block : List ℕ) (now : MediumState) → asked.task ≡ 1 → asked.number ≡ 0
+    → HasData asked asked.data_length
+    → IsWithin asked Pending asked None → Repeats start.state now
+    → IsUnderWayBy (λ m over r. PerformedAt asked start m over r) asked block Pending asked now
+begins_effects asked start block now one none has within repeats = (
+  start.state,
+  start,
+  None,
+  within,
+  (one, has, refl, (start, refl, rw none (refl, refl))),
+  inl refl,
+  (λ _. refl),
+  inl repeats,
+)
+
+-- a recorder that continues a file which was found
+continues_as : (f : FoundFile) (r : Recorder) → Resumes f true false (Ok r)
+    → (f.data_start + r.data_length ≤ f.length) × (r ≡ resumed_recorder f r.data_length)
+continues_as f r resumes = by (kept_length f true false) resumes
+  where
+    by : (kept : Result ℕ RecorderError) → ResumesAfter f kept (Ok r)
+        → (f.data_start + r.data_length ≤ f.length) × (r ≡ resumed_recorder f r.data_length)
+    by (Ok n) (appends, held, this) =
+        let same = sym (ap (λ (x : Recorder). x.data_length) this) in
+        subst (λ n. (f.data_start + n ≤ f.length) × (r ≡ resumed_recorder f n)) same (held, this)
+    by (Err error) never = absurd (false≢true (ap is_ok (sym never)))
+
+pub is_cut_off : (f : FoundFile) (r : Recorder) (m : MediumState) → IsFound f m → Resumes f true false (Ok r)
+    → f.data_length ≤ r.data_length → IsCutOff f r.data_length m
+is_cut_off f r m found resumes counted =
+    let (held, this) = continues_as f r resumes in
+    record { sound = found.sound; head = found.head; counted = counted; held = omega (arith, held, found.all) }
+
+-- once its file is mended
+pub is_mended : (f : FoundFile) (r new : Recorder) (m : Log) (file : Begun) → Resumes f true false (Ok r) → new ≡ once_mended r
+    → Directed f.spec_ex file [] (recorder_of f.spec_ex f.data_start r.data_length) m.state
+    → Directed f.spec_ex file [] new m.state
+is_mended f r new m file resumes is directed =
+    let (held, this) = continues_as f r resumes in
+    subst (λ r. Directed f.spec_ex file [] r m.state) (sym (is ∙ ap once_mended this)) directed
+
+-- a place makes no difference
+pub at_end : (place : ℕ) (end : Log) (now : MediumState) → Repeats end.state now
+    → (m : Log) × Goes {T = Unit {0}} {E = IoFault} place (Ok tt) end.state m.state × Repeats m.state now
+at_end place end now repeats = (
+  record { state = record end.state { place = place }; replays = end.replays; small = end.small },
+  record { stays = record { contents = refl; start = refl; past = refl }; place = refl; flushed = refl; faults = refl },
+  record {
+    state = repeats.state;
+    in_order = repeats.in_order;
+    within = repeats.within;
+    same = repeats.same;
+    last = repeats.last;
+    contents = repeats.contents;
+    flushed = repeats.flushed;
+    synced = repeats.synced;
+  },
+)
+
+-- a list of effects that ends with a sync
+last_synced : (effects : List Effect) (result : Result (Unit {0}) IoFault) (start end : Log) → is_ok result ≡ true
+    → Performed (effects ++ Sync ∷ []) result start end → IsSynced end.state
+last_synced [] result start end ok (mid, Ok x, flush, (is, last)) = rw last flush.flushed
+last_synced [] result start end ok (mid, Err e, flush, (is, last)) = absurd (false≢true (sym (ap is_ok is) ∙ ok))
+last_synced (effect ∷ effects) result start end ok (mid, Ok x, did, rest) = last_synced effects result mid end ok rest
+last_synced (effect ∷ effects) result start end ok (mid, Err e, did, (is, last)) = absurd (false≢true (sym (ap is_ok is) ∙ ok))
+
+abbrev sizes_of : Recorder → List Effect
+sizes_of r = Sync ∷ Size 4 (riff_size r.data_start r.data_length) ∷ Size (r.data_start - 4) r.data_length ∷ []
+
+pub effects_synced : (r : Recorder) (start end : Log) (result : Result (Unit {0}) IoFault) → is_ok result ≡ true
+    → Performed (effects_of r) result start end → IsSynced end.state
+effects_synced r start end result ok done = by (r.condition == 0) (r.data_length % 2) done
+  where
+    by : (clean : Bool) (odd : ℕ) → Performed (if clean then pad_effects (r.data_start + r.data_length) odd
+        ++ size_effects r.data_start r.data_length else Sync ∷ pad_effects (r.data_start + r.data_length) odd
+        ++ size_effects r.data_start r.data_length) result start end → IsSynced end.state
+    by true zero did = last_synced (sizes_of r) result start end ok did
+    by true (suc k) did = last_synced (Pad (r.data_start + r.data_length) ∷ sizes_of r) result start end ok did
+    by false zero did = last_synced (Sync ∷ sizes_of r) result start end ok did
+    by false (suc k) did = last_synced (Sync ∷ Pad (r.data_start + r.data_length) ∷ sizes_of r) result start end ok did
+
+-- what holds at an error
+pub if_err : {T E : Type 0} {P : E → Type 0} (r : Result T E) → ((error : E) → P error) → IfErr r P
+if_err (Ok x) here = tt
+if_err (Err error) here = here error
