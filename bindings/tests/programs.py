@@ -1,7 +1,7 @@
 #!/usr/bin/env python3
 """The programs of bindings/c, compiled for another system or processor, beside those of this one: what they print, their
 status, and each file have to be the same, byte for byte. Then two of them at one file, one that is killed and whose file
-is repaired, and a file of 3 GB. With --wrong their wrong versions for Windows have to be found.
+is repaired, how often a durable file is synced, and a file of 3 GB. With --wrong their wrong versions for Windows have to be found.
 
 usage: programs.py HERE THERE [RUN..]     (folders with cat, record and repair; there with .exe; RUN runs those)
        programs.py --wrong HERE SCRATCH RUN LIBRARY COMPILER..     (the compiler's words, for programs of that library)"""
@@ -26,6 +26,7 @@ WRONG = {
     "no lock": ("if (LockFileEx((HANDLE)_get_osfhandle(descriptor), LOCKFILE_EXCLUSIVE_LOCK | LOCKFILE_FAIL_IMMEDIATELY, 0, 1, 0, &place)) return 0;", "return 0;"),
     "places of 32 bits": ("_lseeki64(descriptor, (__int64)place, SEEK_SET)", "_lseek(descriptor, (long)place, SEEK_SET)"),
     "lengths of 32 bits": ("(uint64_t)about.st_size, *is_regular = (about.st_mode & _S_IFMT)", "(uint32_t)about.st_size & 0x7FFFFFFF, *is_regular = (about.st_mode & _S_IFMT)"),
+    "nothing is synced": ("return _commit(descriptor);", "return (void)descriptor, 0;"),
     "nothing is cut off": ("_chsize_s(descriptor, (__int64)length)", "((void)length, (void)descriptor, 0)"),
 }
 
@@ -126,6 +127,23 @@ def check_two(one):
     expect("a lock outlives its program", one.ran("repair", "take.wav")[0] == 0)
 
 
+def syncs(one):
+    """How often the system stores the file of a durable recording."""
+    log = one.path + ".log"
+    words = ["strace", "-f", "-y", "-qq", "-o", log, "-e", "trace=fsync", *one.words["record"], "take.wav", "8000", "2", "16", "100"]
+    folder = os.path.dirname(one.path)
+    subprocess.run([*words, "--overwrite", "--durable"], input=DATA, cwd=folder, stdout=subprocess.DEVNULL, stderr=subprocess.DEVNULL, timeout=20)
+    with open(log) as file:
+        return file.read().count("take.wav>")
+
+
+def check_synced(here, there):
+    """Each sync is one of the system, as here."""
+    if shutil.which("strace"):
+        wanted, got = syncs(here), syncs(there)
+        expect(f"{got} syncs and not {wanted}", 0 < wanted == got)
+
+
 def check_killed(here, there):
     """A recorder that is killed: the file has its first checkpoint, and a repair finds all that it holds."""
     os.remove(there.path)
@@ -162,6 +180,7 @@ def check(here, folder, scratch, run, ending=".exe"):
         with other.recording("first.wav") as first:
             count = check_same(one, other)
             check_two(other)
+            check_synced(one, other)
             check_killed(one, other)
             check_long(other)
             first.stdin.close()
@@ -196,7 +215,7 @@ def main():
         if words[0] == "--wrong":
             check_wrong(words[1], words[2], words[3:4], words[4], words[5:])
         else:
-            print(f"programs: {check(words[0], words[1], None, words[2:])} runs of cat, record and repair are the same, two at one file, a kill, 3 GB")
+            print(f"programs: {check(words[0], words[1], None, words[2:])} runs of cat, record and repair are the same; two at one file, a kill, syncs, 3 GB")
     except Wrong as error:
         sys.exit(f"programs: {error}")
 
