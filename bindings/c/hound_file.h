@@ -43,7 +43,7 @@ static inline int64_t hound_file_get(int descriptor, void *out, size_t count, ui
 static inline int64_t hound_file_put(int descriptor, const void *bytes, size_t count, uint64_t place) {
     return hound_file_seek(descriptor, place) < 0 ? -1 : _write(descriptor, bytes, (unsigned)count);
 }
-static inline int hound_file_open_at(const char *path, int flags) { return _open(path, flags | _O_RDWR | _O_BINARY | _O_NOINHERIT, 0666); }
+static inline int hound_file_open_at(const char *path, int flags) { return _open(path, flags | _O_RDWR | _O_BINARY | _O_NOINHERIT, _S_IREAD | _S_IWRITE); }
 static inline int hound_file_close_at(int descriptor) { return _close(descriptor); }
 static inline int hound_file_resize(int descriptor, uint64_t length) {
     errno = _chsize_s(descriptor, (__int64)length);
