@@ -5,7 +5,9 @@
      hound_file file;
      int32_t code = hound_file_create(&file, "take.wav", &spec, 0, 0);
      while (code == 0 && ..) code = hound_file_write(&file, bytes, hound_encode_i16(&spec, samples, count, bytes, sizeof bytes) / 2);
-     if (hound_file_close(&file) < 0) puts(hound_file_text(&file, code));
+     if (code == 0) code = hound_file_checkpoint(&file);
+     if (code < 0) puts(hound_file_text(&file, code));
+     hound_file_close(&file);
 
    A call returns 0 or an error of hound.h; hound_file_text has its sentence. Where the system failed the error isn't 0 and
    `fault` is the errno. A hound_file is for one thread at a time. Windows syncs no folder: a loss of power there may take
@@ -276,9 +278,10 @@ static inline int32_t hound_file_write(hound_file *file, const uint8_t *bytes, u
     return code < 0 ? code : hound_file_finish(file, bytes);
 }
 
-/* Makes a checkpoint, and closes the file in any case. */
+/* Makes a checkpoint, and closes the file in any case. Where it isn't open the fault stays. */
 static inline int32_t hound_file_close(hound_file *file) {
-    int32_t code = hound_file_checkpoint(file);
+    int32_t code = file->descriptor < 0 ? HOUND_NOT_PERFORMED : hound_file_checkpoint(file);
+    if (file->descriptor < 0) return code;
     if (hound_file_close_at(file->descriptor) < 0 && code == 0) file->fault = errno, code = HOUND_NOT_PERFORMED;
     file->descriptor = -1;
     return code;
