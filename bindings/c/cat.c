@@ -3,9 +3,7 @@
    The file comes from standard input, which may be a pipe: nothing is read twice, and no more than a
    block is in memory.
      cc -Ibindings/c bindings/c/cat.c bindings/lib/x86_64-linux/libhound_c.a -o cat && ./cat < in.wav > out.raw */
-#include "hound.h"
-#include <stdio.h>
-#include <string.h>
+#include "hound_file.h"
 
 enum { BLOCK = 4096 };
 static uint64_t taken; /* how many bytes of the input were read */
@@ -57,6 +55,7 @@ int main(int argc, char **argv) {
     int as_floats = argc == 2 && !strcmp(argv[1], "--float");
     if (argc > 1 && !as_floats) return fail("usage: cat [--float] < FILE");
     hound_info_t info;
+    hound_file_set_binary(0), hound_file_set_binary(1);
     int32_t code = find_data(&info);
     if (ferror(stdin)) return fail("reading failed");
     if (code < 0) return fail(hound_error_text(code));

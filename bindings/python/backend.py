@@ -1,7 +1,7 @@
-"""Builds the wheel of this folder with Python and a C compiler alone, so that `pip install` needs no
-network: the static library that ../lib has for this processor, or that the folder HOUND_C_LIB has,
-becomes the shared library of the package. Where ../lib has none, or with HOUND_C_SOURCE in the
-environment, ../lib/hound_c.c is compiled. An sdist has lib and c in this folder."""
+"""Builds the wheel of this folder with Python alone, so that `pip install` needs no network: it has the
+shared library that ../lib has for this processor. Where ../lib has none, or with HOUND_C_SOURCE in the
+environment, a C compiler makes one of ../lib/hound_c.c, and with HOUND_C_LIB of the static library in
+that folder. An sdist has lib and c in this folder."""
 import base64
 import hashlib
 import os
@@ -69,20 +69,29 @@ def compiling(words, library):
     return [*words, *options, SOURCE, "-o", library]
 
 
+def carried_library():
+    """The shared library that ../lib has for this processor, if that is to be taken. It needs no other library, so it
+    is for every Linux."""
+    name, machine, has_32_bits = system()
+    library = os.path.join(BINDINGS, "lib", f"{machine}-{name.lower()}", "libhound_c.so")
+    is_other = has_32_bits or os.environ.get("HOUND_C_SOURCE") or os.environ.get("HOUND_C_LIB")
+    return library if os.path.exists(library) and not is_other else None
+
+
 def shared_library(folder):
     """Makes the shared library in a folder, and returns its path."""
-    name, machine, has_32_bits = system()
-    library = os.path.join(folder, "hound_c.dll" if name == "Windows" else "libhound_c.so")
-    named = os.environ.get("HOUND_C_LIB")
-    archive = os.path.join(named or os.path.join(BINDINGS, "lib", f"{machine}-{name.lower()}"), "libhound_c.a")
-    is_carried = not (has_32_bits or os.environ.get("HOUND_C_SOURCE")) and os.path.exists(archive)
-    if named and not os.path.exists(archive):
-        raise SystemExit(f"{archive} isn't there: HOUND_C_LIB has to name the folder that holds it")
-    words = compiler()
-    if named or is_carried:
-        command = [*words, "-shared", "-Wl,--whole-archive", archive, "-Wl,--no-whole-archive", "-o", library]
+    library = os.path.join(folder, "hound_c.dll" if system()[0] == "Windows" else "libhound_c.so")
+    named, carried = os.environ.get("HOUND_C_LIB"), carried_library()
+    if carried:
+        return shutil.copyfile(carried, library)
+    if named:
+        archive = os.path.join(named, "libhound_c.a")
+        if not os.path.exists(archive):
+            raise SystemExit(f"{archive} isn't there: HOUND_C_LIB has to name the folder that holds it")
+        whole = ["-Wl,--whole-archive", archive, "-Wl,--no-whole-archive"]
+        command = [*compiler(), "-shared", *whole, "-o", library]
     else:
-        command = compiling(words, library)
+        command = compiling(compiler(), library)
     subprocess.run(command, check=True)
     return library
 
@@ -90,6 +99,9 @@ def shared_library(folder):
 def wheel_tag():
     """What the wheel is for: this system, and the processor that its library is for."""
     name, machine, has_32_bits = system()
+    if carried_library():  # The oldest systems that these tags have.
+        older = {"x86_64": "manylinux1_x86_64", "aarch64": "manylinux2014_aarch64"}[machine]
+        return f"py3-none-{older}.musllinux_1_1_{machine}"
     if name == "Darwin":  # Python may have the code for two processors, and be for older systems.
         major, minor = (platform.mac_ver()[0].split(".") + ["0"])[:2]
         return f"py3-none-macosx_{major}_{minor if major == '10' else '0'}_{machine}"
@@ -109,11 +121,11 @@ def build_wheel(wheel_directory, config_settings=None, metadata_directory=None):
         library = shared_library(folder)
         with open(library, "rb") as file:
             files[f"{NAME}/{os.path.basename(library)}"] = file.read()
-    info = f"{NAME}-{VERSION}.dist-info"
+    info, tags = f"{NAME}-{VERSION}.dist-info", "".join(f"Tag: py3-none-{one}\n" for one in tag.split("-")[2].split("."))
     with open(LICENSE, "rb") as file:
         files[f"{info}/LICENSE"] = file.read()
     files[f"{info}/METADATA"] = METADATA.encode()
-    files[f"{info}/WHEEL"] = f"Wheel-Version: 1.0\nGenerator: {NAME}\nRoot-Is-Purelib: false\nTag: {tag}\n".encode()
+    files[f"{info}/WHEEL"] = f"Wheel-Version: 1.0\nGenerator: {NAME}\nRoot-Is-Purelib: false\n{tags}".encode()
     record = ""
     for name, content in files.items():
         digest = base64.urlsafe_b64encode(hashlib.sha256(content).digest()).rstrip(b"=").decode()

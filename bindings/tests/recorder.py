@@ -21,20 +21,23 @@ CHUNK = b"LIST\4\0\0\0INFO"
 DATA = bytes(range(1, 251)) * 16  # 1,000 whole frames of two channels with 16 bits
 # Wrong versions of record.c: a part, and what is in its place.
 WRONG = {
-    "a file that exists is emptied": ("is_overwritten ? O_CREAT : O_CREAT | O_EXCL", "O_CREAT"),
-    "a file is emptied before its folder is synced": ("*file = open(path, flags | O_RDWR, 0666);", "*file = open(path, flags | O_RDWR | (flags ? O_TRUNC : 0), 0666);"),
-    "a file that isn't recorded to stays": ("if (why && flags & O_EXCL) unlink(path);", ""),
-    "no lock": ("flock(*file, LOCK_EX | LOCK_NB) < 0", "0"),
+    "a file that exists is emptied": ("is_emptied ? O_CREAT : O_CREAT | O_EXCL", "O_CREAT"),
+    "a file is emptied before its folder is synced": ("open(path, flags | O_RDWR | O_CLOEXEC, 0666)", "open(path, flags | O_RDWR | (flags ? O_TRUNC : 0), 0666)"),
+    "a file that isn't recorded to stays": ("give_up(file, path, is_made, HOUND_NOT_PERFORMED)", "give_up(file, path, 0, HOUND_NOT_PERFORMED)"),
+    "a file without a header stays": ("give_up(file, path, !is_emptied, HOUND_NOT_PERFORMED)", "give_up(file, path, 0, HOUND_NOT_PERFORMED)"),
+    "no lock": ("flock(descriptor, LOCK_EX | LOCK_NB)", "0"),
     "an output that nobody reads ends it": ("signal(SIGPIPE, SIG_IGN);", ""),
     "an input without bytes yet is at its end": ("errno == EAGAIN || errno == EWOULDBLOCK", "0"),
     "a torn frame isn't reported": ('if (torn > 0) complain("the input ends within a frame, which isn\'t recorded");', ""),
-    "a fault has no reason": ('complain(is_cut ? "a part of a block that was lost stays in the file" : strerror(errno));', "is_whole = 0;"),
-    "what the header counts isn't reported": ('fprintf(stderr, "record: the header counts only %llu samples: repair the file\\n", counted), is_whole = 0', "is_whole = 0"),
-    "a pipe is taken for a file": ("!S_ISREG(about.st_mode)", "0"),
-    "a rejected block isn't cut off": ("case HOUND_CUT: is_done = has_cut(file, effect->place);", "case HOUND_CUT: is_done = 1;"),
+    "a fault has no reason": ("if (code < 0 && file.fault) complain(hound_file_text(&file, code));", ""),
+    "another fault than the first is the reason": ("else if (file->fault == 0) file->fault = errno;", "else file->fault = errno;"),
+    "a rest of a block isn't reported": ('if (file.has_rest) complain("a part of a block that was lost stays in the file");', ""),
+    "a file is taken to count samples that no checkpoint counts": ("if (code == 0) file->counted = file->recorder.data_length;", "file->counted = file->recorder.data_length;"),
+    "a device is taken for a file": ("S_ISREG(about.st_mode)", "1"),
+    "a rejected block isn't cut off": ("case HOUND_CUT: is_done = hound_file_cut(file->descriptor, effect->place) == 0;", "case HOUND_CUT: is_done = 1;"),
     "a report is taken for done": ("effect->report = is_done ? HOUND_DONE : HOUND_FAILED;", "effect->report = HOUND_DONE;"),
-    "a recording that was cut off is overwritten": ("HOUND_MEND, &recorder", "HOUND_OVERWRITE, &recorder"),
-    "chunks after the data are overwritten": ("HOUND_MEND, &recorder", "HOUND_MEND | HOUND_OVERWRITE, &recorder"),
+    "a recording that was cut off is overwritten": ("HOUND_MEND, is_durable", "HOUND_OVERWRITE, is_durable"),
+    "chunks after the data are overwritten": ("HOUND_MEND, is_durable", "HOUND_MEND | HOUND_OVERWRITE, is_durable"),
 }
 
 # A version that is right: of three reports two are lost, so that each effect is performed three times.
@@ -176,14 +179,29 @@ def torn_frame(record, path):
     expect("its whole frames aren't counted", counted_in(path) == len(DATA) // 2 - 2)
 
 
+def limit(length):
+    """No file may be longer."""
+    return lambda: (signal.signal(signal.SIGXFSZ, signal.SIG_IGN), resource.setrlimit(resource.RLIMIT_FSIZE, (length, length)))
+
+
 def full_disk(record, path):
     """The header can't be written any more once the blocks of the file can't, by a limit of its length."""
-    limit = lambda: (signal.signal(signal.SIGXFSZ, signal.SIG_IGN), resource.setrlimit(resource.RLIMIT_FSIZE, (1000, 1000)))
-    ran = run([record, path, *SHAPE], preexec_fn=limit)
+    ran = run([record, path, *SHAPE], preexec_fn=limit(20))
+    expect("a file without a whole header is left", is_rejected(ran, b"File too large") and not os.path.exists(path))
+    ran = run([record, path, *SHAPE], preexec_fn=limit(1000))
     expect("a full disk isn't named", ran.returncode == 1 and b"record: File too large\n" in ran.stderr)
     said = [int(line) for line in ran.stdout.split() if line.isdigit()]
     expect("samples of a checkpoint are lost", counted_in(path) >= max(said))
     expect("a part of a rejected block stays", os.path.getsize(path) == 44 + 2 * counted_in(path))
+
+
+def failing_cut(record, path):
+    """The part of a block that is there can't be cut off."""
+    words = ["strace", "-qq", "-o", "/dev/null", "-P", path, "-e", "trace=ftruncate", "-e", "inject=ftruncate:error=EIO"]
+    ran = run([*words, record, path, *SHAPE], DATA[:1000], preexec_fn=limit(544))
+    expect("the first fault isn't said", ran.returncode == 1 and ran.stderr.startswith(b"record: File too large\n"))
+    expect("what stays isn't said", b"record: a part of a block that was lost stays in the file\n" in ran.stderr)
+    expect("the part isn't there", os.path.getsize(path) == 544 > 44 + 2 * counted_in(path))
 
 
 def failing_header(record, path):
@@ -206,10 +224,11 @@ def not_appended(record, path):
     os.mkfifo(path)
     for words in ["--append"], ["--overwrite"]:
         expect("a pipe is recorded to", is_rejected(run([record, path, *SHAPE, *words]), b"this is no regular file"))
+    expect("a device is recorded to", is_rejected(run([record, "/dev/null", *SHAPE, "--overwrite"]), b"this is no regular file"))
     expect("a pipe isn't left", stat.S_ISFIFO(os.stat(path).st_mode))
 
 
-CHECKS = [exists, folder_without_leave, two_programs, closed_output, slow_input, cut_off, torn_frame, full_disk, failing_header, not_appended]
+CHECKS = [exists, folder_without_leave, two_programs, closed_output, slow_input, cut_off, torn_frame, full_disk, failing_cut, failing_header, not_appended]
 
 
 def first_failure(record):
@@ -226,8 +245,8 @@ def first_failure(record):
 def main():
     with tempfile.TemporaryDirectory() as folder:
         os.chmod(folder, 0o755)
-        with open(os.path.join(C, "record.c")) as program, open(os.path.join(C, "perform.h")) as performing:
-            text = program.read().replace('#include "perform.h"\n', performing.read())
+        with open(os.path.join(C, "record.c")) as program, open(os.path.join(C, "hound_file.h")) as performing:
+            text = program.read().replace('#include "hound_file.h"\n', performing.read())
         failure = first_failure(compiled(folder, "record", text))
         if failure:
             sys.exit(f"recorder: {failure}")

@@ -31,24 +31,24 @@ STATES = dict(zip(("whole", "cut_off", "followed"), SAID))
 WRITES = ("write", "pwrite64")
 TAG = b"TAG" + bytes(125)
 # Wrong versions of it: a part, and what is in its place.
-SYNC, REPORT = "is_done = !is_durable || fsync(file) == 0;", "effect->report = is_done ? HOUND_DONE : HOUND_FAILED;"
+SYNC, REPORT = "is_done = !file->is_durable || hound_file_sync(file->descriptor) == 0;", "effect->report = is_done ? HOUND_DONE : HOUND_FAILED;"
 MODE, BEGIN = "is_to_end ? HOUND_REPAIR_TO_END : HOUND_REPAIR", "hound_repairer_begin(length, mode, &repairer);"
 # A version that is right: of three reports two are lost, so that each effect is performed three times.
 LOST = REPORT, "static int number; effect->report = !is_done ? HOUND_FAILED : ++number % 3 ? HOUND_PENDING : HOUND_DONE;"
 WRONG = {
     "no sync": (SYNC, "is_done = 1;"),
-    "a sync that fails is ignored": (SYNC, "is_done = (fsync(file), 1);"),
+    "a sync that fails is ignored": (SYNC, "is_done = (hound_file_sync(file->descriptor), 1);"),
     "a write that fails is ignored": (REPORT, "effect->report = HOUND_DONE;"),
-    "a write that is left out": ("is_done = has_written(file, effect->bytes, effect->length, effect->place);", "is_done = 1;"),
-    "a write at the end": ("pwrite(file, bytes + done, count - done, (off_t)(place + done))", "(lseek(file, 0, SEEK_END), write(file, bytes + done, count - done))"),
+    "a write that is left out": ("is_done = hound_file_write_at(file->descriptor, effect->bytes, effect->length, effect->place) == 0;", "is_done = 1;"),
+    "a write at the end": ("pwrite(descriptor, bytes, count, (off_t)place)", "((void)place, lseek(descriptor, 0, SEEK_END), write(descriptor, bytes, count))"),
     "a file is only looked at": (MODE, "HOUND_FIND_DAMAGE"),
     "--to-end without an effect": (MODE, "HOUND_REPAIR"),
     "a file with chunks after the data is written": (MODE, "HOUND_REPAIR_TO_END"),
     "a length that isn't the file's": (BEGIN, BEGIN.replace("length", "length + 1")),
-    "a short write isn't continued": ("if (more > 0) done += (size_t)more;\n        else if (more == 0) return errno = EIO, 0;", "if (more > 0) break;\n        else if (more == 0) return errno = EIO, 0;"),
-    "a read that fails is ignored": ("else if (errno != EINTR) return -1;", "else if (errno != EINTR) return (int64_t)done;"),
+    "a short write isn't continued": ("if (more > 0) done += (size_t)more;\n        else if (more == 0) return errno = EIO, -1;", "if (more > 0) break;\n        else if (more == 0) return errno = EIO, -1;"),
+    "a read that fails is ignored": ("else if (more == 0) return (int64_t)done;\n        else if (errno != EINTR) return -1;", "else if (more == 0 || errno != EINTR) return (int64_t)done;"),
     "an error ends with status 0": ('why), 1)); }', 'why), 0)); }'),
-    "no lock": ("flock(*file, LOCK_EX | LOCK_NB) < 0", "0"),
+    "no lock": ("flock(descriptor, LOCK_EX | LOCK_NB)", "0"),
 }
 if IN_CARGO:
     SYNC, WRITE, REPORT = "medium.sync()", "Kind::Write => write_at(medium, place, self.bytes()),", "Err(_) => self.failed(),"
@@ -352,8 +352,8 @@ def all_checks(program, path, is_short):
 
 def main():
     text = contents_of(os.path.join(TOP, "bindings", SOURCE)).decode()
-    performing = contents_of(os.path.join(TOP, "bindings", "c", "perform.h")).decode()
-    text = text.replace('#include "perform.h"\n', performing)
+    performing = contents_of(os.path.join(TOP, "bindings", "c", "hound_file.h")).decode()
+    text = text.replace('#include "hound_file.h"\n', performing)
     # A sync costs nothing there.
     with tempfile.TemporaryDirectory(dir="/dev/shm" if os.path.isdir("/dev/shm") else None) as folder:
         folder = os.path.realpath(folder)

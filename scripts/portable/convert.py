@@ -294,12 +294,27 @@ class Translator:
             self.write(self.leave())
         text = "\n".join(self.lines)
         text = re.sub(r"(?m)^(L\d+):;\n?", lambda label: label[0] if f"goto {label[1]};" in text else "", text).rstrip("\n")
+        text = THREE_STORES.sub(joined, text)
         declared = []
         for kind in "ilfd":
             own = range(len(function.parameters), len(function.locals))
             names = [f"l{number} = 0" for number in own if function.locals[number] == kind and re.search(rf"\bl{number}\b", text)]
             declared += [f"    {C_TYPES[kind]} {', '.join(names)};"] if names else []
         return "\n".join([f"/* {function.name} */", signature(function) + " {", *declared, text, "}", ""])
+
+
+# Three stores of a value's bytes: the first one, a higher one, and the second one.
+THREE_STORES = re.compile(
+    r"store8\((\w+)(?: \+ (\d+)ull)?, (\w+)\);\n    (store8\(\1 \+ (\d+)ull, \3 >> \d+\);)\n    store8\(\1 \+ (\d+)ull, \3 >> 8\);"
+)
+
+
+def joined(found):
+    """The same by two stores, since compilers don't join the first and the last of the three."""
+    base, first, value, higher, third, second = found.groups()
+    if int(second) != int(first or 0) + 1 or int(third) <= int(second):
+        return found[0]
+    return f"store16({f'{base} + {first}ull' if first else base}, {value});\n    {higher}"
 
 
 def signature(function):

@@ -66,8 +66,8 @@ static inline uint64_t bits_of(double x) { uint64_t y; COPY(&y, &x, 8); return y
 static inline double f64_of(uint64_t x) { double y; COPY(&y, &x, 8); return y; }
 static inline double neg_f64(double x) { return f64_of(bits_of(x) ^ 0x8000000000000000ull); }
 static inline float neg_f32(float x) { uint32_t y; COPY(&y, &x, 4); y ^= 0x80000000u; COPY(&x, &y, 4); return x; }
-static inline uint32_t extend8(uint32_t x) { return ((x & 255) ^ 128) - 128; }
-static inline uint32_t extend16(uint32_t x) { return ((x & 65535) ^ 32768) - 32768; }
+static inline uint32_t extend8(uint32_t x) { uint8_t y = (uint8_t)(x & 255); int8_t z; COPY(&z, &y, 1); return (uint32_t)z; }
+static inline uint32_t extend16(uint32_t x) { uint16_t y = (uint16_t)(x & 65535); int16_t z; COPY(&z, &y, 2); return (uint32_t)z; }
 static inline uint32_t shr_s32(uint32_t x, uint32_t by) { return x >> 31 ? ~(~x >> by) : x >> by; }
 static inline uint32_t div32(uint32_t x, uint32_t y) { if (y == 0) TRAP(); return x / y; }
 static inline uint32_t rem32(uint32_t x, uint32_t y) { if (y == 0) TRAP(); return x % y; }

@@ -3,9 +3,9 @@
 A file is a path; `info`, `read` and `read_into` take its bytes, too. Samples are interleaved: `array.array`s, or
 anything with a buffer, such as a numpy array; two dimensions are frames by channels.
 
-A file that is recorded to, appended to, repaired or replaced is locked (`flock`): what another program, or a Writer of
-this one, has locked is a BlockingIOError. Programs without such locks may not change a file during a call. Windows has
-none, and of what is `durable` it syncs files, but no folders.
+A file that is recorded to, appended to, repaired or replaced is locked (`flock`; on Windows LockFileEx, until it is
+replaced): what another program, or a Writer of this one, has locked is a BlockingIOError. Programs without such locks may
+not change a file during a call. Of what is `durable` Windows syncs files, but no folders.
 """
 import array
 import contextlib

@@ -3,6 +3,7 @@
 Windows has no `os.pread`, `os.pwrite` and `fcntl`, opens no folders, and replaces no open file.
 """
 import contextlib
+import ctypes
 import errno
 import io
 import os
@@ -13,6 +14,10 @@ try:
     import fcntl
 except ImportError:  # It is Windows, or is like it.
     fcntl = None  # type: ignore[assignment]
+try:
+    import msvcrt
+except ImportError:
+    msvcrt = None  # type: ignore[assignment]
 
 __all__ = [
     "CUT", "DONE", "FAILED", "File", "READ", "SYNC", "WRITE", "WRITE_BLOCK", "folder_of", "is_pipe", "perform", "put",
@@ -28,6 +33,23 @@ _IS_LOCKED = "another program records to, appends to or repairs this file"
 _BINARY = getattr(os, "O_BINARY", 0)
 # How many bytes are read at once, so that a file which is shorter than its header says needs no memory for the rest.
 _PIECE = 1 << 20
+
+
+class _Overlapped(ctypes.Structure):
+    """Where LockFileEx of Windows locks."""
+
+    _fields_ = [("unused", ctypes.c_size_t * 2), ("place", ctypes.c_uint64), ("event", ctypes.c_void_p)]
+
+
+def _lock_on_windows(descriptor: int) -> None:
+    """Locks the byte of hound_file.h, which no file has, since others can't read what is locked."""
+    libraries: Any = ctypes  # Only on Windows it has WinDLL.
+    lock = libraries.WinDLL("kernel32", use_last_error=True).LockFileEx
+    lock.argtypes = [ctypes.c_void_p, *[ctypes.c_uint32] * 4, ctypes.c_void_p]
+    exclusive_at_once, is_locked = 3, 33
+    handle, place = getattr(msvcrt, "get_osfhandle")(descriptor), _Overlapped(place=1 << 62)
+    if not lock(handle, exclusive_at_once, 0, 1, 0, ctypes.byref(place)) and libraries.get_last_error() == is_locked:
+        raise OSError(errno.EWOULDBLOCK, _IS_LOCKED)
 
 
 def _pread(descriptor: int, count: int, place: int) -> bytes:
@@ -137,8 +159,7 @@ def is_pipe(file: Any) -> bool:
 
 class File:
     """The file at a path, open and locked: no other program that uses this package records to it, appends to it
-    or repairs it, and no other `File` of this program is at it. Where the system has no such locks, as on Windows, it
-    isn't locked."""
+    or repairs it, and no other `File` of this program is at it. Where the system has no locks for it, it isn't locked."""
 
     def __init__(self, path: Union[str, "os.PathLike[str]"], flags: int) -> None:
         self.path = path
@@ -166,6 +187,8 @@ class File:
         try:
             if fcntl:
                 fcntl.flock(self.descriptor, fcntl.LOCK_EX | fcntl.LOCK_NB)
+            elif msvcrt:
+                _lock_on_windows(self.descriptor)
         except OSError as error:
             if error.errno == errno.EWOULDBLOCK:
                 raise BlockingIOError(errno.EWOULDBLOCK, _IS_LOCKED, os.fspath(self.path)) from None
@@ -191,7 +214,7 @@ class File:
 
 
 def replace(part: str, name: str, older: Optional[File]) -> None:
-    """Renames a file to the name of an older one, which is locked; or which is closed first where nothing is locked."""
+    """Renames a file to the name of an older one, which is locked; or which is closed first, where it is Windows."""
     if older and not fcntl:
         older.close()
     os.replace(part, name)

@@ -2,6 +2,7 @@
 import os
 import subprocess
 import sys
+import sysconfig
 import tempfile
 import unittest
 from unittest import mock
@@ -30,9 +31,16 @@ class Backend(unittest.TestCase):
         for name in "CC", "HOUND_C_LIB", "HOUND_C_SOURCE":
             os.environ.pop(name, None)
 
-    def command(self):
+    def carried(self):
+        """The file of bindings/lib that is taken, without a compiler."""
+        with compilers(), open(backend.shared_library(self.folder), "rb") as made, open(backend.carried_library(), "rb") as file:
+            self.assertEqual(made.read(), file.read())
+            return os.path.relpath(file.name, os.path.join(backend.BINDINGS, "lib"))
+
+    def command(self, by_source=False):
         """The command that would be called."""
-        with mock.patch("subprocess.run") as run:
+        source = mock.patch.dict(os.environ, {"HOUND_C_SOURCE": "1"} if by_source else {})
+        with mock.patch("subprocess.run") as run, source:
             library = backend.shared_library(self.folder)
         words = run.call_args[0][0]
         self.assertIn(library, words[words.index("-o") + 1] if "-o" in words else " ".join(words))
@@ -49,7 +57,7 @@ class Backend(unittest.TestCase):
             with on(name, "riscv64"), compilers(*here):
                 self.assertEqual(self.command()[0][0], wanted)
         os.environ["CC"] = "mine -g"
-        with compilers("cc", "mine"):
+        with on("Linux", "riscv64"), compilers("cc", "mine"):
             self.assertEqual(self.command()[0][:2], ["mine", "-g"])
 
     def test_no_compiler_is_here(self):
@@ -70,12 +78,21 @@ class Backend(unittest.TestCase):
             ("aarch64", True, False),
             ("riscv64", False, False),
         ):
-            with on("Linux", machine, has_32_bits):
-                words, library = self.command()
+            with on("Linux", machine, has_32_bits), compilers("cc"):
+                if is_carried:
+                    self.assertEqual(self.carried(), f"{machine}-linux/libhound_c.so")
+                words, library = self.command(is_carried)
             self.assertEqual(library, "libhound_c.so")
-            self.assertEqual([word.endswith("libhound_c.a") for word in words].count(True), is_carried)
-            self.assertEqual([word.endswith("hound_c.c") for word in words].count(True), not is_carried)
+            self.assertTrue(words[-3].endswith("hound_c.c"))
             self.assertEqual({"-m32", "-msse2", "-mfpmath=sse"} <= set(words), machine == "x86_64" and has_32_bits)
+
+    def test_a_named_library_is_linked(self):
+        os.environ["HOUND_C_LIB"] = self.folder
+        open(os.path.join(self.folder, "libhound_c.a"), "w").close()
+        with on("Linux", "x86_64"), compilers("cc"):
+            words, _ = self.command()
+            self.assertIn(os.path.join(self.folder, "libhound_c.a"), words)
+            self.assertEqual(backend.wheel_tag(), "py3-none-" + sysconfig.get_platform().replace("-", "_"))
 
     def test_windows_and_macos(self):
         with on("Windows", "amd64"), compilers("cl"):
@@ -91,7 +108,9 @@ class Backend(unittest.TestCase):
 
     def test_tags(self):
         for system, platform, version, tag in (
-            (("Linux", "x86_64", False), "linux-x86_64", "", "linux_x86_64"),
+            (("Linux", "x86_64", False), "linux-x86_64", "", "manylinux1_x86_64.musllinux_1_1_x86_64"),
+            (("Linux", "aarch64", False), "linux-aarch64", "", "manylinux2014_aarch64.musllinux_1_1_aarch64"),
+            (("Linux", "riscv64", False), "linux-riscv64", "", "linux_riscv64"),
             (("Linux", "x86_64", True), "linux-x86_64", "", "linux_i686"),
             (("Linux", "i686", True), "linux-i686", "", "linux_i686"),
             (("Linux", "aarch64", True), "linux-aarch64", "", "linux_armv7l"),

@@ -25,7 +25,7 @@ NAMES = {
     mmap: "mmap",
 }
 # What tests use of this system that Windows hasn't, or that this file has in another way.
-UNIX = "pread|pwrite|Calls|fcntl|fork|mkfifo|set_blocking|subprocess|BlockingIOError|_folder_|synced|may_not_replace"
+UNIX = "pread|pwrite|Calls|fcntl|fork|mkfifo|set_blocking|subprocess|_folder_|synced|may_not_replace"
 O_BINARY = 1 << 40
 
 
@@ -62,11 +62,29 @@ def replace(old, new):
     os.replace(old, new)
 
 
+def lock_file(handle, flags, reserved, low, high, overlapped):
+    """What LockFileEx does with an OVERLAPPED of 32 bytes: the byte of hound_file.h is locked, for one handle, at once."""
+    place = overlapped._obj
+    asked = flags, reserved, low, high, place.place, type(place).place.offset, ctypes.sizeof(place)
+    if asked != (3, 0, 1, 0, 1 << 62, 16, 32):
+        raise AssertionError(f"another lock: {asked}")
+    with contextlib.suppress(OSError):
+        fcntl.flock(handle - HANDLE, fcntl.LOCK_EX | fcntl.LOCK_NB)
+        return 1
+    return 0
+
+
+HANDLE, LOCK_VIOLATION = 1 << 40, 33
+ctypes.WinDLL = lambda name, use_last_error: types.SimpleNamespace(**{"kernel32": {"LockFileEx": lock_file}}[name])
+ctypes.get_last_error = lambda: LOCK_VIOLATION
+
+
 def imported():
     """Imports the package as on Windows."""
     windows = {"fcntl": None, "mmap": OnWindows(mmap)}
+    windows["msvcrt"] = types.SimpleNamespace(get_osfhandle=lambda descriptor: HANDLE + descriptor)
     windows["os"] = OnWindows(os, O_BINARY=O_BINARY, open=open_file, replace=replace)
-    here = {name: sys.modules[name] for name in windows}
+    here = {name: sys.modules.get(name) for name in windows}
     sys.modules.update(windows)
     try:
         import hound_bindings
@@ -92,6 +110,26 @@ class Windows(test_streams.Case):
         self.assertRaises(AttributeError, lambda: hound.disk.os.pread)
         self.assertRaises(PermissionError, lambda: hound.disk.os.open(os.path.dirname(self.path), os.O_RDONLY))
 
+    def test_a_file_is_locked(self):
+        calls = (
+            hound.append_to,
+            hound.repair,
+            lambda path: hound.create(path, 8000, 2, 16),
+            lambda path: hound.write(path, SAMPLES, 8000),
+        )
+        for begin in calls[2], calls[0]:
+            with begin(self.path) as writer:
+                writer.write(SAMPLES)
+                for call in calls:
+                    with self.assertRaisesRegex(BlockingIOError, "another program records to, appends to or repairs this file"):
+                        call(self.path)
+        self.assertEqual(content_of(self.path), made_by_wave(SAMPLES * 2))
+
+    def test_a_disk_without_locks(self):
+        with unittest.mock.patch("ctypes.get_last_error", lambda: 1), hound.create(self.path, 8000, 2, 16) as writer:
+            hound.repair(self.path)
+            writer.write(SAMPLES)
+
     def test_durable_files(self):
         """Only their folders aren't synced."""
         one, synced = SAMPLES, []
@@ -112,7 +150,7 @@ class Windows(test_streams.Case):
         self.assertEqual(content_of(self.path), made_by_wave(one))
         with hound.create(self.path, 8000, 2, 16, durable=True) as writer:
             writer.write(one)
-            self.assertRaises(PermissionError, lambda: hound.write(self.path, one, 8000))  # It is open.
+            self.assertRaises(BlockingIOError, lambda: hound.write(self.path, one, 8000))
         self.assertEqual(content_of(self.path), made_by_wave(one))
         self.assertEqual(os.listdir(os.path.dirname(self.path)), ["a.wav"])
 

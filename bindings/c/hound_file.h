@@ -1,0 +1,312 @@
+/* Recordings and repairs of files at a path, over hound.h: what record.c and repair.c share. The library says what is read
+   and written, and this performs it by the calls of POSIX or of Windows. Nothing of it is proved. All functions are static
+   and inline, so nothing else is linked; include it before the headers of the system.
+
+     hound_file file;
+     int32_t code = hound_file_create(&file, "take.wav", &spec, 0, 0);
+     while (code == 0 && ..) code = hound_file_write(&file, bytes, hound_encode_i16(&spec, samples, count, bytes, sizeof bytes) / 2);
+     if (code == 0) code = hound_file_checkpoint(&file);
+     if (code < 0) puts(hound_file_text(&file, code));
+     hound_file_close(&file);
+
+   A call returns 0 or an error of hound.h; hound_file_text has its sentence. Where the system failed the error isn't 0 and
+   `fault` is the errno. A hound_file is for one thread at a time. Windows syncs no folder: a loss of power there may take
+   the name of a new file. There a path has the letters of the system's code page, and as a rule at most 260. */
+#ifndef HOUND_FILE_H
+#define HOUND_FILE_H
+#ifndef _GNU_SOURCE
+#define _GNU_SOURCE
+#endif
+#ifndef _FILE_OFFSET_BITS
+#define _FILE_OFFSET_BITS 64
+#endif
+#include "hound.h"
+#include <errno.h>
+#include <fcntl.h>
+#include <stdio.h>
+#include <stdlib.h>
+#include <string.h>
+#include <sys/stat.h>
+
+/* The calls of the system. Those that return an int return 0, or -1 and errno. */
+#ifdef _WIN32
+#ifndef WIN32_LEAN_AND_MEAN
+#define WIN32_LEAN_AND_MEAN
+#endif
+#include <io.h>
+#include <windows.h>
+
+static inline int hound_file_seek(int descriptor, uint64_t place) {
+    return _lseeki64(descriptor, (__int64)place, SEEK_SET) < 0 ? -1 : 0;
+}
+static inline int64_t hound_file_get(int descriptor, void *out, size_t count, uint64_t place) {
+    return hound_file_seek(descriptor, place) < 0 ? -1 : _read(descriptor, out, (unsigned)count);
+}
+static inline int64_t hound_file_put(int descriptor, const void *bytes, size_t count, uint64_t place) {
+    return hound_file_seek(descriptor, place) < 0 ? -1 : _write(descriptor, bytes, (unsigned)count);
+}
+static inline int hound_file_open_at(const char *path, int flags) { return _open(path, flags | _O_RDWR | _O_BINARY | _O_NOINHERIT, _S_IREAD | _S_IWRITE); }
+static inline int hound_file_close_at(int descriptor) { return _close(descriptor); }
+static inline int hound_file_resize(int descriptor, uint64_t length) {
+    errno = _chsize_s(descriptor, (__int64)length);
+    return errno == 0 ? 0 : -1;
+}
+static inline int hound_file_sync(int descriptor) { return _commit(descriptor); }
+static inline int hound_file_sync_folder(const char *path) { return (void)path, 0; }
+static inline int hound_file_find(int descriptor, uint64_t *length, int *is_regular) {
+    struct _stat64 about;
+    if (_fstat64(descriptor, &about) < 0) return -1;
+    *length = (uint64_t)about.st_size, *is_regular = (about.st_mode & _S_IFMT) == _S_IFREG;
+    return 0;
+}
+/* Locks one byte that no file has, since others can't read what is locked. */
+static inline int hound_file_lock(int descriptor) {
+    OVERLAPPED place;
+    memset(&place, 0, sizeof place);
+    place.OffsetHigh = 1u << 30;
+    if (LockFileEx((HANDLE)_get_osfhandle(descriptor), LOCKFILE_EXCLUSIVE_LOCK | LOCKFILE_FAIL_IMMEDIATELY, 0, 1, 0, &place)) return 0;
+    errno = GetLastError() == ERROR_LOCK_VIOLATION ? EWOULDBLOCK : ENOLCK;
+    return -1;
+}
+/* Standard input or output has bytes, and not lines. */
+static inline void hound_file_set_binary(int descriptor) { _setmode(descriptor, _O_BINARY); }
+static inline int64_t hound_file_next(int descriptor, void *out, size_t count) { return _read(descriptor, out, (unsigned)count); }
+static inline void hound_file_wait(int descriptor) { (void)descriptor; }
+#else
+#include <poll.h>
+#include <sys/file.h>
+#include <unistd.h>
+
+typedef char hound_file_needs_FILE_OFFSET_BITS_64[sizeof(off_t) == 8 ? 1 : -1];
+
+static inline int64_t hound_file_get(int descriptor, void *out, size_t count, uint64_t place) {
+    return pread(descriptor, out, count, (off_t)place);
+}
+static inline int64_t hound_file_put(int descriptor, const void *bytes, size_t count, uint64_t place) {
+    return pwrite(descriptor, bytes, count, (off_t)place);
+}
+static inline int hound_file_open_at(const char *path, int flags) { return open(path, flags | O_RDWR | O_CLOEXEC, 0666); }
+static inline int hound_file_close_at(int descriptor) { return close(descriptor); }
+static inline int hound_file_resize(int descriptor, uint64_t length) { return ftruncate(descriptor, (off_t)length); }
+#ifdef F_FULLFSYNC /* by which alone macOS stores what was written */
+static inline int hound_file_sync(int descriptor) { return fcntl(descriptor, F_FULLFSYNC) < 0 ? -1 : 0; }
+#else
+static inline int hound_file_sync(int descriptor) { return fsync(descriptor); }
+#endif
+/* Syncs the folder that has the name of the file, also where the path is a link. */
+static inline int hound_file_sync_folder(const char *path) {
+    char *name = realpath(path, NULL);
+    int folder, result = -1, why;
+    if (!name) return -1;
+    *(strrchr(name, '/') + 1) = 0;
+    folder = open(name, O_RDONLY | O_CLOEXEC);
+    if (folder >= 0) result = hound_file_sync(folder);
+    why = errno;
+    if (folder >= 0) close(folder);
+    free(name);
+    errno = why;
+    return result;
+}
+static inline int hound_file_find(int descriptor, uint64_t *length, int *is_regular) {
+    struct stat about;
+    if (fstat(descriptor, &about) < 0) return -1;
+    *length = (uint64_t)about.st_size, *is_regular = S_ISREG(about.st_mode);
+    return 0;
+}
+static inline int hound_file_lock(int descriptor) { return flock(descriptor, LOCK_EX | LOCK_NB); }
+static inline void hound_file_set_binary(int descriptor) { (void)descriptor; }
+static inline int64_t hound_file_next(int descriptor, void *out, size_t count) { return read(descriptor, out, count); }
+static inline void hound_file_wait(int descriptor) {
+    struct pollfd input;
+    input.fd = descriptor, input.events = POLLIN;
+    poll(&input, 1, -1);
+}
+#endif
+
+/* A file, and its recorder. */
+typedef struct {
+    int descriptor; /* -1 where it isn't open */
+    int is_durable; /* a sync stores the file; else it does nothing, since what was written is with the system */
+    int fault;      /* the errno of what first failed in the last call; 0 where nothing of the system did */
+    int has_rest;   /* a part of a block that failed couldn't be cut off: a repair would take it for samples */
+    uint32_t counted; /* how many bytes of samples the header counts */
+    hound_recorder recorder;
+} hound_file;
+
+/* A sentence for an error of the last call, without its full stop. */
+static inline const char *hound_file_text(const hound_file *file, int32_t code) {
+    switch (file->fault) {
+    case 0: return hound_error_text(code);
+    case EWOULDBLOCK: return "another program records to this file or repairs it";
+    case ESPIPE: return "this is no regular file";
+    default: return strerror(file->fault);
+    }
+}
+
+/* As many bytes as one call of a system takes. */
+static inline size_t hound_file_piece(size_t count) { return count < (1u << 30) ? count : 1u << 30; }
+
+/* Reads so many bytes at a place, fewer only where the file ends: how many, or -1. */
+static inline int64_t hound_file_read_at(int descriptor, uint8_t *out, size_t count, uint64_t place) {
+    size_t done = 0;
+    for (;;) {
+        int64_t more = done < count ? hound_file_get(descriptor, out + done, hound_file_piece(count - done), place + done) : 0;
+        if (more > 0) done += (size_t)more;
+        else if (more == 0) return (int64_t)done;
+        else if (errno != EINTR) return -1;
+    }
+}
+
+/* Writes all of these bytes at a place: 0, or -1. */
+static inline int hound_file_write_at(int descriptor, const uint8_t *bytes, size_t count, uint64_t place) {
+    size_t done = 0;
+    while (done < count) {
+        int64_t more = hound_file_put(descriptor, bytes + done, hound_file_piece(count - done), place + done);
+        if (more > 0) done += (size_t)more;
+        else if (more == 0) return errno = EIO, -1;
+        else if (errno != EINTR) return -1;
+    }
+    return 0;
+}
+
+/* Cuts a file off at a place, if it is longer: 0, or -1. */
+static inline int hound_file_cut(int descriptor, uint64_t place) {
+    uint64_t length;
+    int is_regular;
+    if (hound_file_find(descriptor, &length, &is_regular) < 0) return -1;
+    return length <= place ? 0 : hound_file_resize(descriptor, place);
+}
+
+/* Performs an effect, with the caller's block, and reports it: whether that was done. */
+static inline int hound_file_perform(hound_file *file, hound_effect *effect, const uint8_t *block) {
+    int64_t count = effect->length;
+    int is_done = 0;
+    switch (effect->kind) {
+    case HOUND_READ: is_done = (count = hound_file_read_at(file->descriptor, effect->bytes, effect->length, effect->place)) >= 0; break;
+    case HOUND_WRITE: is_done = hound_file_write_at(file->descriptor, effect->bytes, effect->length, effect->place) == 0; break;
+    case HOUND_WRITE_BLOCK: is_done = hound_file_write_at(file->descriptor, block, effect->length, effect->place) == 0; break;
+    case HOUND_SYNC: is_done = !file->is_durable || hound_file_sync(file->descriptor) == 0; break;
+    case HOUND_CUT: is_done = hound_file_cut(file->descriptor, effect->place) == 0; break;
+    }
+    if (is_done) effect->length = (uint32_t)count;
+    else if (file->fault == 0) file->fault = errno;
+    effect->report = is_done ? HOUND_DONE : HOUND_FAILED;
+    return is_done;
+}
+
+/* Performs all that the recorder requests. */
+static inline int32_t hound_file_finish(hound_file *file, const uint8_t *block) {
+    int32_t code;
+    file->fault = 0;
+    while ((code = hound_recorder_next(&file->recorder)) == 1) {
+        int is_cut = file->recorder.effect.kind == HOUND_CUT, is_done = hound_file_perform(file, &file->recorder.effect, block);
+        if (is_cut) file->has_rest = !is_done;
+    }
+    return code;
+}
+
+/* Performs all that a repairer of this mode requests. */
+static inline int32_t hound_file_examine(hound_file *file, uint64_t length, uint32_t mode, hound_repair_t *found) {
+    hound_repairer repairer;
+    int32_t code;
+    hound_repairer_begin(length, mode, &repairer);
+    while ((code = hound_repairer_next(&repairer, found)) == 1) hound_file_perform(file, &repairer.effect, NULL);
+    return code;
+}
+
+/* Closes a file after a call that failed, and removes it where that had made it. */
+static inline int32_t hound_file_give_up(hound_file *file, const char *path, int is_made, int32_t code) {
+    if (is_made && remove(path) == 0) is_made = 0;
+    if (file->descriptor >= 0) hound_file_close_at(file->descriptor);
+    if (is_made) remove(path); /* Windows removes no open file. */
+    file->descriptor = -1;
+    return code;
+}
+
+/* Opens a file for this program alone, by the flags of `open`, and makes its name durable. */
+static inline int32_t hound_file_open(hound_file *file, const char *path, int flags, int is_durable, uint64_t *length) {
+    int is_regular = 1, is_made;
+    file->is_durable = is_durable, file->has_rest = 0, file->fault = 0;
+    file->descriptor = hound_file_open_at(path, flags);
+    is_made = file->descriptor >= 0 && flags & O_EXCL;
+    if (file->descriptor < 0 || hound_file_find(file->descriptor, length, &is_regular) < 0) file->fault = errno;
+    else if (!is_regular) file->fault = ESPIPE;
+    else if (hound_file_lock(file->descriptor) < 0 && errno == EWOULDBLOCK) file->fault = EWOULDBLOCK;
+    else if (is_durable && (hound_file_sync(file->descriptor) < 0 || hound_file_sync_folder(path) < 0)) file->fault = errno;
+    return file->fault ? hound_file_give_up(file, path, is_made, HOUND_NOT_PERFORMED) : 0;
+}
+
+/* Begins a recording in a new file; one that exists is an error (EEXIST), or is emptied. */
+static inline int32_t hound_file_create(hound_file *file, const char *path, const hound_spec *spec, int is_durable, int is_emptied) {
+    uint8_t header[HOUND_HEADER_BYTES];
+    uint64_t held;
+    int64_t length = hound_header(spec, 0, header, sizeof header);
+    int32_t code = length < 0 ? (int32_t)length : hound_recorder_begin(spec, &file->recorder);
+    file->descriptor = -1, file->fault = 0, file->counted = 0;
+    if (code == 0) code = hound_file_open(file, path, is_emptied ? O_CREAT : O_CREAT | O_EXCL, is_durable, &held);
+    if (code < 0) return code;
+    if (hound_file_cut(file->descriptor, 0) == 0 && hound_file_write_at(file->descriptor, header, (size_t)length, 0) == 0) return 0;
+    file->fault = errno;
+    return hound_file_give_up(file, path, !is_emptied, HOUND_NOT_PERFORMED);
+}
+
+/* Continues the recording in a file, as hound_recorder_resume does with what is allowed: nothing of it changes yet. */
+static inline int32_t hound_file_append(hound_file *file, const char *path, uint32_t allowed, int is_durable, hound_repair_t *found) {
+    uint64_t length = 0;
+    int32_t code = hound_file_open(file, path, 0, is_durable, &length);
+    if (code < 0) return code;
+    code = hound_file_examine(file, length, HOUND_FIND_DAMAGE, found);
+    if (code == 0) code = hound_recorder_resume(found, allowed, &file->recorder);
+    file->counted = found->data_length;
+    return code < 0 ? hound_file_give_up(file, path, 0, code) : 0;
+}
+
+/* Makes the header count all samples. */
+static inline int32_t hound_file_checkpoint(hound_file *file) {
+    int32_t code;
+    hound_recorder_checkpoint(&file->recorder);
+    code = hound_file_finish(file, NULL);
+    if (code == 0) file->counted = file->recorder.data_length;
+    return code;
+}
+
+/* Writes a block of so many samples after the others, as hound_encode_.. gives them. Where that fails they are lost, and
+   the recording can go on, unless the error is HOUND_TOO_LONG or HOUND_SYNC_FAILED. */
+static inline int32_t hound_file_write(hound_file *file, const uint8_t *bytes, uint64_t samples) {
+    int32_t code = hound_recorder_write(&file->recorder, samples);
+    file->fault = 0;
+    return code < 0 ? code : hound_file_finish(file, bytes);
+}
+
+/* Makes a checkpoint, and closes the file in any case. Where it isn't open the fault stays. */
+static inline int32_t hound_file_close(hound_file *file) {
+    int32_t code = file->descriptor < 0 ? HOUND_NOT_PERFORMED : hound_file_checkpoint(file);
+    if (file->descriptor < 0) return code;
+    if (hound_file_close_at(file->descriptor) < 0 && code == 0) file->fault = errno, code = HOUND_NOT_PERFORMED;
+    file->descriptor = -1;
+    return code;
+}
+
+/* Repairs the file at a path in this mode, and says what it was; `file` has only the fault then. */
+static inline int32_t hound_file_repair(hound_file *file, const char *path, uint32_t mode, hound_repair_t *found) {
+    uint64_t length = 0;
+    int32_t code = hound_file_open(file, path, 0, 0, &length);
+    file->is_durable = 1;
+    if (code == 0) code = hound_file_examine(file, length, mode, found);
+    return hound_file_give_up(file, path, 0, code);
+}
+
+/* Reads so many bytes of standard input, a pipe or a terminal. Where these are fewer `fault` is 0 at the end, and else the errno. */
+static inline size_t hound_file_take(int descriptor, uint8_t *out, size_t count, int *fault) {
+    size_t done = 0;
+    *fault = 0;
+    while (done < count) {
+        int64_t more = hound_file_next(descriptor, out + done, hound_file_piece(count - done));
+        if (more == 0) break;
+        if (more > 0) done += (size_t)more;
+        else if (errno == EAGAIN || errno == EWOULDBLOCK) hound_file_wait(descriptor); /* another program made it non-blocking */
+        else if (errno != EINTR) return *fault = errno, done;
+    }
+    return done;
+}
+#endif
