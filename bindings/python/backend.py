@@ -102,7 +102,7 @@ def wheel_tag():
 def build_wheel(wheel_directory, config_settings=None, metadata_directory=None):
     """Writes the wheel, and returns its file name."""
     tag, files = wheel_tag(), {}
-    for name in ("__init__.py", "disk.py", "streams.py", "py.typed"):
+    for name in ("__init__.py", "conversion.py", "disk.py", "streams.py", "py.typed"):
         with open(os.path.join(HERE, NAME, name), "rb") as file:
             files[f"{NAME}/{name}"] = file.read()
     with tempfile.TemporaryDirectory() as folder:

@@ -184,7 +184,7 @@ def effects_forgotten():
         while (code := streams._recorder_next(ctypes.byref(recorder))) == 1:
             effect = recorder.effect
             try:
-                hound.disk.perform(effect, self._file.descriptor, self._durable, block)
+                hound.disk.perform(effect, self._file, self._durable, block)
             except BaseException as error:
                 fault, effect.report = error, hound.disk.FAILED if effect.kind == hound.disk.SYNC else hound.disk.DONE
         if fault is not None:
@@ -199,7 +199,7 @@ def blocks_forgotten():
     """A recorder that reports a block as done before its call returns."""
 
     def written(self, block):
-        hound.disk.perform(self._state.recorder.effect, self._file.descriptor, self._durable, block)
+        hound.disk.perform(self._state.recorder.effect, self._file, self._durable, block)
         return self._state.recorder
 
     hound.Writer._written = written
