@@ -31,7 +31,7 @@ from . import disk
 
 __all__ = [
     "Cause", "HoundError", "Info", "Reader", "Repair", "State", "Writer", "append", "append_to", "create",
-    "find_damage", "info", "open", "read", "read_into", "read_with_info", "repair", "to_bytes", "write",
+    "find_damage", "guess", "info", "open", "read", "read_into", "read_with_info", "repair", "to_bytes", "write",
 ]  # fmt: skip
 
 __version__ = "0.2.0"
@@ -583,7 +583,27 @@ def _opened_for_repair(path: Path) -> Tuple[disk.File, Optional[OSError]]:
         return disk.File(path, os.O_RDONLY), error
 
 
-def repair(path: Union[Path, IO[bytes]], durable: bool = False, to_end: bool = False) -> Repair:
+def _copy_name(path: Path) -> str:
+    """The name of a repaired copy of a file, which must not be there."""
+    copy = os.path.splitext(os.fsdecode(path))[0] + ".repaired.wav"
+    _check_new(copy)
+    return copy
+
+
+def _check_new(path: Path) -> None:
+    if os.path.exists(path):
+        raise FileExistsError(errno.EEXIST, os.strerror(errno.EEXIST), os.fspath(path))
+
+
+def repair(
+    path: Union[Path, IO[bytes]],
+    durable: bool = False,
+    to_end: bool = False,
+    *,
+    copy: Optional[Path] = None,
+    like: Optional[Info] = None,
+    skip: Optional[int] = None,
+) -> Repair:
     """Repairs a file whose recording was cut off, in place, and says how it was found. Copy it first if it
     is the only one: some recorders leave older sound at the end, which then counts.
 
@@ -591,7 +611,13 @@ def repair(path: Union[Path, IO[bytes]], durable: bool = False, to_end: bool = F
     of them. A file that is whole, or that chunks follow, is only read; with `to_end` all that follows the header of the
     data is taken for samples, also what looks like chunks. At an error, or if a signal handler raises, the header
     counts only what is there, and the file can be repaired again.
+
+    With `copy` the file stays as it is, and a copy of this name, which must not be there, is repaired. With `like` the
+    header is taken for lost: a copy, without a name NAME.repaired.wav, has the header of such a file, and all whole frames
+    from byte `skip` on, which is `like.data_start` if it isn't given. `guess` makes such an Info.
     """
+    if like is not None or copy is not None:
+        return _repaired_copy(path, durable, to_end, copy, like, skip)
     mode = _REPAIR_TO_END if to_end else _REPAIR
     with _named(path):
         if not isinstance(path, (str, os.PathLike)):
@@ -601,8 +627,29 @@ def repair(path: Union[Path, IO[bytes]], durable: bool = False, to_end: bool = F
             return _report_of(_repaired(file, mode, durable, refused))
 
 
+def _repaired_copy(
+    path: Any, durable: bool, to_end: bool, copy: Optional[Path], like: Optional[Info], skip: Optional[int]
+) -> Repair:
+    if not isinstance(path, (str, os.PathLike)):
+        raise TypeError("a copy is made of a file at a path")
+    _check_like(like)
+    copy = _copy_name(path) if copy is None else copy
+    _check_new(copy)
+    with _named(path), _replaced(copy, durable) as part:
+        if like is None:
+            shutil.copyfile(path, part)
+            return repair(part, durable, to_end)
+        found = None
+        for found in lost.recovered(path, part, like, like.data_start if skip is None else skip, durable):
+            pass
+        return lost.repair_of(found)
+
+
 from . import conversion, streams  # noqa: E402
 from .streams import Reader, Writer, append_to, create  # noqa: E402
+
+from . import lost  # noqa: E402  isort: skip
+from .lost import guess  # noqa: E402
 
 
 def open(file: Union[Path, IO[bytes]]) -> Reader:  # noqa: A001

@@ -8,11 +8,11 @@ import sys
 import warnings
 from typing import Any, Callable, Dict, Iterator, List, NamedTuple, Optional, Tuple
 
-from . import _POINTER, _SIZE, _SPARE, Cause, HoundError, _checked, _function, _integer, _Spec
+from . import _POINTER, _SIZE, _SPARE, Cause, HoundError, Info, _checked, _function, _integer, _Spec
 
 __all__ = [
     "CODES", "Given", "Scale", "TYPES", "address", "check_columns", "collected", "form_of", "kind_of", "noise_of", "shaped",
-    "type_of",
+    "spec_like", "type_of",
 ]  # fmt: skip
 
 
@@ -161,6 +161,12 @@ def shaped(samples: "array.array[Any]", channels: int, always_2d: bool) -> Any:
     # A view has no shape with 0 frames: one more is cut off again.
     samples.frombytes(bytes(channels * samples.itemsize))
     return memoryview(samples).cast("B").cast(samples.typecode, [frames + 1, channels])[:frames]
+
+
+def spec_like(info: Info) -> _Spec:
+    """The spec of a file, with the bytes of its containers."""
+    width = info.bytes_per_sample or (info.bits_per_sample + 7) // 8
+    return _Spec(info.sample_rate, info.channels, info.bits_per_sample, width, info.is_float)
 
 
 def noise_of(dither: Any) -> Optional[random.Random]:

@@ -91,6 +91,18 @@ class _Next(NamedTuple):
 _PIECE = 1 << 20
 
 
+def decoded(content: bytes, count: int, spec: _Spec, dtype: Optional[str] = None) -> "array.array[Any]":
+    """The first samples of these bytes."""
+    name, width = conversion.type_of(dtype, spec), spec.bytes_per_sample
+    kind = conversion.kind_of(name, spec)
+    with conversion.address(content) as (start, _):
+
+        def take(first: int, out: Any, count: int) -> int:
+            return _checked(_decode[kind](ctypes.byref(spec), start + first * width, count * width, out, count))
+
+        return conversion.collected(count, name, spec, kind, take)
+
+
 class Reader(_OneAtATime):
     """The frames of a file, from the first one on; `info` is what its header says.
 
@@ -192,22 +204,12 @@ class Reader(_OneAtATime):
         size = self._spec.bytes_per_sample * channels
         content = self._fill(frames * size, self.info.data_start + frame * size)
         count = min(len(content) // size, frames)
-        samples = self._decoded(content, count * channels, name, kind)
+        samples = decoded(content, count * channels, self._spec, name)
         if count == 0 and frames > 0:
             raise HoundError(Cause.TRUNCATED)
         shaped = conversion.shaped(samples, channels, always_2d)
         self._finish(_Next(frame + count, [content[count * size :]]))
         return shaped
-
-    def _decoded(self, content: bytes, count: int, name: str, kind: str) -> "array.array[Any]":
-        """The first samples of these bytes."""
-        width = self._spec.bytes_per_sample
-        with conversion.address(content) as (start, _):
-
-            def take(first: int, out: Any, count: int) -> int:
-                return _checked(_decode[kind](ctypes.byref(self._spec), start + first * width, count * width, out, count))
-
-            return conversion.collected(count, name, self._spec, kind, take)
 
     def _read_from(self, start: int, frames: int, dtype: Optional[Dtype]) -> Any:
         if start > 0:
