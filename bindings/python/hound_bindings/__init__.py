@@ -296,7 +296,7 @@ class _InMemory:
         """The samples of at most so many frames (all for -1) from number `start` on."""
         spec, channels = self._found.spec, self._found.spec.channels
         name = conversion.type_of(dtype, spec)
-        kind = conversion.kind_of(name, spec).replace("i8", "i16")
+        kind = "i16" if name == "int8" else conversion.kind_of(name, spec)
         first = min(start, 1 << 32) * channels  # A file has fewer frames than that.
         # The bytes may hold fewer than the header counts: then a read of one says so.
         held = (self._place[1] - self._found.data_start) // spec.bytes_per_sample - first

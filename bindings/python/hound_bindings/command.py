@@ -3,6 +3,7 @@ and recordings from standard input."""
 import argparse
 import array
 import contextlib
+import io
 import json
 import os
 import select
@@ -221,6 +222,17 @@ def _form_wanted(info: hound.Info, options: argparse.Namespace) -> hound.Info:
     return info._replace(channels=channels)
 
 
+def _type_between(info: hound.Info, wanted: hound.Info, dither: int) -> Optional[Any]:
+    """A type that has all samples of a file, and from which those of another one are rounded once; None where they are
+    the same."""
+    if info.channels == wanted.channels and not dither:
+        if info[2:4] == wanted[2:4]:
+            return None
+        if info.is_float or info.bits_per_sample < 32:
+            return "float32"
+    return "float64"
+
+
 def _convert(options: argparse.Namespace) -> int:
     if options.rate:
         raise _Wrong("the rate isn't changed here: sox and ffmpeg resample")
@@ -229,9 +241,9 @@ def _convert(options: argparse.Namespace) -> int:
     with hound.open(_source(options.source)) as reader, hound._replaced(options.target, options.durable) as part:
         info = reader.info
         wanted = _form_wanted(info, options)
-        is_same = wanted[1:4] == info[1:4] and not options.dither
+        dtype = _type_between(info, wanted, options.dither)
         with hound.create(part, like=wanted, exclusive=True, durable=options.durable, dither=options.dither) as writer:
-            for block in _blocks(options.source, reader, None if is_same else "float64"):
+            for block in _blocks(options.source, reader, dtype):
                 writer.write(_mixed(block, info.channels, wanted.channels))
     if writer.clipped:
         _complain(f"clipped samples: {writer.clipped}")
@@ -265,14 +277,15 @@ def _has_input(seconds: float) -> bool:
 def _recorded(writer: hound.Writer, every: float) -> int:
     """Records standard input, with a checkpoint in each interval, until it ends or a signal comes: how many bytes of a
     frame were left."""
-    stop, held, last = _Stop(), b"", time.monotonic()
+    stop, held, last, counted = _Stop(), b"", time.monotonic(), writer.tell()
     channels, spec = writer.info.channels, conversion.spec_like(writer.info)
     size = channels * spec.bytes_per_sample
     try:
         while not stop.came:
             if time.monotonic() - last >= every:
-                writer.flush()
-                last = time.monotonic()
+                if counted != writer.tell():
+                    writer.flush()
+                last, counted = time.monotonic(), writer.tell()
             if not _has_input(last + every - time.monotonic()):
                 continue
             piece = os.read(sys.stdin.fileno(), _BLOCK)
@@ -407,8 +420,10 @@ def _end_by(number: Optional[int]) -> int:
 
 def main(arguments: Optional[List[str]] = None) -> int:
     """Does what the arguments say, and returns the status."""
-    parser = _parser()
-    options = parser.parse_args(arguments)
+    # What is closed is like an empty file, and names that are no text of this system are written as they are.
+    sys.stdin, sys.stdout = sys.stdin or io.open(os.devnull), sys.stdout or io.open(os.devnull, "w")
+    sys.stdout.reconfigure(errors="surrogateescape")  # type: ignore[attr-defined]
+    options = _parser().parse_args(arguments)
     try:
         with warnings.catch_warnings():
             warnings.simplefilter("ignore", RuntimeWarning)

@@ -1,5 +1,6 @@
 """The command hound-wav, as it is called, and files whose header is lost."""
 import array
+import fractions
 import io
 import json
 import math
@@ -16,7 +17,7 @@ import wave
 import hound_bindings as hound
 from hound_bindings import Info, State
 from test_files import CHUNK, by_hand
-from test_floats import WIDE, Folder, wave_of
+from test_floats import WIDE, Folder, nearest, wave_of
 from test_streams import SAMPLES, content_of, made_by_wave
 
 FORMS = [(bits, is_float, channels) for bits, is_float in ((8, False), (16, False), (24, False), (32, False), (32, True)) for channels in (1, 2)]
@@ -40,14 +41,14 @@ def stored(sample, bits, is_float):
 
 class Lost(Folder):
     def test_a_guess(self):
-        for turn, (bits, is_float, channels) in enumerate(FORMS * 3):
+        for turn, (bits, is_float, channels) in enumerate([*FORMS, *FORMS[1:], *FORMS]):
             some = random.Random(turn)
-            level = (0.9, 0.2, 0.05 if bits > 8 else 0.5)[turn // len(FORMS)]
+            level = (0.9, 0.2, 0.05 if bits > 8 else 0.5)[turn // 10]
             data = b"".join(stored(level * sample, bits, is_float) for sample in tones(channels, 9000, some))
-            self.leave(bytes(44) + data)
-            self.assertEqual(hound.guess(self.path, rate=8000), (8000, channels, bits, is_float, 0, 44, 0), turn)
-            self.leave(data)
-            self.assertEqual(hound.guess(self.path, skip=0)[:4], (44100, channels, bits, is_float))
+            head = turn % 2 * 44  # Where nothing is said it is taken for one of 44 bytes.
+            self.leave(bytes(head) + data)
+            found = hound.guess(self.path, rate=8000) if head else hound.guess(self.path, 0, 8000)
+            self.assertEqual(found, (8000, channels, bits, is_float, 0, head, 0), turn)
         for content in bytes(44), bytes(60000), b"":
             self.leave(content)
             self.assertRaisesRegex(ValueError, "a.wav: there is nothing to guess by", lambda: hound.guess(self.path))
@@ -86,13 +87,13 @@ class Command(Folder):
         self.folder = os.path.dirname(self.path)
 
     def begun(self, *words, **more):
-        env = {**os.environ, "PYTHONPATH": os.path.dirname(os.path.dirname(hound.__file__))}
+        env = {**os.environ, "PYTHONPATH": os.path.dirname(os.path.dirname(hound.__file__)), "PYTHONIOENCODING": "utf-8:strict"}
         words = [sys.executable, "-m", "hound_bindings", *words]
         return subprocess.Popen(words, cwd=self.folder, env=env, stdout=subprocess.PIPE, stderr=subprocess.PIPE, stdin=subprocess.PIPE, **more)
 
-    def run_command(self, *words, given=b"", status=0):
-        """What the command prints, with this status: its output, as text if it is some."""
-        running = self.begun(*words)
+    def run_command(self, *words, given=b"", status=0, **more):
+        """What the command prints, with this status."""
+        running = self.begun(*words, **more)
         out, self.said = running.communicate(given, timeout=60)
         self.assertEqual(running.returncode, status, self.said)
         self.assertNotIn(b"Traceback", self.said)
@@ -117,6 +118,16 @@ class Command(Folder):
         self.assertEqual((first["frames"], first["seconds"], first["state"], third["frames_held"]), (5, 5 / 8000, "whole", 4))
         self.assertEqual(second, {"file": "none.wav", "error": "none.wav: No such file or directory"})
         self.assertEqual((last["frames"], "state" in last), (5, False))
+
+    def test_a_name_that_is_no_text_and_what_is_closed(self):
+        name = os.path.join(os.fsencode(self.folder), b"\xff.wav")
+        with open(name, "wb") as file:
+            file.write(by_hand(bytes(8), 4))
+        self.assertIn(b"\xff.wav", self.run_command("repair", "."))
+        self.assertEqual(content_of(name), by_hand(bytes(8)))
+        self.run_command("record", "b.wav", "--rate", "8000", "--channels", "1", "--bits", "8", preexec_fn=lambda: os.close(0))
+        self.assertEqual(hound.info(os.path.join(self.folder, "b.wav")).frames, 0)
+        self.run_command("info", "b.wav", preexec_fn=lambda: os.close(1))
 
     def test_repair_of_a_folder(self):
         cut_off, followed = by_hand(bytes(8), 4), by_hand(b"\1\2", after=CHUNK)
@@ -202,6 +213,12 @@ class Command(Folder):
         self.assertEqual(hound.read(os.path.join(self.folder, "f.wav"))[:3], array.array("f", [-1, 0.5, 3 / 256]))
         self.run_command("convert", "b.wav", "c.wav", "--channels", "2")
         self.assertEqual(list(hound.read(os.path.join(self.folder, "c.wav"))), [-8192, -8192, 256, 256, 5 << 11, 5 << 11])
+        some = random.Random(5)
+        for bits in 24, 32:  # Each sample is rounded once: float32 would round those of 32 bits before.
+            values = [some.randrange(-(2**31), 2**31 - 2**16) >> 32 - bits for _ in range(500)] + [(3 << 15) + 1, -(5 << 15) - 1]
+            self.leave_as("w.wav", wave_of(bits, values))
+            self.run_command("convert", "w.wav", "n.wav", "--bits", "16", "--overwrite")
+            self.assertEqual(list(hound.read(os.path.join(self.folder, "n.wav"))), [nearest(fractions.Fraction(value, 1 << bits - 1), 16) for value in values])
         self.leave_as("one.wav", hound.to_bytes(array.array("f", [1.5, 0.5]), 8000))
         self.run_command("convert", "one.wav", "two.wav", "--bits", "16", "--dither", "3")
         self.assertEqual(self.said, b"hound-wav: clipped samples: 1\n")
