@@ -329,9 +329,11 @@ def _opened(file: File) -> Iterator[Any]:
 
 
 def info(file: File) -> Info:
-    """What the header of a file says. The data needn't all be there."""
+    """What the header of a file says. The data needn't all be there. An object that can seek stays where it is."""
     with _opened(file) as source:
         found: Info = source.info
+        if isinstance(source, Reader):
+            source._rewind()
     return found
 
 
@@ -564,9 +566,17 @@ def find_damage(path: Union[Path, IO[bytes]]) -> Repair:
     """Returns what `repair` would, and writes nothing."""
     with _named(path):
         if not isinstance(path, (str, os.PathLike)):
-            return _report_of(_repaired(disk.Stream(path), _FIND_DAMAGE, False))
+            return _repaired_object(path, _FIND_DAMAGE)
         with io.open(path, "rb", buffering=0) as file:
             return _report_of(_repaired(disk.Descriptor(file), _FIND_DAMAGE, False))
+
+
+def _repaired_object(file: IO[bytes], mode: int) -> Repair:
+    """What `_repaired` finds of an object, which stays where it is."""
+    stream = disk.Stream(file)
+    found = _report_of(_repaired(stream, mode, False))
+    stream.rewind()
+    return found
 
 
 def _report_of(found: _Repair) -> Repair:
@@ -621,7 +631,7 @@ def repair(
     mode = _REPAIR_TO_END if to_end else _REPAIR
     with _named(path):
         if not isinstance(path, (str, os.PathLike)):
-            return _report_of(_repaired(disk.Stream(path), mode, False))
+            return _repaired_object(path, mode)
         file, refused = _opened_for_repair(path)
         with file:
             return _report_of(_repaired(file, mode, durable, refused))

@@ -331,6 +331,12 @@ def _positive(text: str) -> int:
     return number
 
 
+def _file(text: str) -> str:
+    if text == "-":
+        raise argparse.ArgumentTypeError("it has to be a file, whose sizes are written at the end")
+    return text
+
+
 def _bytes(text: str) -> int:
     number = int(text)
     if number < 0:
@@ -385,7 +391,7 @@ def _parser() -> argparse.ArgumentParser:
 
     add = command("convert", _convert, "write the samples of a file to a new one, in another form")
     add("source", metavar="IN", help="- is standard input")
-    add("target", metavar="OUT", help="gets its name when it is whole")
+    add("target", metavar="OUT", type=_file, help="gets its name when it is whole")
     form = {"choices": [8, 16, 24, 32], "type": int}
     add("--bits", help="integers of so many bits: rounded, and clipped, which is said", **form)
     add("--float", help="floats of 32 bits", **flag)
@@ -396,7 +402,7 @@ def _parser() -> argparse.ArgumentParser:
     add("--durable", help="sync what is written", **flag)
 
     add = command("record", _record, "record raw samples from standard input, as the file stores them: little-endian, those of 8 bits unsigned")
-    add("target", metavar="OUT", help="has all samples up to the last checkpoint if the program is killed; Ctrl-C ends it well")
+    add("target", metavar="OUT", type=_file, help="has all samples up to the last checkpoint if the program is killed; Ctrl-C ends it well")
     add("--rate", type=_positive)
     add("--channels", type=_positive)
     add("--bits", **form)

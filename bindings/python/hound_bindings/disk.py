@@ -173,6 +173,9 @@ class Stream:
             raise io.UnsupportedOperation("the file can't be sought in")
         self._file, self._start, self.path = file, int(file.tell()), getattr(file, "name", None)
 
+    def rewind(self) -> None:
+        self._file.seek(self._start)
+
     def size(self) -> int:
         return max(int(self._file.seek(0, os.SEEK_END)) - self._start, 0)
 

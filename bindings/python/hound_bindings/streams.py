@@ -145,6 +145,10 @@ class Reader(_OneAtATime):
         if self._is_own:
             self._source.close()
 
+    def _rewind(self) -> None:
+        if self._start is not None:
+            self._source.seek(self._start)
+
     def _fill(self, count: int, place: int) -> bytes:
         """What is held, which begins at a place of the file, once it has so many bytes or the file ends."""
         frame, held = self._state.frame, [b"".join(filter(None, self._state.held))]

@@ -230,6 +230,7 @@ class Command(Folder):
             self.run_command("convert", "a.wav", "b.wav", *words, status=status)
             self.assertEqual(self.content("b.wav"), content)
         self.run_command("convert", "torn.wav", "d.wav", status=1)
+        self.run_command("convert", "a.wav", "-", status=2)
         self.assertEqual(sorted(os.listdir(self.folder)), sorted(before + ["torn.wav"]))
 
     def test_record(self):

@@ -9,6 +9,7 @@ import os
 import random
 import struct
 import tempfile
+import tracemalloc
 import unittest
 import unittest.mock
 import warnings
@@ -145,6 +146,21 @@ class Floats(Folder):
         ):
             self.assertRaisesRegex(ValueError, "dither is", call)
         self.assertEqual(hound.read(self.path), first)
+
+    def test_no_copy_of_all_samples_is_made(self):
+        """But for those that are written."""
+        for code in "fdqb":
+            samples = array.array(code, bytes((2 << 20) * array.array(code).itemsize))
+            tracemalloc.start()
+            with hound.create(self.path, 8000, 1, 16) as writer:
+                writer.write(samples)
+            written = tracemalloc.get_traced_memory()[1]
+            tracemalloc.reset_peak() if hasattr(tracemalloc, "reset_peak") else tracemalloc.clear_traces()
+            hound.read(self.path, dtype="float32")
+            read = tracemalloc.get_traced_memory()[1]
+            tracemalloc.stop()
+            self.assertLess(written, 12 << 20, code)
+            self.assertLess(read, 24 << 20, code)
 
     def test_floats_are_appended(self):
         self.leave(made_by_wave(SAMPLES))
@@ -373,10 +389,10 @@ class Objects(Case):
         self.assertEqual(hound.write(file, SAMPLES, 8000, 2), 64)
         self.assertEqual(file.getvalue(), made_by_wave(SAMPLES))
         file.truncate(62)
-        for call in hound.find_damage, hound.repair:
-            file.seek(0)
-            self.assertEqual(call(file), (hound.State.CUT_OFF, 4, 2))
         file.seek(0)
+        for call in hound.find_damage, hound.repair:
+            self.assertEqual(call(file), (hound.State.CUT_OFF, 4, 2))
+        self.assertEqual(hound.info(file).frames, 4)
         self.assertEqual(hound.read(file), SAMPLES[:8])
         inner, outer = os.pipe()
         with open(outer, "wb", buffering=0) as pipe, open(inner, "rb") as source:
