@@ -223,14 +223,10 @@ def _form_wanted(info: hound.Info, options: argparse.Namespace) -> hound.Info:
 
 
 def _type_between(info: hound.Info, wanted: hound.Info, dither: int) -> Optional[Any]:
-    """A type that has all samples of a file, and from which those of another one are rounded once; None where they are
-    the same."""
-    if info.channels == wanted.channels and not dither:
-        if info[2:4] == wanted[2:4]:
-            return None
-        if info.is_float or info.bits_per_sample < 32:
-            return "float32"
-    return "float64"
+    """A type that has all samples of a file exactly, as floats; None where they are written as they are."""
+    if info[1:4] == wanted[1:4] and not dither:
+        return None
+    return "float32" if info.is_float or info.bits_per_sample < 32 else "float64"
 
 
 def _convert(options: argparse.Namespace) -> int:

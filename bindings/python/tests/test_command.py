@@ -17,7 +17,7 @@ import wave
 import hound_bindings as hound
 from hound_bindings import Info, State
 from test_files import CHUNK, by_hand
-from test_floats import WIDE, Folder, nearest, wave_of
+from test_floats import WIDE, Folder, as_float32, nearest, wave_of
 from test_streams import SAMPLES, content_of, made_by_wave
 
 FORMS = [(bits, is_float, channels) for bits, is_float in ((8, False), (16, False), (24, False), (32, False), (32, True)) for channels in (1, 2)]
@@ -55,15 +55,15 @@ class Lost(Folder):
 
     def test_a_header_that_is_lost(self):
         for bits, values in WIDE.items():
-            good = wave_of(bits, values * 40000)
-            data = good[44 : 44 + 200000 * bits // 8]
+            good = wave_of(bits, values * 60000)
+            data = good[44 : 44 + 300000 * bits // 8]
             for head, skip, more in (bytes(44), 44, b""), (b"", 0, b""), (bytes(7), 7, b"\1" * (bits > 8)):
                 self.leave(head + data + more)
                 found = hound.repair(self.path, like=Info(8000, 1, bits), skip=skip)
-                self.assertEqual(found, (State.CUT_OFF, 200000, len(more)))
+                self.assertEqual(found, (State.CUT_OFF, 300000, len(more)))
                 copy = self.path[:-4] + ".repaired.wav"
-                self.assertEqual(hound.read_with_info(copy), (array.array("h" if bits <= 16 else "i", values * 40000), hound.info(copy)))
-                self.assertEqual(hound.info(copy)[:5], (8000, 1, bits, False, 200000))
+                self.assertEqual(hound.read_with_info(copy), (array.array("h" if bits <= 16 else "i", values * 60000), hound.info(copy)))
+                self.assertEqual(hound.info(copy)[:5], (8000, 1, bits, False, 300000))
                 self.assertEqual(content_of(self.path), head + data + more)
                 self.assertRaises(FileExistsError, lambda: hound.repair(self.path, like=Info(8000, 1, bits)))
                 os.unlink(copy)
@@ -203,6 +203,7 @@ class Command(Folder):
         for words, wanted in (
             (["--bits", "16"], ([-32768, 16384, 384, 128, 0, 5 << 12], 2, 2)),
             (["--bits", "32"], ([-(2**31), 2**30, 3 << 23, 1 << 23, 0, 5 << 28], 2, 4)),
+            (["--channels", "1"], ([-(1 << 21), 1 << 16, 5 << 19], 1, 3)),
             (["--bits", "16", "--channels", "1"], ([-8192, 256, 5 << 11], 1, 2)),
         ):
             self.run_command("convert", "a.wav", "b.wav", "--overwrite", *words)
@@ -215,8 +216,10 @@ class Command(Folder):
         self.assertEqual(list(hound.read(os.path.join(self.folder, "c.wav"))), [-8192, -8192, 256, 256, 5 << 11, 5 << 11])
         some = random.Random(5)
         for bits in 24, 32:  # Each sample is rounded once: float32 would round those of 32 bits before.
-            values = [some.randrange(-(2**31), 2**31 - 2**16) >> 32 - bits for _ in range(500)] + [(3 << 15) + 1, -(5 << 15) - 1]
+            values = [some.randrange(-(2**31), 2**31 - 2**16) >> 32 - bits for _ in range(500)] + [(3 << 15) + 1, (2001 << 15) + 1 >> 32 - bits]
             self.leave_as("w.wav", wave_of(bits, values))
+            self.run_command("convert", "w.wav", "n.wav", "--float", "--overwrite")
+            self.assertEqual(list(hound.read(os.path.join(self.folder, "n.wav"))), as_float32(value / (1 << bits - 1) for value in values))
             self.run_command("convert", "w.wav", "n.wav", "--bits", "16", "--overwrite")
             self.assertEqual(list(hound.read(os.path.join(self.folder, "n.wav"))), [nearest(fractions.Fraction(value, 1 << bits - 1), 16) for value in values])
         self.leave_as("one.wav", hound.to_bytes(array.array("f", [1.5, 0.5]), 8000))
