@@ -125,10 +125,18 @@ def _files_of(name: str) -> List[str]:
     return sorted(file for file in found if file.lower().endswith((".wav", ".wave")))
 
 
+def _has_header(name: str) -> bool:
+    with contextlib.suppress(hound.HoundError):
+        return hound.info(name).data_start > 0
+    return False
+
+
 def _recover(options: argparse.Namespace) -> int:
     """Makes copies of files whose header is lost."""
 
     def recover(name: str) -> bool:
+        if options.guess and _has_header(name):
+            raise ValueError(f"{name}: its header isn't lost, so nothing is guessed")
         guessed = hound.guess(name, options.skip, options.rate) if options.guess else None
         form, copy = guessed or options.like, hound._copy_name(name)
         skip = form.data_start if options.skip is None else options.skip

@@ -127,14 +127,15 @@ def _taken(code: str, first: int, count: int, take: Callable[[int, Any, int], in
 
 
 def _floats(integers: "array.array[int]", bits: int, dtype: str) -> "array.array[float]":
-    """Integers divided by 2^(bits - 1): as float32 by the library, which rounds those of more than 24 bits; exactly as
-    float64."""
-    if dtype == "float64":
-        return array.array("d", map((2.0 ** (1 - bits)).__mul__, integers))
+    """Integers divided by 2^(bits - 1) by the library, which rounds those of more than 24 bits: for float64 these are
+    multiplied here."""
+    if dtype == "float64" and bits > 24:
+        scale = 2.0 ** (1 - bits)
+        return array.array("d", [integer * scale for integer in integers])
     floats = array.array("f", bytes(4 * len(integers)))
     with address(integers) as (start, _), address(floats) as (out, _):
         _checked(_to_f32(start, len(integers), bits, out, len(floats)))
-    return floats
+    return array.array("d", floats.tolist()) if dtype == "float64" else floats
 
 
 def collected(

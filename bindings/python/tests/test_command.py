@@ -166,6 +166,8 @@ class Command(Folder):
         said = json.loads(self.run_command("repair", "--like", "8000,1,32f", "--skip", "0", "--json", "a.wav"))
         self.assertEqual((said["copy"], said["frames"], said["is_float"], said["is_guess"]), ("a.repaired.wav", (44 + len(data)) // 4, True, False))
         self.assertEqual(self.content("a.repaired.wav")[-100:], data[-100:])
+        self.run_command("repair", "--guess", "a.repaired.wav", status=1)
+        self.assertIn(b"its header isn't lost", self.said)
         for words in ("--like", "8000,2"), ("--like", "a,b,c"), ("--guess", "--skip", "-1"):
             self.run_command("repair", *words, "a.wav", status=2)
 
