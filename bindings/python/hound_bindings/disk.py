@@ -198,10 +198,11 @@ class Stream:
         self._file.flush()
 
     def close(self, is_unlocked: bool = True) -> None:
-        """Ends its use: the object stays open, and is at its end."""
+        """Ends its use: the object stays open, and is at its end, unless it is that of another process."""
         self.is_closed = True
         with contextlib.suppress(OSError, ValueError):
-            self._file.seek(0, os.SEEK_END)
+            if is_unlocked:
+                self._file.seek(0, os.SEEK_END)
 
 
 def put_next(file: Any, content: Any) -> None:

@@ -1,6 +1,7 @@
 """Floats whose full scale is 1, the spec that travels with samples, and files of objects. What is expected is computed by
 hand, by the module `wave`, or by fractions."""
 import array
+import contextlib
 import fractions
 import io
 import itertools
@@ -364,6 +365,31 @@ class Objects(Case):
                 self.assertEqual(hound.append(file, SAMPLES), 44 + 40)
                 file.seek(len(before))
                 self.assertEqual(hound.info(file).frames, 10)
+
+    def test_a_recording_that_is_interrupted(self):
+        """At some of its bytecodes: a block is in the file only if its write returned."""
+        for at in itertools.count(1, 5):
+            file, accepted = io.BytesIO(), 0
+            writer = hound.create(file, 8000, 2, 16)
+            with Interruption(at) as interruption:
+                try:
+                    for first in 0, 4:
+                        writer.write(SAMPLES[first : first + 4])
+                        accepted += 4
+                        writer.flush()
+                    writer.close()
+                except Interrupted:
+                    pass
+            if interruption.is_at_the_end() and accepted < 8 and writer.tell() * 2 > accepted:
+                accepted += 4
+            with contextlib.suppress(ValueError):  # It is closed.
+                writer.write(SAMPLES[accepted : accepted + 2])
+                accepted += 2
+            writer.close()
+            self.assertEqual(file.getvalue(), made_by_wave(SAMPLES[:accepted]), interruption.place)
+            if interruption.place is None:
+                break
+        self.assertGreater(at, 1000)
 
     def test_a_block_that_fails(self):
         class Faulty(io.BytesIO):
