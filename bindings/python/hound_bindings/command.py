@@ -53,6 +53,20 @@ def _each(names: List[str], call: Callable[[str], bool], failed: Callable[[str, 
     return status
 
 
+def _files_of(names: List[str]) -> List[str]:
+    """These files, and for each folder those in it and in its folders that are named as WAV files."""
+    found = []
+    for name in names:
+        if os.path.isdir(name):
+            files = [os.path.join(folder, file) for folder, _, files in os.walk(name) for file in files]
+            found += sorted(file for file in files if file.lower().endswith((".wav", ".wave")))
+        else:
+            found.append(name)
+    if not found:
+        raise _Wrong("no file here is named .wav or .wave")
+    return found
+
+
 def _print_json(**facts: Any) -> None:
     print(json.dumps(facts))
 
@@ -104,7 +118,7 @@ def _info(options: argparse.Namespace) -> int:
             print(f"{name}: {_form(info)}, {info.frames} frames, {info.duration:.3f} s{', ' if state else ''}{state or ''}{held}")
         return found is None or found.state != hound.State.CUT_OFF
 
-    return _each(options.files, show, _failure(options))
+    return _each(_files_of(options.files), show, _failure(options))
 
 
 def _failure(options: argparse.Namespace) -> Callable[[str, str], None]:
@@ -115,14 +129,6 @@ def _failure(options: argparse.Namespace) -> Callable[[str, str], None]:
 
 
 # repair
-
-
-def _files_of(name: str) -> List[str]:
-    """A file, or the files of a folder and those in it that are named as WAV files."""
-    if not os.path.isdir(name):
-        return [name]
-    found = [os.path.join(folder, file) for folder, _, files in os.walk(name) for file in files]
-    return sorted(file for file in found if file.lower().endswith((".wav", ".wave")))
 
 
 def _has_header(name: str) -> bool:
@@ -161,9 +167,7 @@ def _recover(options: argparse.Namespace) -> int:
 def _repair(options: argparse.Namespace) -> int:
     if options.like or options.guess:
         return _recover(options)
-    names = [file for name in options.files for file in _files_of(name)]
-    if not names:
-        raise _Wrong("no file here is named .wav or .wave")
+    names = _files_of(options.files)
 
     def repair(name: str) -> bool:
         found = hound.find_damage(name)
@@ -374,7 +378,7 @@ def _parser() -> argparse.ArgumentParser:
 
     flag: Dict[str, Any] = {"action": "store_true"}
     add = command("info", _info, "say what files are, and whether they are damaged")
-    add("files", nargs="+", metavar="FILE", help="- is standard input")
+    add("files", nargs="+", metavar="FILE", help="or a folder, of whose .wav files all are meant; - is standard input")
     add("--json", help="print a JSON object in a line for each file", **flag)
 
     add = command("repair", _repair, "repair files whose recording was cut off, in place: copy what can't be replaced, or use --copy")
