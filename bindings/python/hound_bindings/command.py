@@ -249,8 +249,9 @@ def _convert(options: argparse.Namespace) -> int:
     with hound.open(_source(options.source)) as reader, hound._replaced(options.target, options.durable) as part:
         info = reader.info
         wanted = _form_wanted(info, options)
-        dtype = _type_between(info, wanted, options.dither)
-        with hound.create(part, like=wanted, exclusive=True, durable=options.durable, dither=options.dither) as writer:
+        dither = options.seed if options.dither else 0
+        dtype = _type_between(info, wanted, dither)
+        with hound.create(part, like=wanted, exclusive=True, durable=options.durable, dither=dither) as writer:
             for block in _blocks(options.source, reader, dtype):
                 writer.write(_mixed(block, info.channels, wanted.channels))
     if writer.clipped:
@@ -332,11 +333,18 @@ def _record(options: argparse.Namespace) -> int:
 # The arguments
 
 
-def _positive(text: str) -> int:
-    number = int(text)
-    if number < 1:
-        raise argparse.ArgumentTypeError("it has to be at least 1")
-    return number
+def _from(least: int) -> Callable[[str], int]:
+    """What takes an integer from this one on."""
+
+    def parse(text: str) -> int:
+        if not text.isdecimal() or int(text) < least:
+            raise argparse.ArgumentTypeError(f"{text} isn't an integer from {least} on")
+        return int(text)
+
+    return parse
+
+
+_positive = _from(1)
 
 
 def _file(text: str) -> str:
@@ -345,25 +353,20 @@ def _file(text: str) -> str:
     return text
 
 
-def _bytes(text: str) -> int:
-    number = int(text)
-    if number < 0:
-        raise argparse.ArgumentTypeError("it has to be at least 0")
-    return number
-
-
 def _form_of(text: str) -> hound.Info:
     """What RATE,CHANNELS,BITS[f] says."""
-    is_float = text.endswith("f")
-    rate, channels, bits = map(_positive, text[: len(text) - is_float].split(","))
+    parts, is_float = text[: len(text) - text.endswith("f")].split(","), text.endswith("f")
+    if len(parts) != 3:
+        raise argparse.ArgumentTypeError(f"{text} isn't RATE,CHANNELS,BITS or RATE,CHANNELS,BITSf")
+    rate, channels, bits = map(_positive, parts)
     return hound.Info(rate, channels, bits, is_float, data_start=lost.usual_start())
 
 
 def _seconds(text: str) -> float:
-    number = float(text)
-    if not 0 < number < 1e6:
-        raise argparse.ArgumentTypeError("it has to be more than 0")
-    return number
+    with contextlib.suppress(ValueError):
+        if 0 < float(text) < 1e6:
+            return float(text)
+    raise argparse.ArgumentTypeError(f"{text} is no time")
 
 
 def _parser() -> argparse.ArgumentParser:
@@ -391,7 +394,7 @@ def _parser() -> argparse.ArgumentParser:
     add("--like", type=_form_of, metavar="RATE,CHANNELS,BITS[f]", help="for a lost header: copy such samples (f: floats) to NAME.repaired.wav")
     add("--guess", help="for a lost header: guess channels and bits by what would be smooth", **flag)
     add("--rate", type=_positive, default=44100, help="the rate with --guess, since no guess finds it (44100)")
-    add("--skip", type=_bytes, metavar="BYTES", help="with --like and --guess: how many come before the samples (those of a header of 16 bits)")
+    add("--skip", type=_from(0), metavar="BYTES", help="with --like and --guess: how many come before the samples (those of a header of 16 bits)")
 
     add = command("cat", _cat, "write raw samples to standard output: int16, int32 where they are wider, or float32")
     add("files", nargs="+", metavar="FILE", help="- is standard input")
@@ -404,7 +407,8 @@ def _parser() -> argparse.ArgumentParser:
     add("--bits", help="integers of so many bits: rounded, and clipped, which is said", **form)
     add("--float", help="floats of 32 bits", **flag)
     add("--channels", type=_positive, help="the mean of all as one, or one in all")
-    add("--dither", type=_positive, nargs="?", const=1, default=0, metavar="SEED", help="add triangular noise before rounding")
+    add("--dither", help="add triangular noise before rounding", **flag)
+    add("--seed", type=_positive, default=1, help="of that noise (1)")
     add("--rate", type=_positive, help="isn't changed: it is an error")
     add("--overwrite", help="replace OUT if it is there", **flag)
     add("--durable", help="sync what is written", **flag)

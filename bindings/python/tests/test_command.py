@@ -17,7 +17,7 @@ import wave
 import hound_bindings as hound
 from hound_bindings import Info, State
 from test_files import CHUNK, by_hand
-from test_floats import WIDE, Folder, as_float32, nearest, wave_of
+from test_floats import WIDE, Folder, as_float32, nearest, silently, wave_of
 from test_streams import SAMPLES, content_of, made_by_wave
 
 FORMS = [(bits, is_float, channels) for bits, is_float in ((8, False), (16, False), (24, False), (32, False), (32, True)) for channels in (1, 2)]
@@ -169,8 +169,9 @@ class Command(Folder):
         self.assertEqual(self.content("a.repaired.wav")[-100:], data[-100:])
         self.run_command("repair", "--guess", "a.repaired.wav", status=1)
         self.assertIn(b"its header isn't lost", self.said)
-        for words in ("--like", "8000,2"), ("--like", "a,b,c"), ("--guess", "--skip", "-1"):
+        for words in ("--like", "8000,2"), ("--like", "a,b,c"), ("--like", "8000,0,16"), ("--guess", "--skip", "-1"), ("--guess", "--rate", "x"):
             self.run_command("repair", *words, "a.wav", status=2)
+            self.assertIn(b" isn't ", self.said)
 
     def test_cat(self):
         for bits, values in WIDE.items():
@@ -226,9 +227,10 @@ class Command(Folder):
             self.run_command("convert", "w.wav", "n.wav", "--bits", "16", "--overwrite")
             self.assertEqual(list(hound.read(os.path.join(self.folder, "n.wav"))), [nearest(fractions.Fraction(value, 1 << bits - 1), 16) for value in values])
         self.leave_as("one.wav", hound.to_bytes(array.array("f", [1.5, 0.5]), 8000))
-        self.run_command("convert", "one.wav", "two.wav", "--bits", "16", "--dither", "3")
+        self.run_command("convert", "one.wav", "two.wav", "--bits", "16", "--dither", "--seed", "3")
         self.assertEqual(self.said, b"hound-wav: clipped samples: 1\n")
-        self.assertEqual(list(hound.read(os.path.join(self.folder, "two.wav")))[0], 32767)
+        noisy = silently(lambda: hound.to_bytes([1.5, 0.5], 8000, bits=16, dither=3))[0]
+        self.assertEqual(self.content("two.wav"), noisy)
         before = sorted(os.listdir(self.folder))
         self.leave_as("torn.wav", made_by_wave(SAMPLES)[:-3])
         for words, status in ((["--rate", "48000"], 2), ([], 2), (["--channels", "3", "--overwrite"], 2), (["--bits", "12"], 2)):
@@ -253,6 +255,7 @@ class Command(Folder):
         self.run_command("record", "a.wav", *form[:-1], status=1)
         self.run_command("record", "a.wav", "--append", "--rate", "8000", status=2)
         self.run_command("record", "b.wav", "--rate", "8000", status=2)
+        self.run_command("record", "a.wav", "--append", "--checkpoint", "0", status=2)
         self.assertEqual(os.listdir(self.folder), ["a.wav"])
 
     def test_checkpoints_and_the_end_by_a_signal(self):
