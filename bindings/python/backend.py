@@ -114,7 +114,7 @@ def wheel_tag():
 def build_wheel(wheel_directory, config_settings=None, metadata_directory=None):
     """Writes the wheel, and returns its file name."""
     tag, files = wheel_tag(), {}
-    for name in ("__init__.py", "disk.py", "streams.py", "py.typed"):
+    for name in sorted(name for name in os.listdir(os.path.join(HERE, NAME)) if name.endswith((".py", ".typed"))):
         with open(os.path.join(HERE, NAME, name), "rb") as file:
             files[f"{NAME}/{name}"] = file.read()
     with tempfile.TemporaryDirectory() as folder:
@@ -125,6 +125,7 @@ def build_wheel(wheel_directory, config_settings=None, metadata_directory=None):
     with open(LICENSE, "rb") as file:
         files[f"{info}/LICENSE"] = file.read()
     files[f"{info}/METADATA"] = METADATA.encode()
+    files[f"{info}/entry_points.txt"] = f"[console_scripts]\nhound-wav = {NAME}.command:main\n".encode()
     files[f"{info}/WHEEL"] = f"Wheel-Version: 1.0\nGenerator: {NAME}\nRoot-Is-Purelib: false\n{tags}".encode()
     record = ""
     for name, content in files.items():

@@ -73,9 +73,9 @@ def found(data):
         return None, error.cause
     spec = model.Spec(info.channels, info.sample_rate, info.bits_per_sample, info.bytes_per_sample, info.is_float)
     samples, block = [], array.array("i", bytes(28))
-    with hound._address(data) as (address, length), hound._samples(block) as (_, out, count, _):
+    with hound.conversion.address(data) as (address, length), hound.conversion.address(block) as (out, _):
         while True:
-            n = hound._read["i32"](address, length, len(samples), out, count)
+            n = hound._read["i32"](address, length, len(samples), out, len(block))
             if n <= 0:
                 break
             samples.extend(block[:n])
@@ -191,7 +191,7 @@ APPEND = hound._function("append_i16", POINTER, SIZE, SIZE, POINTER, SIZE)
 def repaired(how, data):
     """The same by the C interface, with room for a pad byte."""
     memory, report = bytearray(data + b"U"), hound._Repair()
-    with hound._address(memory) as (address, capacity):
+    with hound.conversion.address(memory) as (address, capacity):
         n = REPAIRS[how](address, capacity, len(data), ctypes.byref(report))
     if n < 0:
         assert memory[len(data) :] == b"U"
@@ -238,7 +238,7 @@ def other_codes():
             assert error.cause == cause, error
             met.add(cause)
     file = hound.to_bytes(array.array("h", [1]), 1)
-    with hound._address(file) as (address, capacity), hound._samples(array.array("h", [1])) as (_, one, _, _):
+    with hound.conversion.address(file) as (address, capacity), hound.conversion.address(array.array("h", [1])) as (one, _):
         assert APPEND(address, capacity, capacity, one, 1) == -Cause.NO_ROOM
         met.add(Cause.NO_ROOM)
     check_reports()

@@ -1,7 +1,11 @@
 """WAV files, read, written, appended to and repaired by proved code.
 
-A file is a path; `info`, `read` and `read_into` take its bytes, too. Samples are interleaved: `array.array`s, or
-anything with a buffer, such as a numpy array; two dimensions are frames by channels.
+A file is a path, or an object that reads, writes and seeks as one does, such as an io.BytesIO, from the place on where
+it is; `info`, `read` and `read_into` take bytes, too. Samples are interleaved: `array.array`s, lists, or anything with a
+buffer, such as a numpy array; two dimensions are frames by channels. Integers are read and written as they are. Where
+floats are read from a file of integers, or written to one, their full scale is 1: they are the integers divided by
+2^(bits - 1). What is written is rounded to the nearest integer and clipped, which a RuntimeWarning counts; `dither` adds
+triangular noise of at most one step before that, and is the seed of its generator (True is 1).
 
 A file that is recorded to, appended to, repaired or replaced is locked (`flock`; on Windows LockFileEx, until it is
 replaced): what another program, or a Writer of this one, has locked is a BlockingIOError. Programs without such locks may
@@ -19,17 +23,30 @@ import os
 import secrets
 import shutil
 import sys
-from typing import Any, BinaryIO, Callable, ContextManager, Iterator, NamedTuple, Optional, Tuple, Union
+from typing import (
+    IO, Any, Callable, ContextManager, Iterator, Literal, NamedTuple, Optional, Protocol, Tuple, Type, Union,
+)  # fmt: skip
 
 from . import disk
 
 __all__ = [
     "Cause", "HoundError", "Info", "Reader", "Repair", "State", "Writer", "append", "append_to", "create",
-    "find_damage", "info", "open", "read", "read_into", "repair", "to_bytes", "write",
+    "find_damage", "guess", "info", "open", "read", "read_into", "read_with_info", "repair", "to_bytes", "write",
 ]  # fmt: skip
 
+__version__ = "0.2.0"
+
 Path = Union[str, "os.PathLike[str]"]
-File = Union[Path, bytes, bytearray, memoryview, mmap.mmap]
+File = Union[Path, IO[bytes], bytes, bytearray, memoryview, mmap.mmap]
+# A type of samples: its name, or a type or dtype of numpy.
+Dtype = Union[
+    Literal["int8", "int16", "int32", "float32", "float64", "i1", "i2", "i4", "f4", "f8", "float"], Type[Any], "_OfNumpy"
+]
+
+
+class _OfNumpy(Protocol):
+    @property
+    def str(self) -> str: ...
 
 
 class Cause(enum.IntEnum):
@@ -84,26 +101,50 @@ class State(enum.IntEnum):
 
 
 class HoundError(ValueError):
-    """A call failed, for this cause."""
+    """A call failed, for this cause; `filename` is the name of the file, if it has one."""
 
     def __init__(self, cause: Cause) -> None:
         super().__init__(cause)
         self.cause = cause
+        self.filename: Optional[str] = None
 
     def __str__(self) -> str:
-        return self.cause.sentence
+        return self.cause.sentence if self.filename is None else f"{self.filename}: {self.cause.sentence}"
+
+
+def _name_error(error: BaseException, file: Any) -> None:
+    """Gives an error the name of its file: of a path, or of an object that has one."""
+    name = file if isinstance(file, (str, os.PathLike)) else getattr(file, "name", None)
+    if isinstance(error, HoundError) and error.filename is None and isinstance(name, (str, os.PathLike)):
+        error.filename = os.fsdecode(name)
+
+
+@contextlib.contextmanager
+def _named(file: Any) -> Iterator[None]:
+    """The errors of the context have the name of a file."""
+    try:
+        yield
+    except HoundError as error:
+        _name_error(error, file)
+        raise
 
 
 class Info(NamedTuple):
-    """What the header of a file says."""
+    """What the header of a file says, or is to say: then the first three will do. A `bytes_per_sample` of 0 is as many
+    as the bits need."""
 
     sample_rate: int
     channels: int
     bits_per_sample: int
-    is_float: bool
-    frames: int
-    data_start: int
-    bytes_per_sample: int
+    is_float: bool = False
+    frames: int = 0
+    data_start: int = 0
+    bytes_per_sample: int = 0
+
+    @property
+    def duration(self) -> float:
+        """The seconds of all frames; 0 where there is no rate."""
+        return self.frames / self.sample_rate if self.sample_rate else 0.0
 
 
 class Repair(NamedTuple):
@@ -180,7 +221,10 @@ class _Repairer(ctypes.Structure):
 
 _NAME = "hound_c.dll" if os.name == "nt" else "libhound_c.so"
 _LIBRARY = ctypes.CDLL(os.environ.get("HOUND_C_LIBRARY") or os.path.join(os.path.dirname(__file__), _NAME))
-_POINTER, _SIZE, _U64, _I64 = ctypes.c_void_p, ctypes.c_size_t, ctypes.c_uint64, ctypes.c_int64
+_POINTER: Any = ctypes.c_void_p
+_SIZE: Any = ctypes.c_size_t
+_U64: Any = ctypes.c_uint64
+_I64: Any = ctypes.c_int64
 _SPARE = ctypes.create_string_buffer(16)
 
 
@@ -197,14 +241,15 @@ _repairer_next = _function("repairer_next", _POINTER, _POINTER, result=ctypes.c_
 _size = _function("size", _POINTER, _U64)
 _read = {t: _function("read_" + t, _POINTER, _SIZE, _U64, _POINTER, _SIZE) for t in ("i16", "i32", "f32")}
 _write = {t: _function("write_" + t, _POINTER, _POINTER, _SIZE, _POINTER, _SIZE) for t in ("i16", "i32", "f32")}
+_append = {t: _function("append_" + t, _POINTER, _SIZE, _SIZE, _POINTER, _SIZE) for t in ("i16", "i32", "f32")}
 # The modes of a repairer.
 _FIND_DAMAGE, _REPAIR, _REPAIR_TO_END = range(3)
 
 
-def _checked(code: int) -> int:
+def _checked(code: Any) -> int:
     if code < 0:
-        raise HoundError(Cause(-code))
-    return code
+        raise HoundError(Cause(-code))  # type: ignore[call-arg]
+    return int(code)
 
 
 def _integer(name: str, value: Any, low: int, high: int) -> int:
@@ -216,106 +261,6 @@ def _integer(name: str, value: Any, low: int, high: int) -> int:
     if not low <= number <= high:
         raise ValueError(f"{name} is {number}, and not from {low} to {high}")
     return number
-
-
-class _Type(NamedTuple):
-    """A type of samples: the code of its arrays, the calls that read and write it, and its bits."""
-
-    code: str
-    kind: str
-    bits: int
-
-
-_TYPES = {
-    "int8": _Type("b", "i16", 8),
-    "int16": _Type("h", "i16", 16),
-    "int32": _Type("i", "i32", 32),
-    "float32": _Type("f", "f32", 32),
-    "float64": _Type("d", "f32", 64),
-}
-_CODES = {"i16": "h", "i32": "i", "f32": "f"}
-_FORMATS = {("b", 1): "int8", ("h", 2): "int16", ("i", 4): "int32", ("l", 4): "int32", ("f", 4): "float32", ("d", 8): "float64"}
-_READ = "int8, int16, int32, float32 and float64 are read"
-_WRITTEN = "int8, int16, int32 and float32 are written"
-# For each byte the second one of the same value in 16 bits.
-_SIGNS = bytes(255 if byte > 127 else 0 for byte in range(256))
-
-
-def _widened(content: bytes) -> bytearray:
-    """The int16 samples of these int8 samples."""
-    wide = bytearray(2 * len(content))
-    wide[::2], wide[1::2] = content, content.translate(_SIGNS)
-    return wide
-
-
-def _converted(samples: "array.array[Any]", dtype: str) -> "array.array[Any]":
-    """Samples that were read, in the type that is none of the library's. No value changes."""
-    if dtype == "int8":
-        return array.array("b", samples.tobytes()[::2])
-    return array.array("d", samples) if dtype == "float64" else samples
-
-
-class _address:  # noqa: N801
-    """The address and the number of bytes of a buffer, or of a copy where the buffer is read-only, not
-    contiguous or not aligned. They live as long as the context."""
-
-    def __init__(self, buffer: Any, align: int = 1) -> None:
-        self._buffer, self._align = buffer, align
-
-    def __enter__(self) -> Any:
-        view = self._view = memoryview(self._buffer)
-        if view.nbytes == 0:
-            return ctypes.addressof(_SPARE), 0
-        if view.c_contiguous and not view.readonly:
-            start = ctypes.c_char.from_buffer(view)
-            if ctypes.addressof(start) % self._align == 0:
-                self._kept = start
-                return ctypes.addressof(start), view.nbytes
-            del start
-        self._kept = self._buffer if isinstance(self._buffer, bytes) else view.tobytes()
-        return ctypes.cast(ctypes.c_char_p(self._kept), _POINTER).value, len(self._kept)
-
-    def __exit__(self, *_: Any) -> None:
-        self._kept: Any = None
-        self._view.release()
-
-
-def _form(view: memoryview, name: str, taken: str) -> Tuple[str, Optional[int]]:
-    """The type of samples, and how many columns they have if they have two dimensions."""
-    dtype = _FORMATS.get((view.format.lstrip("@=<"), view.itemsize))
-    if dtype is None:
-        raise TypeError(f"{name} has the format '{view.format}': {taken}, in this machine's byte order")
-    if view.ndim not in (1, 2):
-        raise ValueError(f"{name} has {view.ndim} dimensions, and not one or two")
-    return dtype, view.shape[1] if view.ndim == 2 else None
-
-
-def _check_columns(name: str, columns: Optional[int], channels: int) -> None:
-    if columns not in (None, channels):
-        raise ValueError(f"{name} has {columns} columns, and there are {channels} channels")
-
-
-class _Samples(NamedTuple):
-    """Samples that a caller gives."""
-
-    form: _Type
-    start: Any
-    count: int
-    columns: Optional[int]
-
-
-class _samples(_address):  # noqa: N801
-    """Samples to be written, as the library takes them."""
-
-    def __enter__(self) -> _Samples:
-        with memoryview(self._buffer) as view:
-            dtype, columns = _form(view, "samples", _WRITTEN)
-            if dtype == "float64":
-                raise TypeError(f"samples has float64, which would be rounded: {_WRITTEN}, so convert it to float32")
-            count, self._align = view.nbytes // view.itemsize, view.itemsize
-            if dtype == "int8":
-                self._buffer = _widened(view.tobytes())
-        return _Samples(_TYPES[dtype], super().__enter__()[0], count, columns)
 
 
 def _info_of(start: Any, length: int) -> _Info:
@@ -347,43 +292,49 @@ class _InMemory:
         self._found = _info_of(start, length)
         self.info = _info_from(self._found)
 
-    def _read_from(self, start: int, frames: int, dtype: Optional[str]) -> "array.array[Any]":
+    def _read_from(self, start: int, frames: int, dtype: Optional[Dtype]) -> "array.array[Any]":
         """The samples of at most so many frames (all for -1) from number `start` on."""
-        spec = self._found.spec
-        dtype = _type_of(dtype, spec)
-        form, channels = _TYPES[dtype], spec.channels
-        count = max(self._found.samples - start * channels, 0)
-        # The bytes may hold fewer than the header counts.
-        count = min(count, max(self._place[1] - self._found.data_start, 0) // spec.bytes_per_sample + channels)
+        spec, channels = self._found.spec, self._found.spec.channels
+        name = conversion.type_of(dtype, spec)
+        kind = "i16" if name == "int8" else conversion.kind_of(name, spec)
+        first = min(start, 1 << 32) * channels  # A file has fewer frames than that.
+        # The bytes may hold fewer than the header counts: then a read of one says so.
+        held = (self._place[1] - self._found.data_start) // spec.bytes_per_sample - first
+        count = min(max(self._found.samples - first, 0), max(held, 1))
         if frames >= 0:
             count = min(count, frames * channels)
-        samples = array.array(_CODES[form.kind], bytes(count * array.array(_CODES[form.kind]).itemsize))
-        with _address(samples) as (out, _):
-            # A file has fewer frames than this.
-            count = _checked(_read[form.kind](*self._place, min(start, 1 << 32) * channels, out, count))
-        if form.bits < min(spec.bits_per_sample, 16):
+
+        def take(number: int, out: Any, count: int) -> int:
+            return _checked(_read[kind](*self._place, first + number, out, count))
+
+        samples = conversion.collected(count, name, spec, kind, take)
+        if name == "int8" and spec.bits_per_sample > 8:
             raise HoundError(Cause.TOO_WIDE)
-        if 0 < count < channels:
+        if 0 < len(samples) < channels:
             raise HoundError(Cause.TRUNCATED)
-        del samples[count // channels * channels :]
-        return _converted(samples, dtype)
+        del samples[len(samples) // channels * channels :]
+        return samples
 
 
 @contextlib.contextmanager
 def _opened(file: File) -> Iterator[Any]:
-    """What reads a file: at a path, or in memory."""
-    if isinstance(file, (str, os.PathLike)):
-        with Reader(file) as reader:
-            yield reader
-    else:
-        with _address(file) as place:
-            yield _InMemory(*place)
+    """What reads a file: at a path, of an object, or in memory."""
+    with _named(file):
+        if isinstance(file, (str, os.PathLike)) or (hasattr(file, "read") and not isinstance(file, mmap.mmap)):
+            with Reader(file) as reader:  # type: ignore[arg-type]  # It has no bytes, so it reads.
+                yield reader
+        else:
+            with conversion.address(file) as place:
+                yield _InMemory(*place)
 
 
 def info(file: File) -> Info:
-    """What the header of a file says. The data needn't all be there."""
+    """What the header of a file says. The data needn't all be there. An object that can seek stays where it is."""
     with _opened(file) as source:
-        return source.info
+        found: Info = source.info
+        if isinstance(source, Reader):
+            source._rewind()
+    return found
 
 
 def read_into(file: File, buffer: Any, start: int = 0) -> int:
@@ -394,76 +345,110 @@ def read_into(file: File, buffer: Any, start: int = 0) -> int:
     """
     start = _integer("start", start, 0, sys.maxsize)
     with memoryview(buffer) as view:
-        dtype, columns = _form(view, "buffer", _READ)
+        dtype, columns = conversion.form_of(view, "buffer", conversion.READ)
         if view.readonly or not view.c_contiguous:
             raise TypeError("buffer isn't writable and contiguous")
-        with _address(view) as (out, size):
+        with conversion.address(view) as (out, size):
             if out % view.itemsize:
                 raise TypeError("buffer isn't aligned")
             with _opened(file) as source:
-                channels = source.info.channels
-                _check_columns("buffer", columns, channels)
+                channels: int = source.info.channels
+                conversion.check_columns("buffer", columns, channels)
                 block = source._read_from(start, size // view.itemsize // channels, dtype)
             ctypes.memmove(out, block.buffer_info()[0], len(block) * view.itemsize)
             return len(block) // channels
 
 
-def _type_of(dtype: Optional[str], spec: _Spec) -> str:
-    """The name of a type that is requested, or of the narrowest from 16 bits on that reads a file."""
-    if dtype is None:
-        return "float32" if spec.sample_format else ("int16" if spec.bits_per_sample <= 16 else "int32")
-    if not isinstance(dtype, str) or dtype not in _TYPES:
-        raise TypeError(f"dtype is {dtype!r}: {_READ}")
-    return dtype
-
-
-def _shaped(samples: "array.array[Any]", channels: int, always_2d: bool) -> Any:
-    """Samples as they are, or as frames by channels."""
-    if not always_2d:
-        return samples
-    frames = len(samples) // channels
-    # A view has no shape with 0 frames: one more is cut off again.
-    samples.frombytes(bytes(channels * samples.itemsize))
-    return memoryview(samples).cast("B").cast(samples.typecode, [frames + 1, channels])[:frames]
-
-
-def read(file: File, start: int = 0, frames: int = -1, dtype: Optional[str] = None, always_2d: bool = False) -> Any:
+def read(
+    file: File, start: int = 0, frames: int = -1, dtype: Optional[Dtype] = None, always_2d: bool = False
+) -> Any:
     """Reads frames from number `start` on, at most so many (all for -1), and returns their samples.
 
     They are an `array.array` of interleaved samples; with `always_2d` a memoryview of frames by
-    channels, which `numpy.asarray` takes. `dtype` is "int8", "int16", "int32", "float32" or "float64";
-    without it, it is the narrowest from 16 bits on that reads the file. Of a file that holds fewer
-    frames than its header counts these are read, and a read that starts after them is an error.
+    channels, which `numpy.asarray` takes. `dtype` is "int8", "int16", "int32", "float32" or "float64", or one of numpy;
+    without it, it is the narrowest from 16 bits on that reads the file. Integers of up to 24 bits are exact as float32,
+    all of them as float64. Of a file that holds fewer frames than its header counts these are read, and a read that
+    starts after them is an error.
     """
+    return read_with_info(file, start, frames, dtype, always_2d)[0]
+
+
+def read_with_info(
+    file: File, start: int = 0, frames: int = -1, dtype: Optional[Dtype] = None, always_2d: bool = False
+) -> Tuple[Any, Info]:
+    """What `read` returns, and what the header says: `write(.., like=info)` makes such a file of these samples."""
     start = _integer("start", start, 0, sys.maxsize)
     frames = _integer("frames", frames, -1, sys.maxsize)
     with _opened(file) as source:
-        return _shaped(source._read_from(start, frames, dtype), source.info.channels, always_2d)
+        samples = source._read_from(start, frames, dtype)
+        return conversion.shaped(samples, source.info.channels, always_2d), source.info
 
 
-def _spec_for(samples: _Samples, rate: int, channels: Optional[int], bits: Optional[int], width: int) -> _Spec:
-    if channels is None:
-        channels = 1 if samples.columns is None else samples.columns
-    channels = _integer("channels", channels, 1, 0xFFFF)
-    _check_columns("samples", samples.columns, channels)
+def _check_like(like: Any) -> None:
+    if not (like is None or isinstance(like, Info)):
+        raise TypeError(f"like is {like!r}, and not an Info")
+
+
+def _spec_of(
+    rate: Optional[int], channels: Optional[int], bits: Optional[int], width: int, is_float: Optional[bool], like: Optional[Info]
+) -> _Spec:
+    """A spec of these numbers, and of those of `like` that aren't given."""
+    _check_like(like)
+    if like is not None:
+        rate = like.sample_rate if rate is None else rate
+        channels = like.channels if channels is None else channels
+        if bits is None:
+            bits, width = like.bits_per_sample, width or like.bytes_per_sample
+            is_float = like.is_float if is_float is None else is_float
     return _Spec(
         _integer("rate", rate, 1, 0xFFFFFFFF),
-        channels,
-        samples.form.bits if bits is None else _integer("bits", bits, 1, 0xFFFF),
+        _integer("channels", channels, 1, 0xFFFF),
+        _integer("bits", bits, 1, 0xFFFF),
         _integer("bytes_per_sample", width, 0, 0xFFFF),
-        samples.form.kind == "f32",
+        bool(is_float),
     )
 
 
+def _spec_for(
+    samples: "conversion.Given", rate: Optional[int], channels: Optional[int], bits: Optional[int], width: int, like: Optional[Info]
+) -> _Spec:
+    """The spec of a file of these samples."""
+    _check_like(like)
+    if channels is None:
+        channels = samples.columns if like is None else like.channels
+    bits = samples.form.bits if bits is None and like is None else bits
+    is_float = None if bits is None else samples.form.kind == "f32" and bits == 32
+    spec = _spec_of(rate, 1 if channels is None else channels, bits, width, is_float, like)
+    conversion.check_columns("samples", samples.columns, spec.channels)
+    return spec
+
+
 def to_bytes(
-    samples: Any, rate: int, channels: Optional[int] = None, bits: Optional[int] = None, bytes_per_sample: int = 0
+    samples: Any,
+    rate: Optional[int] = None,
+    channels: Optional[int] = None,
+    bits: Optional[int] = None,
+    bytes_per_sample: int = 0,
+    *,
+    like: Optional[Info] = None,
+    dither: int = False,
 ) -> bytearray:
-    """Makes the bytes of a file. `bits` is the width of the samples unless it is given."""
-    with _samples(samples) as given:
-        spec = _spec_for(given, rate, channels, bits, bytes_per_sample)
+    """Makes the bytes of a file, with what `like` says of one where it isn't given.
+
+    Without both, `bits` is the width of the samples, 16 for lists and int64 of integers. Floats are stored as float32 if
+    the file has 32 bits, and not an integer format by `like`; else they are scaled to integers. What doesn't fit is an
+    error.
+    """
+    with conversion.Given(samples) as given:
+        spec = _spec_for(given, rate, channels, bits, bytes_per_sample, like)
+        scale = given.scale(spec, conversion.noise_of(dither))
         file = bytearray(_checked(_size(ctypes.byref(spec), given.count)))
-        with _address(file) as (out, capacity):
-            _checked(_write[given.form.kind](ctypes.byref(spec), given.start, given.count, out, capacity))
+        with conversion.address(file) as (out, capacity):
+            empty = "f32" if spec.sample_format else "i16"
+            used = _checked(_write[empty](ctypes.byref(spec), _SPARE, 0, out, capacity))
+            for kind, start, count in given.parts(spec, scale):
+                used = _checked(_append[kind](out, capacity, used, start, count))
+        scale.warn(given.count)
     return file
 
 
@@ -475,40 +460,16 @@ def _locked_if_there(path: Path) -> ContextManager[Any]:
         return contextlib.nullcontext()
 
 
-def write(
-    path: Path,
-    samples: Any,
-    rate: int,
-    channels: Optional[int] = None,
-    bits: Optional[int] = None,
-    bytes_per_sample: int = 0,
-    durable: bool = False,
-) -> int:
-    """Writes a file of these samples, and returns its length.
-
-    It is written under another name in the same folder, and renamed when it is whole: until then, at an error too, a
-    file that was there stays as it was, and the new file gets its mode. A file that is locked isn't replaced. With
-    `durable` the file is synced before it is renamed, and its folder after that: if only the last sync fails, the new
-    file is there, and may be lost with the power.
-    """
-    content = to_bytes(samples, rate, channels, bits, bytes_per_sample)
+@contextlib.contextmanager
+def _replaced(path: Path, durable: bool) -> Iterator[str]:
+    """The name of a new file, which gets this path when the context ends; at an error it is removed."""
     name = os.path.realpath(os.fsdecode(path))
-    if os.path.exists(path) and not os.path.isfile(path):
-        with io.open(path, "wb") as device:
-            device.write(content)
-            if durable:
-                device.flush()
-                disk.sync(device.fileno())
-        return len(content)
     with _locked_if_there(path):
         pass  # What may not be replaced is an error before anything is written.
     part = os.path.join(os.path.dirname(name), f".hound-{secrets.token_hex(8)}")
     with disk.folder_of(name) if durable else contextlib.nullcontext() as folder:
         try:
-            with io.open(part, "xb", buffering=0) as file:
-                disk.put(file.fileno(), content, 0)
-                if durable:
-                    disk.sync(file.fileno())
+            yield part
             with _locked_if_there(path) as older:
                 if os.path.exists(name):
                     shutil.copymode(name, part)
@@ -519,10 +480,53 @@ def write(
             raise
         if durable:
             disk.sync(folder)
+
+
+def _write_to(file: Any, content: bytearray, durable: bool) -> None:
+    """Writes all of this to an object or a device."""
+    disk.put_next(file, content)
+    file.flush()
+    if durable:
+        disk.sync(file.fileno())
+
+
+def write(
+    path: Union[Path, IO[bytes]],
+    samples: Any,
+    rate: Optional[int] = None,
+    channels: Optional[int] = None,
+    bits: Optional[int] = None,
+    bytes_per_sample: int = 0,
+    durable: bool = False,
+    *,
+    like: Optional[Info] = None,
+    dither: int = False,
+) -> int:
+    """Writes a file of these samples, as `to_bytes` makes it, and returns its length.
+
+    It is written under another name in the same folder, and renamed when it is whole: until then, at an error too, a
+    file that was there stays as it was, and the new file gets its mode. A file that is locked isn't replaced. With
+    `durable` the file is synced before it is renamed, and its folder after that: if only the last sync fails, the new
+    file is there, and may be lost with the power. An object is written to where it is, and need not seek.
+    """
+    with _named(path):
+        content = to_bytes(samples, rate, channels, bits, bytes_per_sample, like=like, dither=dither)
+    if not isinstance(path, (str, os.PathLike)):
+        _write_to(path, content, durable)
+    elif os.path.exists(path) and not os.path.isfile(path):
+        with io.open(path, "wb") as device:
+            _write_to(device, content, durable)
+    else:
+        with _replaced(path, durable) as part, io.open(part, "xb", buffering=0) as file:
+            disk.put(file.fileno(), content, 0)
+            if durable:
+                disk.sync(file.fileno())
     return len(content)
 
 
-def append(path: Path, samples: Any, overwrite: bool = False, durable: bool = False) -> int:
+def append(
+    path: Union[Path, IO[bytes]], samples: Any, overwrite: bool = False, durable: bool = False, *, dither: int = False
+) -> int:
     """Appends whole frames to a file, and returns its length.
 
     It is an `append_to`, one `write` and a `close`. So the samples are written first, then the sizes: whenever the
@@ -533,23 +537,22 @@ def append(path: Path, samples: Any, overwrite: bool = False, durable: bool = Fa
     the system has written them. A recording that was cut off is an error, and so are chunks or a tag after the data,
     unless they may be overwritten.
     """
-    with _samples(samples) as given, streams._append_to(path, durable, overwrite) as writer:
-        _check_columns("samples", given.columns, writer._spec.channels)
-        writer.write(samples)
+    with conversion.Given(samples) as given, streams._append_to(path, durable, overwrite, dither) as writer:
+        writer.write(given)
         writer.close()  # Where a signal handler raises in it, the context closes it again.
     return writer._length
 
 
-def _repaired(descriptor: int, mode: int, durable: bool, refused: Optional[OSError] = None) -> _Repair:
+def _repaired(file: disk.Medium, mode: int, durable: bool, refused: Optional[OSError] = None) -> _Repair:
     """What a repairer of this mode finds in a file. Where the file is only read, and a part of it would have to be
     written, the error is why it may not be."""
     repairer, found, faults = _Repairer(), _Repair(), []
-    _repairer_begin(os.fstat(descriptor).st_size, mode, ctypes.byref(repairer))
+    _repairer_begin(file.size(), mode, ctypes.byref(repairer))
     while (code := _repairer_next(ctypes.byref(repairer), ctypes.byref(found))) == 1:
         if refused and repairer.effect.kind != disk.READ:
             raise refused
         try:
-            disk.perform(repairer.effect, descriptor, durable)
+            disk.perform(repairer.effect, file, durable)
         except OSError as error:
             faults.append(error)
             repairer.effect.report = disk.FAILED
@@ -559,10 +562,21 @@ def _repaired(descriptor: int, mode: int, durable: bool, refused: Optional[OSErr
     return found
 
 
-def find_damage(path: Path) -> Repair:
+def find_damage(path: Union[Path, IO[bytes]]) -> Repair:
     """Returns what `repair` would, and writes nothing."""
-    with io.open(path, "rb", buffering=0) as file:
-        return _report_of(_repaired(file.fileno(), _FIND_DAMAGE, False))
+    with _named(path):
+        if not isinstance(path, (str, os.PathLike)):
+            return _repaired_object(path, _FIND_DAMAGE)
+        with io.open(path, "rb", buffering=0) as file:
+            return _report_of(_repaired(disk.Descriptor(file), _FIND_DAMAGE, False))
+
+
+def _repaired_object(file: IO[bytes], mode: int) -> Repair:
+    """What `_repaired` finds of an object, which stays where it is."""
+    stream = disk.Stream(file)
+    found = _report_of(_repaired(stream, mode, False))
+    stream.rewind()
+    return found
 
 
 def _report_of(found: _Repair) -> Repair:
@@ -579,7 +593,27 @@ def _opened_for_repair(path: Path) -> Tuple[disk.File, Optional[OSError]]:
         return disk.File(path, os.O_RDONLY), error
 
 
-def repair(path: Path, durable: bool = False, to_end: bool = False) -> Repair:
+def _copy_name(path: Path) -> str:
+    """The name of a repaired copy of a file, which must not be there."""
+    copy = os.path.splitext(os.fsdecode(path))[0] + ".repaired.wav"
+    _check_new(copy)
+    return copy
+
+
+def _check_new(path: Path) -> None:
+    if os.path.exists(path):
+        raise FileExistsError(errno.EEXIST, os.strerror(errno.EEXIST), os.fspath(path))
+
+
+def repair(
+    path: Union[Path, IO[bytes]],
+    durable: bool = False,
+    to_end: bool = False,
+    *,
+    copy: Optional[Path] = None,
+    like: Optional[Info] = None,
+    skip: Optional[int] = None,
+) -> Repair:
     """Repairs a file whose recording was cut off, in place, and says how it was found. Copy it first if it
     is the only one: some recorders leave older sound at the end, which then counts.
 
@@ -587,16 +621,47 @@ def repair(path: Path, durable: bool = False, to_end: bool = False) -> Repair:
     of them. A file that is whole, or that chunks follow, is only read; with `to_end` all that follows the header of the
     data is taken for samples, also what looks like chunks. At an error, or if a signal handler raises, the header
     counts only what is there, and the file can be repaired again.
+
+    With `copy` the file stays as it is, and a copy of this name, which must not be there, is repaired. With `like` the
+    header is taken for lost: a copy, without a name NAME.repaired.wav, has the header of such a file, and all whole frames
+    from byte `skip` on, which is `like.data_start` if it isn't given. `guess` makes such an Info.
     """
-    file, refused = _opened_for_repair(path)
-    with file:
-        return _report_of(_repaired(file.descriptor, _REPAIR_TO_END if to_end else _REPAIR, durable, refused))
+    if like is not None or copy is not None:
+        return _repaired_copy(path, durable, to_end, copy, like, skip)
+    mode = _REPAIR_TO_END if to_end else _REPAIR
+    with _named(path):
+        if not isinstance(path, (str, os.PathLike)):
+            return _repaired_object(path, mode)
+        file, refused = _opened_for_repair(path)
+        with file:
+            return _report_of(_repaired(file, mode, durable, refused))
 
 
-from . import streams  # noqa: E402
+def _repaired_copy(
+    path: Any, durable: bool, to_end: bool, copy: Optional[Path], like: Optional[Info], skip: Optional[int]
+) -> Repair:
+    if not isinstance(path, (str, os.PathLike)):
+        raise TypeError("a copy is made of a file at a path")
+    _check_like(like)
+    copy = _copy_name(path) if copy is None else copy
+    _check_new(copy)
+    with _named(path), _replaced(copy, durable) as part:
+        if like is None:
+            shutil.copyfile(path, part)
+            return repair(part, durable, to_end)
+        found = None
+        for found in lost.recovered(path, part, like, like.data_start if skip is None else skip, durable):
+            pass
+        return lost.repair_of(found)
+
+
+from . import conversion, streams  # noqa: E402
 from .streams import Reader, Writer, append_to, create  # noqa: E402
 
+from . import lost  # noqa: E402  isort: skip
+from .lost import guess  # noqa: E402
 
-def open(file: "Union[Path, BinaryIO]") -> Reader:  # noqa: A001
+
+def open(file: Union[Path, IO[bytes]]) -> Reader:  # noqa: A001
     """Opens a file that is read block by block: at a path, or what reads bytes, as a pipe does."""
     return Reader(file)

@@ -20,8 +20,8 @@ except ImportError:
     msvcrt = None  # type: ignore[assignment]
 
 __all__ = [
-    "CUT", "DONE", "FAILED", "File", "READ", "SYNC", "WRITE", "WRITE_BLOCK", "folder_of", "is_pipe", "perform", "put",
-    "read_at", "replace", "sync", "sync_folder", "sync_once", "take",
+    "CUT", "DONE", "Descriptor", "FAILED", "File", "Medium", "READ", "SYNC", "Stream", "WRITE", "WRITE_BLOCK", "folder_of",
+    "is_pipe", "perform", "put", "read_at", "replace", "sync", "sync_folder", "sync_once", "take",
 ]  # fmt: skip
 
 # The kinds of effects in hound.h, and the reports.
@@ -111,20 +111,20 @@ def cut(descriptor: int, place: int) -> None:
         os.ftruncate(descriptor, place)
 
 
-def perform(effect: Any, descriptor: int, durable: bool, block: Any = b"") -> None:
+def perform(effect: Any, file: "Medium", durable: bool, block: Any = b"") -> None:
     """Performs an effect of hound.h on a file, and reports it as done; an OSError says why it failed. A sync of a file
-    that isn't durable does nothing, since what was written is with the system."""
+    that isn't durable only passes on to the system what was written."""
     kind = effect.kind
     if kind == WRITE:
-        put(descriptor, bytes(effect.bytes)[: effect.length], effect.place)
+        file.put(bytes(effect.bytes)[: effect.length], effect.place)
     elif kind == WRITE_BLOCK:
-        put(descriptor, memoryview(block)[: effect.length], effect.place)
+        file.put(memoryview(block)[: effect.length], effect.place)
     elif kind == READ:
-        take(effect, read_at(descriptor, effect.length, effect.place))
+        take(effect, file.read_at(effect.length, effect.place))
     elif kind == CUT:
-        cut(descriptor, effect.place)
-    elif durable:
-        sync(descriptor)
+        file.cut(effect.place)
+    else:
+        file.sync(durable)
     effect.report = DONE
 
 
@@ -157,7 +157,88 @@ def is_pipe(file: Any) -> bool:
     return stat.S_ISFIFO(mode) or stat.S_ISCHR(mode)
 
 
-class File:
+class Descriptor:
+    """A file of the system that is open."""
+
+    def __init__(self, file: Any) -> None:
+        self._file = file
+
+    @property
+    def descriptor(self) -> int:
+        """The descriptor; a ValueError where the file is closed."""
+        return int(self._file.fileno())
+
+    def size(self) -> int:
+        return int(os.fstat(self.descriptor).st_size)
+
+    def read_at(self, count: int, place: int) -> bytes:
+        return read_at(self.descriptor, count, place)
+
+    def put(self, content: Any, place: int) -> None:
+        put(self.descriptor, content, place)
+
+    def cut(self, place: int) -> None:
+        cut(self.descriptor, place)
+
+    def sync(self, durable: bool) -> None:
+        if durable:
+            sync(self.descriptor)
+
+
+class Stream:
+    """An object that reads, writes and seeks as a file does, from the place on where it is: as an io.BytesIO."""
+
+    is_closed = False
+
+    def __init__(self, file: Any) -> None:
+        if not file.seekable() or is_pipe(file):
+            raise io.UnsupportedOperation("the file can't be sought in")
+        self._file, self._start, self.path = file, int(file.tell()), getattr(file, "name", None)
+
+    def rewind(self) -> None:
+        self._file.seek(self._start)
+
+    def size(self) -> int:
+        return max(int(self._file.seek(0, os.SEEK_END)) - self._start, 0)
+
+    def read_at(self, count: int, place: int) -> bytes:
+        self._file.seek(self._start + place)
+        content = bytearray()
+        while len(content) < count and (piece := self._file.read(count - len(content))):
+            content += piece
+        return bytes(content)
+
+    def put(self, content: Any, place: int) -> None:
+        self._file.seek(self._start + place)
+        put_next(self._file, content)
+
+    def cut(self, place: int) -> None:
+        if self.size() > place:
+            self._file.truncate(self._start + place)
+
+    def sync(self, durable: bool) -> None:
+        self._file.flush()
+
+    def close(self, is_unlocked: bool = True) -> None:
+        """Ends its use: the object stays open, and is at its end, unless it is that of another process."""
+        self.is_closed = True
+        with contextlib.suppress(OSError, ValueError):
+            if is_unlocked:
+                self._file.seek(0, os.SEEK_END)
+
+
+def put_next(file: Any, content: Any) -> None:
+    """Writes all of this to an object, which may write a part of it at a time."""
+    with memoryview(content) as left:
+        done = 0
+        while done < len(left):
+            count = file.write(left[done:])
+            if not count:
+                raise OSError(errno.EIO, "the file wrote none of the bytes that it was given")
+            done += count
+
+
+class File(Descriptor):
     """The file at a path, open and locked: no other program that uses this package records to it, appends to it
     or repairs it, and no other `File` of this program is at it. Where the system has no locks for it, it isn't locked."""
 
@@ -198,11 +279,6 @@ class File:
             return os.path.samestat(os.fstat(self.descriptor), os.stat(self.path))
         return False
 
-    @property
-    def descriptor(self) -> int:
-        """The descriptor; a ValueError where the file is closed."""
-        return self._file.fileno()
-
     def close(self, is_unlocked: bool = True) -> None:
         """Closes it, and unlocks it, since a forked process may have the descriptor, too. What was interrupted in it is
         closed by another call."""
@@ -218,3 +294,6 @@ def replace(part: str, name: str, older: Optional[File]) -> None:
     if older and not fcntl:
         older.close()
     os.replace(part, name)
+
+
+Medium = Union[Descriptor, Stream]

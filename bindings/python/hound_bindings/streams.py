@@ -12,11 +12,11 @@ import sys
 import threading
 import warnings
 import weakref
-from typing import Any, BinaryIO, Callable, Iterator, List, NamedTuple, Optional, Tuple, TypeVar, Union
+from typing import IO, Any, Callable, Iterator, List, NamedTuple, Optional, Tuple, TypeVar, Union
 
 from . import (
-    _CODES, _FIND_DAMAGE, _POINTER, _SIZE, _SPARE, _TYPES, _U64, Cause, HoundError, Path, _address, _check_columns,
-    _checked, _Effect, _function, _info_from, _integer, _repaired, _samples, _shaped, _Spec, _type_of, _walk_over, disk,
+    _FIND_DAMAGE, _POINTER, _SIZE, _SPARE, _U64, Cause, Dtype, HoundError, Info, Path, _checked, _Effect, _function,
+    _info_from, _integer, _name_error, _named, _repaired, _Spec, _spec_of, _walk_over, conversion, disk,
 )  # fmt: skip
 
 __all__ = ["Reader", "Writer", "append_to", "create"]
@@ -32,6 +32,7 @@ class _OneAtATime:
     """
 
     _state: Any
+    _name: Any = None  # The path or the object of the file, whose name errors have.
 
     def __init__(self) -> None:
         self._lock = threading.RLock()
@@ -70,9 +71,10 @@ def _one_at_a_time(call: _Call) -> _Call:
                     return call(self, *arguments, **named)
                 finally:
                     self._running = None
-        except BaseException:
+        except BaseException as error:
             for step in steps:
                 self._take_back(*step)
+            _name_error(error, self._name)
             raise
 
     return guarded  # type: ignore[return-value]
@@ -89,6 +91,18 @@ class _Next(NamedTuple):
 _PIECE = 1 << 20
 
 
+def decoded(content: bytes, count: int, spec: _Spec, dtype: Optional[str] = None) -> "array.array[Any]":
+    """The first samples of these bytes."""
+    name, width = conversion.type_of(dtype, spec), spec.bytes_per_sample
+    kind = conversion.kind_of(name, spec)
+    with conversion.address(content) as (start, _):
+
+        def take(first: int, out: Any, count: int) -> int:
+            return _checked(_decode[kind](ctypes.byref(spec), start + first * width, count * width, out, count))
+
+        return conversion.collected(count, name, spec, kind, take)
+
+
 class Reader(_OneAtATime):
     """The frames of a file, from the first one on; `info` is what its header says.
 
@@ -99,18 +113,21 @@ class Reader(_OneAtATime):
     it: each call waits for the end of another one.
     """
 
-    def __init__(self, file: Union[str, "os.PathLike[str]", BinaryIO]) -> None:
+    def __init__(self, file: Union[Path, IO[bytes]]) -> None:
         super().__init__()
+        self._name = file
         self._is_own = isinstance(file, (str, os.PathLike))
-        self._source: Any = io.open(file, "rb", buffering=0) if self._is_own else file
+        source: Any = file
+        self._source: Any = io.open(source, "rb", buffering=0) if self._is_own else source
         self._state = _Next(0, [])
         try:
             self._read1 = getattr(self._source, "read1", self._source.read)
             can_seek = self._source.seekable() and not disk.is_pipe(self._source)
             self._start = self._source.tell() if can_seek else None
             self._find_data()
-        except BaseException:
+        except BaseException as error:
             self.close()
+            _name_error(error, file)
             raise
 
     def __enter__(self) -> "Reader":
@@ -127,6 +144,10 @@ class Reader(_OneAtATime):
         """Closes the file, if it was opened here."""
         if self._is_own:
             self._source.close()
+
+    def _rewind(self) -> None:
+        if self._start is not None:
+            self._source.seek(self._start)
 
     def _fill(self, count: int, place: int) -> bytes:
         """What is held, which begins at a place of the file, once it has so many bytes or the file ends."""
@@ -170,15 +191,15 @@ class Reader(_OneAtATime):
         self._spec, self.info = found.spec, _info_from(found)
 
     @_one_at_a_time
-    def read(self, frames: int = -1, dtype: Optional[str] = None, always_2d: bool = False) -> Any:
+    def read(self, frames: int = -1, dtype: Optional[Dtype] = None, always_2d: bool = False) -> Any:
         """The next frames, at most so many (all for -1); none after the last one.
 
         They have the form that `hound_bindings.read` gives them. Where the file ends before the frames
         that its header counts, those that it holds are returned, and the next call is an error.
         """
         frames = _integer("frames", frames, -1, sys.maxsize)
-        dtype = _type_of(dtype, self._spec)
-        kind, code = ("i8", "b") if dtype == "int8" else (_TYPES[dtype].kind, _CODES[_TYPES[dtype].kind])
+        name = conversion.type_of(dtype, self._spec)
+        kind = conversion.kind_of(name, self._spec)
         # Whether the type reads the file is known before a byte is taken.
         _checked(_decode[kind](ctypes.byref(self._spec), _SPARE, 0, _SPARE, 0))
         frame, channels = self._state.frame, self._spec.channels
@@ -187,21 +208,19 @@ class Reader(_OneAtATime):
         size = self._spec.bytes_per_sample * channels
         content = self._fill(frames * size, self.info.data_start + frame * size)
         count = min(len(content) // size, frames)
-        samples = array.array(code, bytes(count * channels * array.array(code).itemsize))
-        with _address(samples) as (out, _):
-            _checked(_decode[kind](ctypes.byref(self._spec), content, count * size, out, count * channels))
+        samples = decoded(content, count * channels, self._spec, name)
         if count == 0 and frames > 0:
             raise HoundError(Cause.TRUNCATED)
-        shaped = _shaped(array.array("d", samples) if dtype == "float64" else samples, channels, always_2d)
+        shaped = conversion.shaped(samples, channels, always_2d)
         self._finish(_Next(frame + count, [content[count * size :]]))
         return shaped
 
-    def _read_from(self, start: int, frames: int, dtype: Optional[str]) -> Any:
+    def _read_from(self, start: int, frames: int, dtype: Optional[Dtype]) -> Any:
         if start > 0:
             self.seek(min(start, self.info.frames))
         return self.read(frames, dtype)
 
-    def blocks(self, frames: int, dtype: Optional[str] = None, always_2d: bool = False) -> Iterator[Any]:
+    def blocks(self, frames: int, dtype: Optional[Dtype] = None, always_2d: bool = False) -> Iterator[Any]:
         """The frames from the next one on, in blocks of so many; the last one may be shorter."""
         frames = _integer("frames", frames, 1, sys.maxsize)
         while len(block := self.read(frames, dtype, always_2d)) > 0:
@@ -209,7 +228,7 @@ class Reader(_OneAtATime):
 
     def tell(self) -> int:
         """The number of the next frame."""
-        return self._state.frame
+        return int(self._state.frame)
 
     @_one_at_a_time
     def seek(self, frame: int) -> None:
@@ -237,8 +256,8 @@ class _Recorder(ctypes.Structure):
 
 
 _INT = ctypes.c_int32
-_decode = {t: _function("decode_" + t, _POINTER, _POINTER, _SIZE, _POINTER, _SIZE) for t in ("i8", *_CODES)}
-_encode = {t: _function("encode_" + t, _POINTER, _POINTER, _SIZE, _POINTER, _SIZE) for t in _CODES}
+_decode = {t: _function("decode_" + t, _POINTER, _POINTER, _SIZE, _POINTER, _SIZE) for t in ("i8", "i16", "i32", "f32")}
+_encode = {t: _function("encode_" + t, _POINTER, _POINTER, _SIZE, _POINTER, _SIZE) for t in ("i16", "i32", "f32")}
 _header = _function("header", _POINTER, _U64, _POINTER, _SIZE)
 _recorder_begin = _function("recorder_begin", _POINTER, _POINTER, result=_INT)
 _recorder_resume = _function("recorder_resume", _POINTER, ctypes.c_uint32, _POINTER, result=_INT)
@@ -250,10 +269,11 @@ _OVERWRITE, _HEADER_BYTES = 2, 68  # HOUND_OVERWRITE and HOUND_HEADER_BYTES
 
 class _Recording(NamedTuple):
     """What is recorded. `synced` has one item since a sync that is the recorder's effect began, and two since it
-    succeeded."""
+    succeeded. `clipped` samples were."""
 
     recorder: _Recorder
     synced: List[Any]
+    clipped: int
 
 
 class Writer(_OneAtATime):
@@ -277,10 +297,13 @@ class Writer(_OneAtATime):
     _process = 0
     _length = 0  # of the file when it was closed
 
-    def __init__(self, file: disk.File, spec: _Spec, recorder: _Recorder, durable: bool) -> None:
+    def __init__(
+        self, file: Union[disk.File, disk.Stream], spec: _Spec, recorder: _Recorder, durable: bool, dither: int
+    ) -> None:
         super().__init__()
-        self._file, self._spec, self._durable = file, spec, durable
-        self._state = _Recording(recorder, [])
+        self._file, self._spec, self._durable, self._name = file, spec, durable, file.path
+        self._noise = conversion.noise_of(dither)
+        self._state = _Recording(recorder, [], 0)
         self._out = ctypes.create_string_buffer(0)
         _WRITERS[self] = file
         self._process = os.getpid()
@@ -310,19 +333,44 @@ class Writer(_OneAtATime):
         if self._file.is_closed:
             raise ValueError("the Writer is closed")
 
+    @property
+    def clipped(self) -> int:
+        """How many floats were clipped of those that became integers."""
+        return int(self._state.clipped)
+
+    @property
+    def info(self) -> Info:
+        """What the header says after the next checkpoint."""
+        recorder, spec = self._state.recorder, self._spec
+        said = (spec.sample_rate, spec.channels, spec.bits_per_sample, spec.sample_format != 0)
+        return Info(*said, self.tell(), recorder.data_start, recorder.bytes_per_sample)
+
+    def tell(self) -> int:
+        """The number of the next frame."""
+        recorder = self._state.recorder
+        return int(recorder.data_length // (recorder.bytes_per_sample * recorder.channels))
+
     @_one_at_a_time
     def write(self, block: Any) -> None:
-        """Writes whole frames: an `array.array`, or anything with a buffer of int8, int16, int32 or float32. After a
-        write that failed it makes a checkpoint first, as `flush` does."""
+        """Writes whole frames, as `hound_bindings.write` takes them. After a write that failed it makes a checkpoint first,
+        as `flush` does."""
         self._check_open()
-        with _samples(block) as given:
-            _check_columns("block", given.columns, self._spec.channels)
-            length = given.count * self._state.recorder.bytes_per_sample
-            if length > len(self._out):
-                self._out = ctypes.create_string_buffer(length)
-            _checked(_encode[given.form.kind](ctypes.byref(self._spec), given.start, given.count, self._out, length))
+        with block if isinstance(block, conversion.Given) else conversion.Given(block, "block") as given:
+            clipped = self._encoded(given)
         self._request(_recorder_write, given.count)
-        self._finish(_Recording(self._perform_all(self._out), []))
+        self._finish(_Recording(self._perform_all(self._out), [], self._state.clipped + clipped))
+
+    def _encoded(self, given: conversion.Given) -> int:
+        """Encodes all samples, before any is written, and returns how many were clipped."""
+        scale = given.scale(self._spec, self._noise)
+        length, done = given.count * self._state.recorder.bytes_per_sample, 0
+        if length > len(self._out):
+            self._out = ctypes.create_string_buffer(length)
+        for kind, start, count in given.parts(self._spec, scale):
+            out = ctypes.byref(self._out, done)
+            done += _checked(_encode[kind](ctypes.byref(self._spec), start, count, out, length - done))
+        scale.warn(given.count)
+        return scale.clipped
 
     @_one_at_a_time
     def flush(self) -> None:
@@ -336,7 +384,7 @@ class Writer(_OneAtATime):
         try:
             if not self._file.is_closed:
                 self._checkpoint()
-                self._length = os.fstat(self._file.descriptor).st_size
+                self._length = self._file.size()
         except (OSError, HoundError):
             self._file.close()
             raise
@@ -352,7 +400,8 @@ class Writer(_OneAtATime):
     def _settled(self) -> _Recorder:
         """The recorder, with a report of its sync if one was begun. One that was cut off has failed: what it was to store
         may be lost though the next one succeeds."""
-        recorder, synced = self._state
+        recorder: _Recorder = self._state.recorder
+        synced = self._state.synced
         if synced:
             recorder.effect.report = disk.DONE if len(synced) > 1 else disk.FAILED
             synced.clear()
@@ -361,7 +410,8 @@ class Writer(_OneAtATime):
     def _perform_all(self, block: Any = b"") -> _Recorder:
         """Performs all that is requested, and returns the recorder after it. The state has no report of a block that is
         done: so it is given up unless its call returns."""
-        fault, recorder = None, self._state.recorder
+        fault: Optional[OSError] = None
+        recorder: _Recorder = self._state.recorder
         while (code := _recorder_next(ctypes.byref(recorder))) == 1:
             effect = recorder.effect
             try:
@@ -370,7 +420,7 @@ class Writer(_OneAtATime):
                 elif effect.kind == disk.SYNC and self._durable:
                     self._sync()
                 else:
-                    disk.perform(effect, self._file.descriptor, self._durable)
+                    disk.perform(effect, self._file, self._durable)
             except OSError as error:
                 if effect.kind == disk.SYNC and effect.report != disk.FAILED:
                     raise  # A signal handler raised it.
@@ -383,19 +433,20 @@ class Writer(_OneAtATime):
     def _written(self, block: Any) -> _Recorder:
         """The recorder once the block is written."""
         recorder = _Recorder.from_buffer_copy(self._state.recorder)
-        disk.perform(recorder.effect, self._file.descriptor, self._durable, block)
+        disk.perform(recorder.effect, self._file, self._durable, block)
         return recorder
 
     def _sync(self) -> None:
         try:
             # In one call of C: no signal handler runs before the sync's end is in the list.
-            self._state.synced.extend(itertools.chain((None,), disk.sync_once(self._file.descriptor)))
+            descriptor = self._file.descriptor  # type: ignore[union-attr]  # What is durable has one.
+            self._state.synced.extend(itertools.chain((None,), disk.sync_once(descriptor)))
         finally:
             self._settled()
 
 
 # The Writers, and their files: so a collected cycle of both closes the Writer before its file.
-_WRITERS: "weakref.WeakKeyDictionary[Writer, disk.File]" = weakref.WeakKeyDictionary()
+_WRITERS: "weakref.WeakKeyDictionary[Writer, Any]" = weakref.WeakKeyDictionary()
 
 
 @atexit.register
@@ -406,26 +457,35 @@ def _abandon_all() -> None:
 
 
 def create(
-    path: Path,
-    rate: int,
-    channels: int,
-    bits: int,
+    path: Union[Path, IO[bytes]],
+    rate: Optional[int] = None,
+    channels: Optional[int] = None,
+    bits: Optional[int] = None,
     durable: bool = False,
-    is_float: bool = False,
+    is_float: Optional[bool] = None,
     bytes_per_sample: int = 0,
     exclusive: bool = False,
+    *,
+    like: Optional[Info] = None,
+    dither: int = False,
 ) -> Writer:
-    """A new file, in the place of one that is there: it has a header, and no frames yet.
+    """A new file, in the place of one that is there: it has a header, and no frames yet. `like` has what isn't given.
 
     With `exclusive` a file that is there is a FileExistsError. It stays as it is then, and where an argument is wrong,
-    the file is locked, or its folder can't be synced though it is to be durable.
+    the file is locked, or its folder can't be synced though it is to be durable. An object is cut off where it is; it
+    can't be durable or locked.
     """
-    channels, bits = _integer("channels", channels, 1, 0xFFFF), _integer("bits", bits, 1, 0xFFFF)
-    width = _integer("bytes_per_sample", bytes_per_sample, 0, 0xFFFF)
-    spec = _Spec(_integer("rate", rate, 1, 0xFFFFFFFF), channels, bits, width, is_float)
+    spec = _spec_of(rate, channels, bits, bytes_per_sample, is_float, like)
     recorder, header = _Recorder(), ctypes.create_string_buffer(_HEADER_BYTES)
-    length = _checked(_header(ctypes.byref(spec), 0, header, len(header)))
-    _checked(_recorder_begin(ctypes.byref(spec), ctypes.byref(recorder)))
+    with _named(path):
+        length = _checked(_header(ctypes.byref(spec), 0, header, len(header)))
+        _checked(_recorder_begin(ctypes.byref(spec), ctypes.byref(recorder)))
+    conversion.noise_of(dither)
+    if not isinstance(path, (str, os.PathLike)):
+        stream = _stream_of(path, durable)
+        stream.cut(0)
+        stream.put(header[:length], 0)
+        return Writer(stream, spec, recorder, durable, dither)
     with disk.folder_of(path) if durable else contextlib.nullcontext() as folder:
         file = disk.File(path, os.O_WRONLY | os.O_CREAT | (os.O_EXCL if exclusive else 0))
         try:
@@ -436,27 +496,40 @@ def create(
             if durable:
                 disk.sync(file.descriptor)
             disk.put(file.descriptor, header[:length], 0)
-            return Writer(file, spec, recorder, durable)
+            return Writer(file, spec, recorder, durable, dither)
         except BaseException:
             file.close()
             raise
 
 
-def append_to(path: Path, durable: bool = False) -> Writer:
+def _stream_of(file: IO[bytes], durable: bool) -> disk.Stream:
+    if durable:
+        raise ValueError("durable is for files at a path")
+    return disk.Stream(file)
+
+
+def append_to(path: Union[Path, IO[bytes]], durable: bool = False, *, dither: int = False) -> Writer:
     """A file that is there, after whose frames more are written. A recording that was cut off is an error,
     and so are chunks or a tag after its data."""
-    return _append_to(path, durable, False)
+    return _append_to(path, durable, False, dither)
 
 
-def _append_to(path: Path, durable: bool, overwrite: bool) -> Writer:
-    file, recorder = disk.File(path, os.O_RDWR), _Recorder()
+def _append_to(path: Union[Path, IO[bytes]], durable: bool, overwrite: bool, dither: int) -> Writer:
+    conversion.noise_of(dither)
+    file: Union[disk.File, disk.Stream]
+    if isinstance(path, (str, os.PathLike)):
+        file = disk.File(path, os.O_RDWR)
+    else:
+        file = _stream_of(path, durable)
+    recorder = _Recorder()
     try:
-        if durable:
-            disk.sync(file.descriptor)
-            disk.sync_folder(path)
-        found = _repaired(file.descriptor, _FIND_DAMAGE, False)
-        _checked(_recorder_resume(ctypes.byref(found), _OVERWRITE if overwrite else 0, ctypes.byref(recorder)))
-        return Writer(file, found.spec, recorder, durable)
+        with _named(path):
+            if isinstance(file, disk.File) and durable:
+                disk.sync(file.descriptor)
+                disk.sync_folder(path)
+            found = _repaired(file, _FIND_DAMAGE, False)
+            _checked(_recorder_resume(ctypes.byref(found), _OVERWRITE if overwrite else 0, ctypes.byref(recorder)))
+        return Writer(file, found.spec, recorder, durable, dither)
     except BaseException:
         file.close()
         raise

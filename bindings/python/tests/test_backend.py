@@ -5,6 +5,7 @@ import sys
 import sysconfig
 import tempfile
 import unittest
+import zipfile
 from unittest import mock
 
 sys.path.insert(0, os.path.dirname(os.path.dirname(os.path.abspath(__file__))))
@@ -105,6 +106,15 @@ class Backend(unittest.TestCase):
         with on("Darwin", "arm64"):
             words, library = self.command()
         self.assertEqual((words[words.index("-arch") + 1], library), ("arm64", "libhound_c.so"))
+
+    def test_a_wheel(self):
+        """It has the modules and the command."""
+        with zipfile.ZipFile(os.path.join(self.folder, backend.build_wheel(self.folder))) as wheel:
+            names, info = wheel.namelist(), f"hound_bindings-{backend.VERSION}.dist-info"
+            points = wheel.read(f"{info}/entry_points.txt").decode()
+        modules = [name for name in os.listdir(os.path.join(backend.HERE, "hound_bindings")) if name.endswith(".py")]
+        self.assertLessEqual({f"hound_bindings/{name}" for name in [*modules, "py.typed"]}, set(names))
+        self.assertEqual(points, "[console_scripts]\nhound-wav = hound_bindings.command:main\n")
 
     def test_tags(self):
         for system, platform, version, tag in (

@@ -96,7 +96,6 @@ class Files(unittest.TestCase):
             self.assertEqual(hound.append(self.path, array.array("h", [i, -i] * 20)), 44 + 80 * (i + 1))
         self.assertEqual(list(hound.read(self.path)), [x for i in range(50) for x in [i, -i] * 20])
         self.fails(Cause.UNFINISHED_FRAME, lambda: hound.append(self.path, array.array("h", [1])))
-        self.fails(Cause.OTHER_FORMAT, lambda: hound.append(self.path, array.array("f", [1])))
         self.assertEqual(os.path.getsize(self.path), 44 + 80 * 50)
 
     def test_a_pad_byte_is_written(self):
@@ -355,7 +354,7 @@ class Files(unittest.TestCase):
                     self.leave(content)
                     found = hound._Repair()
                     memory = bytearray(content + b"U")
-                    with hound._address(memory) as (start, room):
+                    with hound.conversion.address(memory) as (start, room):
                         size = calls[to_end](start, room, len(content), ctypes.byref(found))
                     if size < 0:
                         self.fails(Cause(-size), lambda: hound.repair(self.path, to_end=to_end))
@@ -462,15 +461,13 @@ class Files(unittest.TestCase):
         self.assertEqual(hound.read(floats, dtype="float64"), array.array("d", struct.unpack("<2f", floats[-8:])))
         wide = array.array("d", [9, 9])
         self.assertEqual((hound.read_into(floats, wide, 1), list(wide)), (1, [-2.5, 9]))
-        self.fails(Cause.OTHER_FORMAT, lambda: hound.read(sixteen, dtype="float64"))
+        self.fails(Cause.OTHER_FORMAT, lambda: hound.read(floats, dtype="int32"))
         self.assertEqual(hound.to_bytes((ctypes.c_int16 * 2)(-128, 5), 8000), sixteen)
         big = (ctypes.c_int16.__ctype_be__ * 2)()
-        for other in array.array("B", [1]), array.array("H", [1]), array.array("q", [1]), big, b"12":
+        for other in array.array("B", [1]), array.array("H", [1]), array.array("Q", [1]), big, b"12":
             for call in (lambda: hound.to_bytes(other, 8000), lambda: hound.append(self.path, other), lambda: hound.read_into(eight, other)):
-                with self.assertRaisesRegex(TypeError, "int8, int16, int32(, float32)? and float"):
+                with self.assertRaisesRegex(TypeError, "int8, int16, int32, (int64, )?float32"):
                     call()
-        with self.assertRaisesRegex(TypeError, "float64.* int8, int16, int32 and float32 .* float32"):
-            hound.to_bytes(wide, 8000)
         for name in "uint8", "h", 16, int:
             with self.assertRaisesRegex(TypeError, "dtype is .* int8, int16, int32, float32 and float64 are read"):
                 hound.read(eight, dtype=name)
@@ -502,7 +499,7 @@ class Files(unittest.TestCase):
         self.assertEqual(hound.to_bytes(column, 8000), by_hand(struct.pack("<3h", 1, 4, 7)))
         odd = memoryview(bytearray(b"\0\1\0\2\0"))[1:].cast("h")
         self.assertEqual(hound.to_bytes(odd, 8000), by_hand(b"\1\0\2\0"))
-        with hound._address(odd, 2) as (start, _):
+        with hound.conversion.address(odd, 2) as (start, _):
             self.assertEqual(start % 2, 0)
         file = hound.to_bytes(array.array("h", range(4)), 8000)
         for other, words in ((column, "contiguous"), (memoryview(bytes(4)).cast("h"), "writable"), (odd, "aligned")):

@@ -283,7 +283,6 @@ class Streams(Case):
         for call in (lambda: reader.read(1.5), lambda: reader.read(dtype="int64"), lambda: reader.seek("0")):
             self.assertRaises(TypeError, call)
         self.fails(Cause.TOO_WIDE, lambda: reader.read(dtype="int8"))
-        self.fails(Cause.OTHER_FORMAT, lambda: reader.read(dtype="float32"))
         self.assertEqual((source.tell(), reader.tell()), (44, 0))
 
     def test_memory_stays_small(self):
@@ -402,8 +401,7 @@ class Recordings(Case):
             writer.write(SAMPLES)
             self.fails(Cause.UNFINISHED_FRAME, lambda: writer.write(SAMPLES[:3]))
             self.fails(Cause.TOO_WIDE, lambda: writer.write(array.array("i", [1, 32768])))
-            self.fails(Cause.OTHER_FORMAT, lambda: writer.write(array.array("f", [1, 2])))
-            self.assertRaises(TypeError, lambda: writer.write(array.array("d", [1, 2])))
+            self.assertRaises(TypeError, lambda: writer.write(array.array("H", [1, 2])))
             self.assertRaises(ValueError, lambda: writer.write(memoryview(array.array("i", [1, 2, 3])).cast("B").cast("i", [1, 3])))
         self.assertEqual(content_of(self.path), made_by_wave(SAMPLES))
         for arguments in ((0, 2, 16), (8000, 0, 16), (8000, 2, 12), (8000, 65535, 16)):

@@ -19,7 +19,7 @@ import unittest.mock
 # What the package may use of these modules.
 NAMES = {
     os: (
-        "O_CREAT O_EXCL O_RDONLY O_RDWR O_WRONLY PathLike SEEK_SET close environ fsdecode fspath fstat fsync ftruncate"
+        "O_CREAT O_EXCL O_RDONLY O_RDWR O_WRONLY PathLike SEEK_END SEEK_SET close environ fsdecode fspath fstat fsync ftruncate"
         " getpid lseek name path read stat unlink write"
     ),
     mmap: "mmap",
@@ -95,6 +95,7 @@ def imported():
 
 hound = imported()
 import test_files  # noqa: E402
+import test_floats  # noqa: E402
 import test_streams  # noqa: E402
 from test_streams import SAMPLES, content_of, made_by_wave  # noqa: E402
 
@@ -192,7 +193,8 @@ class Windows(test_streams.Case):
 
 
 def load_tests(loader, tests, _):
-    for case in test_files.Files, test_streams.Streams, test_streams.Recordings:
+    cases = test_files.Files, test_streams.Streams, test_streams.Recordings
+    for case in (*cases, test_floats.Floats, test_floats.Specs, test_floats.Objects):
         for name in loader.getTestCaseNames(case):
             if not re.search(UNIX, inspect.getsource(getattr(case, name))):
                 tests.addTest(case(name))

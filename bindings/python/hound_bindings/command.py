@@ -1,0 +1,460 @@
+"""The command hound-wav, which is also `python -m hound_bindings`: what WAV files are, repairs, raw samples, other forms,
+and recordings from standard input."""
+import argparse
+import array
+import contextlib
+import io
+import json
+import os
+import select
+import signal
+import sys
+import time
+import warnings
+from typing import Any, Callable, Dict, Iterator, List, Optional
+
+import hound_bindings as hound
+
+from . import conversion, lost, streams
+
+__all__ = ["main"]
+
+_STATUS = "It ends with status 0; 1 where a file is damaged or something failed; 2 where the arguments are wrong."
+_STATES = {hound.State.WHOLE: "whole", hound.State.CUT_OFF: "cut off", hound.State.HAS_CHUNKS_AFTER_DATA: "chunks after data"}
+_BLOCK = 1 << 16
+
+
+class _Wrong(Exception):
+    """What can't be done, in a sentence."""
+
+
+def _complain(sentence: str) -> None:
+    print(f"hound-wav: {sentence}", file=sys.stderr, flush=True)
+
+
+def _sentence(error: Exception) -> str:
+    if isinstance(error, OSError) and error.strerror and error.filename:
+        return f"{error.filename}: {error.strerror}"
+    return str(error)
+
+
+def _each(names: List[str], call: Callable[[str], bool], failed: Callable[[str, str], None]) -> int:
+    """The status after a call for each file: whether all are fine."""
+    status = 0
+    for name in names:
+        try:
+            status |= not call(name)
+        except BrokenPipeError:
+            raise
+        except (OSError, ValueError) as error:
+            failed(name, _sentence(error))
+            status = 1
+        sys.stdout.flush()
+    return status
+
+
+def _files_of(names: List[str]) -> List[str]:
+    """These files, and for each folder those in it and in its folders that are named as WAV files."""
+    found = []
+    for name in names:
+        if os.path.isdir(name):
+            files = [os.path.join(folder, file) for folder, _, files in os.walk(name) for file in files]
+            found += sorted(file for file in files if file.lower().endswith((".wav", ".wave")))
+        else:
+            found.append(name)
+    if not found:
+        raise _Wrong("no file here is named .wav or .wave")
+    return found
+
+
+def _print_json(**facts: Any) -> None:
+    print(json.dumps(facts))
+
+
+class _Bar:
+    """How much is done, on a terminal, once it takes a second."""
+
+    def __init__(self, name: str, total: float) -> None:
+        self._name, self._total, self._next = name, total, time.monotonic() + 1
+        self._is_shown, self._is_there = sys.stderr.isatty() and total > 0, False
+
+    def __enter__(self) -> "_Bar":
+        return self
+
+    def __exit__(self, *_: Any) -> None:
+        if self._is_there:
+            print("\r\33[K", end="", file=sys.stderr, flush=True)
+
+    def show(self, done: float) -> None:
+        if self._is_shown and time.monotonic() >= self._next:
+            self._next, self._is_there = time.monotonic() + 0.2, True
+            part = min(done / self._total, 1)
+            print(f"\r[{'#' * int(40 * part):40}] {part:4.0%} {self._name}", end="", file=sys.stderr, flush=True)
+
+
+def _source(name: str) -> Any:
+    return sys.stdin.buffer if name == "-" else name
+
+
+# info
+
+
+def _form(info: hound.Info) -> str:
+    bits = f"{info.bits_per_sample} bits" + (" (float)" if info.is_float else "")
+    return f"{info.sample_rate} Hz, {info.channels} channel{'s' * (info.channels != 1)}, {bits}"
+
+
+def _info(options: argparse.Namespace) -> int:
+    def show(name: str) -> bool:
+        with hound.open(_source(name)) as reader:
+            info = reader.info
+        found = None if name == "-" else hound.find_damage(name)
+        state = found and _STATES[found.state]
+        if options.json:
+            more = found and {"state": state, "frames_held": found.frames, "bytes_left_over": found.left_over}
+            _print_json(file=name, **info._asdict(), seconds=info.duration, **(more or {}))
+        else:
+            held = f" ({found.frames} frames are held)" if found and found.state == hound.State.CUT_OFF else ""
+            print(f"{name}: {_form(info)}, {info.frames} frames, {info.duration:.3f} s{', ' if state else ''}{state or ''}{held}")
+        return found is None or found.state != hound.State.CUT_OFF
+
+    return _each(_files_of(options.files), show, _failure(options))
+
+
+def _failure(options: argparse.Namespace) -> Callable[[str, str], None]:
+    """What says that a file failed."""
+    if options.json:
+        return lambda name, sentence: _print_json(file=name, error=sentence)
+    return lambda _, sentence: _complain(sentence)
+
+
+# repair
+
+
+def _has_header(name: str) -> bool:
+    with contextlib.suppress(hound.HoundError):
+        return hound.info(name).data_start > 0
+    return False
+
+
+def _recover(options: argparse.Namespace) -> int:
+    """Makes copies of files whose header is lost."""
+
+    def recover(name: str) -> bool:
+        if options.guess and _has_header(name):
+            raise ValueError(f"{name}: its header isn't lost, so nothing is guessed")
+        guessed = hound.guess(name, options.skip, options.rate) if options.guess else None
+        form, copy = guessed or options.like, hound._copy_name(name)
+        skip = form.data_start if options.skip is None else options.skip
+        found = None
+        if not options.dry_run:
+            with hound._replaced(copy, options.durable) as part, _Bar(name, os.path.getsize(name)) as bar:
+                for found in lost.recovered(name, part, form, skip, options.durable):
+                    bar.show(found.place)
+        frames = found.frames if found else 0
+        if options.json:
+            said = {"sample_rate": form.sample_rate, "channels": form.channels, "bits_per_sample": form.bits_per_sample}
+            _print_json(file=name, **said, is_float=form.is_float, skip=skip, is_guess=bool(guessed), frames=frames,
+                        copy=None if options.dry_run else copy)  # fmt: skip
+        else:
+            done = "" if options.dry_run else f": {frames} frames in {copy}"
+            print(f"{name}: {'a guess: ' if guessed else ''}{_form(form)}, from byte {skip} on{done}")
+        return True
+
+    return _each(options.files, recover, _failure(options))
+
+
+def _repair(options: argparse.Namespace) -> int:
+    if options.like or options.guess:
+        return _recover(options)
+    names = _files_of(options.files)
+
+    def repair(name: str) -> bool:
+        found = hound.find_damage(name)
+        is_damaged = found.state == hound.State.CUT_OFF or (options.to_end and found.state != hound.State.WHOLE)
+        copy = hound._copy_name(name) if options.copy and is_damaged else None
+        if is_damaged and not options.dry_run:
+            found = hound.repair(name, options.durable, options.to_end, copy=copy)
+        info = hound.info(name)
+        seconds = found.frames / info.sample_rate if info.sample_rate else 0.0
+        done = "" if options.dry_run or not is_damaged else f"repaired{f': {copy}' if copy else ''}"
+        if options.json:
+            _print_json(file=name, state=_STATES[found.state], frames=found.frames, seconds=seconds,
+                        bytes_left_over=found.left_over, repaired=bool(done), copy=copy)  # fmt: skip
+        else:
+            print(f"{_STATES[found.state]:18}{found.frames:>11}{seconds:>12.3f}  {name}{'  ' if done else ''}{done}")
+        return not (options.dry_run and is_damaged)
+
+    if not options.json:
+        print(f"{'found':18}{'frames':>11}{'seconds':>12}  file")
+    return _each(names, repair, _failure(options))
+
+
+# cat and convert
+
+
+def _blocks(name: str, reader: hound.Reader, dtype: Optional[Any]) -> Iterator[Any]:
+    """The blocks of a file, with a bar."""
+    with _Bar(name, reader.info.frames) as bar:
+        for block in reader.blocks(_BLOCK, dtype):
+            yield block
+            bar.show(reader.tell())
+
+
+def _cat(options: argparse.Namespace) -> int:
+    def write(name: str) -> bool:
+        with hound.open(_source(name)) as reader:
+            for block in _blocks(name, reader, options.type):
+                sys.stdout.buffer.write(block)
+        return True
+
+    return _each(options.files, write, lambda _, sentence: _complain(sentence))
+
+
+def _mixed(block: "array.array[Any]", channels: int, wanted: int) -> "array.array[Any]":
+    """Samples of so many channels: the mean of all, or the only one in each."""
+    if channels == wanted:
+        return block
+    parts = [block[channel::channels] for channel in range(channels)]
+    mean = parts[0] if channels == 1 else array.array("d", (sum(frame) / channels for frame in zip(*parts)))
+    mixed = array.array(mean.typecode, bytes(len(mean) * wanted * mean.itemsize))
+    for channel in range(wanted):
+        mixed[channel::wanted] = mean
+    return mixed
+
+
+def _form_wanted(info: hound.Info, options: argparse.Namespace) -> hound.Info:
+    channels = options.channels or info.channels
+    if 1 not in (channels, info.channels) and channels != info.channels:
+        raise _Wrong(f"{info.channels} channels aren't made {channels}: only one of all, or all of one")
+    if options.float:
+        return hound.Info(info.sample_rate, channels, 32, True)
+    if options.bits:
+        return hound.Info(info.sample_rate, channels, options.bits)
+    return info._replace(channels=channels)
+
+
+def _type_between(info: hound.Info, wanted: hound.Info, dither: int) -> Optional[Any]:
+    """A type that has all samples of a file exactly, as floats; None where they are written as they are."""
+    if info[1:4] == wanted[1:4] and not dither:
+        return None
+    return "float32" if info.is_float or info.bits_per_sample < 32 else "float64"
+
+
+def _convert(options: argparse.Namespace) -> int:
+    if options.rate:
+        raise _Wrong("the rate isn't changed here: sox and ffmpeg resample")
+    if os.path.exists(options.target) and not options.overwrite:
+        raise _Wrong(f"{options.target} exists: --overwrite replaces it")
+    with hound.open(_source(options.source)) as reader, hound._replaced(options.target, options.durable) as part:
+        info = reader.info
+        wanted = _form_wanted(info, options)
+        dither = options.seed if options.dither else 0
+        dtype = _type_between(info, wanted, dither)
+        with hound.create(part, like=wanted, exclusive=True, durable=options.durable, dither=dither) as writer:
+            for block in _blocks(options.source, reader, dtype):
+                writer.write(_mixed(block, info.channels, wanted.channels))
+    if writer.clipped:
+        _complain(f"clipped samples: {writer.clipped}")
+    return 0
+
+
+# record
+
+
+class _Stop:
+    """Whether SIGINT or SIGTERM came. After the first one they end the program again."""
+
+    def __init__(self) -> None:
+        self.came = False
+        self._before = {number: signal.signal(number, self._note) for number in (signal.SIGINT, signal.SIGTERM)}
+
+    def _note(self, *_: Any) -> None:
+        self.came = True
+        self.restore()
+
+    def restore(self) -> None:
+        for number, handler in self._before.items():
+            signal.signal(number, handler)
+
+
+def _has_input(seconds: float) -> bool:
+    """Whether standard input has bytes, or has ended, within this time. Windows can't say so of a pipe."""
+    return os.name == "nt" or bool(select.select([sys.stdin.buffer], [], [], max(seconds, 0))[0])
+
+
+def _recorded(writer: hound.Writer, every: float) -> int:
+    """Records standard input, with a checkpoint in each interval, until it ends or a signal comes: how many bytes of a
+    frame were left."""
+    stop, held, last, counted = _Stop(), b"", time.monotonic(), writer.tell()
+    channels, spec = writer.info.channels, conversion.spec_like(writer.info)
+    size = channels * spec.bytes_per_sample
+    try:
+        while not stop.came:
+            if time.monotonic() - last >= every:
+                if counted != writer.tell():
+                    writer.flush()
+                last, counted = time.monotonic(), writer.tell()
+            if not _has_input(last + every - time.monotonic()):
+                continue
+            piece = os.read(sys.stdin.fileno(), _BLOCK)
+            if not piece:
+                break
+            held += piece
+            count = len(held) // size
+            writer.write(streams.decoded(held, count * channels, spec))
+            held = held[count * size :]
+    finally:
+        stop.restore()
+    return len(held)
+
+
+def _opened_to_record(options: argparse.Namespace) -> hound.Writer:
+    given = options.rate, options.channels, options.bits
+    if options.append:
+        if any(given) or options.float:
+            raise _Wrong("with --append the file says what its samples are")
+        return hound.append_to(options.target, options.durable)
+    if not all(given):
+        raise _Wrong("--rate, --channels and --bits are needed, or --append")
+    return hound.create(options.target, *given, options.durable, options.float, exclusive=not options.overwrite)
+
+
+def _record(options: argparse.Namespace) -> int:
+    with _opened_to_record(options) as writer:
+        left = _recorded(writer, options.checkpoint)
+    info = writer.info
+    print(f"{options.target}: {_form(info)}, {info.frames} frames, {info.duration:.3f} s", file=sys.stderr)
+    if left:
+        _complain(f"the last {left} bytes are no whole frame")
+    return 1 if left else 0
+
+
+# The arguments
+
+
+def _from(least: int) -> Callable[[str], int]:
+    """What takes an integer from this one on."""
+
+    def parse(text: str) -> int:
+        if not text.isdecimal() or int(text) < least:
+            raise argparse.ArgumentTypeError(f"{text} isn't an integer from {least} on")
+        return int(text)
+
+    return parse
+
+
+_positive = _from(1)
+
+
+def _file(text: str) -> str:
+    if text == "-":
+        raise argparse.ArgumentTypeError("it has to be a file, whose sizes are written at the end")
+    return text
+
+
+def _form_of(text: str) -> hound.Info:
+    """What RATE,CHANNELS,BITS[f] says."""
+    parts, is_float = text[: len(text) - text.endswith("f")].split(","), text.endswith("f")
+    if len(parts) != 3:
+        raise argparse.ArgumentTypeError(f"{text} isn't RATE,CHANNELS,BITS or RATE,CHANNELS,BITSf")
+    rate, channels, bits = map(_positive, parts)
+    return hound.Info(rate, channels, bits, is_float, data_start=lost.usual_start())
+
+
+def _seconds(text: str) -> float:
+    with contextlib.suppress(ValueError):
+        if 0 < float(text) < 1e6:
+            return float(text)
+    raise argparse.ArgumentTypeError(f"{text} is no time")
+
+
+def _parser() -> argparse.ArgumentParser:
+    parser = argparse.ArgumentParser("hound-wav", description="Reads, repairs, converts and records WAV files.", epilog=_STATUS)
+    parser.add_argument("--version", action="version", version=f"hound-wav {hound.__version__}")
+    commands = parser.add_subparsers(dest="command", required=True, metavar="COMMAND")
+
+    def command(name: str, run: Callable[[argparse.Namespace], int], words: str) -> Callable[..., Any]:
+        one = commands.add_parser(name, help=words, description=words[0].upper() + words[1:] + ".", epilog=_STATUS)
+        one.set_defaults(run=run)
+        return one.add_argument
+
+    flag: Dict[str, Any] = {"action": "store_true"}
+    add = command("info", _info, "say what files are, and whether they are damaged")
+    add("files", nargs="+", metavar="FILE", help="or a folder, of whose .wav files all are meant; - is standard input")
+    add("--json", help="print a JSON object in a line for each file", **flag)
+
+    add = command("repair", _repair, "repair files whose recording was cut off, in place: copy what can't be replaced, or use --copy")
+    add("files", nargs="+", metavar="FILE", help="or a folder, of whose .wav files a table is printed")
+    add("--dry-run", help="only say what would be repaired: then damage is status 1", **flag)
+    add("--to-end", help="take chunks after the data for samples, too", **flag)
+    add("--copy", help="leave each damaged file as it is, and repair a copy NAME.repaired.wav", **flag)
+    add("--durable", help="sync what is written", **flag)
+    add("--json", help="print a JSON object in a line for each file", **flag)
+    add("--like", type=_form_of, metavar="RATE,CHANNELS,BITS[f]", help="for a lost header: copy such samples (f: floats) to NAME.repaired.wav")
+    add("--guess", help="for a lost header: guess channels and bits by what would be smooth", **flag)
+    add("--rate", type=_positive, default=44100, help="the rate with --guess, since no guess finds it (44100)")
+    add("--skip", type=_from(0), metavar="BYTES", help="with --like and --guess: how many come before the samples (those of a header of 16 bits)")
+
+    add = command("cat", _cat, "write raw samples to standard output: int16, int32 where they are wider, or float32")
+    add("files", nargs="+", metavar="FILE", help="- is standard input")
+    add("--type", choices=["int8", "int16", "int32", "float32", "float64"], help="of the samples; floats have the full scale 1")
+
+    add = command("convert", _convert, "write the samples of a file to a new one, in another form")
+    add("source", metavar="IN", help="- is standard input")
+    add("target", metavar="OUT", type=_file, help="gets its name when it is whole")
+    form = {"choices": [8, 16, 24, 32], "type": int}
+    add("--bits", help="integers of so many bits: rounded, and clipped, which is said", **form)
+    add("--float", help="floats of 32 bits", **flag)
+    add("--channels", type=_positive, help="the mean of all as one, or one in all")
+    add("--dither", help="add triangular noise before rounding", **flag)
+    add("--seed", type=_positive, default=1, help="of that noise (1)")
+    add("--rate", type=_positive, help="isn't changed: it is an error")
+    add("--overwrite", help="replace OUT if it is there", **flag)
+    add("--durable", help="sync what is written", **flag)
+
+    add = command("record", _record, "record raw samples from standard input, as the file stores them: little-endian, those of 8 bits unsigned")
+    add("target", metavar="OUT", type=_file, help="has all samples up to the last checkpoint if the program is killed; Ctrl-C ends it well")
+    add("--rate", type=_positive)
+    add("--channels", type=_positive)
+    add("--bits", **form)
+    add("--float", help="with 32 bits", **flag)
+    add("--append", help="continue a file", **flag)
+    add("--overwrite", help="empty OUT if it is there", **flag)
+    add("--durable", help="sync each checkpoint", **flag)
+    add("--checkpoint", type=_seconds, default=1.0, metavar="SECONDS", help="make one so often (1)")
+    return parser
+
+
+def _end_by(number: Optional[int]) -> int:
+    """Ends the program by a signal, as if it weren't handled."""
+    if number is not None and os.name != "nt":
+        signal.signal(number, signal.SIG_DFL)
+        os.kill(os.getpid(), number)
+    with contextlib.suppress(OSError):  # Python would write the rest to standard output.
+        os.dup2(os.open(os.devnull, os.O_WRONLY), sys.stdout.fileno())
+    return 1
+
+
+def main(arguments: Optional[List[str]] = None) -> int:
+    """Does what the arguments say, and returns the status."""
+    # What is closed is like an empty file, and names that are no text of this system are written as they are.
+    sys.stdin, sys.stdout = sys.stdin or io.open(os.devnull), sys.stdout or io.open(os.devnull, "w")
+    sys.stdout.reconfigure(errors="surrogateescape")  # type: ignore[attr-defined]
+    options = _parser().parse_args(arguments)
+    try:
+        with warnings.catch_warnings():
+            warnings.simplefilter("ignore", RuntimeWarning)
+            status: int = options.run(options)
+        sys.stdout.flush()
+        return status
+    except _Wrong as error:
+        _complain(str(error))
+        return 2
+    except BrokenPipeError:
+        return _end_by(getattr(signal, "SIGPIPE", None))
+    except KeyboardInterrupt:
+        return _end_by(signal.SIGINT)
+    except (OSError, ValueError) as error:
+        _complain(_sentence(error))
+        return 1

@@ -1,0 +1,305 @@
+"""Samples as callers give and take them: their types, and floats whose full scale is 1."""
+import array
+import ctypes
+import os
+import random
+import struct
+import sys
+import warnings
+from typing import Any, Callable, Dict, Iterator, List, NamedTuple, Optional, Tuple
+
+from . import _POINTER, _SIZE, _SPARE, Cause, HoundError, Info, _checked, _function, _integer, _Spec
+
+__all__ = [
+    "CODES", "Given", "Scale", "TYPES", "address", "check_columns", "collected", "form_of", "kind_of", "noise_of", "shaped",
+    "spec_like", "type_of",
+]  # fmt: skip
+
+
+class Type(NamedTuple):
+    """A type of samples: the code of its arrays, the calls that read and write it, and the bits of its files."""
+
+    code: str
+    kind: str
+    bits: int
+
+
+TYPES = {
+    "int8": Type("b", "i16", 8),
+    "int16": Type("h", "i16", 16),
+    "int32": Type("i", "i32", 32),
+    "int64": Type("q", "i32", 16),  # It has the values of narrower ones.
+    "float32": Type("f", "f32", 32),
+    "float64": Type("d", "f32", 32),
+}
+CODES = {"i8": "b", "i16": "h", "i32": "i", "f32": "f"}
+_LIBRARYS = ("int16", "int32", "float32")
+_FORMATS = {("l", 4): "int32", ("l", 8): "int64"}
+_FORMATS.update(((form.code, array.array(form.code).itemsize), name) for name, form in TYPES.items())
+_SPELLINGS = {"i1": "int8", "i2": "int16", "i4": "int32", "f4": "float32", "f8": "float64", "float": "float64"}
+READ = "int8, int16, int32, float32 and float64 are read"
+GIVEN = "int8, int16, int32, int64, float32, float64 and lists are written"
+# How many samples are converted at once.
+_BLOCK = 1 << 16
+
+_to_f32 = _function("to_f32", _POINTER, _SIZE, ctypes.c_uint16, _POINTER, _SIZE)
+_from_f32 = _function("from_f32", _POINTER, _SIZE, ctypes.c_uint16, _POINTER, _SIZE, _POINTER)
+
+
+class address:  # noqa: N801
+    """The address and the number of bytes of a buffer, or of a copy where the buffer is read-only, not
+    contiguous or not aligned. They live as long as the context."""
+
+    def __init__(self, buffer: Any, align: int = 1) -> None:
+        self._buffer, self._align = buffer, align
+
+    def __enter__(self) -> Tuple[Any, int]:
+        self._kept: Any = None
+        view = self._view = memoryview(self._buffer)
+        if view.nbytes == 0:
+            return ctypes.addressof(_SPARE), 0
+        if view.c_contiguous and not view.readonly:
+            start = ctypes.c_char.from_buffer(view)
+            if ctypes.addressof(start) % self._align == 0:
+                self._kept = start
+                return ctypes.addressof(start), view.nbytes
+            del start
+        self._kept = self._buffer if isinstance(self._buffer, bytes) else view.tobytes()
+        return ctypes.cast(ctypes.c_char_p(self._kept), _POINTER).value, len(self._kept)
+
+    def __exit__(self, *_: Any) -> None:
+        self._kept = None
+        self._view.release()
+
+
+def form_of(view: memoryview, name: str, taken: str) -> Tuple[str, Optional[int]]:
+    """The type of samples, and how many columns they have if they have two dimensions."""
+    dtype = _FORMATS.get((view.format.lstrip("@=<"), view.itemsize))
+    if dtype is None:
+        raise TypeError(f"{name} has the format '{view.format}': {taken}, in this machine's byte order")
+    if view.ndim not in (1, 2):
+        raise ValueError(f"{name} has {view.ndim} dimensions, and not one or two")
+    shape: Any = view.shape
+    return dtype, shape[1] if view.ndim == 2 else None
+
+
+def check_columns(name: str, columns: Optional[int], channels: int) -> None:
+    if columns not in (None, channels):
+        raise ValueError(f"{name} has {columns} columns, and there are {channels} channels")
+
+
+def _name_of(dtype: Any) -> Any:
+    """The name of a type, also of one of numpy's: `numpy.float32`, or `numpy.dtype("<f4")`."""
+    name = dtype.__name__ if isinstance(dtype, type) else getattr(dtype, "str", dtype)
+    if not isinstance(name, str):
+        return None
+    return _SPELLINGS.get(name.lstrip("<=|"), name)
+
+
+def type_of(dtype: Any, spec: _Spec) -> str:
+    """The name of a type that is requested, or of the narrowest from 16 bits on that reads a file."""
+    if dtype is None:
+        return "float32" if spec.sample_format else ("int16" if spec.bits_per_sample <= 16 else "int32")
+    name = _name_of(dtype)
+    if name not in TYPES or name == "int64":
+        raise TypeError(f"dtype is {dtype!r}: {READ}")
+    return str(name)
+
+
+def _is_scaled(dtype: str, spec: _Spec) -> bool:
+    """Whether integers are floats, or become floats, whose full scale is 1."""
+    return TYPES[dtype].kind == "f32" and not spec.sample_format
+
+
+def kind_of(dtype: str, spec: _Spec) -> str:
+    """The calls that decode the samples of a file for a type."""
+    if _is_scaled(dtype, spec):
+        return "i32"
+    return "i8" if dtype == "int8" else TYPES[dtype].kind
+
+
+def _taken(code: str, first: int, count: int, take: Callable[[int, Any, int], int]) -> "array.array[Any]":
+    samples = array.array(code, bytes(count * array.array(code).itemsize))
+    with address(samples) as (out, _):
+        count = take(first, out, count)
+    del samples[count:]
+    return samples
+
+
+def _floats(integers: "array.array[int]", bits: int, dtype: str) -> "array.array[float]":
+    """Integers divided by 2^(bits - 1) by the library, which rounds those of more than 24 bits: for float64 these are
+    multiplied here."""
+    if dtype == "float64" and bits > 24:
+        scale = 2.0 ** (1 - bits)
+        return array.array("d", [integer * scale for integer in integers])
+    floats = array.array("f", bytes(4 * len(integers)))
+    with address(integers) as (start, _), address(floats) as (out, _):
+        _checked(_to_f32(start, len(integers), bits, out, len(floats)))
+    return array.array("d", floats.tolist()) if dtype == "float64" else floats
+
+
+def collected(
+    count: int, dtype: str, spec: _Spec, kind: str, take: Callable[[int, Any, int], int]
+) -> "array.array[Any]":
+    """At most so many samples of a file in a type. `take` decodes samples by calls of this kind: those from a number on,
+    to an address, at most so many, and returns how many there were."""
+    if not _is_scaled(dtype, spec):
+        samples = _taken(CODES[kind], 0, count, take)
+        if dtype == "int8" and kind != "i8":
+            return array.array("b", samples.tobytes()[::2])
+        return array.array("d", samples) if dtype == "float64" else samples
+    samples = array.array(TYPES[dtype].code)
+    for first in range(0, count, _BLOCK):
+        samples += _floats(_taken(CODES[kind], first, min(_BLOCK, count - first), take), spec.bits_per_sample, dtype)
+    return samples
+
+
+def shaped(samples: "array.array[Any]", channels: int, always_2d: bool) -> Any:
+    """Samples as they are, or as frames by channels."""
+    if not always_2d:
+        return samples
+    frames = len(samples) // channels
+    # A view has no shape with 0 frames: one more is cut off again.
+    samples.frombytes(bytes(channels * samples.itemsize))
+    return memoryview(samples).cast("B").cast(samples.typecode, [frames + 1, channels])[:frames]
+
+
+def spec_like(info: Info) -> _Spec:
+    """The spec of a file, with the bytes of its containers."""
+    width = info.bytes_per_sample or (info.bits_per_sample + 7) // 8
+    return _Spec(info.sample_rate, info.channels, info.bits_per_sample, width, info.is_float)
+
+
+def noise_of(dither: Any) -> Optional[random.Random]:
+    """The generator of the noise of a seed, if it isn't 0."""
+    seed = _integer("dither", dither, 0, sys.maxsize)
+    return random.Random(seed) if seed else None
+
+
+class Scale:
+    """Floats whose full scale is 1 as integers of so many bits: `clipped` counts those that these don't hold. With a
+    generator each gets noise of a triangular distribution, of at most one step."""
+
+    def __init__(self, bits: int, noise: Optional[random.Random] = None) -> None:
+        self._bits, self._noise, self.clipped = bits, noise, 0
+
+    def integers(self, floats: "array.array[float]") -> "array.array[int]":
+        if floats.typecode == "f" and not self._noise:
+            return self._by_library(floats)
+        values: Any = map((2.0 ** (self._bits - 1)).__mul__, floats)
+        if self._noise:
+            some = self._noise.random
+            values = [value + some() - some() for value in values]
+        return self._rounded(list(values))
+
+    def _by_library(self, floats: "array.array[float]") -> "array.array[int]":
+        integers, clipped = array.array("i", bytes(4 * len(floats))), ctypes.c_uint64()
+        with address(floats) as (start, _), address(integers) as (out, _):
+            _checked(_from_f32(start, len(floats), self._bits, out, len(integers), ctypes.byref(clipped)))
+        self.clipped += clipped.value
+        return integers
+
+    def _rounded(self, values: List[float]) -> "array.array[int]":
+        """The same as the library does with float32, without rounding twice: to the nearest, of two to the even one."""
+        low, high = -(1 << (self._bits - 1)), (1 << (self._bits - 1)) - 1
+        try:
+            integers = array.array("i", [round(value) for value in values])
+            if not integers or low <= min(integers) <= max(integers) <= high:
+                return integers
+        except (OverflowError, ValueError):
+            pass  # One is out of range, or isn't finite.
+        return array.array("i", (self._within(value, low, high) for value in values))
+
+    def _within(self, value: float, low: int, high: int) -> int:
+        if value != value:
+            return 0
+        number = round(min(max(value, low - 1), high + 1))
+        self.clipped += not low <= number <= high
+        return min(max(number, low), high)
+
+    def warn(self, count: int) -> None:
+        """Warns the caller of the package where samples were clipped."""
+        if self.clipped:
+            frame, level, folder = sys._getframe(), 1, os.path.dirname(__file__)
+            while frame.f_back and frame.f_code.co_filename.startswith(folder):
+                frame, level = frame.f_back, level + 1
+            warnings.warn(f"{self.clipped} of {count} samples were clipped", RuntimeWarning, level)
+
+
+def _narrowed(samples: "array.array[int]") -> "array.array[int]":
+    try:
+        return array.array("i", samples)
+    except OverflowError:
+        raise HoundError(Cause.TOO_WIDE) from None
+
+
+def _rounded(samples: "array.array[float]") -> "array.array[float]":
+    """The nearest float32; an error where it would be infinite and the sample isn't."""
+    try:
+        return array.array("f", struct.pack(f"<{len(samples)}f", *samples))
+    except OverflowError:
+        raise HoundError(Cause.TOO_WIDE) from None
+
+
+# What makes a type of the library of another one.
+_CONVERSIONS: Dict[str, Any] = {"int8": lambda samples: array.array("h", samples), "int64": _narrowed, "float64": _rounded}
+
+
+def _array_of(samples: Any) -> Any:
+    """The numbers of a list, which are integers unless one is a float."""
+    try:
+        return array.array("q", samples)
+    except TypeError:
+        return array.array("d", samples)
+    except OverflowError:
+        raise HoundError(Cause.TOO_WIDE) from None
+
+
+def _buffer_of(samples: Any) -> Any:
+    """The samples of a list or a tuple, or of one of frames; and what isn't one."""
+    if not isinstance(samples, (list, tuple)):
+        return samples
+    if not samples or not isinstance(samples[0], (list, tuple)):
+        return _array_of(samples)
+    columns = len(samples[0])
+    if columns == 0 or any(len(frame) != columns for frame in samples):
+        raise ValueError("samples has frames of different lengths, or of none")
+    flat = _array_of([sample for frame in samples for sample in frame])
+    return memoryview(flat).cast("B").cast(flat.typecode, [len(samples), columns])
+
+
+class Given:
+    """Samples that a caller gives to be written."""
+
+    def __init__(self, samples: Any, name: str = "samples") -> None:
+        self._name, self._view = name, memoryview(_buffer_of(samples))
+        self.dtype, self.columns = form_of(self._view, name, GIVEN)
+        self.form, self.count = TYPES[self.dtype], self._view.nbytes // self._view.itemsize
+
+    def __enter__(self) -> "Given":
+        return self
+
+    def __exit__(self, *_: Any) -> None:
+        self._view.release()
+
+    def scale(self, spec: _Spec, noise: Optional[random.Random]) -> Scale:
+        """What scales the samples for a file; an error where noise can't be added to them."""
+        if noise and not _is_scaled(self.dtype, spec):
+            raise ValueError("dither is for floats that become integers")
+        return Scale(spec.bits_per_sample, noise)
+
+    def parts(self, spec: _Spec, scale: Scale) -> Iterator[Tuple[str, Any, int]]:
+        """The samples as the library takes them: the calls, an address, and how many. They are one part, or where they
+        are converted, parts of whole frames."""
+        check_columns(self._name, self.columns, spec.channels)
+        if self.dtype in _LIBRARYS and not _is_scaled(self.dtype, spec):
+            with address(self._view, self._view.itemsize) as (start, _):
+                yield self.form.kind, start, self.count
+            return
+        is_scaled = _is_scaled(self.dtype, spec)
+        kind, convert = ("i32", scale.integers) if is_scaled else (self.form.kind, _CONVERSIONS[self.dtype])
+        rows = max(_BLOCK // spec.channels, 1) * (1 if self.columns else spec.channels)
+        for first in range(0, len(self._view), rows):
+            part = convert(array.array(self.form.code, self._view[first : first + rows].tobytes()))
+            with address(part) as (start, _):
+                yield kind, start, len(part)

@@ -1,0 +1,311 @@
+"""The command hound-wav, as it is called, and files whose header is lost."""
+import array
+import fractions
+import io
+import json
+import math
+import os
+import random
+import signal
+import struct
+import subprocess
+import sys
+import time
+import unittest
+import wave
+
+import hound_bindings as hound
+from hound_bindings import Info, State
+from test_files import CHUNK, by_hand
+from test_floats import WIDE, Folder, as_float32, nearest, silently, wave_of
+from test_streams import SAMPLES, content_of, made_by_wave
+
+FORMS = [(bits, is_float, channels) for bits, is_float in ((8, False), (16, False), (24, False), (32, False), (32, True)) for channels in (1, 2)]
+
+
+def tones(channels, frames, some):
+    """Some sines in each channel, with a little noise, and a channel that is much like the other one."""
+    partials = [(some.uniform(0.005, 0.08), some.uniform(0, 6)) for _ in range(4)]
+    for frame in range(frames):
+        both = sum(math.sin(frame * step + phase) for step, phase in partials) / 5
+        for channel in range(channels):
+            yield 0.8 * both + 0.2 * math.sin(frame * 0.03 + channel) + some.gauss(0, 0.001)
+
+
+def stored(sample, bits, is_float):
+    if is_float:
+        return struct.pack("<f", sample)
+    value = max(-(1 << bits - 1), min((1 << bits - 1) - 1, round(sample * (1 << bits - 1))))
+    return bytes([value + 128]) if bits == 8 else (value % (1 << bits)).to_bytes(bits // 8, "little")
+
+
+class Lost(Folder):
+    def test_a_guess(self):
+        for turn, (bits, is_float, channels) in enumerate([*FORMS, *FORMS[1:], *FORMS]):
+            some = random.Random(turn)
+            level = (0.9, 0.2, 0.05 if bits > 8 else 0.5)[turn // 10]
+            data = b"".join(stored(level * sample, bits, is_float) for sample in tones(channels, 9000, some))
+            head = turn % 2 * 44  # Where nothing is said it is taken for one of 44 bytes.
+            self.leave(bytes(head) + data)
+            found = hound.guess(self.path, rate=8000) if head else hound.guess(self.path, 0, 8000)
+            self.assertEqual(found, (8000, channels, bits, is_float, 0, head, 0), turn)
+        for content in bytes(44), bytes(60000), b"":
+            self.leave(content)
+            self.assertRaisesRegex(ValueError, "a.wav: there is nothing to guess by", lambda: hound.guess(self.path))
+
+    def test_a_header_that_is_lost(self):
+        for bits, values in WIDE.items():
+            good = wave_of(bits, values * 60000)
+            data = good[44 : 44 + 300000 * bits // 8]
+            for head, skip, more in (bytes(44), 44, b""), (b"", 0, b""), (bytes(7), 7, b"\1" * (bits > 8)):
+                self.leave(head + data + more)
+                found = hound.repair(self.path, like=Info(8000, 1, bits), skip=skip)
+                self.assertEqual(found, (State.CUT_OFF, 300000, len(more)))
+                copy = self.path[:-4] + ".repaired.wav"
+                self.assertEqual(hound.read_with_info(copy), (array.array("h" if bits <= 16 else "i", values * 60000), hound.info(copy)))
+                self.assertEqual(hound.info(copy)[:5], (8000, 1, bits, False, 300000))
+                self.assertEqual(content_of(self.path), head + data + more)
+                self.assertRaises(FileExistsError, lambda: hound.repair(self.path, like=Info(8000, 1, bits)))
+                os.unlink(copy)
+        self.leave(bytes(44) + SAMPLES.tobytes())
+        like = hound.info(made_by_wave(SAMPLES))  # It says where the samples begin.
+        hound.repair(self.path, like=like, copy=self.path + "2")
+        self.assertEqual(content_of(self.path + "2"), made_by_wave(SAMPLES))
+
+    def test_an_error_leaves_no_copy(self):
+        self.leave(bytes(100))
+        self.fails(hound.Cause.NOT_WRITABLE, lambda: hound.repair(self.path, like=Info(8000, 1, 12)))
+        self.assertRaises(TypeError, lambda: hound.repair(self.path, like="b.wav"))
+        self.assertRaises(TypeError, lambda: hound.repair(io.BytesIO(), like=Info(8000, 1, 16)))
+        self.fails(hound.Cause.NO_RIFF_TAG, lambda: hound.repair(self.path, copy=self.path + "2"))
+        self.assertEqual(os.listdir(os.path.dirname(self.path)), ["a.wav"])
+
+
+class Command(Folder):
+    def setUp(self):
+        super().setUp()
+        self.folder = os.path.dirname(self.path)
+
+    def begun(self, *words, **more):
+        env = {**os.environ, "PYTHONPATH": os.path.dirname(os.path.dirname(hound.__file__)), "PYTHONIOENCODING": "utf-8:strict"}
+        words = [sys.executable, "-m", "hound_bindings", *words]
+        return subprocess.Popen(words, cwd=self.folder, env=env, stdout=subprocess.PIPE, stderr=subprocess.PIPE, stdin=subprocess.PIPE, **more)
+
+    def run_command(self, *words, given=b"", status=0, **more):
+        """What the command prints, with this status."""
+        running = self.begun(*words, **more)
+        out, self.said = running.communicate(given, timeout=60)
+        self.assertEqual(running.returncode, status, self.said)
+        self.assertNotIn(b"Traceback", self.said)
+        return out
+
+    def leave_as(self, name, content):
+        os.makedirs(os.path.dirname(os.path.join(self.folder, name)), exist_ok=True)
+        with open(os.path.join(self.folder, name), "wb") as file:
+            file.write(content)
+
+    def content(self, name):
+        return content_of(os.path.join(self.folder, name))
+
+    def test_info(self):
+        whole, cut_off = made_by_wave(SAMPLES), by_hand(bytes(8), 4)
+        self.leave_as("a.wav", whole)
+        self.leave_as("b.wav", cut_off)
+        self.assertEqual(self.run_command("info", "a.wav"), b"a.wav: 8000 Hz, 2 channels, 16 bits, 5 frames, 0.001 s, whole\n")
+        self.assertIn(b"1 channel, 16 bits, 2 frames, 0.000 s, cut off (4 frames are held)", self.run_command("info", "b.wav", status=1))
+        self.assertEqual(self.run_command("info", ".", status=1).count(b"\n"), 2)
+        rows = self.run_command("info", "--json", "a.wav", "none.wav", "b.wav", "-", given=whole[:50], status=1).splitlines()
+        first, second, third, last = map(json.loads, rows)
+        self.assertEqual((first["frames"], first["seconds"], first["state"], third["frames_held"]), (5, 5 / 8000, "whole", 4))
+        self.assertEqual(second, {"file": "none.wav", "error": "none.wav: No such file or directory"})
+        self.assertEqual((last["frames"], "state" in last), (5, False))
+
+    def test_a_name_that_is_no_text_and_what_is_closed(self):
+        name = os.path.join(os.fsencode(self.folder), b"\xff.wav")
+        with open(name, "wb") as file:
+            file.write(by_hand(bytes(8), 4))
+        self.assertIn(b"\xff.wav", self.run_command("repair", "."))
+        self.assertEqual(content_of(name), by_hand(bytes(8)))
+        self.run_command("record", "b.wav", "--rate", "8000", "--channels", "1", "--bits", "8", preexec_fn=lambda: os.close(0))
+        self.assertEqual(hound.info(os.path.join(self.folder, "b.wav")).frames, 0)
+        self.run_command("info", "b.wav", preexec_fn=lambda: os.close(1))
+
+    def test_repair_of_a_folder(self):
+        cut_off, followed = by_hand(bytes(8), 4), by_hand(b"\1\2", after=CHUNK)
+        before = {"x/a.wav": cut_off, "x/y/b.WAV": by_hand(bytes(2)), "x/c.wav": followed, "x/d.txt": b"text", "x/e.wav": b"RIFX" + bytes(60)}
+        for name, content in before.items():
+            self.leave_as(name, content)
+        for words in ("--dry-run",), ("--dry-run", "--to-end"):
+            out = self.run_command("repair", *words, "x", status=1).decode().splitlines()
+            self.assertEqual([line.split()[-1] for line in out], ["file", "x/a.wav", "x/c.wav", "x/y/b.WAV"])
+            self.assertEqual(self.said, b"hound-wav: x/e.wav: no RIFF tag found\n")
+            self.assertEqual({name: self.content(name) for name in before}, before)
+        out = self.run_command("repair", "--copy", "x", status=1)
+        self.assertIn(b"x/a.wav  repaired: x/a.repaired.wav\n", out)
+        self.assertEqual({name: self.content(name) for name in before}, before)
+        self.assertEqual(self.content("x/a.repaired.wav"), by_hand(bytes(8)))
+        os.unlink(os.path.join(self.folder, "x/e.wav"))
+        rows = list(map(json.loads, self.run_command("repair", "--json", "x").splitlines()))
+        self.assertEqual([(row["file"], row["repaired"]) for row in rows], [("x/a.repaired.wav", False), ("x/a.wav", True), ("x/c.wav", False), ("x/y/b.WAV", False)])
+        self.assertEqual((self.content("x/a.wav"), self.content("x/c.wav")), (by_hand(bytes(8)), followed))
+        self.run_command("repair", "--to-end", "x/c.wav")
+        self.assertEqual(self.content("x/c.wav"), by_hand(b"\1\2" + CHUNK))
+        self.leave_as("z/d.txt", b"")
+        self.run_command("repair", "z", status=2)
+
+    def test_repair_of_a_lost_header(self):
+        data = b"".join(stored(sample, 16, False) for sample in tones(2, 5000, random.Random(1)))
+        self.leave_as("a.wav", bytes(44) + data)
+        self.run_command("repair", "a.wav", status=1)
+        out = self.run_command("repair", "--guess", "--rate", "8000", "--dry-run", "a.wav")
+        self.assertEqual(out, b"a.wav: a guess: 8000 Hz, 2 channels, 16 bits, from byte 44 on\n")
+        self.run_command("repair", "--guess", "--rate", "8000", "a.wav")
+        self.assertEqual(self.content("a.repaired.wav"), made_by_wave(array.array("h", data)))
+        self.assertEqual(self.content("a.wav"), bytes(44) + data)
+        self.run_command("repair", "--guess", "a.wav", status=1)
+        os.unlink(os.path.join(self.folder, "a.repaired.wav"))
+        said = json.loads(self.run_command("repair", "--like", "8000,1,32f", "--skip", "0", "--json", "a.wav"))
+        self.assertEqual((said["copy"], said["frames"], said["is_float"], said["is_guess"]), ("a.repaired.wav", (44 + len(data)) // 4, True, False))
+        self.assertEqual(self.content("a.repaired.wav")[-100:], data[-100:])
+        self.run_command("repair", "--guess", "a.repaired.wav", status=1)
+        self.assertIn(b"its header isn't lost", self.said)
+        for words in ("--like", "8000,2"), ("--like", "a,b,c"), ("--like", "8000,0,16"), ("--guess", "--skip", "-1"), ("--guess", "--rate", "x"):
+            self.run_command("repair", *words, "a.wav", status=2)
+            self.assertIn(b" isn't ", self.said)
+
+    def test_cat(self):
+        for bits, values in WIDE.items():
+            self.leave_as("a.wav", wave_of(bits, values))
+            samples = array.array("h" if bits <= 16 else "i", values)
+            self.assertEqual(self.run_command("cat", "a.wav"), samples.tobytes())
+            exact = array.array("d", [value / 2 ** (bits - 1) for value in values])
+            self.assertEqual(self.run_command("cat", "--type", "float64", "-", given=self.content("a.wav")), exact.tobytes())
+        self.leave_as("b.wav", made_by_wave(SAMPLES)[:-3])
+        self.assertEqual(self.run_command("cat", "b.wav", status=1), SAMPLES[:8].tobytes())
+        self.assertIn(b"b.wav: the header counts a sample that the file does not hold", self.said)
+
+    def test_a_pipe_that_is_closed_and_ctrl_c(self):
+        self.leave_as("a.wav", wave_of(16, [1] * 1000000))
+        running = self.begun("cat", "a.wav")
+        running.stdout.read(10)
+        running.stdout.close()
+        self.assertEqual((running.stderr.read(), running.wait(60)), (b"", -signal.SIGPIPE))
+        running.stderr.close()
+        running.stdin.close()
+        running = self.begun("convert", "-", "b.wav", "--bits", "8")
+        running.stdin.write(self.content("a.wav")[:100000])
+        running.stdin.flush()
+        deadline = time.monotonic() + 30
+        while not any(name.startswith(".hound-") for name in os.listdir(self.folder)) and time.monotonic() < deadline:
+            time.sleep(0.01)
+        running.send_signal(signal.SIGINT)
+        self.assertEqual((running.communicate()[1], running.returncode), (b"", -signal.SIGINT))
+        self.assertEqual(os.listdir(self.folder), ["a.wav"])
+
+    def test_convert(self):
+        self.leave_as("a.wav", wave_of(24, [-(2**23), 2**22, 3 << 15, 1 << 15, 0, 5 << 20], 2))
+        for words, wanted in (
+            (["--bits", "16"], ([-32768, 16384, 384, 128, 0, 5 << 12], 2, 2)),
+            (["--bits", "32"], ([-(2**31), 2**30, 3 << 23, 1 << 23, 0, 5 << 28], 2, 4)),
+            (["--channels", "1"], ([-(1 << 21), 1 << 16, 5 << 19], 1, 3)),
+            (["--bits", "16", "--channels", "1"], ([-8192, 256, 5 << 11], 1, 2)),
+        ):
+            self.run_command("convert", "a.wav", "b.wav", "--overwrite", *words)
+            info = hound.info(os.path.join(self.folder, "b.wav"))
+            found = list(hound.read(os.path.join(self.folder, "b.wav")))
+            self.assertEqual((found, info.channels, info.bytes_per_sample, info.sample_rate), (*wanted, 8000))
+        self.run_command("convert", "a.wav", "f.wav", "--float")
+        self.assertEqual(hound.read(os.path.join(self.folder, "f.wav"))[:3], array.array("f", [-1, 0.5, 3 / 256]))
+        self.run_command("convert", "b.wav", "c.wav", "--channels", "2")
+        self.assertEqual(list(hound.read(os.path.join(self.folder, "c.wav"))), [-8192, -8192, 256, 256, 5 << 11, 5 << 11])
+        some = random.Random(5)
+        for bits in 24, 32:  # Each sample is rounded once: float32 would round those of 32 bits before.
+            values = [some.randrange(-(2**31), 2**31 - 2**16) >> 32 - bits for _ in range(500)] + [(3 << 15) + 1, (2001 << 15) + 1 >> 32 - bits]
+            self.leave_as("w.wav", wave_of(bits, values))
+            self.run_command("convert", "w.wav", "n.wav", "--float", "--overwrite")
+            self.assertEqual(list(hound.read(os.path.join(self.folder, "n.wav"))), as_float32(value / (1 << bits - 1) for value in values))
+            self.run_command("convert", "w.wav", "n.wav", "--bits", "16", "--overwrite")
+            self.assertEqual(list(hound.read(os.path.join(self.folder, "n.wav"))), [nearest(fractions.Fraction(value, 1 << bits - 1), 16) for value in values])
+        self.leave_as("one.wav", hound.to_bytes(array.array("f", [1.5, 0.5]), 8000))
+        self.run_command("convert", "one.wav", "two.wav", "--bits", "16", "--dither", "--seed", "3")
+        self.assertEqual(self.said, b"hound-wav: clipped samples: 1\n")
+        noisy = silently(lambda: hound.to_bytes([1.5, 0.5], 8000, bits=16, dither=3))[0]
+        self.assertEqual(self.content("two.wav"), noisy)
+        before = sorted(os.listdir(self.folder))
+        self.leave_as("torn.wav", made_by_wave(SAMPLES)[:-3])
+        for words, status in ((["--rate", "48000"], 2), ([], 2), (["--channels", "3", "--overwrite"], 2), (["--bits", "12"], 2)):
+            content = self.content("b.wav")
+            self.run_command("convert", "a.wav", "b.wav", *words, status=status)
+            self.assertEqual(self.content("b.wav"), content)
+        self.run_command("convert", "torn.wav", "d.wav", status=1)
+        self.run_command("convert", "a.wav", "-", status=2)
+        self.assertEqual(sorted(os.listdir(self.folder)), sorted(before + ["torn.wav"]))
+
+    def test_record(self):
+        for bits, values in WIDE.items():
+            good = wave_of(bits, values * 20)
+            data = good[44 : 44 + 100 * bits // 8]
+            form = ["--rate", "8000", "--channels", "1", "--bits", str(bits), "--overwrite"]
+            self.run_command("record", "a.wav", *form, given=data[: 40 * bits // 8])
+            self.run_command("record", "a.wav", "--append", given=data[40 * bits // 8 :])
+            self.assertEqual(list(hound.read(self.path)), values * 20)
+            self.assertEqual(self.content("a.wav")[-len(data) :], data)
+        self.run_command("record", "a.wav", "--append", given=bytes(7), status=1)
+        self.assertEqual((hound.info(self.path).frames, b"last 3 bytes" in self.said), (101, True))
+        self.run_command("record", "a.wav", *form[:-1], status=1)
+        self.run_command("record", "a.wav", "--append", "--rate", "8000", status=2)
+        self.run_command("record", "b.wav", "--rate", "8000", status=2)
+        self.run_command("record", "a.wav", "--append", "--checkpoint", "0", status=2)
+        self.assertEqual(os.listdir(self.folder), ["a.wav"])
+
+    def test_checkpoints_and_the_end_by_a_signal(self):
+        for number in signal.SIGINT, signal.SIGTERM, signal.SIGKILL:
+            running = self.begun("record", "a.wav", "--rate", "8000", "--channels", "2", "--bits", "16", "--overwrite", "--checkpoint", "0.05")
+            for first, end, frames in (0, 9, 2), (9, 20, 5):
+                running.stdin.write(SAMPLES.tobytes()[first:end])
+                running.stdin.flush()
+                self.wait_for(frames)  # No more bytes come.
+            running.send_signal(number)
+            said = running.communicate(timeout=30)[1]
+            self.assertEqual(running.returncode, -number if number == signal.SIGKILL else 0, said)
+            self.assertEqual(content_of(self.path), made_by_wave(SAMPLES))
+
+    def wait_for(self, frames):
+        deadline, found = time.monotonic() + 30, None
+        while found != frames and time.monotonic() < deadline:
+            time.sleep(0.01)
+            try:
+                found = hound.info(self.path).frames
+            except (OSError, ValueError):
+                pass
+        self.assertEqual(found, frames)
+
+    def test_a_bar_on_a_terminal(self):
+        pty = __import__("pty")
+        self.leave_as("a.wav", wave_of(16, [1] * 3000))
+        for terminal in False, True:
+            outer, inner = pty.openpty()
+            running = subprocess.Popen(
+                [sys.executable, "-c", "import time, hound_bindings.command as c; t = time.monotonic; n = iter(range(99)); "
+                 "time.monotonic = lambda: t() + 5 * next(n); c.main(['cat', 'a.wav'])"],
+                cwd=self.folder, env={**os.environ, "PYTHONPATH": os.path.dirname(os.path.dirname(hound.__file__))},
+                stdout=subprocess.PIPE, stderr=inner if terminal else subprocess.PIPE,
+            )  # fmt: skip
+            out, said = running.communicate(timeout=60)
+            os.close(inner)
+            if terminal:
+                said = os.read(outer, 1000)
+            os.close(outer)
+            self.assertEqual((len(out), b"100% a.wav" in said), (6000, terminal))
+
+    def test_help(self):
+        self.assertIn(b"status 0", self.run_command("--help"))
+        for name in "info", "repair", "cat", "convert", "record":
+            self.assertIn(b"usage: hound-wav " + name.encode(), self.run_command(name, "--help"))
+        self.assertEqual(self.run_command("--version"), f"hound-wav {hound.__version__}\n".encode())
+        self.run_command(status=2)
+        self.run_command("info", status=2)
+
+
+if __name__ == "__main__":
+    unittest.main()

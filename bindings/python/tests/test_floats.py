@@ -1,0 +1,433 @@
+"""Floats whose full scale is 1, the spec that travels with samples, and files of objects. What is expected is computed by
+hand, by the module `wave`, or by fractions."""
+import array
+import contextlib
+import fractions
+import io
+import itertools
+import math
+import os
+import random
+import struct
+import tempfile
+import tracemalloc
+import unittest
+import unittest.mock
+import warnings
+import wave
+
+import hound_bindings as hound
+from hound_bindings import Cause, Info
+from interruptions import Interrupted, Interruption
+from test_files import by_hand, two_d
+from test_streams import SAMPLES, Case, content_of, made_by_wave
+
+WIDE = {8: [-128, -1, 0, 1, 127], 16: [-32768, -1, 0, 12345, 32767], 24: [-(2**23), -1, 0, 1234567, 2**23 - 1], 32: [-(2**31), -1, 0, 123456789, 2**31 - 1]}
+TOP = 32768.0
+
+
+def wave_of(bits, values, channels=1):
+    """The bytes of a file of these integers, by `wave`."""
+    top, width, file = 1 << (bits - 1), bits // 8, io.BytesIO()
+    with wave.open(file, "wb") as other:
+        other.setparams((channels, width, 8000, 0, "NONE", ""))
+        other.writeframes(b"".join((value + 128 if width == 1 else value % (2 * top)).to_bytes(width, "little") for value in values))
+    return file.getvalue()
+
+
+def nearest(sample, bits):
+    """The integer of a float, computed by fractions: rounded, of two to the even one, and clipped."""
+    top = 1 << (bits - 1)
+    return max(-top, min(top - 1, round(fractions.Fraction(sample) * top)))
+
+
+def as_float32(values):
+    return [struct.unpack("<f", struct.pack("<f", value))[0] for value in values]
+
+
+def silently(call):
+    """What a call returns, and the texts of its warnings."""
+    with warnings.catch_warnings(record=True) as caught:
+        warnings.simplefilter("always")
+        return call(), [(str(one.message), one.filename) for one in caught]
+
+
+class Folder(Case):
+    def setUp(self):
+        folder = tempfile.TemporaryDirectory()
+        self.addCleanup(folder.cleanup)
+        self.path = os.path.join(folder.name, "a.wav")
+
+    def leave(self, content):
+        with open(self.path, "wb") as file:
+            file.write(content)
+
+
+class Floats(Folder):
+    def test_integers_are_read_as_floats(self):
+        for bits, values in WIDE.items():
+            self.leave(wave_of(bits, values))
+            exact = [value / 2 ** (bits - 1) for value in values]
+            for file in self.path, content_of(self.path), io.BytesIO(content_of(self.path)):
+                self.assertEqual(hound.read(file, dtype="float64"), array.array("d", exact))
+                if hasattr(file, "seek"):
+                    file.seek(0)
+                self.assertEqual(hound.read(file, 1, dtype="float32"), array.array("f", as_float32(exact[1:])))
+            with hound.open(self.path) as reader:
+                self.assertEqual([list(block) for block in reader.blocks(2, "float64")], [exact[:2], exact[2:4], exact[4:]])
+            block = array.array("f", bytes(8))
+            self.assertEqual((hound.read_into(self.path, block, 3), list(block)), (2, as_float32(exact[3:])))
+        floats = hound.to_bytes(array.array("f", [0.25, 3.5]), 8000)  # They stay as they are.
+        self.assertEqual([list(hound.read(floats, dtype=dtype)) for dtype in ("float32", "float64")], [[0.25, 3.5]] * 2)
+
+    def test_files_longer_than_what_is_converted_at_once(self):
+        some = random.Random(3)
+        values = [some.randrange(-32768, 32768) for _ in range(3 * (1 << 16) + 6)]
+        content = wave_of(16, values, 3)
+        for count, rest in (len(values), 0), (196608, 0), (131073, 0), (131073, 3):
+            source = content[: 44 + 2 * count + rest]
+            exact = array.array("d", [value / TOP for value in values[:count]])
+            self.assertEqual(hound.read(source, dtype="float64"), exact)
+            self.assertEqual(hound.open(io.BytesIO(source)).read(dtype="float32"), array.array("f", exact))
+        for samples in array.array("f", exact), exact, list(exact), two_d(exact, 3), array.array("q", values[:count]):
+            self.assertEqual(hound.read(hound.to_bytes(samples, 8000, 3, 16), dtype="float64"), exact)
+
+    def test_floats_are_written_as_integers(self):
+        some = random.Random(4)
+        for bits in 8, 16, 24:
+            step = 2.0 ** (1 - bits)
+            values = [some.uniform(-1, 1) for _ in range(500)] + [0.5 * step, 1.5 * step, 2.5 * step, -0.5 * step, -1.0, 1 - step]
+            for samples in array.array("f", values), array.array("d", values), values:
+                content = hound.to_bytes(samples, 8000, bits=bits)
+                self.assertEqual(list(hound.read(content, dtype="int32")), [nearest(sample, bits) for sample in samples])
+        every = array.array("d", [value / 2**31 for value in WIDE[32]])
+        exact = hound.to_bytes(every, 8000, like=Info(8000, 1, 32))
+        self.assertEqual(list(hound.read(exact)), WIDE[32])
+
+    def test_what_is_clipped_is_counted(self):
+        values = [1.0, 1 - 2**-17, -1.0, -1.0001, math.inf, -math.inf, math.nan, 1e300, 0.5, 32767.49 / TOP]
+        wanted = [32767, 32767, -32768, -32768, 32767, -32768, 0, 32767, 16384, 32767]
+        for samples, clipped in (array.array("f", values), 6), (array.array("d", values), 6), (values, 6):
+            content, said = silently(lambda: hound.to_bytes(samples, 8000, bits=16))
+            self.assertEqual(list(hound.read(content)), wanted)
+            self.assertEqual(said, [(f"{clipped} of 10 samples were clipped", __file__)])
+        writer = hound.create(self.path, 8000, 1, 16)
+        self.assertEqual(silently(lambda: writer.write([0.5]))[1], [])
+        for count in 6, 12:
+            said = silently(lambda: writer.write(values))[1]
+            self.assertEqual((writer.clipped, [name for _, name in said]), (count, [__file__]))
+        with warnings.catch_warnings():
+            warnings.simplefilter("error")
+            self.assertRaises(RuntimeWarning, lambda: writer.write(values))
+        writer.close()
+        self.assertEqual(list(hound.read(self.path)), [16384] + wanted * 2)
+        self.assertEqual(writer.clipped, 12)
+
+    def test_dither(self):
+        """Its noise has a mean of 0, a variance of a sixth of a step, as that of two uniform numbers is, and is at most a
+        step; the error that is left after rounding is a quarter."""
+        level, count = -100.3 / TOP, 40000
+        for samples in array.array("f", [level] * count), array.array("d", [level] * count):
+            first = hound.read(hound.to_bytes(samples, 8000, bits=16, dither=True))
+            errors = [value - samples[0] * TOP for value in first]
+            self.assertLess(abs(sum(errors) / count), 0.02)
+            self.assertAlmostEqual(sum(error**2 for error in errors) / count, 0.25, delta=0.01)
+            self.assertLess(max(map(abs, errors)), 1.5)
+            self.assertEqual(set(first), {-101, -100, -99})
+            self.assertEqual(first, hound.read(hound.to_bytes(samples, 8000, bits=16, dither=1)))
+            self.assertNotEqual(first, hound.read(hound.to_bytes(samples, 8000, bits=16, dither=7)))
+            with hound.create(self.path, 8000, 1, 16, dither=True) as writer:
+                writer.write(samples[:7])
+                writer.write(samples[7:])
+            self.assertEqual(hound.read(self.path), first)
+        for call in (
+            lambda: hound.to_bytes(SAMPLES, 8000, dither=True),
+            lambda: hound.to_bytes([0.5], 8000, dither=True),
+            lambda: hound.create(self.path, 8000, 1, 16, dither=-1),
+        ):
+            self.assertRaisesRegex(ValueError, "dither is", call)
+        self.assertEqual(hound.read(self.path), first)
+
+    def test_no_copy_of_all_samples_is_made(self):
+        """But for those that are written."""
+        for code in "fdqb":
+            samples = array.array(code, bytes((2 << 20) * array.array(code).itemsize))
+            tracemalloc.start()
+            with hound.create(self.path, 8000, 1, 16) as writer:
+                writer.write(samples)
+            written = tracemalloc.get_traced_memory()[1]
+            tracemalloc.reset_peak() if hasattr(tracemalloc, "reset_peak") else tracemalloc.clear_traces()
+            hound.read(self.path, dtype="float32")
+            read = tracemalloc.get_traced_memory()[1]
+            tracemalloc.stop()
+            self.assertLess(written, 12 << 20, code)
+            self.assertLess(read, 24 << 20, code)
+
+    def test_floats_are_appended(self):
+        self.leave(made_by_wave(SAMPLES))
+        hound.append(self.path, [[0.5, -0.5]])
+        with hound.append_to(self.path) as writer:
+            writer.write(array.array("d", [0.25, -1]))
+        self.assertEqual(content_of(self.path), made_by_wave(SAMPLES + array.array("h", [16384, -16384, 8192, -32768])))
+
+    def test_an_error_changes_nothing(self):
+        writer = hound.create(self.path, 8000, 2, 8)
+        writer.write([1, 2])
+        before = content_of(self.path)
+        for cause, block in (
+            (Cause.TOO_WIDE, [1, 128]),
+            (Cause.TOO_WIDE, array.array("q", [1, 1 << 40])),
+            (Cause.TOO_WIDE, [1, 1 << 70]),
+            (Cause.UNFINISHED_FRAME, [0.5]),
+        ):
+            self.fails(cause, lambda: writer.write(block))
+        for block in ["1", "2"], [None], [[1, 2], [3]], [[], []], [1j, 2]:
+            with self.assertRaises((TypeError, ValueError)):
+                writer.write(block)
+        self.assertEqual((content_of(self.path), writer.tell()), (before, 1))
+        writer.close()
+        with hound.create(self.path, 8000, 1, 32, is_float=True) as writer:
+            self.fails(Cause.OTHER_FORMAT, lambda: writer.write([1]))
+            self.fails(Cause.TOO_WIDE, lambda: writer.write([0.5, 1e300]))
+            writer.write([0.1, math.inf])
+        self.assertEqual(hound.read(self.path), array.array("f", [0.1, math.inf]))
+
+    def test_a_write_of_floats_that_is_interrupted(self):
+        """At some of its bytecodes: the block isn't in the file then, and the next one is."""
+        for at in itertools.count(1, 7):
+            writer = hound.create(self.path, 8000, 1, 16)
+            with warnings.catch_warnings(), Interruption(at) as interruption:
+                warnings.simplefilter("ignore")
+                try:
+                    writer.write([0.5, 2.0])
+                    written = True
+                except Interrupted:
+                    written = interruption.is_at_the_end()
+            self.assertEqual(writer.clipped, written)
+            writer.write([-0.5])
+            writer.close()
+            self.assertEqual(list(hound.read(self.path)), [16384, 32767] * written + [-16384], interruption.place)
+            if interruption.place is None:
+                break
+        self.assertGreater(at, 500)
+
+    def test_spellings_of_types(self):
+        content = made_by_wave(SAMPLES)
+        for name, code in ("i2", "h"), ("<i4", "i"), ("f4", "f"), ("<f8", "d"), ("float", "d"), (float, "d"), ("=f4", "f"):
+            self.assertEqual(hound.read(content, dtype=name).typecode, code)
+        for name in ">f4", ">i2", "flot32", "int64", int, 4, ["f4"]:
+            self.assertRaisesRegex(TypeError, "^dtype is ", lambda: hound.read(content, dtype=name))
+
+    def test_numpy(self):
+        try:
+            import numpy
+        except ImportError:
+            self.skipTest("numpy isn't here")
+        content = made_by_wave(SAMPLES)
+        for dtype in numpy.float32, numpy.dtype("float64"), "f4", numpy.int32, numpy.dtype("<i2"):
+            back = numpy.asarray(hound.read(content, dtype=dtype, always_2d=True))
+            self.assertEqual((back.dtype, back.shape), (numpy.dtype(dtype), (5, 2)))
+            self.assertEqual(hound.to_bytes(back, 8000, bits=16), content)
+            self.assertEqual(hound.to_bytes(back[::-1][::-1], 8000, bits=16), content)
+        for dtype in numpy.dtype(">f4"), numpy.dtype(">i2"), numpy.uint8, numpy.int64:
+            self.assertRaisesRegex(TypeError, "^dtype is ", lambda: hound.read(content, dtype=dtype))
+        self.assertEqual(hound.to_bytes(numpy.array([[2, -3]]), 8000), hound.to_bytes(array.array("h", [2, -3]), 8000, 2))
+
+
+class Specs(Folder):
+    def test_the_spec_travels(self):
+        for bits, is_float, width, samples in (
+            (24, False, 3, array.array("i", WIDE[24] + [5])),
+            (24, False, 4, array.array("i", WIDE[24] + [5])),
+            (8, False, 1, array.array("h", WIDE[8] + [5])),
+            (32, True, 4, array.array("f", [0.5, -1, 2, 0.25, 0, 1])),
+        ):
+            with hound.create(self.path, 48000, 2, bits, is_float=is_float, bytes_per_sample=width) as writer:
+                writer.write(samples)
+            before = content_of(self.path)
+            again, info = hound.read_with_info(self.path)
+            self.assertEqual((again, info), (samples, (48000, 2, bits, is_float, 3, len(before) - 6 * width, width)))
+            self.assertEqual((info.duration, hound.info(self.path)), (3 / 48000, info))
+            os.unlink(self.path)
+            self.assertEqual(hound.write(self.path, again, like=info), len(before))
+            self.assertEqual(content_of(self.path), before)
+            with hound.create(self.path, like=info) as writer:
+                writer.write(again)
+            self.assertEqual(content_of(self.path), before)
+            floats = hound.read(self.path, dtype="float64")
+            self.assertEqual(hound.to_bytes(floats, like=info), before)
+
+    def test_what_is_given_goes_before_what_is_like(self):
+        info = Info(48000, 2, 24, False, 9, 68, 4)
+        for more, wanted in (
+            ({}, (48000, 2, 24, False, 1, 68, 4)),
+            ({"rate": 8000}, (8000, 2, 24, False, 1, 68, 4)),
+            ({"bits": 16}, (48000, 2, 16, False, 1, 44, 2)),
+            ({"bits": 32}, (48000, 2, 32, True, 1, 68, 4)),
+            ({"channels": 1}, (48000, 1, 24, False, 2, 68, 4)),
+        ):
+            self.assertEqual(hound.info(hound.to_bytes([0.5, 0.25], like=info, **more)), wanted)
+        self.assertEqual(hound.info(hound.to_bytes([0.5], 8000))[2:4], (32, True))
+        self.assertEqual(hound.info(hound.to_bytes([5], 8000))[2:4], (16, False))
+        self.fails(Cause.OTHER_FORMAT, lambda: hound.to_bytes([5, 6], like=info._replace(is_float=True, bits_per_sample=32)))
+        self.assertRaisesRegex(TypeError, "^rate is None", lambda: hound.to_bytes([1]))
+        self.assertRaisesRegex(TypeError, "^like is ", lambda: hound.to_bytes([1], like="a.wav"))
+        self.assertRaisesRegex(TypeError, "^bits is None", lambda: hound.create(self.path, 8000, 1))
+        self.assertRaisesRegex(ValueError, "3 columns", lambda: hound.to_bytes([[1, 2, 3]], like=info))
+        self.assertEqual(Info(0, 1, 8).duration, 0)
+
+    def test_a_writer_says_what_it_has(self):
+        with hound.create(self.path, 8000, 2, 24) as writer:
+            for frames in range(3):
+                self.assertEqual((writer.tell(), writer.info), (frames, (8000, 2, 24, False, frames, 68, 3)))
+                writer.write([1, 2])
+        with hound.append_to(self.path) as writer:
+            self.assertEqual((writer.tell(), writer.info), (3, hound.info(self.path)))
+            with unittest.mock.patch("os.pwrite", side_effect=OSError), self.assertRaises(OSError):
+                writer.write([1, 2])
+            self.assertEqual(writer.tell(), 3)
+        self.assertEqual(writer.info, hound.info(self.path))
+
+    def test_errors_name_the_file(self):
+        self.leave(by_hand(bytes(8), 4))
+        torn = self.path + "2"
+        with open(torn, "wb") as file:
+            file.write(by_hand(bytes(8), 16))
+        named = io.BytesIO(b"RIFX" + bytes(60))
+        named.name = "mine"
+        for name, call in (
+            (self.path, lambda: hound.append(self.path, [1])),
+            (self.path, lambda: hound.append_to(self.path)),
+            (self.path, lambda: hound.read(self.path, dtype="int8")),
+            (self.path, lambda: hound.write(self.path, [40000], 8000)),
+            (torn, lambda: hound.read(torn, 7)),
+            (__file__, lambda: hound.info(__file__)),
+            (__file__, lambda: hound.open(__file__)),
+            (__file__, lambda: hound.find_damage(__file__)),
+            (__file__, lambda: hound.repair(__file__)),
+            ("mine", lambda: hound.open(named)),
+        ):
+            with self.assertRaises(hound.HoundError) as caught:
+                call()
+            self.assertEqual((caught.exception.filename, str(caught.exception)), (name, f"{name}: {caught.exception.cause.sentence}"))
+        with hound.create(self.path, 8000, 1, 8) as writer, self.assertRaises(hound.HoundError) as caught:
+            writer.write([300])
+        self.assertEqual(caught.exception.filename, self.path)
+        with self.assertRaises(hound.HoundError) as caught:
+            hound.info(b"")
+        self.assertEqual(str(caught.exception), "the bytes end before the data begin")
+
+    def test_the_version(self):
+        self.assertRegex(hound.__version__, r"^\d+\.\d+\.\d+$")
+
+
+class Piecemeal(io.RawIOBase):
+    """An object that writes and reads at most three bytes at a time."""
+
+    def __init__(self, content=b""):
+        self.inner = io.BytesIO(content)
+
+    def readable(self):
+        return True
+
+    writable = seekable = readable
+
+    def readinto(self, buffer):
+        return self.inner.readinto(memoryview(buffer)[:3])
+
+    def write(self, content):
+        return self.inner.write(content[:3])
+
+    def seek(self, *place):
+        return self.inner.seek(*place)
+
+    def truncate(self, size=None):
+        return self.inner.truncate(size)
+
+
+class Objects(Case):
+    def test_a_recording_to_an_object(self):
+        for before in b"", b"before":
+            for make in io.BytesIO, Piecemeal:
+                file = make(before + bytes(100))
+                file.seek(len(before))
+                with hound.create(file, 8000, 2, 16) as writer:
+                    for first in range(0, 10, 2):
+                        writer.write(SAMPLES[first : first + 2])
+                        writer.flush()
+                    self.assertEqual(writer.tell(), 5)
+                content = getattr(file, "inner", file).getvalue()
+                self.assertEqual((content, file.tell()), (before + made_by_wave(SAMPLES), len(content)))
+                self.assertRaises(ValueError, writer.flush)
+                file.seek(len(before))
+                self.assertEqual(hound.read(file), SAMPLES)
+                file.seek(len(before))
+                self.assertEqual(hound.append(file, SAMPLES), 44 + 40)
+                file.seek(len(before))
+                self.assertEqual(hound.info(file).frames, 10)
+
+    def test_a_recording_that_is_interrupted(self):
+        """At some of its bytecodes: a block is in the file only if its write returned."""
+        for at in itertools.count(1, 5):
+            file, accepted = io.BytesIO(), 0
+            writer = hound.create(file, 8000, 2, 16)
+            with Interruption(at) as interruption:
+                try:
+                    for first in 0, 4:
+                        writer.write(SAMPLES[first : first + 4])
+                        accepted += 4
+                        writer.flush()
+                    writer.close()
+                except Interrupted:
+                    pass
+            if interruption.is_at_the_end() and accepted < 8 and writer.tell() * 2 > accepted:
+                accepted += 4
+            with contextlib.suppress(ValueError):  # It is closed.
+                writer.write(SAMPLES[accepted : accepted + 2])
+                accepted += 2
+            writer.close()
+            self.assertEqual(file.getvalue(), made_by_wave(SAMPLES[:accepted]), interruption.place)
+            if interruption.place is None:
+                break
+        self.assertGreater(at, 1000)
+
+    def test_a_block_that_fails(self):
+        class Faulty(io.BytesIO):
+            fails = False
+
+            def write(self, content):
+                if self.fails and len(content) > 4:
+                    super().write(content[:3])
+                    raise OSError("a fault")
+                return super().write(content)
+
+        file = Faulty()
+        with hound.create(file, 8000, 2, 16) as writer:
+            writer.write(SAMPLES[:4])
+            file.fails = True
+            self.assertRaises(OSError, lambda: writer.write(SAMPLES))
+            file.fails = False
+            writer.write(SAMPLES[4:])
+        self.assertEqual(file.getvalue(), made_by_wave(SAMPLES))
+
+    def test_an_object_is_written_to_and_repaired(self):
+        file = io.BytesIO()
+        self.assertEqual(hound.write(file, SAMPLES, 8000, 2), 64)
+        self.assertEqual(file.getvalue(), made_by_wave(SAMPLES))
+        file.truncate(62)
+        file.seek(0)
+        for call in hound.find_damage, hound.repair:
+            self.assertEqual(call(file), (hound.State.CUT_OFF, 4, 2))
+        self.assertEqual(hound.info(file).frames, 4)
+        self.assertEqual(hound.read(file), SAMPLES[:8])
+        inner, outer = os.pipe()
+        with open(outer, "wb", buffering=0) as pipe, open(inner, "rb") as source:
+            hound.write(pipe, SAMPLES, 8000, 2)
+            self.assertEqual(hound.read(source), SAMPLES)
+            for call in (lambda: hound.create(pipe, 8000, 2, 16), lambda: hound.append(source, SAMPLES), lambda: hound.repair(source)):
+                self.assertRaises(io.UnsupportedOperation, call)
+        self.assertRaisesRegex(ValueError, "durable", lambda: hound.create(file, 8000, 2, 16, durable=True))
+
+
+if __name__ == "__main__":
+    unittest.main()

@@ -1,0 +1,17 @@
+"""What a user's checker says of the package: `mypy --strict` has to find each error that is ignored here, and no other."""
+import io
+
+import hound_bindings as hound
+
+samples, info = hound.read_with_info("a.wav", dtype="float32")
+hound.write("b.wav", samples, like=info, bits=16, dither=True)
+hound.read(io.BytesIO(), dtype=float)
+hound.read("a.wav", dtype="flot32")  # type: ignore[arg-type]
+hound.open("a.wav").read(1, "int64")  # type: ignore[arg-type]
+hound.write("b.wav", samples, like="a.wav")  # type: ignore[arg-type]
+with hound.create(io.BytesIO(), like=info) as writer, hound.open("a.wav") as reader:
+    for block in reader.blocks(100, "f4"):
+        writer.write(block)
+    frames: int = writer.tell() + writer.info.frames
+    seconds: float = info.duration
+    name: str = info.frames  # type: ignore[assignment]
