@@ -201,14 +201,14 @@ pub fn record_by_effects<M: Medium>(
 
 // Requests the checkpoint that comes first of a recorder that continues a recording which was cut off. Before it
 // what follows the data is cut off, which isn't done to a medium.
-fn begin_mending(recorder: &mut Recorder)
-    requires { IsResumed recorder.old }
-    ensures { recorder.new ≡ record recorder.old { task = 1; has_rest = 0 } }
+fn begin_mending(continued: &mut Recorder)
+    requires { IsResumed continued.old }
+    ensures { continued.new ≡ record continued.old { task = 1; has_rest = 0 } }
 {
-    recorder.checkpoint(Report::Pending);
-    if recorder.has_rest > 0 {
-        let _ = recorder.next(Report::Pending);
-        let _ = recorder.next(Report::Failed);
+    continued.checkpoint(Report::Pending);
+    if continued.has_rest > 0 {
+        let _ = continued.next(Report::Pending);
+        let _ = continued.next(Report::Failed);
     }
 }
 
