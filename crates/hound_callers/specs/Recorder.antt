@@ -3,7 +3,7 @@ use Rattle.std.specs.Prelude.{◌≡◌, ◌⊎◌, ℕ, ◌+◌, ◌*◌, ◌/�
 use Rattle.std.specs.declared.io.Error.{Error as IoFault}
 use Rattle.std.specs.Borrow.{Bor}
 use Rattle.std.specs.List.{AllByRecursion, flat_map}
-use Rattle.hound.specs.{Action, AppendsRecorder, FoundFile, HasData, Head, IsSoundSpec, LeavesWriter, Resumes, resumed_file, writer_of, Asked, Begun, Directed, Error, Flushes, IsRefusal, IsSaid, KeptWithin, Known, Log, MediumState, Performed, Performs, Places, PutsAt, ReadsAs, Readable, Repeats, Recorder, RecorderError, Refusal, Report, Unreadable, WavSpecEx, bytes_of, effects_of, found_in, greatest_u32, if_marked, length_with, log_kind, padded, publish, riff_size, seen, start_of, whole_containers, write}
+use Rattle.hound.specs.{Action, AppendsRecorder, FoundFile, HasData, Head, IsSoundSpec, LeavesWriter, Resumes, mark_of, resumed_file, writer_of, Asked, Begun, Directed, Error, Flushes, IsRefusal, IsSaid, KeptWithin, Known, Log, MediumState, Performed, Performs, Places, PutsAt, ReadsAs, Readable, Repeats, Recorder, RecorderError, Refusal, Report, Unreadable, WavSpecEx, bytes_of, effects_of, found_in, greatest_u32, if_marked, length_with, log_kind, padded, publish, riff_size, seen, start_of, whole_containers, write}
 use Rattle.hound.specs.declared.Action.TheVariants.{Cut, Perform, Read, WriteBlock}
 use Rattle.hound.specs.declared.Effect.TheVariants.{Pad, Size, Sync}
 use Rattle.hound.specs.declared.RecorderError.TheVariants.{Truncated, HasChunksAfterData, UnfinishedFrame}
@@ -163,10 +163,11 @@ pub record IsFound (f : FoundFile) (m : MediumState) : Type 0 where
   pub all : f.length ≡ length m.contents
 
 -- The first checkpoint of a recorder that continues such a file was performed, to its end or not: it has published
--- the samples that the recorder keeps, as a `flush` does that may have failed.
-abbrev pub Mends : FoundFile → Recorder → MediumState → Log → Type 0
-Mends f r old end = (start : Log) × (answer : Result (Unit {0}) Error) × Resumes f true false (Ok r)
-    × (start.state ≡ old) × LeavesWriter log_kind answer (writer_of f.spec_ex r start) (writer_of f.spec_ex r end)
+-- the samples that the recorder keeps, as a `flush` does, where all of it is done.
+abbrev pub Mends : FoundFile → Recorder → Bool → MediumState → Log → Type 0
+Mends f r done old end = (start : Log) × (answer : Result (Unit {0}) Error) × Resumes f true false (Ok r)
+    × (start.state ≡ old) × (mark_of answer ≡ done)
+    × LeavesWriter log_kind answer (writer_of f.spec_ex r start) (writer_of f.spec_ex r end)
 
 -- a recorder doesn't continue such a file, or the header counts more than whole frames
 abbrev pub IsNotContinued : FoundFile → RecorderError → Type 0
@@ -175,10 +176,10 @@ IsNotContinued f error = Resumes f true false (Err error)
 
 -- the first checkpoint has failed
 abbrev pub IsNotMended : FoundFile → MediumState → MediumState → Type 0
-IsNotMended f old new = (r : Recorder) × (end : Log) × Mends f r old end × Repeats end.state new
+IsNotMended f old new = (r : Recorder) × (end : Log) × Mends f r false old end × Repeats end.state new
 
 -- The first checkpoint published what the file holds, and blocks were saved after that.
 abbrev pub Continues : FoundFile → MediumState → List (Bor (List ℕ)) → ℕ → MediumState → Type 0
-Continues f old blocks n new = (r : Recorder) × (end : Log) × (samples : ℕ) × Mends f r old end
+Continues f old blocks n new = (r : Recorder) × (end : Log) × (samples : ℕ) × Mends f r true old end
     × (r.data_length ≡ samples * f.spec_ex.bytes_per_sample)
     × Saves f.spec_ex (resumed_file f.spec_ex samples f.data_start end.state) blocks n new

@@ -79,8 +79,9 @@ module _ (f : FoundFile) (r : Recorder) (old : Log) (cut : IsCutOff f r.data_len
 
   module _ (clean : Bool) (end : Log) (result : Result (Unit {0}) IoFault)
       (did : Performed (if clean then checkpoint f.data_start n else Sync ∷ checkpoint f.data_start n) result old end) where
-    pub mends : (answer : Result (Unit {0}) Error) × LeavesWriter log_kind answer w (record w { medium = end })
-    mends = let c = save_call clean result w end is_idle did in (c.answer, c.does)
+    pub mends : (answer : Result (Unit {0}) Error) × (mark_of answer ≡ is_ok result)
+        × LeavesWriter log_kind answer w (record w { medium = end })
+    mends = let c = save_call clean result w end is_idle did in (c.answer, c.mark, c.does)
 
     pub continues : is_ok result ≡ true → (m : Log) → Goes {T = Unit {0}} {E = IoFault} (f.data_start + n) (Ok tt) end.state m.state
         → (samples : ℕ) × (n ≡ samples * s.bytes_per_sample)
@@ -119,7 +120,8 @@ module _ (f : FoundFile) (r : Recorder) (old : Log) (cut : IsCutOff f r.data_len
 -- what the first checkpoint leaves
 abbrev Mends : FoundFile → Recorder → Log → Log → Result (Unit {0}) IoFault → Type 0
 Mends f r old end result =
-    ((answer : Result (Unit {0}) Error) × LeavesWriter log_kind answer (writer_of f.spec_ex r old) (writer_of f.spec_ex r end))
+    ((answer : Result (Unit {0}) Error) × (mark_of answer ≡ is_ok result)
+    × LeavesWriter log_kind answer (writer_of f.spec_ex r old) (writer_of f.spec_ex r end))
     × (is_ok result ≡ true → (m : Log) → Goes {T = Unit {0}} {E = IoFault} (end_of r) (Ok tt) end.state m.state
     → (samples : ℕ) × (r.data_length ≡ samples * f.spec_ex.bytes_per_sample)
     × Directed f.spec_ex (resumed_file f.spec_ex samples f.data_start end.state) []

@@ -6,7 +6,7 @@ ghost use Rattle.hound_medium.specs.{Flushes, Goes, MediumState, WhereTells, ove
 ghost use Rattle.hound_number.specs.{AreBytes};
 ghost use Rattle.hound_spec.specs.declared.error.Error.{Error};
 ghost use Rattle.hound_spec.specs.declared.spec.WavSpecEx.{WavSpecEx};
-ghost use Rattle.hound_writer.specs.Accepting.{Accepts, AcceptsEach, containers_in};
+ghost use Rattle.hound_writer.specs.Accepting.{Accepts, AcceptsEach, containers_in, mark_of};
 ghost use Rattle.hound_writer.specs.Appending.{HasOneAppendAnswer};
 ghost use Rattle.hound_writer.specs.Calls.{Begun, Known, marked, new_file, publish};
 ghost use Rattle.hound_writer.specs.Effects.{Log, Performed, Performs, log_kind};
@@ -69,8 +69,8 @@ pub fn a_recorder_directs()
     ensures mended { (f : FoundFile) (mends overwrites : Bool) (old end : Log) (r : Recorder)
         (result : Result Unit IoFault) → Resumes f mends overwrites (Ok r) → IsCutOff f r.data_length old.state
         → Performed (effects_of r) result old end
-        → ((answer : Result Unit Error) × LeavesWriter log_kind answer (writer_of f.spec_ex r old)
-        (writer_of f.spec_ex r end))
+        → ((answer : Result Unit Error) × (mark_of answer ≡ is_ok result)
+        × LeavesWriter log_kind answer (writer_of f.spec_ex r old) (writer_of f.spec_ex r end))
         × (is_ok result ≡ true → (m : Log) → Goes {T = Unit} {E = IoFault} (end_of r) (Ok tt) end.state m.state
         → (samples : ℕ) × (r.data_length ≡ samples * f.spec_ex.bytes_per_sample)
         × Directed f.spec_ex (resumed_file f.spec_ex samples f.data_start end.state) []
@@ -133,7 +133,7 @@ pub fn an_effect_may_be_repeated()
         → SurvivesLoss sector once.start once.past (r.state f) (r.state k) contents }
 {}
 
-/// What a cut leaves agrees up to its place with what was there (`cut`), and goes on to agree as more is written
+/// What a cut leaves agrees up to its place with what was there (`cut`), and it still does once more is written
 /// before that place or after it (`written`): what is cut off, or isn't, is ignored until it is overwritten.
 pub fn a_cut_is_ignored()
     ensures cut { (n : ℕ) (contents : List ℕ) → n ≤ length contents → AgreeTo n (take n contents) contents }

@@ -1,4 +1,4 @@
-use Rattle.std.proofs.Common.{arith, false, inr, refl, true}
+use Rattle.std.proofs.Common.{◌≡◌, ◌∙◌, arith, false, inr, is_ok, refl, true}
 use Rattle.hound.specs.{Performed, effects_of, end_of, resumed_file}
 use Rattle.hound_callers.proofs.Mending.{at_end, effects_synced, if_err, is_cut_off, is_mended}
 use Rattle.hound_callers.proofs.Performing.{log_of, saves}
@@ -13,10 +13,11 @@ returns-in_err-mend-clause-refused g c = if_err c.from_residual-in_err-mend.resu
     let start = log_of _ (g.met.M.Medium.replays medium tells keeps) (g.met.M.Placed.bytes medium tells) in
     let once = c.an_effect_may_be_repeated.ensures.once start.state (omega (arith, c.requires.synced tells keeps)) in
     let (end, result, bad, done, now) = c.in_err-mend.ensures.performed tells keeps start once in
+    let failed : is_ok result ≡ false = bad in
     let cut = is_cut_off f r start.state (c.requires.found tells) c.in_ok-continued.ensures
     (omega (arith, c.if-continued-found.false)) in
-    let ((answer, leaves), on) = c.a_recorder_directs.ensures.mended f true false start end r result c.in_ok-continued.ensures cut done in
-    (r, end, (start, answer, c.in_ok-continued.ensures, refl, leaves), now)))
+    let ((answer, mark, leaves), on) = c.a_recorder_directs.ensures.mended f true false start end r result c.in_ok-continued.ensures cut done in
+    (r, end, (start, answer, c.in_ok-continued.ensures, refl, mark ∙ failed, leaves), now)))
 
 pub returns-clause-saved : goal.returns-clause-saved
 returns-clause-saved g c tells keeps =
@@ -32,7 +33,7 @@ returns-clause-saved g c tells keeps =
     let all_synced = effects_synced r start end result ok done in
     let cut = is_cut_off f r start.state (c.requires.found tells) c.in_ok-continued.ensures
     (omega (arith, c.if-continued-found.false)) in
-    let ((answer, leaves), on) = c.a_recorder_directs.ensures.mended f true false start end r result c.in_ok-continued.ensures cut done in
+    let ((answer, mark, leaves), on) = c.a_recorder_directs.ensures.mended f true false start end r result c.in_ok-continued.ensures cut done in
     let (m, goes, moved) = at_end (end_of r) end _ now in
     let (samples, counted, directed) = on ok m goes in
     let begun = is_mended f r c.mend.new.recorder m (resumed_file s samples f.data_start end.state) c.in_ok-continued.ensures
@@ -40,7 +41,7 @@ returns-clause-saved g c tells keeps =
       r,
       end,
       samples,
-      (start, answer, c.in_ok-continued.ensures, refl, leaves),
+      (start, answer, c.in_ok-continued.ensures, refl, mark ∙ ok, leaves),
       counted,
       saves s (resumed_file s samples f.data_start end.state) c.args.blocks.now c.save_blocks.result c.save_blocks.new.recorder _
           c.save_blocks.ensures.within
