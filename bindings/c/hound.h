@@ -324,7 +324,7 @@ void hound_recorder_checkpoint(hound_recorder *recorder) HOUND_NONNULL;
 
 /* Returns 1 for the next effect of what was requested, and 0 if all of it is done: after a checkpoint the header counts
    all samples. After a block or an effect that failed it returns HOUND_NEEDS_CHECKPOINT; after a sync that failed
-   HOUND_SYNC_FAILED, as each later call of the recorder does. */
+   HOUND_SYNC_FAILED, and so for each later request. An error ends the request: after it there is nothing to do. */
 int32_t hound_recorder_next(hound_recorder *recorder) HOUND_NONNULL;
 
 /* A sentence for an error, without its full stop. */
