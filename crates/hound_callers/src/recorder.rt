@@ -233,20 +233,22 @@ fn mend<M: Medium>(
 /// Continues a recording that was cut off, of a file that was found so: by a checkpoint of all whole frames
 /// that it holds, and then as [`record_by_effects`] does. It is an error if a recorder doesn't continue it,
 /// or its header counts more than whole frames, and the file is as it was (`refused`); or the checkpoint fails, which then
-/// has left what a `flush` of these samples leaves that fails (`mended`).
+/// has left what a `flush` of these samples leaves that fails.
+///
+/// What it promises holds if the file is as it was found ([`IsFound`](crate)).
 pub fn continue_by_effects<M: Medium>(
     medium: &mut M,
     found: FoundFile,
     blocks: &[&[u8]],
     lost: &[bool],
 ) -> result::Result<usize, RecorderError>
-    requires found { WhereTells M.tells (IsFound found (M.state medium.old)) }
     requires synced { WhereKeeps M.tells M.keeps (IsSynced (M.state medium.old)) }
     ensures within { IfOk result (λ n. n ≤ length blocks.now) }
     ensures refused { IfErr result (λ error. (IsNotContinued found error × (medium.new ≡ medium.old))
-        ⊎ WhereKeeps M.tells M.keeps (IsNotMended found (M.state medium.old) (M.state medium.new))) }
-    ensures saved { IfOk result (λ n. WhereKeeps M.tells M.keeps
-        (Continues found (M.state medium.old) blocks.now n (M.state medium.new))) }
+        ⊎ WhereKeeps M.tells M.keeps (IsFound found (M.state medium.old) →
+        IsNotMended found (M.state medium.old) (M.state medium.new))) }
+    ensures saved { IfOk result (λ n. WhereKeeps M.tells M.keeps (IsFound found (M.state medium.old) →
+        Continues found (M.state medium.old) blocks.now n (M.state medium.new))) }
 {
     a_recorder_directs();
     a_recording_is_kept();

@@ -5,7 +5,7 @@ use Rattle.hound_callers.proofs.Performing.{log_of, saves}
 use Rattle.hound_callers.proofs.recorder.continue_by_effects.Goals as goal
 
 pub returns-in_err-mend-clause-refused : goal.returns-in_err-mend-clause-refused
-returns-in_err-mend-clause-refused g c = if_err c.from_residual-in_err-mend.result (λ error. inr (λ tells keeps.
+returns-in_err-mend-clause-refused g c = if_err c.from_residual-in_err-mend.result (λ error. inr (λ tells keeps is_found.
     let M = g.M.Placed in
     let f = c.args.found in
     let r = c.in_ok-continued.continued in
@@ -14,13 +14,13 @@ returns-in_err-mend-clause-refused g c = if_err c.from_residual-in_err-mend.resu
     let once = c.an_effect_may_be_repeated.ensures.once start.state (omega (arith, c.requires.synced tells keeps)) in
     let (end, result, bad, done, now) = c.in_err-mend.ensures.performed tells keeps start once in
     let failed : is_ok result ≡ false = bad in
-    let cut = is_cut_off f r start.state (c.requires.found tells) c.in_ok-continued.ensures
+    let cut = is_cut_off f r start.state is_found c.in_ok-continued.ensures
     (omega (arith, c.if-continued-found.false)) in
     let ((answer, mark, leaves), on) = c.a_recorder_directs.ensures.mended f true false start end r result c.in_ok-continued.ensures cut done in
     (r, end, (start, answer, c.in_ok-continued.ensures, refl, mark ∙ failed, leaves), now)))
 
 pub returns-clause-saved : goal.returns-clause-saved
-returns-clause-saved g c tells keeps =
+returns-clause-saved g c tells keeps is_found =
     let M = g.M.Placed in
     let f = c.args.found in
     let s = f.spec_ex in
@@ -31,7 +31,7 @@ returns-clause-saved g c tells keeps =
     let (end, result, ok, did, now) = c.in_ok-mend.ensures.performed tells keeps start once in
     let done : Performed (effects_of r) result start end = did in
     let all_synced = effects_synced r start end result ok done in
-    let cut = is_cut_off f r start.state (c.requires.found tells) c.in_ok-continued.ensures
+    let cut = is_cut_off f r start.state is_found c.in_ok-continued.ensures
     (omega (arith, c.if-continued-found.false)) in
     let ((answer, mark, leaves), on) = c.a_recorder_directs.ensures.mended f true false start end r result c.in_ok-continued.ensures cut done in
     let (m, goes, moved) = at_end (end_of r) end _ now in
