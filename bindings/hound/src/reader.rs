@@ -161,6 +161,25 @@ impl<R: Read> WavReader<R> {
         (count, Ok(()))
     }
 
+    // What `ReadSamples` does with floats.
+    pub(crate) fn read_scaled_into(&mut self, samples: &mut [f32]) -> (usize, Result<()>) {
+        if self.spec.sample_format == SampleFormat::Float {
+            return self.read_into(samples);
+        }
+        let (mut integers, mut count) = ([0; BLOCK / 4], 0);
+        for block in samples.chunks_mut(integers.len()) {
+            let (more, result) = self.read_into(&mut integers[..block.len()]);
+            if more > 0 {
+                assert_eq!(proved::to_f32(&integers[..more], self.spec.bits_per_sample, block), Ok(more));
+            }
+            count += more;
+            if more < block.len() {
+                return (count, result);
+            }
+        }
+        (count, Ok(()))
+    }
+
     fn containers(&self) -> proved::Spec {
         containers(self.spec.sample_format, self.spec.bits_per_sample, self.bytes_per_sample)
     }

@@ -1,6 +1,5 @@
 use crate::medium::Medium;
 use crate::proved::{self, Allowed, Info, Mode, Recorder, Repair, Repairer, State, Walk};
-use crate::sample::Encode;
 use crate::spec::containers;
 use crate::{Error, Result, Sample, SampleFormat, WavSpec, WavSpecEx, BLOCK};
 use std::io::{self, Read, Seek, SeekFrom, Write};
@@ -87,7 +86,7 @@ impl<W: Write + Seek> Core<W> {
     fn spill(&mut self) -> Result<()> {
         if self.count > 0 {
             let (spec, samples) = (self.containers(SampleFormat::Int), &self.buffer[..self.count]);
-            self.waiting = encode_after(self.waiting, &mut self.bytes, &spec, samples, proved::encode)?;
+            self.waiting = encode_after(self.waiting, &mut self.bytes, &spec, self.count, |spec, bytes| proved::encode(spec, samples, bytes))?;
             self.count = 0;
         }
         let result = self.write_waiting(self.waiting);
@@ -123,18 +122,37 @@ impl<W: Write + Seek> Core<W> {
         Ok(self.recorder.run(&mut self.medium, &[])??)
     }
 
-    // Writes samples after the buffered ones; then the room for others is counted anew.
+    // Writes samples after the buffered ones.
     pub(crate) fn write_samples<S: Sample + Copy>(&mut self, samples: &[S]) -> Result<()> {
-        self.spill()?;
-        self.buffer.clear();
         match S::CODING {
-            Some(coding) => {
-                let spec = self.containers(coding.format);
-                let end = encode_after(self.waiting, &mut self.bytes, &spec, samples, coding.encode)?;
-                self.write_block(end)
-            }
+            Some(coding) => self.write_coded(coding.format, samples.len(), |spec, bytes| (coding.encode)(spec, samples, bytes)),
             None => self.write_own(samples.iter().copied()),
         }
+    }
+
+    pub(crate) fn write_scaled(&mut self, samples: &[f32]) -> Result<u64> {
+        let mut clipped = 0;
+        self.write_coded(self.spec_ex.spec.sample_format, samples.len(), |spec, bytes| {
+            proved::encode_scaled(spec, samples, bytes).map(|(length, count)| {
+                clipped = count;
+                length
+            })
+        })?;
+        Ok(clipped)
+    }
+
+    // Writes what is encoded after the buffered samples; then the room for others is counted anew.
+    fn write_coded(
+        &mut self,
+        format: SampleFormat,
+        count: usize,
+        encode: impl FnOnce(&proved::Spec, &mut [u8]) -> proved::Result<usize>,
+    ) -> Result<()> {
+        self.spill()?;
+        self.buffer.clear();
+        let spec = self.containers(format);
+        let end = encode_after(self.waiting, &mut self.bytes, &spec, count, encode)?;
+        self.write_block(end)
     }
 
     // A type of the user's own writes its containers itself.
@@ -165,16 +183,16 @@ impl<W: Write + Seek> Core<W> {
     }
 }
 
-// Encodes samples after the containers that wait, and returns where they end.
-fn encode_after<S>(
+// Encodes so many samples after the containers that wait, and returns where they end.
+fn encode_after(
     waiting: usize,
     bytes: &mut Vec<u8>,
     spec: &proved::Spec,
-    samples: &[S],
-    encode: Encode<S>,
+    count: usize,
+    encode: impl FnOnce(&proved::Spec, &mut [u8]) -> proved::Result<usize>,
 ) -> Result<usize> {
-    bytes.resize(bytes.len().max(waiting + samples.len() * usize::from(spec.bytes_per_sample)), 0);
-    Ok(waiting + encode(spec, samples, &mut bytes[waiting..])?)
+    bytes.resize(bytes.len().max(waiting + count * usize::from(spec.bytes_per_sample)), 0);
+    Ok(waiting + encode(spec, &mut bytes[waiting..])?)
 }
 
 impl<W: Write + Seek> WavWriter<W> {

@@ -134,6 +134,44 @@ fn the_bytes_are_those_of_the_format() {
 }
 
 #[test]
+fn floats_are_scaled_where_a_file_has_integers() {
+    for (bits, bytes_per_sample) in [(8, 1), (16, 2), (24, 3), (24, 4), (32, 4)] {
+        let spec_ex = WavSpecEx { spec: WavSpec { bits_per_sample: bits, channels: 2, ..MONO }, bytes_per_sample };
+        let integers: Vec<i32> = (0..5002).map(|number| (number % 256 - 128) << (bits - 8)).collect();
+        let floats: Vec<f32> = (0..5002).map(|number| (number % 256 - 128) as f32 / 128.0).collect();
+        let mut file = Cursor::new(Vec::new());
+        let mut writer = WavWriter::new_with_spec_ex(&mut file, spec_ex).unwrap();
+        writer.write_sample(integers[0]).unwrap();
+        assert_eq!((writer.write_scaled(&floats[1..4000]).unwrap(), writer.write_scaled(&[]).unwrap()), (0, 0));
+        assert_eq!(writer.write_scaled(&[&floats[4000..], &[2.0, f32::NAN]].concat()).unwrap(), 1);
+        writer.finalize().unwrap();
+        file.rewind().unwrap();
+        let loudest = i32::MAX >> (32 - bits);
+        let read = WavReader::new(&mut file).unwrap().into_samples::<i32>().map(|sample| sample.unwrap());
+        assert!(read.eq(integers.iter().copied().chain([loudest, 0])));
+
+        let length = file.get_ref().len();
+        file.get_mut().truncate(length - 2); // the last sample is torn, or the last two are missing
+        file.rewind().unwrap();
+        let (mut reader, mut out) = (WavReader::new(&mut file).unwrap(), vec![9.0; 5004]);
+        assert_eq!(reader.samples::<i32>().next().unwrap().unwrap(), integers[0]);
+        assert!(matches!(reader.read_scaled(&mut out[1..20]), (19, Ok(()))));
+        assert!(matches!(reader.read_scaled(&mut out[20..5002]), (4982, Ok(()))));
+        assert!(out[1..5002] == floats[1..]);
+        assert!(matches!(reader.read_scaled(&mut out), (count, Err(Error::IoError(_))) if count < 2));
+    }
+    // Floats have no other scale, and any pattern.
+    let (mut file, patterns) = (Cursor::new(Vec::new()), [2.5, f32::from_bits(0x7fc1_2345)]);
+    let mut writer = WavWriter::new(&mut file, FLOATS).unwrap();
+    assert_eq!(writer.write_scaled(&patterns).unwrap(), 0);
+    writer.finalize().unwrap();
+    file.rewind().unwrap();
+    let mut out = [0.0; 3];
+    assert!(matches!(WavReader::new(file).unwrap().read_scaled(&mut out), (2, Ok(()))));
+    assert_eq!(out.map(f32::to_bits), [0x4020_0000, 0x7fc1_2345, 0]);
+}
+
+#[test]
 fn each_type_is_read_and_refused() {
     let file = written(MONO, &[300i16, -300]);
     let mut reader = WavReader::new(&file[..]).unwrap();
