@@ -128,9 +128,17 @@ fn the_bytes_are_those_of_the_format() {
     assert_eq!(file, *b"RIFF\x2c\0\0\0WAVEfmt \x10\0\0\0\x01\0\x02\0\x44\xac\0\0\x10\xb1\x02\0\x04\0\x10\0data\x08\0\0\0\x02\0\xfd\xff\x05\0\xf9\xff");
     let odd = written(WavSpec { bits_per_sample: 8, ..MONO }, &[1i8]);
     assert_eq!((&odd[4..8], &odd[40..]), (&[38, 0, 0, 0][..], &[1, 0, 0, 0, 129, 0][..]));
-    let header = MONO.into_header_for_infinite_file();
-    assert_eq!((&header[4..8], &header[40..]), (&[255; 4][..], &[255; 4][..]));
     assert_eq!(hound::read_wave_header(&mut &file[..]).unwrap(), 52);
+    assert_eq!(hound::read_wave_header(&mut &b"RIFF\xff\xff\xff\xffWAVEfmt "[..]).unwrap(), 0x1_0000_0007);
+    assert!(matches!(hound::read_wave_header(&mut &file[..11]), Err(Error::IoError(_))));
+    // Of a stream both sizes are the greatest.
+    for (bits_per_sample, length) in [(16, 44), (24, 68)] {
+        let spec = WavSpec { bits_per_sample, ..MONO };
+        let mut header = written::<i32>(spec, &[]);
+        header[4..8].fill(255);
+        header[length - 4..].fill(255);
+        assert_eq!(spec.into_header_for_infinite_file(), header);
+    }
 }
 
 #[test]
@@ -235,6 +243,9 @@ fn containers_are_written_and_read_by_the_trait() {
     Sample::write(-2i16, &mut bytes, 16).unwrap();
     0x1234_56i32.write_padded(&mut bytes, 24, 4).unwrap();
     assert_eq!(bytes, [0xfe, 0xff, 0x56, 0x34, 0x12, 0]);
+    assert!(matches!(1i16.write(&mut bytes, 12), Err(Error::Unsupported)));
+    (-3i32).write(&mut bytes, 24).unwrap();
+    assert_eq!(bytes.split_off(6), [0xfd, 0xff, 0xff]);
     let mut rest = &bytes[..];
     assert_eq!(i16::read(&mut rest, SampleFormat::Int, 2, 16).unwrap(), -2);
     assert_eq!(i32::read(&mut rest, SampleFormat::Int, 4, 24).unwrap(), 0x12_3456);

@@ -304,6 +304,14 @@ mod c {
 }
 
 impl Spec {
+    /// How many bytes a sample takes, if samples of this spec are read and written: also where the spec has 0.
+    pub fn width(&self) -> Result<usize> {
+        match self.format {
+            Format::Float => encode(self, &[0f32], &mut [0; 4]),
+            Format::Int => encode(self, &[0i32], &mut [0; 4]),
+        }
+    }
+
     fn to_c(self) -> c::Spec {
         c::Spec {
             sample_rate: self.sample_rate,
@@ -611,16 +619,16 @@ pub enum Container {
 }
 
 impl Container {
-    /// The containers of a spec with its bytes, if they are read.
+    /// The containers of a spec, if they are read.
     pub fn of(spec: &Spec) -> Option<Container> {
-        Some(match (spec.format, spec.bits_per_sample, spec.bytes_per_sample) {
-            (Format::Int, 8, 1) => Container::Int8,
-            (Format::Int, 16, 2) => Container::Int16,
-            (Format::Int, 24, 3) => Container::Int24,
-            (Format::Int, 24, 4) => Container::Int24In4,
-            (Format::Int, 32, 4) => Container::Int32,
-            (Format::Float, 32, 4) => Container::Float,
-            _ => return None,
+        let width = spec.width().ok()?;
+        Some(match (spec.format, spec.bits_per_sample) {
+            (Format::Float, _) => Container::Float,
+            (_, 8) => Container::Int8,
+            (_, 16) => Container::Int16,
+            (_, 24) if width == 3 => Container::Int24,
+            (_, 24) => Container::Int24In4,
+            _ => Container::Int32,
         })
     }
 }

@@ -4,11 +4,6 @@ use crate::{decode, encode, from_f32, info, read_into, to_f32, write, Error, For
 // How many samples are scaled at once.
 const SCALED: usize = 1024;
 
-// How many bytes an integer of this spec takes.
-fn width(spec: &Spec) -> Result<usize> {
-    encode(spec, &[0i32], &mut [0; 4])
-}
-
 /// Decodes samples without a file around them as floats, and returns how many: integers are divided by
 /// 2^(bits - 1), as by [`to_f32`], and floats keep their bits.
 pub fn decode_scaled(spec: &Spec, bytes: &[u8], out: &mut [f32]) -> Result<usize> {
@@ -16,7 +11,7 @@ pub fn decode_scaled(spec: &Spec, bytes: &[u8], out: &mut [f32]) -> Result<usize
         return decode(spec, bytes, out);
     }
     let (mut integers, mut count) = ([0; SCALED], 0);
-    for (bytes, out) in bytes.chunks(SCALED * width(spec)?).zip(out.chunks_mut(SCALED)) {
+    for (bytes, out) in bytes.chunks(SCALED * spec.width()?).zip(out.chunks_mut(SCALED)) {
         let decoded = decode(spec, bytes, &mut integers[..out.len()])?;
         count += to_f32(&integers[..decoded], spec.bits_per_sample, out)?;
     }
@@ -31,7 +26,7 @@ pub fn encode_scaled(spec: &Spec, samples: &[f32], out: &mut [u8]) -> Result<(us
         return Ok((encode(spec, samples, out)?, 0));
     }
     let (mut integers, mut length, mut clipped) = ([0; SCALED], 0, 0);
-    if samples.len() > out.len() / width(spec)? {
+    if samples.len() > out.len() / spec.width()? {
         return Err(Error::NoRoom);
     }
     for samples in samples.chunks(SCALED) {

@@ -385,10 +385,14 @@ fn the_containers_are_those_that_are_decoded() {
             let spec = Spec { bits_per_sample: bits, bytes_per_sample: bytes, format, ..SPEC };
             let decodes = decode::<i32>(&spec, &[], &mut []).is_ok() || decode::<f32>(&spec, &[], &mut []).is_ok();
             assert_eq!(Container::of(&spec).is_some(), decodes, "{spec:?}");
+            assert_eq!(spec.width(), if decodes { Ok(bytes.into()) } else { Err(Error::NotWritable) });
             known += decodes as u32;
         }
     }
     assert_eq!(known, 6);
+    for (bits, width) in [(8, 1), (16, 2), (24, 3), (32, 4)] {
+        assert_eq!(Spec { bits_per_sample: bits, ..SPEC }.width(), Ok(width));
+    }
 }
 
 #[test]
