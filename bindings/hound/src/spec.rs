@@ -32,17 +32,18 @@ impl WavSpec {
     ///
     /// If the spec can't be written.
     pub fn into_header_for_infinite_file(self) -> Vec<u8> {
-        let spec = self.with_default_width().into();
+        let spec = self.into();
         let mut header = proved::header(&spec, 0).expect("a spec that can be written");
         for (place, _) in sizes_of(&spec).expect("a header that has sizes") {
             header[place].fill(0xff);
         }
         header
     }
+}
 
-    pub(crate) fn with_default_width(self) -> WavSpecEx {
-        let width = unpadded(self.sample_format, self.bits_per_sample).width();
-        WavSpecEx { spec: self, bytes_per_sample: width.unwrap_or(0) as u16 }
+impl From<WavSpec> for proved::Spec {
+    fn from(WavSpec { channels, sample_rate, bits_per_sample, sample_format }: WavSpec) -> proved::Spec {
+        proved::Spec { sample_rate, channels, ..unpadded(sample_format, bits_per_sample) }
     }
 }
 

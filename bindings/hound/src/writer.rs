@@ -199,19 +199,24 @@ impl<W: Write + Seek> WavWriter<W> {
     /// Writes the header of a new file, with containers of as many bytes as the bits need. The writer has
     /// to be at its beginning.
     pub fn new(writer: W, spec: WavSpec) -> Result<WavWriter<W>> {
-        WavWriter::new_with_spec_ex(writer, spec.with_default_width())
+        WavWriter::begin(writer, &spec.into())
     }
 
     /// The same, with containers of another width.
-    pub fn new_with_spec_ex(mut writer: W, spec_ex: WavSpecEx) -> Result<WavWriter<W>> {
-        let (mut header, recorder) = ([0; proved::HEADER_BYTES], Recorder::begin(&spec_ex.into())?);
-        let length = proved::header_to(&spec_ex.into(), 0, &mut header)?;
-        writer.write_all(&header[..length])?;
-        Ok(WavWriter::at(writer, Some(length as u64), spec_ex, recorder))
+    pub fn new_with_spec_ex(writer: W, spec_ex: WavSpecEx) -> Result<WavWriter<W>> {
+        WavWriter::begin(writer, &spec_ex.into())
     }
 
-    fn at(writer: W, place: Option<u64>, spec_ex: WavSpecEx, recorder: Recorder) -> WavWriter<W> {
-        let width = usize::from(spec_ex.bytes_per_sample);
+    fn begin(mut writer: W, spec: &proved::Spec) -> Result<WavWriter<W>> {
+        let (mut header, recorder) = ([0; proved::HEADER_BYTES], Recorder::begin(spec)?);
+        let length = proved::header_to(spec, 0, &mut header)?;
+        writer.write_all(&header[..length])?;
+        Ok(WavWriter::at(writer, Some(length as u64), spec, recorder))
+    }
+
+    fn at(writer: W, place: Option<u64>, spec: &proved::Spec, recorder: Recorder) -> WavWriter<W> {
+        let width = recorder.width();
+        let spec_ex = WavSpecEx { bytes_per_sample: width as u16, ..WavSpecEx::from(*spec) };
         WavWriter {
             core: Core {
                 spec_ex,
@@ -316,7 +321,7 @@ impl<W: Read + Write + Seek> WavWriter<W> {
     pub fn new_append(mut writer: W) -> Result<WavWriter<W>> {
         let info = Walk::over(&mut writer)??;
         let recorder = after_counted(&info, writer.seek(SeekFrom::End(0)).ok())?;
-        Ok(WavWriter::at(writer, None, info.spec.into(), recorder))
+        Ok(WavWriter::at(writer, None, &info.spec, recorder))
     }
 }
 
@@ -333,7 +338,7 @@ impl WavWriter<io::BufWriter<fs::File>> {
         let mut file = fs::OpenOptions::new().read(true).write(true).open(filename)?;
         let info = Walk::over(&mut io::BufReader::new(&file))??;
         let recorder = after_counted(&info, Some(file.seek(SeekFrom::End(0))?))?;
-        Ok(WavWriter::of_file(file, None, info.spec.into(), recorder, false))
+        Ok(WavWriter::of_file(file, None, &info.spec, recorder, false))
     }
 
     /// Creates a file that survives a loss of power (own). When this returns, a WAV file without samples and its
@@ -370,19 +375,19 @@ impl WavWriter<io::BufWriter<fs::File>> {
         let length = file.seek(SeekFrom::End(0))?;
         let found = Repairer::new(length, Mode::FindDamage).run(&mut file)??;
         let recorder = Recorder::resume(&found, Allowed::default())?;
-        Ok(WavWriter::of_file(file, None, found.spec.into(), recorder, true))
+        Ok(WavWriter::of_file(file, None, &found.spec, recorder, true))
     }
 
     // Writes the header of a new file, which isn't opened if the spec can't be written.
     fn over(open: impl FnOnce() -> io::Result<fs::File>, spec: WavSpec, is_durable: bool) -> Result<WavWriter<io::BufWriter<fs::File>>> {
-        let spec_ex = spec.with_default_width();
-        let (header, recorder) = (proved::header(&spec_ex.into(), 0)?, Recorder::begin(&spec_ex.into())?);
+        let spec = spec.into();
+        let (header, recorder) = (proved::header(&spec, 0)?, Recorder::begin(&spec)?);
         let mut file = open()?;
         file.write_all(&header)?;
         if is_durable {
             file.sync_data()?;
         }
-        Ok(WavWriter::of_file(file, Some(header.len() as u64), spec_ex, recorder, is_durable))
+        Ok(WavWriter::of_file(file, Some(header.len() as u64), &spec, recorder, is_durable))
     }
 
     // A durable writer has no bytes in its `BufWriter`: what the recorder takes for written is with the system, a write
@@ -390,12 +395,12 @@ impl WavWriter<io::BufWriter<fs::File>> {
     fn of_file(
         file: fs::File,
         place: Option<u64>,
-        spec_ex: WavSpecEx,
+        spec: &proved::Spec,
         recorder: Recorder,
         is_durable: bool,
     ) -> WavWriter<io::BufWriter<fs::File>> {
         let capacity = if is_durable { 0 } else { 16 * BLOCK };
-        let mut writer = WavWriter::at(io::BufWriter::with_capacity(capacity, file), place, spec_ex, recorder);
+        let mut writer = WavWriter::at(io::BufWriter::with_capacity(capacity, file), place, spec, recorder);
         writer.core.medium.cut = |file, place| {
             file.flush()?;
             proved::Medium::cut(file.get_mut(), place)
