@@ -1,5 +1,5 @@
 //! Links the library that bindings/lib has for the target, or that the folder HOUND_C_LIB has. Where there is none, or with
-//! HOUND_C_SOURCE in the environment, it compiles hound_c.c. A packaged crate has lib and c of bindings in its folder.
+//! HOUND_C_SOURCE in the environment, it compiles hound_c.c. The package has lib and c by links; where they aren't followed, its folder is in bindings.
 use std::path::{Path, PathBuf};
 use std::process::{self, Command};
 use std::{env, fs, io};
@@ -74,7 +74,7 @@ fn compiled(bindings: &Path) -> PathBuf {
 
 fn main() {
     let package = PathBuf::from(variable("CARGO_MANIFEST_DIR"));
-    let bindings = if package.join("lib").exists() { package } else { package.join("..") };
+    let bindings = if package.join("lib/hound_c.c").exists() { package } else { package.join("..") };
     let carried = bindings.join(format!("lib/{}-{}", variable("CARGO_CFG_TARGET_ARCH"), variable("CARGO_CFG_TARGET_OS")));
     let (named, from_source) = (variable("HOUND_C_LIB"), variable("HOUND_C_SOURCE"));
     let folder = if named.is_empty() && (!from_source.is_empty() || !carried.join("libhound_c.a").exists()) {

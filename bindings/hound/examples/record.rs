@@ -6,7 +6,7 @@
 //!
 //!     arecord -t raw -f S16_LE -c 2 -r 44100 | record FILE 44100 2 16 SAMPLES [append] [durable]
 use hound::blocks::WriteSamples;
-use hound::{Error, RepairState, SampleFormat, WavSpec, WavWriter};
+use hound::{Error, RepairState, Sample, SampleFormat, WavSpec, WavWriter};
 use std::io::{self, Read};
 use std::{env, process};
 
@@ -37,13 +37,6 @@ fn prepare_to_append(path: &str, spec: WavSpec) -> hound::Result<()> {
     Ok(())
 }
 
-/// The integer of a container; one of a single byte has no sign.
-fn integer(container: &[u8]) -> i32 {
-    let unused = 32 - 8 * container.len() as u32;
-    let integer = container.iter().rev().fold(0, |high, byte| high << 8 | i32::from(*byte)) << unused >> unused;
-    if let [byte] = *container { i32::from(byte) - 128 } else { integer }
-}
-
 fn main() -> hound::Result<()> {
     let words: Vec<String> = env::args().collect();
     let usage = "usage: record FILE RATE CHANNELS BITS SAMPLES [append] [durable]";
@@ -65,7 +58,8 @@ fn main() -> hound::Result<()> {
         if io::stdin().lock().take(u64::from(every) * width as u64).read_to_end(&mut bytes)? < width {
             break;
         }
-        let samples: Vec<i32> = bytes.chunks_exact(width).map(integer).collect();
+        let integer = |mut container| i32::read(&mut container, spec.sample_format, spec.bits_per_sample / 8, spec.bits_per_sample);
+        let samples = bytes.chunks_exact(width).map(integer).collect::<hound::Result<Vec<_>>>()?;
         // Half of them one by one, and the others, all or none, at once.
         let (single, block) = samples.split_at(samples.len() / 2);
         for sample in single {

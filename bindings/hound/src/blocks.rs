@@ -26,6 +26,10 @@ pub trait ReadSamples: sealed::Sealed {
     /// Reads samples into the front of a slice. Returns how many came, and why no more if the slice isn't full: the
     /// item that an iterator would give next, which then counts as read, or Ok at the end of the file.
     fn read_samples<S: Sample>(&mut self, samples: &mut [S]) -> (usize, Result<()>);
+
+    /// The same as floats, of any file: integers are divided by 2^(bits - 1), so that their full scale is 1, and floats
+    /// keep their bits.
+    fn read_scaled(&mut self, samples: &mut [f32]) -> (usize, Result<()>);
 }
 
 /// Writes blocks.
@@ -37,17 +41,29 @@ pub trait WriteSamples: sealed::Sealed {
     /// the samples before it. Over another writer a part of the block may stay there; readers don't count it, but
     /// [`repair_file`](crate::repair_file) would take it for samples.
     fn write_samples<S: Sample + Copy>(&mut self, samples: &[S]) -> Result<()>;
+
+    /// The same of floats, to any file, and returns how many were clipped: for integers each is multiplied by
+    /// 2^(bits - 1) and rounded to the nearest one, of two the even one, and a NaN is 0; as floats they keep their bits.
+    fn write_scaled(&mut self, samples: &[f32]) -> Result<u64>;
 }
 
 impl<R: Read> ReadSamples for WavReader<R> {
     fn read_samples<S: Sample>(&mut self, samples: &mut [S]) -> (usize, Result<()>) {
         self.read_into(samples)
     }
+
+    fn read_scaled(&mut self, samples: &mut [f32]) -> (usize, Result<()>) {
+        self.read_scaled_into(samples)
+    }
 }
 
 impl<W: Write + Seek> WriteSamples for WavWriter<W> {
     fn write_samples<S: Sample + Copy>(&mut self, samples: &[S]) -> Result<()> {
         self.core.write_samples(samples)
+    }
+
+    fn write_scaled(&mut self, samples: &[f32]) -> Result<u64> {
+        self.core.write_scaled(samples)
     }
 }
 

@@ -1,7 +1,7 @@
 use crate::error::early_end;
 use crate::proved::{self, Container, Next};
 use crate::sample::{check, Coding, Decode};
-use crate::spec::containers;
+use crate::spec::{containers, number, sizes_of, unpadded};
 use crate::{Error, Result, Sample, SampleFormat, WavSpec, WavSpecEx, BLOCK};
 use std::io::{self, BufRead, Read};
 use std::{fs, marker, mem, panic, path};
@@ -33,15 +33,18 @@ fn finish_container<R: Read>(reader: &mut R, bytes: &mut [u8], width: usize, fir
 
 /// Reads the first 12 bytes of a file, and returns the length that they say the file has.
 pub fn read_wave_header<R: Read>(reader: &mut R) -> Result<u64> {
-    let (mut walk, mut header, mut count) = (proved::Walk::new(), [0; 12], 0);
+    let (mut walk, mut first_part, mut count) = (proved::Walk::new(), Vec::new(), 0);
     if let Next::Effect(first) = walk.next()? {
         read_on(reader, first.bytes_mut(), &mut count)?;
-        header[..count].copy_from_slice(&first.bytes()[..count]);
+        first_part.extend(&first.bytes()[..count]);
         first.read(count);
     }
     walk.next()?;
-    let [_, _, _, _, a, b, c, d, ..] = header;
-    Ok(u64::from(u32::from_le_bytes([a, b, c, d])) + 8)
+    // Of a new file the same size counts all but as many bytes.
+    let new = unpadded(SampleFormat::Int, 8);
+    let length = proved::header(&new, 0)?.len() as u64;
+    let size = sizes_of(&new)?.into_iter().find_map(|(place, of_new)| Some(number(first_part.get(place)?) + length - of_new));
+    size.ok_or_else(|| early_end().into())
 }
 
 /// Reads the samples of a file. It takes no byte after the samples that were asked for.
@@ -156,6 +159,25 @@ impl<R: Read> WavReader<R> {
                     None => return (count, Ok(())),
                 }
                 count += 1;
+            }
+        }
+        (count, Ok(()))
+    }
+
+    // What `ReadSamples` does with floats.
+    pub(crate) fn read_scaled_into(&mut self, samples: &mut [f32]) -> (usize, Result<()>) {
+        if self.spec.sample_format == SampleFormat::Float {
+            return self.read_into(samples);
+        }
+        let (mut integers, mut count) = ([0; BLOCK / 4], 0);
+        for block in samples.chunks_mut(integers.len()) {
+            let (more, result) = self.read_into(&mut integers[..block.len()]);
+            if more > 0 {
+                assert_eq!(proved::to_f32(&integers[..more], self.spec.bits_per_sample, block), Ok(more));
+            }
+            count += more;
+            if more < block.len() {
+                return (count, result);
             }
         }
         (count, Ok(()))

@@ -1,7 +1,7 @@
 use crate::error::early_end;
 use crate::proved;
 use crate::reader::read_on;
-use crate::spec::containers;
+use crate::spec::{containers, unpadded};
 use crate::{Result, SampleFormat};
 use std::io;
 
@@ -41,17 +41,21 @@ pub(crate) fn check<S: Sample>(spec: &proved::Spec) -> proved::Result<usize> {
     S::CODING.map_or(Ok(0), |coding| (coding.decode)(spec, &[], &mut []))
 }
 
+fn write_container<S: proved::Coded, W: io::Write>(sample: S, writer: &mut W, spec: &proved::Spec) -> Result<()> {
+    let mut container = [0; 4];
+    let width = proved::encode(spec, &[sample], &mut container)?;
+    Ok(writer.write_all(&container[..width])?)
+}
+
 macro_rules! sample {
     ($type:ident, $format:ident, $from:expr, $to:expr, $as_i16:expr) => {
         impl Sample for $type {
             fn write<W: io::Write>(self, writer: &mut W, bits: u16) -> Result<()> {
-                self.write_padded(writer, bits, bits / 8)
+                write_container(self, writer, &unpadded(SampleFormat::$format, bits))
             }
 
             fn write_padded<W: io::Write>(self, writer: &mut W, bits: u16, byte_width: u16) -> Result<()> {
-                let mut container = [0; 4];
-                let width = proved::encode(&containers(SampleFormat::$format, bits, byte_width), &[self], &mut container)?;
-                Ok(writer.write_all(&container[..width])?)
+                write_container(self, writer, &containers(SampleFormat::$format, bits, byte_width))
             }
 
             fn read<R: io::Read>(reader: &mut R, format: SampleFormat, bytes: u16, bits: u16) -> Result<$type> {

@@ -1,5 +1,6 @@
-use crate::proved;
+use crate::proved::{self, Kind, Next, Recorder};
 pub use crate::proved::Format as SampleFormat;
+use std::ops::Range;
 
 /// What a file says of its samples.
 #[derive(Clone, Copy, Debug, PartialEq, Eq)]
@@ -31,15 +32,18 @@ impl WavSpec {
     ///
     /// If the spec can't be written.
     pub fn into_header_for_infinite_file(self) -> Vec<u8> {
-        let mut header = proved::header(&self.with_default_width().into(), 0).expect("a spec that can be written");
-        header[4..8].fill(0xff);
-        header.iter_mut().rev().take(4).for_each(|byte| *byte = 0xff);
+        let spec = self.into();
+        let mut header = proved::header(&spec, 0).expect("a spec that can be written");
+        for (place, _) in sizes_of(&spec).expect("a header that has sizes") {
+            header[place].fill(0xff);
+        }
         header
     }
+}
 
-    pub(crate) fn with_default_width(self) -> WavSpecEx {
-        let bytes_per_sample = self.bits_per_sample / 8 + u16::from(self.bits_per_sample % 8 != 0);
-        WavSpecEx { spec: self, bytes_per_sample }
+impl From<WavSpec> for proved::Spec {
+    fn from(WavSpec { channels, sample_rate, bits_per_sample, sample_format }: WavSpec) -> proved::Spec {
+        proved::Spec { sample_rate, channels, ..unpadded(sample_format, bits_per_sample) }
     }
 }
 
@@ -57,8 +61,31 @@ impl From<proved::Spec> for WavSpecEx {
     }
 }
 
-/// What encoding and decoding look at. No bytes are those of no container, and not the default.
+/// What encoding and decoding look at, where containers have as many bytes as the bits need.
+pub(crate) fn unpadded(format: SampleFormat, bits: u16) -> proved::Spec {
+    proved::Spec { sample_rate: 1, channels: 1, bits_per_sample: bits, bytes_per_sample: 0, format }
+}
+
+/// The same of containers of so many bytes. No bytes are those of no container, and not the default.
 pub(crate) fn containers(format: SampleFormat, bits: u16, width: u16) -> proved::Spec {
-    let bits_per_sample = if width == 0 { 0 } else { bits };
-    proved::Spec { sample_rate: 1, channels: 1, bits_per_sample, bytes_per_sample: width, format }
+    proved::Spec { bytes_per_sample: width, ..unpadded(format, if width == 0 { 0 } else { bits }) }
+}
+
+/// The sizes in the header of a new file, which are what a checkpoint writes: their places, and what they are.
+pub(crate) fn sizes_of(spec: &proved::Spec) -> proved::Result<Vec<(Range<usize>, u64)>> {
+    let (mut recorder, mut sizes) = (Recorder::begin(spec)?, Vec::new());
+    recorder.checkpoint();
+    while let Next::Effect(effect) = recorder.next()? {
+        if effect.kind() == Kind::Write {
+            let place = effect.place() as usize;
+            sizes.push((place..place + effect.length(), number(effect.bytes())));
+        }
+        effect.done();
+    }
+    Ok(sizes)
+}
+
+/// The number whose lowest byte is the first.
+pub(crate) fn number(bytes: &[u8]) -> u64 {
+    bytes.iter().rev().fold(0, |high, byte| high << 8 | u64::from(*byte))
 }

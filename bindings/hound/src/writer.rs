@@ -1,6 +1,5 @@
 use crate::medium::Medium;
 use crate::proved::{self, Allowed, Info, Mode, Recorder, Repair, Repairer, State, Walk};
-use crate::sample::Encode;
 use crate::spec::containers;
 use crate::{Error, Result, Sample, SampleFormat, WavSpec, WavSpecEx, BLOCK};
 use std::io::{self, Read, Seek, SeekFrom, Write};
@@ -87,7 +86,7 @@ impl<W: Write + Seek> Core<W> {
     fn spill(&mut self) -> Result<()> {
         if self.count > 0 {
             let (spec, samples) = (self.containers(SampleFormat::Int), &self.buffer[..self.count]);
-            self.waiting = encode_after(self.waiting, &mut self.bytes, &spec, samples, proved::encode)?;
+            self.waiting = encode_after(self.waiting, &mut self.bytes, &spec, self.count, |spec, bytes| proved::encode(spec, samples, bytes))?;
             self.count = 0;
         }
         let result = self.write_waiting(self.waiting);
@@ -123,18 +122,37 @@ impl<W: Write + Seek> Core<W> {
         Ok(self.recorder.run(&mut self.medium, &[])??)
     }
 
-    // Writes samples after the buffered ones; then the room for others is counted anew.
+    // Writes samples after the buffered ones.
     pub(crate) fn write_samples<S: Sample + Copy>(&mut self, samples: &[S]) -> Result<()> {
-        self.spill()?;
-        self.buffer.clear();
         match S::CODING {
-            Some(coding) => {
-                let spec = self.containers(coding.format);
-                let end = encode_after(self.waiting, &mut self.bytes, &spec, samples, coding.encode)?;
-                self.write_block(end)
-            }
+            Some(coding) => self.write_coded(coding.format, samples.len(), |spec, bytes| (coding.encode)(spec, samples, bytes)),
             None => self.write_own(samples.iter().copied()),
         }
+    }
+
+    pub(crate) fn write_scaled(&mut self, samples: &[f32]) -> Result<u64> {
+        let mut clipped = 0;
+        self.write_coded(self.spec_ex.spec.sample_format, samples.len(), |spec, bytes| {
+            proved::encode_scaled(spec, samples, bytes).map(|(length, count)| {
+                clipped = count;
+                length
+            })
+        })?;
+        Ok(clipped)
+    }
+
+    // Writes what is encoded after the buffered samples; then the room for others is counted anew.
+    fn write_coded(
+        &mut self,
+        format: SampleFormat,
+        count: usize,
+        encode: impl FnOnce(&proved::Spec, &mut [u8]) -> proved::Result<usize>,
+    ) -> Result<()> {
+        self.spill()?;
+        self.buffer.clear();
+        let spec = self.containers(format);
+        let end = encode_after(self.waiting, &mut self.bytes, &spec, count, encode)?;
+        self.write_block(end)
     }
 
     // A type of the user's own writes its containers itself.
@@ -165,35 +183,40 @@ impl<W: Write + Seek> Core<W> {
     }
 }
 
-// Encodes samples after the containers that wait, and returns where they end.
-fn encode_after<S>(
+// Encodes so many samples after the containers that wait, and returns where they end.
+fn encode_after(
     waiting: usize,
     bytes: &mut Vec<u8>,
     spec: &proved::Spec,
-    samples: &[S],
-    encode: Encode<S>,
+    count: usize,
+    encode: impl FnOnce(&proved::Spec, &mut [u8]) -> proved::Result<usize>,
 ) -> Result<usize> {
-    bytes.resize(bytes.len().max(waiting + samples.len() * usize::from(spec.bytes_per_sample)), 0);
-    Ok(waiting + encode(spec, samples, &mut bytes[waiting..])?)
+    bytes.resize(bytes.len().max(waiting + count * usize::from(spec.bytes_per_sample)), 0);
+    Ok(waiting + encode(spec, &mut bytes[waiting..])?)
 }
 
 impl<W: Write + Seek> WavWriter<W> {
     /// Writes the header of a new file, with containers of as many bytes as the bits need. The writer has
     /// to be at its beginning.
     pub fn new(writer: W, spec: WavSpec) -> Result<WavWriter<W>> {
-        WavWriter::new_with_spec_ex(writer, spec.with_default_width())
+        WavWriter::begin(writer, &spec.into())
     }
 
     /// The same, with containers of another width.
-    pub fn new_with_spec_ex(mut writer: W, spec_ex: WavSpecEx) -> Result<WavWriter<W>> {
-        let (mut header, recorder) = ([0; proved::HEADER_BYTES], Recorder::begin(&spec_ex.into())?);
-        let length = proved::header_to(&spec_ex.into(), 0, &mut header)?;
-        writer.write_all(&header[..length])?;
-        Ok(WavWriter::at(writer, Some(length as u64), spec_ex, recorder))
+    pub fn new_with_spec_ex(writer: W, spec_ex: WavSpecEx) -> Result<WavWriter<W>> {
+        WavWriter::begin(writer, &spec_ex.into())
     }
 
-    fn at(writer: W, place: Option<u64>, spec_ex: WavSpecEx, recorder: Recorder) -> WavWriter<W> {
-        let width = usize::from(spec_ex.bytes_per_sample);
+    fn begin(mut writer: W, spec: &proved::Spec) -> Result<WavWriter<W>> {
+        let (mut header, recorder) = ([0; proved::HEADER_BYTES], Recorder::begin(spec)?);
+        let length = proved::header_to(spec, 0, &mut header)?;
+        writer.write_all(&header[..length])?;
+        Ok(WavWriter::at(writer, Some(length as u64), spec, recorder))
+    }
+
+    fn at(writer: W, place: Option<u64>, spec: &proved::Spec, recorder: Recorder) -> WavWriter<W> {
+        let width = recorder.width();
+        let spec_ex = WavSpecEx { bytes_per_sample: width as u16, ..WavSpecEx::from(*spec) };
         WavWriter {
             core: Core {
                 spec_ex,
@@ -298,7 +321,7 @@ impl<W: Read + Write + Seek> WavWriter<W> {
     pub fn new_append(mut writer: W) -> Result<WavWriter<W>> {
         let info = Walk::over(&mut writer)??;
         let recorder = after_counted(&info, writer.seek(SeekFrom::End(0)).ok())?;
-        Ok(WavWriter::at(writer, None, info.spec.into(), recorder))
+        Ok(WavWriter::at(writer, None, &info.spec, recorder))
     }
 }
 
@@ -315,7 +338,7 @@ impl WavWriter<io::BufWriter<fs::File>> {
         let mut file = fs::OpenOptions::new().read(true).write(true).open(filename)?;
         let info = Walk::over(&mut io::BufReader::new(&file))??;
         let recorder = after_counted(&info, Some(file.seek(SeekFrom::End(0))?))?;
-        Ok(WavWriter::of_file(file, None, info.spec.into(), recorder, false))
+        Ok(WavWriter::of_file(file, None, &info.spec, recorder, false))
     }
 
     /// Creates a file that survives a loss of power (own). When this returns, a WAV file without samples and its
@@ -352,19 +375,19 @@ impl WavWriter<io::BufWriter<fs::File>> {
         let length = file.seek(SeekFrom::End(0))?;
         let found = Repairer::new(length, Mode::FindDamage).run(&mut file)??;
         let recorder = Recorder::resume(&found, Allowed::default())?;
-        Ok(WavWriter::of_file(file, None, found.spec.into(), recorder, true))
+        Ok(WavWriter::of_file(file, None, &found.spec, recorder, true))
     }
 
     // Writes the header of a new file, which isn't opened if the spec can't be written.
     fn over(open: impl FnOnce() -> io::Result<fs::File>, spec: WavSpec, is_durable: bool) -> Result<WavWriter<io::BufWriter<fs::File>>> {
-        let spec_ex = spec.with_default_width();
-        let (header, recorder) = (proved::header(&spec_ex.into(), 0)?, Recorder::begin(&spec_ex.into())?);
+        let spec = spec.into();
+        let (header, recorder) = (proved::header(&spec, 0)?, Recorder::begin(&spec)?);
         let mut file = open()?;
         file.write_all(&header)?;
         if is_durable {
             file.sync_data()?;
         }
-        Ok(WavWriter::of_file(file, Some(header.len() as u64), spec_ex, recorder, is_durable))
+        Ok(WavWriter::of_file(file, Some(header.len() as u64), &spec, recorder, is_durable))
     }
 
     // A durable writer has no bytes in its `BufWriter`: what the recorder takes for written is with the system, a write
@@ -372,12 +395,12 @@ impl WavWriter<io::BufWriter<fs::File>> {
     fn of_file(
         file: fs::File,
         place: Option<u64>,
-        spec_ex: WavSpecEx,
+        spec: &proved::Spec,
         recorder: Recorder,
         is_durable: bool,
     ) -> WavWriter<io::BufWriter<fs::File>> {
         let capacity = if is_durable { 0 } else { 16 * BLOCK };
-        let mut writer = WavWriter::at(io::BufWriter::with_capacity(capacity, file), place, spec_ex, recorder);
+        let mut writer = WavWriter::at(io::BufWriter::with_capacity(capacity, file), place, spec, recorder);
         writer.core.medium.cut = |file, place| {
             file.flush()?;
             proved::Medium::cut(file.get_mut(), place)

@@ -128,9 +128,55 @@ fn the_bytes_are_those_of_the_format() {
     assert_eq!(file, *b"RIFF\x2c\0\0\0WAVEfmt \x10\0\0\0\x01\0\x02\0\x44\xac\0\0\x10\xb1\x02\0\x04\0\x10\0data\x08\0\0\0\x02\0\xfd\xff\x05\0\xf9\xff");
     let odd = written(WavSpec { bits_per_sample: 8, ..MONO }, &[1i8]);
     assert_eq!((&odd[4..8], &odd[40..]), (&[38, 0, 0, 0][..], &[1, 0, 0, 0, 129, 0][..]));
-    let header = MONO.into_header_for_infinite_file();
-    assert_eq!((&header[4..8], &header[40..]), (&[255; 4][..], &[255; 4][..]));
     assert_eq!(hound::read_wave_header(&mut &file[..]).unwrap(), 52);
+    assert_eq!(hound::read_wave_header(&mut &b"RIFF\xff\xff\xff\xffWAVEfmt "[..]).unwrap(), 0x1_0000_0007);
+    assert!(matches!(hound::read_wave_header(&mut &file[..11]), Err(Error::IoError(_))));
+    // Of a stream both sizes are the greatest.
+    for (bits_per_sample, length) in [(16, 44), (24, 68)] {
+        let spec = WavSpec { bits_per_sample, ..MONO };
+        let mut header = written::<i32>(spec, &[]);
+        header[4..8].fill(255);
+        header[length - 4..].fill(255);
+        assert_eq!(spec.into_header_for_infinite_file(), header);
+    }
+}
+
+#[test]
+fn floats_are_scaled_where_a_file_has_integers() {
+    for (bits, bytes_per_sample) in [(8, 1), (16, 2), (24, 3), (24, 4), (32, 4)] {
+        let spec_ex = WavSpecEx { spec: WavSpec { bits_per_sample: bits, channels: 2, ..MONO }, bytes_per_sample };
+        let integers: Vec<i32> = (0..5002).map(|number| (number % 256 - 128) << (bits - 8)).collect();
+        let floats: Vec<f32> = (0..5002).map(|number| (number % 256 - 128) as f32 / 128.0).collect();
+        let mut file = Cursor::new(Vec::new());
+        let mut writer = WavWriter::new_with_spec_ex(&mut file, spec_ex).unwrap();
+        writer.write_sample(integers[0]).unwrap();
+        assert_eq!((writer.write_scaled(&floats[1..4000]).unwrap(), writer.write_scaled(&[]).unwrap()), (0, 0));
+        assert_eq!(writer.write_scaled(&[&floats[4000..], &[2.0, f32::NAN]].concat()).unwrap(), 1);
+        writer.finalize().unwrap();
+        file.rewind().unwrap();
+        let loudest = i32::MAX >> (32 - bits);
+        let read = WavReader::new(&mut file).unwrap().into_samples::<i32>().map(|sample| sample.unwrap());
+        assert!(read.eq(integers.iter().copied().chain([loudest, 0])));
+
+        let length = file.get_ref().len();
+        file.get_mut().truncate(length - 2); // the last sample is torn, or the last two are missing
+        file.rewind().unwrap();
+        let (mut reader, mut out) = (WavReader::new(&mut file).unwrap(), vec![9.0; 5004]);
+        assert_eq!(reader.samples::<i32>().next().unwrap().unwrap(), integers[0]);
+        assert!(matches!(reader.read_scaled(&mut out[1..20]), (19, Ok(()))));
+        assert!(matches!(reader.read_scaled(&mut out[20..5002]), (4982, Ok(()))));
+        assert!(out[1..5002] == floats[1..]);
+        assert!(matches!(reader.read_scaled(&mut out), (count, Err(Error::IoError(_))) if count < 2));
+    }
+    // Floats have no other scale, and any pattern.
+    let (mut file, patterns) = (Cursor::new(Vec::new()), [2.5, f32::from_bits(0x7fc1_2345)]);
+    let mut writer = WavWriter::new(&mut file, FLOATS).unwrap();
+    assert_eq!(writer.write_scaled(&patterns).unwrap(), 0);
+    writer.finalize().unwrap();
+    file.rewind().unwrap();
+    let mut out = [0.0; 3];
+    assert!(matches!(WavReader::new(file).unwrap().read_scaled(&mut out), (2, Ok(()))));
+    assert_eq!(out.map(f32::to_bits), [0x4020_0000, 0x7fc1_2345, 0]);
 }
 
 #[test]
@@ -197,6 +243,9 @@ fn containers_are_written_and_read_by_the_trait() {
     Sample::write(-2i16, &mut bytes, 16).unwrap();
     0x1234_56i32.write_padded(&mut bytes, 24, 4).unwrap();
     assert_eq!(bytes, [0xfe, 0xff, 0x56, 0x34, 0x12, 0]);
+    assert!(matches!(1i16.write(&mut bytes, 12), Err(Error::Unsupported)));
+    (-3i32).write(&mut bytes, 24).unwrap();
+    assert_eq!(bytes.split_off(6), [0xfd, 0xff, 0xff]);
     let mut rest = &bytes[..];
     assert_eq!(i16::read(&mut rest, SampleFormat::Int, 2, 16).unwrap(), -2);
     assert_eq!(i32::read(&mut rest, SampleFormat::Int, 4, 24).unwrap(), 0x12_3456);

@@ -8,9 +8,12 @@
 #![warn(missing_docs)]
 
 mod machines;
+mod scaled;
 
 pub use machines::{Allowed, Effect, Kind, Medium, Mode, Next, Recorder, Repairer, Walk};
+pub use scaled::{decode_scaled, encode_scaled, read_scaled, write_scaled};
 
+use std::time::Duration;
 use std::{error, fmt, fs, io};
 
 // Each error, its code, and the sentence of hound.h for it, which scripts/check_errors compares.
@@ -301,6 +304,14 @@ mod c {
 }
 
 impl Spec {
+    /// How many bytes a sample takes, if samples of this spec are read and written: also where the spec has 0.
+    pub fn width(&self) -> Result<usize> {
+        match self.format {
+            Format::Float => encode(self, &[0f32], &mut [0; 4]),
+            Format::Int => encode(self, &[0i32], &mut [0; 4]),
+        }
+    }
+
     fn to_c(self) -> c::Spec {
         c::Spec {
             sample_rate: self.sample_rate,
@@ -323,6 +334,17 @@ impl Spec {
 }
 
 impl Info {
+    /// How many frames the header counts; a frame has a sample of each channel.
+    pub fn frames(&self) -> u32 {
+        self.samples / u32::from(self.spec.channels)
+    }
+
+    /// How long these frames last; none where the header has a rate of 0.
+    pub fn duration(&self) -> Option<Duration> {
+        let nanoseconds = u64::from(self.frames()) * 1_000_000_000;
+        nanoseconds.checked_div(u64::from(self.spec.sample_rate)).map(Duration::from_nanos)
+    }
+
     fn from_c(found: c::Info) -> Info {
         Info {
             spec: Spec::from_c(found.spec),
@@ -476,9 +498,9 @@ pub fn read_into<S: Sample>(file: &[u8], first: u64, out: &mut [S]) -> Result<us
 /// Reads all samples of a file that are there: of one that was cut off fewer than `info` counts. Where the
 /// header counts some and none is there, the error is `Truncated`.
 pub fn read<S: Sample + Clone + Default>(file: &[u8]) -> Result<Vec<S>> {
-    let info = info(file)?;
-    let held = (file.len() as u64 - info.data_start) / u64::from(info.spec.bytes_per_sample);
-    let mut samples = vec![S::default(); held.min(u64::from(info.samples)).max(1) as usize];
+    // Where the header counts none, one is requested, too: the type may be wrong.
+    let most = file.len().min(info(file)?.samples as usize).max(1);
+    let mut samples = vec![S::default(); most];
     let count = read_into(file, 0, &mut samples)?;
     samples.truncate(count);
     Ok(samples)
@@ -597,16 +619,16 @@ pub enum Container {
 }
 
 impl Container {
-    /// The containers of a spec with its bytes, if they are read.
+    /// The containers of a spec, if they are read.
     pub fn of(spec: &Spec) -> Option<Container> {
-        Some(match (spec.format, spec.bits_per_sample, spec.bytes_per_sample) {
-            (Format::Int, 8, 1) => Container::Int8,
-            (Format::Int, 16, 2) => Container::Int16,
-            (Format::Int, 24, 3) => Container::Int24,
-            (Format::Int, 24, 4) => Container::Int24In4,
-            (Format::Int, 32, 4) => Container::Int32,
-            (Format::Float, 32, 4) => Container::Float,
-            _ => return None,
+        let width = spec.width().ok()?;
+        Some(match (spec.format, spec.bits_per_sample) {
+            (Format::Float, _) => Container::Float,
+            (_, 8) => Container::Int8,
+            (_, 16) => Container::Int16,
+            (_, 24) if width == 3 => Container::Int24,
+            (_, 24) => Container::Int24In4,
+            _ => Container::Int32,
         })
     }
 }

@@ -441,6 +441,11 @@ impl Recorder {
         Ok(Recorder(recorder))
     }
 
+    /// How many bytes a sample takes.
+    pub fn width(&self) -> usize {
+        usize::from(self.0.bytes_per_sample)
+    }
+
     /// How many samples are written.
     pub fn samples(&self) -> u64 {
         u64::from(self.0.data_length) / u64::from(self.0.bytes_per_sample)

@@ -1,9 +1,10 @@
 //! The calls over small files.
 use hound_bindings::{
-    append_to, decode, encode, find_damage, from_f32, header, info, read, read_into, repair, repair_to_end, size, sizes, to_f32, value_16, value_24, value_32, value_8, write,
-    write_to, Allowed, Container, Error, Format, Kind, Medium, Mode, Next, Recorder, Repairer, Spec, State, Walk, ERRORS,
+    append_to, decode, decode_scaled, encode, encode_scaled, find_damage, from_f32, header, info, read, read_into, read_scaled, repair, repair_to_end, size, sizes, to_f32,
+    value_16, value_24, value_32, value_8, write, write_scaled, write_to, Allowed, Container, Error, Format, Kind, Medium, Mode, Next, Recorder, Repairer, Spec, State, Walk, ERRORS,
 };
 use std::panic::{catch_unwind, AssertUnwindSafe};
+use std::time::Duration;
 use std::{io, mem};
 
 const MEND: Allowed = Allowed { mend: true, overwrite: false };
@@ -220,6 +221,69 @@ fn eight_bits_and_scales() {
 }
 
 #[test]
+fn integers_are_read_and_written_as_floats() {
+    for (bits, width) in [(8, 1), (16, 2), (24, 3), (24, 4), (32, 4)] {
+        let spec = Spec { bits_per_sample: bits, bytes_per_sample: width, ..SPEC };
+        let integers: Vec<i32> = (0..3001).map(|number| (number % 256 - 128) << (bits - 8)).collect();
+        let floats: Vec<f32> = (0..3001).map(|number| (number % 256 - 128) as f32 / 128.0).collect();
+        let (file, mut out) = (write(&spec, &integers).unwrap(), vec![9.0; 3003]);
+        assert_eq!((read_scaled(&file, 2, &mut out), read_scaled(&file, 3001, &mut out[3000..])), (Ok(2999), Ok(0)));
+        assert!(out[..2999] == floats[2..] && out[2999..] == [9.0; 4]);
+        assert_eq!(write_scaled(&spec, &floats), Ok((file.clone(), 0)));
+
+        let start = info(&file).unwrap().data_start as usize;
+        let data = &file[start..start + 3001 * usize::from(width)];
+        assert_eq!(decode_scaled(&spec, &data[..data.len() - 1], &mut out), Ok(3000));
+        assert!(out[..3000] == floats[..3000] && out[3000..] == [9.0; 3]);
+        let mut bytes = vec![7; data.len() + 1];
+        assert_eq!(encode_scaled(&spec, &floats, &mut bytes[2..]), Err(Error::NoRoom));
+        assert!(bytes.iter().all(|byte| *byte == 7));
+        assert_eq!(encode_scaled(&spec, &floats, &mut bytes), Ok((data.len(), 0)));
+        assert!(bytes[..data.len()] == *data && bytes[data.len()] == 7);
+    }
+}
+
+#[test]
+fn what_no_integer_holds_is_clipped_and_counted() {
+    let mut loud = vec![0.25; 1500];
+    loud.extend([1.0, -1.0, -1.5, f32::NAN, 0.5f32.powi(16), 1.5 * 0.5f32.powi(15)]);
+    let (file, clipped) = write_scaled(&SPEC, &loud).unwrap();
+    assert_eq!((clipped, &file[file.len() - 14..]), (2, &[0, 0x20, 0xff, 0x7f, 0, 0x80, 0, 0x80, 0, 0, 0, 0, 2, 0][..]));
+    loud[0] = 2.0;
+    assert_eq!(encode_scaled(&SPEC, &loud, &mut vec![0; 4000]), Ok((3012, 3)));
+    assert_eq!(write_scaled(&Spec { channels: 2, ..SPEC }, &[0.0]), Err(Error::UnfinishedFrame));
+    let strange = Spec { bits_per_sample: 12, ..SPEC };
+    assert_eq!((encode_scaled(&strange, &[0.0], &mut [0; 8]), decode_scaled(&strange, &[0; 8], &mut [0.0])), (Err(Error::NotWritable), Err(Error::NotWritable)));
+    // Floats have no other scale, and any pattern.
+    let floats = Spec { bits_per_sample: 32, format: Format::Float, ..SPEC };
+    let (patterns, mut out, mut bytes) = ([2.5, f32::from_bits(0x7fc1_2345)], [0.0; 3], [0; 8]);
+    let (file, clipped) = write_scaled(&floats, &patterns).unwrap();
+    assert_eq!((read_scaled(&file, 0, &mut out), clipped, out.map(f32::to_bits)), (Ok(2), 0, [0x4020_0000, 0x7fc1_2345, 0]));
+    assert_eq!((encode_scaled(&floats, &patterns, &mut bytes), bytes), (Ok((8, 0)), [0, 0, 0x20, 0x40, 0x45, 0x23, 0xc1, 0x7f]));
+    assert_eq!((decode_scaled(&floats, &bytes[4..], &mut out), out[0].to_bits()), (Ok(1), 0x7fc1_2345));
+}
+
+#[test]
+fn a_file_that_lacks_samples_is_read_as_floats_up_to_them() {
+    let file = write(&SPEC, &[16384i16; 2000]).unwrap();
+    let mut out = [9.0; 2000];
+    assert_eq!((read_scaled(&file[..44 + 2 * 1024 + 1], 0, &mut out), out[1023], out[1024]), (Ok(1024), 0.5, 9.0));
+    assert_eq!(read_scaled(&file[..44], 0, &mut out), Err(Error::Truncated));
+    assert_eq!(read_scaled(b"RIFX", 0, &mut []), Err(Error::NoRiffTag));
+}
+
+#[test]
+fn a_file_has_a_duration() {
+    let stereo = Spec { channels: 2, ..SPEC };
+    let mut file = write(&stereo, &[0i16; 2 * 11025]).unwrap();
+    let found = info(&file).unwrap();
+    assert_eq!((found.frames(), found.duration()), (11025, Some(Duration::from_millis(250))));
+    assert_eq!(write(&found.spec, &[0i16; 2 * 11025]).unwrap(), file);
+    file[24..32].fill(0); // the rate, and the bytes of a second
+    assert_eq!(info(&file).unwrap().duration(), None);
+}
+
+#[test]
 fn what_is_shorter_has_no_room() {
     let stereo = Spec { channels: 2, ..SPEC };
     let mut file = write(&stereo, &[1i16, 2, 3, 4]).unwrap();
@@ -321,10 +385,14 @@ fn the_containers_are_those_that_are_decoded() {
             let spec = Spec { bits_per_sample: bits, bytes_per_sample: bytes, format, ..SPEC };
             let decodes = decode::<i32>(&spec, &[], &mut []).is_ok() || decode::<f32>(&spec, &[], &mut []).is_ok();
             assert_eq!(Container::of(&spec).is_some(), decodes, "{spec:?}");
+            assert_eq!(spec.width(), if decodes { Ok(bytes.into()) } else { Err(Error::NotWritable) });
             known += decodes as u32;
         }
     }
     assert_eq!(known, 6);
+    for (bits, width) in [(8, 1), (16, 2), (24, 3), (32, 4)] {
+        assert_eq!(Spec { bits_per_sample: bits, ..SPEC }.width(), Ok(width));
+    }
 }
 
 #[test]
