@@ -1,5 +1,5 @@
 //! Links the library that bindings/lib has for the target, or that the folder HOUND_C_LIB has. Where there is none, or with
-//! HOUND_C_SOURCE in the environment, it compiles hound_c.c. The package has lib and c by links; where they aren't followed, its folder is in bindings.
+//! HOUND_C_SOURCE in the environment, it compiles hound_c.c. A packaged crate has lib and c of bindings in its folder.
 use std::path::{Path, PathBuf};
 use std::process::{self, Command};
 use std::{env, fs, io};
