@@ -33,7 +33,7 @@ fn compilers(target: &str) -> Vec<String> {
         host if host == target => vec!["cc", "gcc", "clang", "cl"],
         host if parts[0] == "i686" && host.replacen("x86_64", "i686", 1) == target => vec!["cc -m32"],
         _ if target.ends_with("windows-gnu") => return vec![format!("{}-w64-mingw32-gcc", parts[0])],
-        _ => return vec![format!("{}-linux-{}-gcc", parts[0].replace("gc", ""), parts[parts.len() - 1])],
+        _ => return vec![format!("{}-linux-{}-gcc", parts[0].replace("gc", "").replace("armv7", "arm"), parts[parts.len() - 1])],
     };
     usual.into_iter().map(str::to_string).collect()
 }
