@@ -465,7 +465,7 @@ impl Recorder {
 
     /// The next effect of what was requested, until all are done. After a block or an effect that failed the error is
     /// [`NeedsCheckpoint`](crate::Error::NeedsCheckpoint), and after a sync that failed it is
-    /// [`SyncFailed`](crate::Error::SyncFailed), as that of each later call.
+    /// [`SyncFailed`](crate::Error::SyncFailed), and so for each later request. An error ends the request.
     #[allow(clippy::should_implement_trait)]
     pub fn next(&mut self) -> Result<Next<'_, ()>> {
         self.next_effect()
