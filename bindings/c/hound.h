@@ -108,7 +108,7 @@ typedef struct {
     uint16_t channels;
     uint16_t bits_per_sample;
     uint16_t bytes_per_sample; /* of a container; 0 where a spec is passed: as many as the bits need */
-    uint16_t sample_format;    /* HOUND_INT; any other number is HOUND_FLOAT */
+    uint16_t sample_format;    /* HOUND_INT or HOUND_FLOAT; with another number no call takes it */
 } hound_spec;
 
 typedef struct {
@@ -177,6 +177,18 @@ typedef struct {
    the error that hound_info returns. Where a read was reported as failed it returns HOUND_NOT_PERFORMED, and the walk stays
    as it is: with the report HOUND_PENDING that part is requested again. */
 int32_t hound_walk_next(hound_walk *walk, hound_info_t *info) HOUND_NONNULL;
+
+/* The same of a stream that doesn't know its length, as programs write one into a pipe: its header may count any length,
+   and `samples` is 0. The samples are all whole frames that follow. */
+int32_t hound_walk_to_end(hound_walk *walk, hound_info_t *info) HOUND_NONNULL;
+
+/* Returns how many of the first `length` bytes of a stream's samples are whole frames: what is left over at its end is a
+   torn one. HOUND_NOT_WRITABLE means that a frame of the spec has no byte, HOUND_TOO_LONG that the length is 2^63 or more. */
+int64_t hound_whole_frames(const hound_spec *spec, uint64_t length) HOUND_NONNULL;
+
+/* Returns where the data may begin in a file whose header is damaged: after the first "data" and a length that follow its
+   first twelve bytes, or HOUND_NO_DATA_CHUNK. It is a guess, since samples may look like this. */
+int64_t hound_guess_data(const uint8_t *file, size_t length) HOUND_NONNULL;
 
 /* Reads samples from number `first` on, counted from 0, and returns how many: as many as fit, as the
    header counts and as the bytes hold. So 0 means the end, or that count is 0. HOUND_TRUNCATED means
@@ -335,7 +347,7 @@ static inline const char *hound_error_text(int64_t code) {
     case HOUND_OTHER_FORMAT: return "the samples are floats and the type is an integer, or vice versa";
     case HOUND_TOO_WIDE: return "the samples are wider than the type, or a value than its bits";
     case HOUND_NOT_WRITABLE: return "samples of this spec are not read or written";
-    case HOUND_TRUNCATED: return "the header counts a sample that the file does not hold";
+    case HOUND_TRUNCATED: return "the header counts a sample that the file does not hold (a stream of unknown length can be read to its end)";
     case HOUND_TOO_LONG: return "the sizes of the file would not fit in 32 bits";
     case HOUND_UNFINISHED_FRAME: return "the samples are no whole frames";
     case HOUND_NO_ROOM: return "more bytes are needed than the capacity";
@@ -354,8 +366,8 @@ static inline const char *hound_error_text(int64_t code) {
     case HOUND_EX_SIZE: return "unexpected WAVEFORMATEX size";
     case HOUND_BITS_NOT_32: return "bits per sample is not 32";
     case HOUND_EXTENSIBLE_SIZE: return "unexpected WAVEFORMATEXTENSIBLE size";
-    case HOUND_DATA_LENGTH: return "data chunk length is not a multiple of sample size";
-    case HOUND_FRAME_LENGTH: return "invalid data chunk length";
+    case HOUND_DATA_LENGTH: return "data chunk length is not a multiple of sample size (a stream of unknown length can be read to its end)";
+    case HOUND_FRAME_LENGTH: return "invalid data chunk length (a stream of unknown length can be read to its end)";
     case HOUND_NEEDS_CHECKPOINT: return "a write failed or a checkpoint is not done, and no samples are written before one is";
     case HOUND_SYNC_FAILED: return "a sync failed, and it is unknown what is stored";
     case HOUND_IS_CUT_OFF: return "the recording was cut off, and has to be repaired first";

@@ -11,7 +11,7 @@ async function after(name, given) {
   return loaded[name](...given);
 }
 
-for (const name of ["append", "appendTo", "findDamage", "info", "read", "record", "repair", "repairFile", "write"]) {
+for (const name of ["append", "appendTo", "findDamage", "guessStart", "info", "read", "record", "repair", "repairFile", "write"]) {
   exports[name] = (...given) => loaded ? loaded[name](...given) : after(name, given.map(copied));
 }
 

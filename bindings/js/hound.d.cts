@@ -41,7 +41,12 @@ export interface Damage extends Spec {
   dataLength: number;
 }
 
-export interface Part {
+export interface Stream {
+  /** Whether the file is a stream, whose header needn't know its length: its frames are all whole ones to its end. */
+  toEnd?: boolean;
+}
+
+export interface Part extends Stream {
   /** The first frame that is read; 0 without it. */
   start?: number;
   /** How many frames are read at most; all without it. */
@@ -77,8 +82,8 @@ export class HoundError extends Error {
   readonly code: string;
 }
 
-/** What the header of a file says. The data needn't all be there. */
-export function info(file: WavFile): Promise<Info>;
+/** What the header of a file says. The data needn't all be there; of a stream `frames` are those that are. */
+export function info(file: WavFile, options?: Stream): Promise<Info>;
 
 /**
  * Reads frames, and returns their samples: interleaved, or with `planar` an array for each channel. Without `type` it is
@@ -106,9 +111,12 @@ export interface RepairOptions {
   toEnd?: boolean;
   /** The format of the samples, where the header is lost. */
   like?: Format & { bitsPerSample: number };
-  /** How many bytes of what is left aren't samples, at the front; 0 without it. */
+  /** How many bytes of what is left aren't samples, at the front; without it as many as `guessStart` returns. */
   skip?: number;
 }
+
+/** Where the samples may begin in a file whose header is damaged: after what looks like the header of its data, or at 0. */
+export function guessStart(file: WavFile): Promise<number>;
 
 /** Reports what `repair` would find, or fails as it would. */
 export function findDamage(file: WavFile): Promise<Damage>;

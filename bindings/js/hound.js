@@ -12,7 +12,7 @@ const ERRORS = {
   OTHER_FORMAT: [3, "the samples are floats and the type is an integer, or vice versa"],
   TOO_WIDE: [4, "the samples are wider than the type, or a value than its bits"],
   NOT_WRITABLE: [5, "samples of this spec are not read or written"],
-  TRUNCATED: [6, "the header counts a sample that the file does not hold"],
+  TRUNCATED: [6, "the header counts a sample that the file does not hold (a stream of unknown length can be read to its end)"],
   TOO_LONG: [7, "the sizes of the file would not fit in 32 bits"],
   UNFINISHED_FRAME: [8, "the samples are no whole frames"],
   NO_ROOM: [9, "more bytes are needed than the capacity"],
@@ -31,8 +31,8 @@ const ERRORS = {
   EX_SIZE: [22, "unexpected WAVEFORMATEX size"],
   BITS_NOT_32: [23, "bits per sample is not 32"],
   EXTENSIBLE_SIZE: [24, "unexpected WAVEFORMATEXTENSIBLE size"],
-  DATA_LENGTH: [25, "data chunk length is not a multiple of sample size"],
-  FRAME_LENGTH: [26, "invalid data chunk length"],
+  DATA_LENGTH: [25, "data chunk length is not a multiple of sample size (a stream of unknown length can be read to its end)"],
+  FRAME_LENGTH: [26, "invalid data chunk length (a stream of unknown length can be read to its end)"],
   NEEDS_CHECKPOINT: [27, "a write failed or a checkpoint is not done, and no samples are written before one is"],
   SYNC_FAILED: [28, "a sync failed, and it is unknown what is stored"],
   IS_CUT_OFF: [29, "the recording was cut off, and has to be repaired first"],
@@ -58,6 +58,8 @@ function checked(code) {
 }
 
 const PAGE = 65536;
+// How many bytes the front of a file has, where its header is.
+const FRONT = 4096;
 // How many samples are decoded or encoded at once, and how many bytes they have at most in a file, or in an array.
 const BLOCK = 1 << 18;
 const BLOCK_BYTES = 4 * BLOCK;
@@ -257,22 +259,24 @@ function readerOf(file) {
   };
 }
 
-/** Walks over what is before the data. */
-function walkOver(file) {
+/** Walks over what is before the data. Of a stream the length that its header counts isn't looked at. */
+function walkOver(file, toEnd) {
   const size = sizeOf(file), readPart = ({ place, length }) => bytesOf(file, Math.min(place, size), Math.min(place + length, size));
-  return performAll(new Machine(80), "walk_next", readPart, (code) => {
+  return performAll(new Machine(80), toEnd ? "walk_to_end" : "walk_next", readPart, (code) => {
     checked(code);
     const samples = shared.view.getUint32(FOUND + 12, true), dataStart = Number(shared.view.getBigUint64(FOUND + 16, true));
     return { spec: shared.specAt(FOUND), samples, dataStart };
   });
 }
 
-/** What the header of a file says. The data needn't all be there. */
-export async function info(file) {
+/** What the header of a file says. The data needn't all be there. With `toEnd` the frames are all whole ones to its end. */
+export async function info(file, { toEnd = false } = {}) {
   const given = fileOf(file);
   await ready();
-  const { spec, samples, dataStart } = await walkOver(given);
-  return { ...spec, frames: samples / spec.channels, dataStart };
+  const { spec, samples, dataStart } = await walkOver(given, toEnd), { channels, bytesPerSample } = spec;
+  shared.putSpec(spec);
+  const held = toEnd ? checked(shared.call("whole_frames", shared.at(SPEC), sizeOf(given) - dataStart)) / (channels * bytesPerSample) : 0;
+  return { ...spec, frames: toEnd ? held : samples / channels, dataStart };
 }
 
 /** The type that is stored where samples of a type are read or written: floats may be scaled to integers. */
@@ -306,14 +310,14 @@ function encode(type, spec, samples, out) {
  *
  * Without `type` it is the narrowest one from 16 bits on that reads the file. Integers are also read as floats, each
  * divided by 2^(bits - 1). Of a file that holds fewer frames than its header counts these are read, and a read that
- * starts after them is an error.
+ * starts after them is an error. With `toEnd` the file is a stream, whose header needn't know its length.
  */
-export async function read(file, { start = 0, frames = Infinity, type, planar = false } = {}) {
+export async function read(file, { start = 0, frames = Infinity, type, planar = false, toEnd = false } = {}) {
   const given = fileOf(file), length = sizeOf(given);
   integer("start", start, 0, Number.MAX_SAFE_INTEGER);
   if (frames !== Infinity) integer("frames", frames, 0, Number.MAX_SAFE_INTEGER);
   if (type !== undefined) typeNamed(type);
-  const found = await info(given), { channels, bytesPerSample, dataStart } = found;
+  const found = await info(given, { toEnd }), { channels, bytesPerSample, dataStart } = found;
   const form = typeNamed(type ?? (found.isFloat ? "float32" : found.bitsPerSample <= 16 ? "int16" : "int32"));
   decode(form, found, new Uint8Array(0), new form.array(0)); // An error where the type doesn't read the file.
   const counted = Math.max(Math.min(frames, found.frames - start), 0);
@@ -406,6 +410,15 @@ export async function findDamage(file) {
   return report;
 }
 
+/** Where the samples may begin in a file whose header is damaged: after what looks like the header of its data, or at 0. */
+export async function guessStart(file) {
+  const given = fileOf(file);
+  await ready();
+  const front = await bytesOf(given, 0, Math.min(FRONT, sizeOf(given)));
+  shared.bytes.set(front, FIRST);
+  return Math.max(Number(shared.call("guess_data", shared.at(FIRST), front.length)), 0);
+}
+
 /** What a file becomes by effects: its own parts and those that were written, one after the other. The file stays. */
 class Overlay {
   constructor(parts) {
@@ -437,11 +450,11 @@ class Overlay {
  * `toEnd` all that follows the header of the data is taken for samples, also what looks like chunks. Where the header is lost
  * all that follows the first `skip` bytes is, and a header like that of another file comes before it.
  */
-export async function repair(file, { toEnd = false, like, skip = 0 } = {}) {
+export async function repair(file, { toEnd = false, like, skip } = {}) {
   const whole = fileOf(file), spec = like && specFor({}, like);
-  integer("skip", skip, 0, sizeOf(whole));
+  const start = skip === undefined ? like && await guessStart(whole) : integer("skip", skip, 0, sizeOf(whole));
   await ready();
-  const given = like ? joined([headerOf(spec, 0), partOf(whole, skip, sizeOf(whole))], whole instanceof Blob) : whole;
+  const given = like ? joined([headerOf(spec, 0), partOf(whole, start, sizeOf(whole))], whole instanceof Blob) : whole;
   return repairedFile(given, like || toEnd ? REPAIR_TO_END : REPAIR);
 }
 

@@ -1,6 +1,6 @@
 /* Answers the requests of requests.py, a line each: `memory SIZE HEX` says what is in memory, in its front; `CALL
    ARGUMENT..` makes a call over a copy of that, where @N is the address of its byte N, and #N a number of 16 bits. The
-   call `walk` is all calls of hound_walk_next over a file. The answer is what the call returned, and a sum of all memory
+   calls `walk_next` and `walk_to_end` are all such calls over a file. The answer is what the call returned, and a sum of all memory
    after it.   answer < REQUESTS */
 #include "hound.h"
 #include "walked.h"
@@ -19,7 +19,10 @@ static int digit(char c) { return c <= '9' ? c - '0' : c - 'a' + 10; }
 static int64_t call(const char *name, const uint64_t *a) {
 #define AT(type, i) ((type *)(uintptr_t)a[i])
     if (!strcmp(name, "info")) return hound_info(AT(uint8_t, 0), a[1], AT(hound_info_t, 2));
-    if (!strcmp(name, "walk")) return walked(AT(uint8_t, 0), a[1], AT(hound_info_t, 2));
+    if (!strcmp(name, "walk_next")) return walked(hound_walk_next, AT(uint8_t, 0), a[1], AT(hound_info_t, 2));
+    if (!strcmp(name, "walk_to_end")) return walked(hound_walk_to_end, AT(uint8_t, 0), a[1], AT(hound_info_t, 2));
+    if (!strcmp(name, "whole_frames")) return hound_whole_frames(AT(hound_spec, 0), a[1]);
+    if (!strcmp(name, "guess_data")) return hound_guess_data(AT(uint8_t, 0), a[1]);
     if (!strcmp(name, "find_damage")) return hound_find_damage(AT(uint8_t, 0), a[1], AT(hound_repair_t, 2));
     if (!strcmp(name, "header")) return hound_header(AT(hound_spec, 0), a[1], AT(uint8_t, 2), a[3]);
     if (!strcmp(name, "sizes")) return hound_sizes(AT(hound_spec, 0), a[1], a[2], AT(uint8_t, 3), a[4]);

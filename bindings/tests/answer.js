@@ -17,15 +17,15 @@ function readPart(file, used, effect) {
 }
 
 // Walks to the data of a file in memory, by a walk in the page after it.
-function walked(file, used, info) {
+const walked = (next) => (file, used, info) => {
   const walk = start + 65536;
   new Uint8Array(hound.memory.buffer, walk, 80).fill(0);
   for (;;) {
-    const code = hound.hound_walk_next(BigInt(walk), info);
+    const code = next(BigInt(walk), info);
     if (code !== 1) return code;
     readPart(file, used, walk);
   }
-}
+};
 
 // Repairs a file in memory by what a repairer requests.
 function repaired(file, used, mode, found) {
@@ -44,6 +44,7 @@ function repaired(file, used, mode, found) {
   }
 }
 
+const own = { walk_next: walked(hound.hound_walk_next), walk_to_end: walked(hound.hound_walk_to_end), repairer: repaired };
 const answers = [];
 let before = new Uint8Array(0);
 for (const line of fs.readFileSync(0, "latin1").trimEnd().split("\n")) {
@@ -54,7 +55,7 @@ for (const line of fs.readFileSync(0, "latin1").trimEnd().split("\n")) {
     continue;
   }
   memory.set(before);
-  const result = ({ walk: walked, repairer: repaired }[name] ?? hound["hound_" + name])(...words.map(argument)) ?? 0;
+  const result = (own[name] ?? hound["hound_" + name])(...words.map(argument)) ?? 0;
   let sum = 2166136261;
   for (let i = 0; i < before.length; i++) sum = Math.imul(sum ^ memory[i], 16777619);
   answers.push(`${result} ${(sum >>> 0).toString(16).padStart(8, "0")}`);

@@ -176,7 +176,7 @@ static void files_of_each_kind(void) {
             hound_info_t info;
             must(hound_info(file, (size_t)used, &info) == 0 && !memcmp(&info.spec, &spec, sizeof spec), "the spec of a file");
             hound_info_t parted;
-            must(walked(file, (size_t)used, &parted) == 0 && !memcmp(&parted.spec, &spec, sizeof spec), "the spec, by parts");
+            must(walked(hound_walk_next, file, (size_t)used, &parted) == 0 && !memcmp(&parted.spec, &spec, sizeof spec), "the spec, by parts");
             must(parted.samples == n + more && parted.data_start == start, "the samples, by parts");
             must(info.samples == n + more && info.data_start == start, "the samples of a file");
             for (int cut = 0; cut < 2; cut++) {
@@ -262,23 +262,54 @@ static void walks(void) {
     for (size_t length = 0; length < 56; length++) {
         hound_info_t info;
         memset(&info, 7, sizeof info);
-        must(walked(listed, length, &info) == HOUND_ENDED && info.samples == 0x07070707, "a walk that ends early");
+        must(walked(hound_walk_next, listed, length, &info) == HOUND_ENDED && info.samples == 0x07070707, "a walk that ends early");
     }
     uint8_t other[58];
     hound_info_t info;
     memcpy(other, listed, sizeof other);
     other[24] = 'F';
-    must(walked(other, sizeof other, &info) == HOUND_NO_FMT_CHUNK, "a walk without a fmt chunk");
+    must(walked(hound_walk_next, other, sizeof other, &info) == HOUND_NO_FMT_CHUNK, "a walk without a fmt chunk");
     memcpy(other, listed, sizeof other);
     other[52] = 1;
-    must(walked(other, sizeof other, &info) == HOUND_DATA_LENGTH, "a walk to half a sample");
+    must(walked(hound_walk_next, other, sizeof other, &info) == HOUND_DATA_LENGTH, "a walk to half a sample");
     memcpy(other, listed, sizeof other);
     put32(other + 16, 0xfffffff8);
-    must(walked(other, sizeof other, &info) == HOUND_NO_DATA_CHUNK, "a chunk that ends past 32 bits");
+    must(walked(hound_walk_next, other, sizeof other, &info) == HOUND_NO_DATA_CHUNK, "a chunk that ends past 32 bits");
     put32(other + 16, 0xfffffff7);
-    must(walked(other, sizeof other, &info) == HOUND_NO_DATA_CHUNK, "a chunk whose pad byte ends past 32 bits");
+    must(walked(hound_walk_next, other, sizeof other, &info) == HOUND_NO_DATA_CHUNK, "a chunk whose pad byte ends past 32 bits");
     put32(other + 16, 0xfffffff6);
-    must(walked(other, sizeof other, &info) == HOUND_ENDED, "a chunk that is longer than the file");
+    must(walked(hound_walk_next, other, sizeof other, &info) == HOUND_ENDED, "a chunk that is longer than the file");
+}
+
+/* A stream of stereo, whose header counts what programs write that don't know its length; and what a header that is
+   damaged still says. */
+static void streams(void) {
+    static const uint32_t counted[] = {0, 0x7fffffff, 0x7ffff000, 0xffffffff};
+    hound_spec spec = {44100, 2, 16, 0, HOUND_INT};
+    const int16_t samples[4] = {1, -1, 2, -2};
+    uint8_t file[56];
+    hound_info_t info;
+    must(hound_write_i16(&spec, samples, 4, file, sizeof file) == 52, "a file");
+    for (size_t i = 0; i < sizeof counted / sizeof *counted; i++) {
+        put32(file + 40, counted[i]);
+        must(walked(hound_walk_to_end, file, 52, &info) == 0 && info.samples == 0 && info.data_start == 44, "a stream");
+        must(info.spec.channels == 2 && info.spec.bits_per_sample == 16, "the spec of a stream");
+    }
+    must(walked(hound_walk_next, file, 52, &info) == HOUND_DATA_LENGTH, "a length of no whole samples");
+    must(walked(hound_walk_to_end, file, 43, &info) == HOUND_ENDED, "a stream without a whole header");
+    must(hound_whole_frames(&spec, 11) == 8 && hound_whole_frames(&spec, 3) == 0 && hound_whole_frames(&spec, 8) == 8, "whole frames");
+    must(hound_whole_frames(&spec, INT64_MAX) == INT64_MAX - 3 && hound_whole_frames(&spec, UINT64_MAX) == HOUND_TOO_LONG, "many of them");
+    must(hound_guess_data(file, 52) == 44 && hound_guess_data(file, 44) == 44 && hound_guess_data(file, 43) == HOUND_NO_DATA_CHUNK, "a guess");
+    memset(file, 0, 36);
+    must(hound_guess_data(file, 52) == 44, "a guess without anything before it");
+    file[36] = 'D';
+    must(hound_guess_data(file, 52) == HOUND_NO_DATA_CHUNK && hound_guess_data(file, 0) == HOUND_NO_DATA_CHUNK, "nothing to guess by");
+    spec.channels = 0;
+    must(hound_whole_frames(&spec, 8) == HOUND_NOT_WRITABLE, "frames of no channel");
+    for (uint16_t format = 2; format != 0; format = (uint16_t)(format * 2)) {
+        hound_spec other = {44100, 2, 16, 0, format};
+        must(hound_size(&other, 4) == HOUND_NOT_WRITABLE, "a number that is no format");
+    }
 }
 
 static void eight_bits(void) {
@@ -671,6 +702,7 @@ int main(void) {
     files_of_each_kind();
     errors_of_files();
     walks();
+    streams();
     eight_bits();
     values();
     scales();

@@ -100,7 +100,10 @@ def requests(file, some):
         yield f"memory {size} {(memory.ljust(FILE, bytes([0x5A])) + file).hex()}"
         if suffix == "i16":
             yield f"info @{FILE} {used} @{FOUND}"
-            yield f"walk @{FILE} {used} @{FOUND}"
+            yield f"walk_next @{FILE} {used} @{FOUND}"
+            yield f"walk_to_end @{FILE} {used} @{FOUND}"
+            yield f"whole_frames @{SPEC} {some.choice((used, used, 2**63 - 1, 2**63))}"
+            yield f"guess_data @{FILE} {used}"
             yield f"find_damage @{FILE} {used} @{FOUND}"
             yield f"size @{SPEC} {some.choice((few, used, 2**31, 2**64 - 1))}"
             yield f"header @{SPEC} {some.choice((few, used, 2**31))} @{OUT} {some.choice((68, 67, 44, 43))}"

@@ -14,11 +14,14 @@ static void read_part(const uint8_t *file, size_t length, hound_effect *effect) 
     effect->report = HOUND_DONE;
 }
 
-static int32_t walked(const uint8_t *file, size_t length, hound_info_t *info) {
+/* A call that takes the part of a walk. */
+typedef int32_t walk_call(hound_walk *walk, hound_info_t *info);
+
+static int32_t walked(walk_call *next, const uint8_t *file, size_t length, hound_info_t *info) {
     hound_walk walk = HOUND_WALK_BEGIN;
     uint64_t end = 0;
     int32_t code;
-    while ((code = hound_walk_next(&walk, info)) == 1) {
+    while ((code = next(&walk, info)) == 1) {
         must(walk.effect.place >= end, "a part after those before it");
         end = walk.effect.place + walk.effect.length;
         read_part(file, length, &walk.effect);

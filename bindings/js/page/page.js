@@ -1,5 +1,5 @@
 // The page: it looks at files that are dropped or chosen, draws one, plays it, and saves the repaired ones.
-import { HoundError, info, read, repair, write } from "../hound.js";
+import { HoundError, guessStart, info, read, repair, write } from "../hound.js";
 
 const element = (id) => document.getElementById(id);
 const [drop, list, all, lost, said, busy, stop, result, save, choice, end, wave, place, axis, zoom, player, facts] =
@@ -367,7 +367,8 @@ function offer(file, { like, skip }, text) {
 /** Guesses what was recorded where a header can't be read, and offers other choices; or says that there is nothing to choose. */
 async function withoutHeader(file, error, isCurrent) {
   if (!(error instanceof HoundError) || error.code === "TOO_LONG" || file.size < LEAST) throw error;
-  const guess = await guessed(file), given = guess ?? { like: { ...FORMS[0], channels: 2, sampleRate: 48000 }, skip: 0 };
+  const guess = await guessed(file), start = await guessStart(file);
+  const given = { ...(guess ?? { like: { ...FORMS[0], channels: 2, sampleRate: 48000 }, skip: 0 }), ...(start > 0 && { skip: start }) };
   const text = guess ? "This is a guess, by which samples are smooth; the rate can't be guessed. What was before the sound may be a click." : "No guess: nothing in it is smooth, as sound is, or it is too short.";
   const seen = await judgedAs(file, given);
   if (isCurrent()) offer(file, given, text);

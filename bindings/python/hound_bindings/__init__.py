@@ -64,7 +64,7 @@ class Cause(enum.IntEnum):
     OTHER_FORMAT = 3, "the samples are floats and the type is an integer, or vice versa"
     TOO_WIDE = 4, "the samples are wider than the type, or a value than its bits"
     NOT_WRITABLE = 5, "samples of this spec are not read or written"
-    TRUNCATED = 6, "the header counts a sample that the file does not hold"
+    TRUNCATED = 6, "the header counts a sample that the file does not hold (a stream of unknown length can be read to its end)"
     TOO_LONG = 7, "the sizes of the file would not fit in 32 bits"
     UNFINISHED_FRAME = 8, "the samples are no whole frames"
     NO_ROOM = 9, "more bytes are needed than the capacity"
@@ -83,8 +83,8 @@ class Cause(enum.IntEnum):
     EX_SIZE = 22, "unexpected WAVEFORMATEX size"
     BITS_NOT_32 = 23, "bits per sample is not 32"
     EXTENSIBLE_SIZE = 24, "unexpected WAVEFORMATEXTENSIBLE size"
-    DATA_LENGTH = 25, "data chunk length is not a multiple of sample size"
-    FRAME_LENGTH = 26, "invalid data chunk length"
+    DATA_LENGTH = 25, "data chunk length is not a multiple of sample size (a stream of unknown length can be read to its end)"
+    FRAME_LENGTH = 26, "invalid data chunk length (a stream of unknown length can be read to its end)"
     NEEDS_CHECKPOINT = 27, "a write failed or a checkpoint is not done, and no samples are written before one is"
     SYNC_FAILED = 28, "a sync failed, and it is unknown what is stored"
     IS_CUT_OFF = 29, "the recording was cut off, and has to be repaired first"
@@ -236,6 +236,9 @@ def _function(name: str, *arguments: Any, result: Any = _I64) -> Any:
 
 _info = _function("info", _POINTER, _SIZE, _POINTER, result=ctypes.c_int32)
 _walk_next = _function("walk_next", _POINTER, _POINTER, result=ctypes.c_int32)
+_walk_to_end = _function("walk_to_end", _POINTER, _POINTER, result=ctypes.c_int32)
+_whole_frames = _function("whole_frames", _POINTER, _U64)
+_guess_data = _function("guess_data", _POINTER, _SIZE)
 _repairer_begin = _function("repairer_begin", _U64, ctypes.c_uint32, _POINTER, result=None)
 _repairer_next = _function("repairer_next", _POINTER, _POINTER, result=ctypes.c_int32)
 _size = _function("size", _POINTER, _U64)
@@ -269,10 +272,10 @@ def _info_of(start: Any, length: int) -> _Info:
     return found
 
 
-def _walk_over(read: Callable[[int, int], bytes]) -> _Info:
+def _walk_over(read: Callable[[int, int], bytes], to_end: bool) -> _Info:
     """What a walk finds of the header of a file, of which `read` returns so many bytes from a place on."""
-    walk, found = _Walk(), _Info()
-    while (code := _walk_next(ctypes.byref(walk), ctypes.byref(found))) == 1:
+    walk, found, take = _Walk(), _Info(), _walk_to_end if to_end else _walk_next
+    while (code := take(ctypes.byref(walk), ctypes.byref(found))) == 1:
         disk.take(walk.effect, read(walk.effect.length, walk.effect.place))
     _checked(code)
     return found
@@ -624,7 +627,8 @@ def repair(
 
     With `copy` the file stays as it is, and a copy of this name, which must not be there, is repaired. With `like` the
     header is taken for lost: a copy, without a name NAME.repaired.wav, has the header of such a file, and all whole frames
-    from byte `skip` on, which is `like.data_start` if it isn't given. `guess` makes such an Info.
+    from byte `skip` on. If it isn't given, they begin after what looks like the header of the data near the beginning, or
+    else at byte `like.data_start`. `guess` makes such an Info.
     """
     if like is not None or copy is not None:
         return _repaired_copy(path, durable, to_end, copy, like, skip)
@@ -649,8 +653,8 @@ def _repaired_copy(
         if like is None:
             shutil.copyfile(path, part)
             return repair(part, durable, to_end)
-        found = None
-        for found in lost.recovered(path, part, like, like.data_start if skip is None else skip, durable):
+        found, start = None, lost.start_of(path, like.data_start) if skip is None else skip
+        for found in lost.recovered(path, part, like, start, durable):
             pass
         return lost.repair_of(found)
 
@@ -662,6 +666,7 @@ from . import lost  # noqa: E402  isort: skip
 from .lost import guess  # noqa: E402
 
 
-def open(file: Union[Path, IO[bytes]]) -> Reader:  # noqa: A001
-    """Opens a file that is read block by block: at a path, or what reads bytes, as a pipe does."""
-    return Reader(file)
+def open(file: Union[Path, IO[bytes]], to_end: bool = False) -> Reader:  # noqa: A001
+    """Opens a file that is read block by block: at a path, or what reads bytes, as a pipe does. With `to_end` it is a
+    stream, whose header needn't know its length."""
+    return Reader(file, to_end)

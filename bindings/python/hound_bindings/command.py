@@ -145,7 +145,7 @@ def _recover(options: argparse.Namespace) -> int:
             raise ValueError(f"{name}: its header isn't lost, so nothing is guessed")
         guessed = hound.guess(name, options.skip, options.rate) if options.guess else None
         form, copy = guessed or options.like, hound._copy_name(name)
-        skip = form.data_start if options.skip is None else options.skip
+        skip = lost.start_of(name, form.data_start) if options.skip is None else options.skip
         found = None
         if not options.dry_run:
             with hound._replaced(copy, options.durable) as part, _Bar(name, os.path.getsize(name)) as bar:
@@ -201,12 +201,19 @@ def _blocks(name: str, reader: hound.Reader, dtype: Optional[Any]) -> Iterator[A
             bar.show(reader.tell())
 
 
+def _is_whole(name: str, reader: hound.Reader) -> bool:
+    """Whether the samples that were read to their end are whole frames; complains if not."""
+    if reader.left_over:
+        _complain(f"{name}: the last {reader.left_over} bytes are no whole frame")
+    return not reader.left_over
+
+
 def _cat(options: argparse.Namespace) -> int:
     def write(name: str) -> bool:
-        with hound.open(_source(name)) as reader:
+        with hound.open(_source(name), options.to_end) as reader:
             for block in _blocks(name, reader, options.type):
                 sys.stdout.buffer.write(block)
-        return True
+        return _is_whole(name, reader)
 
     return _each(options.files, write, lambda _, sentence: _complain(sentence))
 
@@ -246,7 +253,7 @@ def _convert(options: argparse.Namespace) -> int:
         raise _Wrong("the rate isn't changed here: sox and ffmpeg resample")
     if os.path.exists(options.target) and not options.overwrite:
         raise _Wrong(f"{options.target} exists: --overwrite replaces it")
-    with hound.open(_source(options.source)) as reader, hound._replaced(options.target, options.durable) as part:
+    with hound.open(_source(options.source), options.to_end) as reader, hound._replaced(options.target, options.durable) as part:
         info = reader.info
         wanted = _form_wanted(info, options)
         dither = options.seed if options.dither else 0
@@ -256,7 +263,7 @@ def _convert(options: argparse.Namespace) -> int:
                 writer.write(_mixed(block, info.channels, wanted.channels))
     if writer.clipped:
         _complain(f"clipped samples: {writer.clipped}")
-    return 0
+    return 0 if _is_whole(options.source, reader) else 1
 
 
 # record
@@ -394,16 +401,19 @@ def _parser() -> argparse.ArgumentParser:
     add("--like", type=_form_of, metavar="RATE,CHANNELS,BITS[f]", help="for a lost header: copy such samples (f: floats) to NAME.repaired.wav")
     add("--guess", help="for a lost header: guess channels and bits by what would be smooth", **flag)
     add("--rate", type=_positive, default=44100, help="the rate with --guess, since no guess finds it (44100)")
-    add("--skip", type=_from(0), metavar="BYTES", help="with --like and --guess: how many come before the samples (those of a header of 16 bits)")
+    add("--skip", type=_from(0), metavar="BYTES", help="with --like and --guess: how many come before the samples (without it: those before what looks like their header, or of a usual one)")
 
     add = command("cat", _cat, "write raw samples to standard output: int16, int32 where they are wider, or float32")
     add("files", nargs="+", metavar="FILE", help="- is standard input")
     add("--type", choices=["int8", "int16", "int32", "float32", "float64"], help="of the samples; floats have the full scale 1")
+    stream = {"help": "read all that follows the header, as of a stream that doesn't know its length", **flag}
+    add("--to-end", **stream)
 
     add = command("convert", _convert, "write the samples of a file to a new one, in another form")
     add("source", metavar="IN", help="- is standard input")
     add("target", metavar="OUT", type=_file, help="gets its name when it is whole")
     form = {"choices": [8, 16, 24, 32], "type": int}
+    add("--to-end", **stream)
     add("--bits", help="integers of so many bits: rounded, and clipped, which is said", **form)
     add("--float", help="floats of 32 bits", **flag)
     add("--channels", type=_positive, help="the mean of all as one, or one in all")

@@ -4,12 +4,13 @@ import math
 import os
 from typing import Any, Iterator, List, NamedTuple, Optional
 
-from . import Info, Path, Repair, State, _integer, conversion, disk, streams, to_bytes
+from . import Info, Path, Repair, State, _guess_data, _integer, conversion, disk, streams, to_bytes
 from . import info as info_of
 
 __all__ = ["guess", "recovered"]
 
 _MOST = (1 << 63) - 1
+_FRONT_BYTES = 4096
 # Blocks of whole frames of each form, and how many.
 _BLOCK_BYTES, _BLOCKS = 4800, 16
 # The mean step of noise of full scale is a quarter of it. By turns the steps of a channel need as many bits, but for so many.
@@ -90,12 +91,21 @@ def usual_start() -> int:
     return info_of(to_bytes([0], 1)).data_start
 
 
+def start_of(path: Path, otherwise: int) -> int:
+    """Where the samples of a file may begin whose header is damaged: after what looks like the header of its data, near its
+    beginning, or otherwise there."""
+    with io.open(path, "rb", buffering=0) as file:
+        front = disk.read_at(file.fileno(), _FRONT_BYTES, 0)
+    with conversion.address(front) as place:
+        return max(_guess_data(*place), 0) or otherwise
+
+
 def guess(path: Path, skip: Optional[int] = None, rate: int = 44100) -> Info:
     """Guesses what the samples of a file are whose header is lost: 8, 16, 24 or 32 bits, or floats, and one or two channels,
     by how smooth some blocks are in each form. It may be wrong, and the rate isn't guessed: listen to what
-    `repair(path, like=guess(path))` makes of it. The samples begin at byte `skip`; without it after a header as long as
-    that of a file with 16 bits. What is silent is a ValueError."""
-    skip = usual_start() if skip is None else _integer("skip", skip, 0, _MOST)
+    `repair(path, like=guess(path))` makes of it. The samples begin at byte `skip`; without it after what looks like the
+    header of the data, or else after a header as long as that of a file with 16 bits. What is silent is a ValueError."""
+    skip = start_of(path, usual_start()) if skip is None else _integer("skip", skip, 0, _MOST)
     blocks = _some(path, skip)
     widths = [(32, True)] if _are_floats(blocks) else [(bits, False) for bits in (8, 16, 24, 32)]
     forms = [Info(rate, channels, bits, is_float, data_start=skip) for bits, is_float in widths for channels in (1, 2)]

@@ -16,7 +16,7 @@ from typing import IO, Any, Callable, Iterator, List, NamedTuple, Optional, Tupl
 
 from . import (
     _FIND_DAMAGE, _POINTER, _SIZE, _SPARE, _U64, Cause, Dtype, HoundError, Info, Path, _checked, _Effect, _function,
-    _info_from, _integer, _name_error, _named, _repaired, _Spec, _spec_of, _walk_over, conversion, disk,
+    _info_from, _integer, _name_error, _named, _repaired, _Spec, _spec_of, _walk_over, _whole_frames, conversion, disk,
 )  # fmt: skip
 
 __all__ = ["Reader", "Writer", "append_to", "create"]
@@ -87,8 +87,8 @@ class _Next(NamedTuple):
     held: List[Any]
 
 
-# How many bytes are read at once.
-_PIECE = 1 << 20
+# How many bytes are read at once, and how many frames a stream has at most.
+_PIECE, _MOST_FRAMES = 1 << 20, 1 << 46
 
 
 def decoded(content: bytes, count: int, spec: _Spec, dtype: Optional[str] = None) -> "array.array[Any]":
@@ -111,11 +111,14 @@ class Reader(_OneAtATime):
     before the data, there is no Reader, and a pipe has lost the bytes of its header: let a pipe that doesn't block
     hold them before it is opened. It is a context manager, and iterates over blocks of 4096 frames. Threads may share
     it: each call waits for the end of another one.
+
+    With `to_end` it is a stream, whose header needn't know its length, as sox and ffmpeg write one into a pipe: its
+    frames are all whole ones to its end, and `info.frames` is 0.
     """
 
-    def __init__(self, file: Union[Path, IO[bytes]]) -> None:
+    def __init__(self, file: Union[Path, IO[bytes]], to_end: bool = False) -> None:
         super().__init__()
-        self._name = file
+        self._name, self._to_end = file, to_end
         self._is_own = isinstance(file, (str, os.PathLike))
         source: Any = file
         self._source: Any = io.open(source, "rb", buffering=0) if self._is_own else source
@@ -187,8 +190,9 @@ class Reader(_OneAtATime):
                 pass  # What can't be sought in is read up to there.
             return take(count, place)
 
-        found = _walk_over(read)
+        found = _walk_over(read, self._to_end)
         self._spec, self.info = found.spec, _info_from(found)
+        self._most = _MOST_FRAMES if self._to_end else self.info.frames
 
     @_one_at_a_time
     def read(self, frames: int = -1, dtype: Optional[Dtype] = None, always_2d: bool = False) -> Any:
@@ -203,13 +207,13 @@ class Reader(_OneAtATime):
         # Whether the type reads the file is known before a byte is taken.
         _checked(_decode[kind](ctypes.byref(self._spec), _SPARE, 0, _SPARE, 0))
         frame, channels = self._state.frame, self._spec.channels
-        left = self.info.frames - frame
+        left = self._most - frame
         frames = left if frames < 0 else min(frames, left)
         size = self._spec.bytes_per_sample * channels
         content = self._fill(frames * size, self.info.data_start + frame * size)
-        count = min(len(content) // size, frames)
+        count = min(_checked(_whole_frames(ctypes.byref(self._spec), len(content))) // size, frames)
         samples = decoded(content, count * channels, self._spec, name)
-        if count == 0 and frames > 0:
+        if count == 0 and frames > 0 and not self._to_end:
             raise HoundError(Cause.TRUNCATED)
         shaped = conversion.shaped(samples, channels, always_2d)
         self._finish(_Next(frame + count, [content[count * size :]]))
@@ -217,7 +221,7 @@ class Reader(_OneAtATime):
 
     def _read_from(self, start: int, frames: int, dtype: Optional[Dtype]) -> Any:
         if start > 0:
-            self.seek(min(start, self.info.frames))
+            self.seek(min(start, self._most))
         return self.read(frames, dtype)
 
     def blocks(self, frames: int, dtype: Optional[Dtype] = None, always_2d: bool = False) -> Iterator[Any]:
@@ -230,10 +234,15 @@ class Reader(_OneAtATime):
         """The number of the next frame."""
         return int(self._state.frame)
 
+    @property
+    def left_over(self) -> int:
+        """How many bytes were read after the frames: once a stream has ended, those of a torn frame."""
+        return sum(map(len, filter(None, self._state.held)))
+
     @_one_at_a_time
     def seek(self, frame: int) -> None:
         """Makes this frame the next one, in a file that can be sought in."""
-        frame = _integer("frame", frame, 0, self.info.frames)
+        frame = _integer("frame", frame, 0, self._most)
         if self._start is None:
             raise io.UnsupportedOperation("the file can't be sought in")
         self._finish(_Next(frame, []))

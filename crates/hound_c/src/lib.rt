@@ -15,7 +15,7 @@ ghost use Rattle.hound_sample.specs.{int_container, pattern_container, float_ref
 ghost use Rattle.hound_spec.specs.declared.spec.SampleFormat.TheVariants.{Float, Int};
 ghost use Rattle.hound_walk.specs.declared.cause.Cause.{Cause};
 ghost use Rattle.hound_writer.specs.{Advances, AsksForBlock, AsksForCheckpoint, BeginsRecorder, Resumes};
-ghost use Rattle.hound_slices.specs.{AnswersPart, AppendsInPlace, BeginsRepairer, Decodes, Encodes, FindsHead, FindsInFile, GivesHeader, GivesSizes, IsDamageFault, IsExplicit, ReadsInto, Records, RepairsFile, Returns, ScalesToFloats, ScalesToIntegers, Sizes, StepsRepairer, WritesFile, effect_of, fault_code, found_file, mends, overwrites, recorder_for_c, report_of, spec_from_c};
+ghost use Rattle.hound_slices.specs.{AppendsInPlace, BeginsRepairer, CountsWhole, Decodes, Encodes, FindsInFile, GivesHeader, GivesSizes, GuessesData, IsDamageFault, IsExplicit, ReadsInto, Records, RepairsFile, Returns, ScalesToFloats, ScalesToIntegers, Sizes, StepsRepairer, TakesPart, WritesFile, effect_of, fault_code, found_file, mends, overwrites, recorder_for_c, report_of, spec_from_c};
 ghost use Rattle.hound_slices.specs.declared.fault.Fault.{Fault as AnyFault};
 ghost use Rattle.hound_slices.specs.declared.fault.Fault.TheVariants.{Head};
 
@@ -24,14 +24,13 @@ use hound_sample::FloatBits;
 use hound_slices::{
     Fault, HoundInfo, HoundRecorder, HoundRepair, HoundRepairer, HoundSpec, HoundWalk,
     append_block, begin_repairer, code_of, code_of_fault, decode_block, effect_for_c, encode_block,
-    file_size, find_file_damage, find_samples, found_file, info_for_c, mends, overwrites,
-    part_read, read_block, recorder_for_c, repair_file, report_of, scale_to_floats,
-    scale_to_integers, spec_from_c, step_repairer, value_of_8, value_of_16, value_of_24,
-    value_of_32, walk_for_c, walk_of, write_file, write_header, write_sizes,
+    file_size, find_file_damage, find_samples, found_file, guess_data, info_for_c, mends,
+    overwrites, read_block, recorder_for_c, repair_file, report_of, scale_to_floats,
+    scale_to_integers, spec_from_c, step_repairer, step_walk, value_of_8, value_of_16, value_of_24,
+    value_of_32, whole_frames, write_file, write_header, write_sizes,
 };
 use hound_spec::SampleFormat;
-use hound_walk::{Step, count_samples, take_part};
-use hound_writer::{Recorder, Report};
+use hound_writer::Recorder;
 
 /// What is before the data: 0, or why it can't be read.
 #[unsafe(no_mangle)]
@@ -54,34 +53,17 @@ pub extern "C" fn hound_info(file: &[u8], info: &mut HoundInfo) -> i32
 /// why there are none. A read that failed changes nothing.
 #[unsafe(no_mangle)]
 pub extern "C" fn hound_walk_next(walk: &mut HoundWalk, info: &mut HoundInfo) -> i32
-    ensures answers { AnswersPart (report_of walk.old.effect) result walk.old walk.new info.new }
-    ensures found { result ≡ pos 0 → FindsHead walk.old info.new }
-    ensures stays { (result ≡ pos 1 → ⊥) → walk.new ≡ walk.old }
-    ensures kept { (result ≡ pos 0 → ⊥) → info.new ≡ info.old }
+    ensures { TakesPart true result walk.old walk.new info.old info.new }
 {
-    let asked = walk_of(*walk);
-    match report_of(walk.effect) {
-        Report::Pending => {
-            *walk = walk_for_c(asked);
-            return 1;
-        }
-        Report::Failed => return code_of_fault(Fault::NotPerformed),
-        Report::Done => (),
-    }
-    match take_part(asked, part_read(walk)) {
-        Ok(Step::Next(next)) => {
-            *walk = walk_for_c(next);
-            1
-        }
-        Ok(Step::Data(head)) => match count_samples(head) {
-            Ok(samples) => {
-                *info = info_for_c(head, samples);
-                0
-            }
-            Err(cause) => code_of_fault(Fault::Head(cause)),
-        },
-        Err(cause) => code_of_fault(Fault::Head(cause)),
-    }
+    step_walk(walk, info, true)
+}
+
+/// The same of a stream, whose header may count any length.
+#[unsafe(no_mangle)]
+pub extern "C" fn hound_walk_to_end(walk: &mut HoundWalk, info: &mut HoundInfo) -> i32
+    ensures { TakesPart false result walk.old walk.new info.old info.new }
+{
+    step_walk(walk, info, false)
 }
 
 /// Reads integers into sixteen bits.
@@ -237,6 +219,22 @@ pub extern "C" fn hound_repairer_next(repairer: &mut HoundRepairer, found: &mut 
         Ok(asks) => asks as i32,
         Err(fault) => code_of_fault(fault),
     }
+}
+
+/// How many of so many bytes of a stream are whole frames.
+#[unsafe(no_mangle)]
+pub extern "C" fn hound_whole_frames(spec: &HoundSpec, length: u64) -> i64
+    ensures { Returns result (CountsWhole (spec_from_c spec.now) length) }
+{
+    code_of(whole_frames(*spec, length))
+}
+
+/// Where the data may begin in a file whose header is damaged.
+#[unsafe(no_mangle)]
+pub extern "C" fn hound_guess_data(file: &[u8]) -> i64
+    ensures { Returns result (GuessesData file.now) }
+{
+    code_of(guess_data(file))
 }
 
 /// Decodes samples of a spec, of eight bits.

@@ -1,8 +1,8 @@
 -- The walk of a caller who reads the file.
-use Rattle.std.specs.Prelude.{◌≡◌, ℕ, ◌+◌, ◌*◌, ◌≤◌, ◌<◌, ℤ, pos, List, min, take, Option, Some, None, ◌==◌, nat_lt, if◌then◌else◌}
+use Rattle.std.specs.Prelude.{◌≡◌, Bool, true, false, ℕ, ◌+◌, ◌*◌, ◌≤◌, ◌<◌, ℤ, pos, List, min, take, Option, Some, None, ◌==◌, nat_lt, if◌then◌else◌}
 use Rattle.hound_spec.specs.{greatest_u16}
 use Rattle.hound_spec.specs.declared.spec.WavSpecEx.{WavSpecEx}
-use Rattle.hound_walk.specs.{IsAt, Readable, Unreadable, part_bytes, part_length, part_start, parts_left}
+use Rattle.hound_walk.specs.{Head, IsAt, Readable, Refused, Unreadable, part_bytes, part_length, part_start, parts_left}
 use Rattle.hound_walk.specs.declared.cause.Cause.{Cause}
 use Rattle.hound_walk.specs.declared.parts.HeadWalk.{HeadWalk}
 use Rattle.hound_walk.specs.declared.parts.Part.{Part}
@@ -11,9 +11,9 @@ use Rattle.hound_writer.specs.declared.effects.Action.TheVariants.{Read}
 use Rattle.hound_writer.specs.declared.effects.Report.{Report}
 use Rattle.hound_writer.specs.declared.effects.Report.TheVariants.{Pending, Done, Failed as NotDone}
 use Rattle.hound_slices.specs.Codes.{fault_code}
-use Rattle.hound_slices.specs.Effects.{effect_of}
+use Rattle.hound_slices.specs.Effects.{effect_of, report_of}
 use Rattle.hound_slices.specs.Writing.{IsExplicit, spec_from_c}
-use Rattle.hound_slices.specs.declared.fault.Fault.TheVariants.{Head, NotPerformed}
+use Rattle.hound_slices.specs.declared.fault.Fault.TheVariants as faults
 use Rattle.hound_slices.specs.declared.spec.HoundSpec.{HoundSpec}
 use Rattle.hound_slices.specs.declared.spec.HoundInfo.{HoundInfo}
 use Rattle.hound_slices.specs.declared.spec.HoundWalk.{HoundWalk}
@@ -55,13 +55,26 @@ pub record FindsHead (old : HoundWalk) (info : HoundInfo) : Type 0 where
   pub explicit : IsExplicit info.spec
   pub start : info.data_start ≡ part_end (walk_of old)
 
+-- What is before the data, with the number of samples that the header counts, which are whole frames; or of a
+-- stream, whose header may count anything, and the number is 0.
+abbrev pub IsHeadOf : Bool → List ℕ → HoundInfo → Type 0
+IsHeadOf true file info = Readable file (spec_from_c info.spec) info.samples info.data_start
+IsHeadOf false file info = (info.samples ≡ 0)
+    × (length : ℕ) × Head file (spec_from_c info.spec) length info.data_start
+
+-- why there is none
+abbrev pub HasNoHead : Bool → List ℕ → Cause → Type 0
+HasNoHead true = Unreadable
+HasNoHead false = Refused
+
 -- A step of a walk over a file, of which its part was handed in, leads on, to the data, or to the
 -- cause why there are none.
-pub record Steps (file : List ℕ) (number : ℤ) (new : HoundWalk) (info : HoundInfo) : Type 0 where
+pub record Steps (is_counted : Bool) (file : List ℕ) (number : ℤ) (new : HoundWalk) (info : HoundInfo) :
+    Type 0 where
   pub on : number ≡ pos 1 → IsAt file (walk_of new)
-  pub found : number ≡ pos 0 → Readable file (spec_from_c info.spec) info.samples info.data_start
+  pub found : number ≡ pos 0 → IsHeadOf is_counted file info
   pub refused : (number ≡ pos 1 → ⊥) → (number ≡ pos 0 → ⊥)
-      → (cause : Cause) × (number ≡ fault_code (Head cause)) × Unreadable file cause
+      → (cause : Cause) × (number ≡ fault_code (faults.Head cause)) × HasNoHead is_counted file cause
 
 -- the bytes that were read of the part that a walk asks for
 abbrev pub bytes_of_part : HoundWalk → List ℕ
@@ -79,8 +92,16 @@ pub record AsksAgain (number : ℤ) (old new : HoundWalk) : Type 0 where
   pub asks : Asks new
 
 -- what comes of a part, by how its read has ended
-abbrev pub AnswersPart : Report → ℤ → HoundWalk → HoundWalk → HoundInfo → Type 0
-AnswersPart Pending number old new info = AsksAgain number old new
-AnswersPart NotDone number old new info = number ≡ fault_code NotPerformed
-AnswersPart Done number old new info = (number ≡ pos 1 → AsksOn old new)
-    × ((file : List ℕ) → IsAt file (walk_of old) → AreAsked old file → Steps file number new info)
+abbrev pub AnswersPart : Bool → Report → ℤ → HoundWalk → HoundWalk → HoundInfo → Type 0
+AnswersPart is_counted Pending number old new info = AsksAgain number old new
+AnswersPart is_counted NotDone number old new info = number ≡ fault_code faults.NotPerformed
+AnswersPart is_counted Done number old new info = (number ≡ pos 1 → AsksOn old new)
+    × ((file : List ℕ) → IsAt file (walk_of old) → AreAsked old file → Steps is_counted file number new info)
+
+-- What a call does that takes a part. Unless it asks for another one, the walk stays as it is, and unless the
+-- data begin, so does what the caller has of them.
+pub record TakesPart (is_counted : Bool) (number : ℤ) (old new : HoundWalk) (was info : HoundInfo) : Type 0 where
+  pub answers : AnswersPart is_counted (report_of old.effect) number old new info
+  pub found : number ≡ pos 0 → FindsHead old info
+  pub stays : (number ≡ pos 1 → ⊥) → new ≡ old
+  pub kept : (number ≡ pos 0 → ⊥) → info ≡ was

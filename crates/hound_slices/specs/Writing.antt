@@ -1,5 +1,5 @@
 -- What writing and appending do.
-use Rattle.std.specs.Prelude.{◌≡◌, ◌⊎◌, ℕ, ◌+◌, ◌-◌, ◌*◌, ◌/◌, ◌%◌, ◌<◌, ◌≤◌, List, length, take, drop, ◌++◌, Result, Ok, Err, ◌==◌, if◌then◌else◌}
+use Rattle.std.specs.Prelude.{◌≡◌, ◌⊎◌, ℕ, ◌+◌, ◌-◌, ◌*◌, ◌/◌, ◌%◌, ◌<◌, ◌≤◌, List, length, take, drop, ◌++◌, Result, Ok, Err, ◌==◌, nat_lt, if◌then◌else◌}
 use Rattle.std.specs.List.{concat}
 use Rattle.hound_number.specs.{bytes_of}
 use Rattle.hound_spec.specs.{greatest_u32, canonical, data_start, header, padded, padding, riff_size, IsPair, IsWritable}
@@ -13,13 +13,13 @@ use Rattle.hound_slices.specs.declared.fault.Fault.{Fault}
 use Rattle.hound_slices.specs.declared.fault.Fault.TheVariants.{Head, OtherFormat, TooWide, NotWritable, Truncated, TooLong, UnfinishedFrame, NoRoom}
 use Rattle.hound_slices.specs.declared.spec.HoundSpec.{HoundSpec}
 
--- the spec that C's stands for
+-- The spec that C's is. A number that is no format gives a spec without bits, which no call takes.
 abbrev pub spec_from_c : HoundSpec → WavSpecEx
 spec_from_c c = record {
   spec = record {
     channels = c.channels;
     sample_rate = c.sample_rate;
-    bits_per_sample = c.bits_per_sample;
+    bits_per_sample = if nat_lt 1 c.sample_format then 0 else c.bits_per_sample;
     sample_format = if c.sample_format == 0 then Int else Float;
   };
   bytes_per_sample = if c.bytes_per_sample == 0 then (c.bits_per_sample + 7) / 8 else c.bytes_per_sample;

@@ -13,6 +13,7 @@ mod recording;
 mod repairer;
 mod repairing;
 mod scaling;
+mod searching;
 mod spec;
 mod value;
 mod walking;
@@ -27,7 +28,8 @@ pub use recording::{HoundRecorder, found_file, mends, overwrites, recorder_for_c
 pub use repairer::{HoundRepairer, begin_repairer, step_repairer};
 pub use repairing::{find_file_damage, repair_file};
 pub use scaling::{scale_to_floats, scale_to_integers};
+pub use searching::{guess_data, whole_frames};
 pub use spec::{HoundInfo, HoundRepair, HoundSpec, HoundWalk, info_for_c, spec_from_c};
 pub use value::{value_of_8, value_of_16, value_of_24, value_of_32};
-pub use walking::{part_read, walk_for_c, walk_of};
+pub use walking::step_walk;
 pub use writing::{encode_block, file_size, write_file, write_header, write_sizes};

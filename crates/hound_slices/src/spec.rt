@@ -51,7 +51,7 @@ pub struct HoundRepair {
     pub unused: u32,
 }
 
-/// The spec that C's is.
+/// The spec that C's is: without bits, which no call takes, where C's has another number than those of the formats.
 pub fn spec_from_c(spec: HoundSpec) -> WavSpecEx
     ensures { result ≡ spec_from_c spec }
 {
@@ -59,6 +59,11 @@ pub fn spec_from_c(spec: HoundSpec) -> WavSpecEx
         SampleFormat::Int
     } else {
         SampleFormat::Float
+    };
+    let bits_per_sample = if spec.sample_format > 1 {
+        0
+    } else {
+        spec.bits_per_sample
     };
     let bytes_per_sample = if spec.bytes_per_sample == 0 {
         spec.bits_per_sample.div_ceil(8)
@@ -69,7 +74,7 @@ pub fn spec_from_c(spec: HoundSpec) -> WavSpecEx
         spec: WavSpec {
             channels: spec.channels,
             sample_rate: spec.sample_rate,
-            bits_per_sample: spec.bits_per_sample,
+            bits_per_sample,
             sample_format,
         },
         bytes_per_sample,

@@ -1,13 +1,15 @@
 // The walk of a caller who reads the file.
-ghost use Rattle.std.specs.Prelude.{◌≡◌};
+ghost use Rattle.std.specs.Prelude.{◌≡◌, pos};
 ghost use Rattle.hound_walk.specs.{IsSoundOption};
-ghost use Rattle.hound_slices.specs.Walks.{Asks, bytes_of_part, found_of, walk_of};
+ghost use Rattle.hound_slices.specs.Effects.{report_of};
+ghost use Rattle.hound_slices.specs.Walks.{AnswersPart, Asks, FindsHead, bytes_of_part, found_of, walk_of};
 
-use crate::effect::effect_for_c;
-use crate::spec::{HoundSpec, HoundWalk, spec_for_c, spec_from_c};
+use crate::effect::{effect_for_c, report_of};
+use crate::fault::{Fault, code_of_fault};
+use crate::spec::{HoundInfo, HoundSpec, HoundWalk, info_for_c, spec_for_c, spec_from_c};
 use hound_spec::WavSpecEx;
-use hound_walk::{HeadWalk, Part};
-use hound_writer::Action;
+use hound_walk::{HeadWalk, Part, Step, count_samples, take_part};
+use hound_writer::{Action, Report};
 
 // The spec that was found so far, if C's is one of a file.
 pub(crate) fn found_of(spec: HoundSpec) -> Option<WavSpecEx>
@@ -27,8 +29,8 @@ pub(crate) fn found_of(spec: HoundSpec) -> Option<WavSpecEx>
     Some(spec_ex)
 }
 
-/// The walk that C's is.
-pub fn walk_of(walk: HoundWalk) -> HeadWalk
+// The walk that C's is.
+fn walk_of(walk: HoundWalk) -> HeadWalk
     ensures is { result ≡ walk_of walk }
     ensures sound { IsSoundOption result.found }
 {
@@ -44,8 +46,8 @@ pub fn walk_of(walk: HoundWalk) -> HeadWalk
     }
 }
 
-/// The bytes of the part that C's walk asks for, as they were read.
-pub fn part_read(walk: &HoundWalk) -> &[u8]
+// The bytes of the part that C's walk asks for, as they were read.
+fn part_read(walk: &HoundWalk) -> &[u8]
     ensures { result.now ≡ bytes_of_part walk.now }
 {
     let read = walk.effect.length.min(40) as usize;
@@ -69,8 +71,8 @@ pub(crate) fn found_for_c(found: Option<WavSpecEx>) -> HoundSpec
     }
 }
 
-/// C's form of a walk.
-pub fn walk_for_c(walk: HeadWalk) -> HoundWalk
+// C's form of a walk.
+fn walk_for_c(walk: HeadWalk) -> HoundWalk
     requires sound { IsSoundOption walk.found }
     ensures is { walk_of result ≡ walk }
     ensures asks { Asks result }
@@ -88,4 +90,41 @@ pub fn walk_for_c(walk: HeadWalk) -> HoundWalk
         part,
         fmt_length,
     }
+}
+
+/// Takes the part of a file that C's walk asked for: 1 if it asks for a part, 0 if the data begin there, or
+/// why there are none. The samples are counted as the header counts them, or are those of a stream.
+pub fn step_walk(walk: &mut HoundWalk, info: &mut HoundInfo, is_counted: bool) -> i32
+    ensures answers { AnswersPart is_counted (report_of walk.old.effect) result walk.old walk.new info.new }
+    ensures found { result ≡ pos 0 → FindsHead walk.old info.new }
+    ensures stays { (result ≡ pos 1 → ⊥) → walk.new ≡ walk.old }
+    ensures kept { (result ≡ pos 0 → ⊥) → info.new ≡ info.old }
+{
+    let asked = walk_of(*walk);
+    match report_of(walk.effect) {
+        Report::Pending => {
+            *walk = walk_for_c(asked);
+            return 1;
+        }
+        Report::Failed => return code_of_fault(Fault::NotPerformed),
+        Report::Done => (),
+    }
+    let head = match take_part(asked, part_read(walk)) {
+        Ok(Step::Next(next)) => {
+            *walk = walk_for_c(next);
+            return 1;
+        }
+        Ok(Step::Data(head)) => head,
+        Err(cause) => return code_of_fault(Fault::Head(cause)),
+    };
+    let samples = if is_counted {
+        match count_samples(head) {
+            Ok(samples) => samples,
+            Err(cause) => return code_of_fault(Fault::Head(cause)),
+        }
+    } else {
+        0
+    };
+    *info = info_for_c(head, samples);
+    0
 }
