@@ -1,5 +1,6 @@
-//! Links the library that bindings/lib has for the target, or that the folder HOUND_C_LIB has. Where there is none, or with
-//! HOUND_C_SOURCE in the environment, it compiles hound_c.c. A packaged crate has lib and c of bindings in its folder.
+//! Links the library that bindings/lib has for the target, or that the folder HOUND_C_LIB has. Where there is none, or
+//! with HOUND_C_SOURCE in the environment, it compiles hound_c.c. A packaged crate has lib and c of bindings in its
+//! folder.
 use std::path::{Path, PathBuf};
 use std::process::{self, Command};
 use std::{env, fs, io};
@@ -21,10 +22,11 @@ fn run(command: &mut Command) -> io::Result<()> {
     }
 }
 
-// The C compilers for the target, in the order in which they are tried: what the environment names, as the crate cc has it,
-// and what is usual.
+// The C compilers for the target, in the order in which they are tried: what the environment names, as the crate cc has
+// it, and what is usual.
 fn compilers(target: &str) -> Vec<String> {
-    let names = [format!("CC_{}", target.replace('-', "_")), format!("CC_{target}"), "TARGET_CC".to_string(), "CC".to_string()];
+    let names =
+        [format!("CC_{}", target.replace('-', "_")), format!("CC_{target}"), "TARGET_CC".to_string(), "CC".to_string()];
     if let Some(named) = names.iter().map(|name| variable(name)).find(|named| !named.is_empty()) {
         return vec![named];
     }
@@ -33,7 +35,13 @@ fn compilers(target: &str) -> Vec<String> {
         host if host == target => vec!["cc", "gcc", "clang", "cl"],
         host if parts[0] == "i686" && host.replacen("x86_64", "i686", 1) == target => vec!["cc -m32"],
         _ if target.ends_with("windows-gnu") => return vec![format!("{}-w64-mingw32-gcc", parts[0])],
-        _ => return vec![format!("{}-linux-{}-gcc", parts[0].replace("gc", "").replace("armv7", "arm"), parts[parts.len() - 1])],
+        _ => {
+            return vec![format!(
+                "{}-linux-{}-gcc",
+                parts[0].replace("gc", "").replace("armv7", "arm"),
+                parts[parts.len() - 1]
+            )]
+        }
     };
     usual.into_iter().map(str::to_string).collect()
 }
@@ -67,7 +75,10 @@ fn compiled(bindings: &Path) -> PathBuf {
     let (target, folder) = (variable("TARGET"), PathBuf::from(variable("OUT_DIR")));
     let tried = compilers(&target);
     if !tried.iter().any(|compiler| compile(compiler, bindings, &folder).is_ok()) {
-        fail(format!("bindings/lib has no library for {target}, and no C compiler for it is there ({}): set CC to one", tried.join(", ")));
+        fail(format!(
+            "bindings/lib has no library for {target}, and no C compiler for it is there ({}): set CC to one",
+            tried.join(", ")
+        ));
     }
     folder
 }
@@ -75,14 +86,19 @@ fn compiled(bindings: &Path) -> PathBuf {
 fn main() {
     let package = PathBuf::from(variable("CARGO_MANIFEST_DIR"));
     let bindings = if package.join("lib/hound_c.c").exists() { package } else { package.join("..") };
-    let carried = bindings.join(format!("lib/{}-{}", variable("CARGO_CFG_TARGET_ARCH"), variable("CARGO_CFG_TARGET_OS")));
+    let carried =
+        bindings.join(format!("lib/{}-{}", variable("CARGO_CFG_TARGET_ARCH"), variable("CARGO_CFG_TARGET_OS")));
     let (named, from_source) = (variable("HOUND_C_LIB"), variable("HOUND_C_SOURCE"));
     let folder = if named.is_empty() && (!from_source.is_empty() || !carried.join("libhound_c.a").exists()) {
         compiled(&bindings)
     } else {
         let archive = if named.is_empty() { carried } else { PathBuf::from(named) }.join("libhound_c.a");
-        let archive = fs::canonicalize(&archive)
-            .unwrap_or_else(|_| fail(format!("{} isn't there: set HOUND_C_LIB to the absolute path of the folder that holds it", archive.display())));
+        let archive = fs::canonicalize(&archive).unwrap_or_else(|_| {
+            fail(format!(
+                "{} isn't there: set HOUND_C_LIB to the absolute path of the folder that holds it",
+                archive.display()
+            ))
+        });
         println!("cargo:rerun-if-changed={}", archive.display());
         archive.parent().unwrap_or(Path::new("/")).to_path_buf()
     };

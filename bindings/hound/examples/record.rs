@@ -1,8 +1,8 @@
 //! Records the samples of standard input, which are integers as a WAV file has them, little-endian. After every so many
 //! a checkpoint makes the file's header count all whole frames, and prints how many samples these are. After an error
-//! the program continues, and prints how many samples were lost. With `append` it repairs the file, where a recording was
-//! cut off, and continues after all that it holds; without it an existing file is emptied. With `durable` the checkpoints
-//! survive a loss of power.
+//! the program continues, and prints how many samples were lost. With `append` it repairs the file, where a recording
+//! was cut off, and continues after all that it holds; without it an existing file is emptied. With `durable` the
+//! checkpoints survive a loss of power.
 //!
 //!     arecord -t raw -f S16_LE -c 2 -r 44100 | record FILE 44100 2 16 SAMPLES [append] [durable]
 use hound::blocks::WriteSamples;
@@ -58,7 +58,9 @@ fn main() -> hound::Result<()> {
         if io::stdin().lock().take(u64::from(every) * width as u64).read_to_end(&mut bytes)? < width {
             break;
         }
-        let integer = |mut container| i32::read(&mut container, spec.sample_format, spec.bits_per_sample / 8, spec.bits_per_sample);
+        let integer = |mut container| {
+            i32::read(&mut container, spec.sample_format, spec.bits_per_sample / 8, spec.bits_per_sample)
+        };
         let samples = bytes.chunks_exact(width).map(integer).collect::<hound::Result<Vec<_>>>()?;
         // Half of them one by one, and the others, all or none, at once.
         let (single, block) = samples.split_at(samples.len() / 2);

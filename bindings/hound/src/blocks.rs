@@ -42,8 +42,8 @@ pub trait WriteSamples: sealed::Sealed {
     /// [`repair_file`](crate::repair_file) would take it for samples.
     fn write_samples<S: Sample + Copy>(&mut self, samples: &[S]) -> Result<()>;
 
-    /// The same of floats, to any file, and returns how many were clipped: for integers each is multiplied by
-    /// 2^(bits - 1) and rounded to the nearest one, of two the even one, and a NaN is 0; as floats they keep their bits.
+    /// The same of floats, to any file, and returns how many were clipped: for integers each is multiplied by 2^(bits -
+    /// 1) and rounded to the nearest one, of two the even one, and a NaN is 0; as floats they keep their bits.
     fn write_scaled(&mut self, samples: &[f32]) -> Result<u64>;
 }
 

@@ -39,7 +39,11 @@ impl fmt::Display for Error {
 // As hound's, whose `source` is none.
 impl error::Error for Error {
     fn cause(&self) -> Option<&dyn error::Error> {
-        if let Error::IoError(error) = self { Some(error) } else { None }
+        if let Error::IoError(error) = self {
+            Some(error)
+        } else {
+            None
+        }
     }
 }
 
@@ -60,7 +64,9 @@ impl From<proved::Error> for Error {
             OtherFormat => Error::InvalidSampleFormat,
             TooWide => Error::TooWide,
             UnfinishedFrame => Error::UnfinishedSample,
-            TooLong | NoRoom | NeedsCheckpoint | SyncFailed | NotPerformed => io::Error::new(io::ErrorKind::Other, error).into(),
+            TooLong | NoRoom | NeedsCheckpoint | SyncFailed | NotPerformed => {
+                io::Error::new(io::ErrorKind::Other, error).into()
+            }
             BitsNot8Or16 => Error::FormatError("bits per sample is not 8 or 16"),
             _ => Error::FormatError(error.text()),
         }

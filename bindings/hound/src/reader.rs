@@ -22,7 +22,12 @@ pub(crate) fn read_on<R: Read>(reader: &mut R, bytes: &mut [u8], count: &mut usi
 
 // Reads the rest of a container that a first read has torn. Returns how many bytes there are then, and why no
 // container follows them.
-fn finish_container<R: Read>(reader: &mut R, bytes: &mut [u8], width: usize, first: io::Result<usize>) -> (usize, Option<io::Error>) {
+fn finish_container<R: Read>(
+    reader: &mut R,
+    bytes: &mut [u8],
+    width: usize,
+    first: io::Result<usize>,
+) -> (usize, Option<io::Error>) {
     let mut count = 0;
     let result = first.and_then(|first| {
         count = first;
@@ -43,7 +48,8 @@ pub fn read_wave_header<R: Read>(reader: &mut R) -> Result<u64> {
     // Of a new file the same size counts all but as many bytes.
     let new = unpadded(SampleFormat::Int, 8);
     let length = proved::header(&new, 0)?.len() as u64;
-    let size = sizes_of(&new)?.into_iter().find_map(|(place, of_new)| Some(number(first_part.get(place)?) + length - of_new));
+    let size =
+        sizes_of(&new)?.into_iter().find_map(|(place, of_new)| Some(number(first_part.get(place)?) + length - of_new));
     size.ok_or_else(|| early_end().into())
 }
 
@@ -200,7 +206,9 @@ impl<R: Read> WavReader<R> {
     // How this type is made of a sample that is ahead, if it reads these.
     #[inline(always)]
     fn coding<S: Sample>(&self) -> Option<Coding<S>> {
-        S::CODING.filter(|coding| coding.format == self.spec.sample_format && usize::from(self.bytes_per_sample) <= mem::size_of::<S>())
+        S::CODING.filter(|coding| {
+            coding.format == self.spec.sample_format && usize::from(self.bytes_per_sample) <= mem::size_of::<S>()
+        })
     }
 
     #[inline(always)]
@@ -229,13 +237,21 @@ impl<R: Read> WavReader<R> {
     fn read_single<S: Sample>(&mut self, coding: Coding<S>) -> Option<Result<S>> {
         let value = match (coding.format, self.container, mem::size_of::<S>()) {
             (SampleFormat::Float, ..) => self.read_container().map(i32::from_le_bytes),
-            (_, Some(Container::Int16), 2..) => self.read_container().map(|bytes| proved::value_16(u16::from_le_bytes(bytes).into())),
+            (_, Some(Container::Int16), 2..) => {
+                self.read_container().map(|bytes| proved::value_16(u16::from_le_bytes(bytes).into()))
+            }
             (_, Some(Container::Int24), 4..) => self.read_container().map(|[low, middle, high]| {
                 proved::value_24(u32::from(u16::from_le_bytes([low, middle])) | u32::from(high) << 16)
             }),
-            (_, Some(Container::Int32), 4..) => self.read_container().map(|bytes| proved::value_32(u32::from_le_bytes(bytes))),
-            (_, Some(Container::Int8), _) => self.read_container().map(|bytes| proved::value_8(u8::from_le_bytes(bytes).into())),
-            (_, Some(Container::Int24In4), 4..) => self.read_container().map(|bytes| proved::value_24(u32::from_le_bytes(bytes))),
+            (_, Some(Container::Int32), 4..) => {
+                self.read_container().map(|bytes| proved::value_32(u32::from_le_bytes(bytes)))
+            }
+            (_, Some(Container::Int8), _) => {
+                self.read_container().map(|bytes| proved::value_8(u8::from_le_bytes(bytes).into()))
+            }
+            (_, Some(Container::Int24In4), 4..) => {
+                self.read_container().map(|bytes| proved::value_24(u32::from_le_bytes(bytes)))
+            }
             _ => return None,
         };
         Some(value.map(coding.from).map_err(Error::IoError))
@@ -335,7 +351,11 @@ impl<R: Read> WavReader<R> {
         if self.begin_block::<S>().is_some() {
             let mut ahead = mem::take(&mut self.ahead);
             ahead.resize(BLOCK.min(self.left()), 0);
-            let count = self.decode_next(proved::decode, &proved::Spec { format: SampleFormat::Int, ..self.containers() }, &mut ahead);
+            let count = self.decode_next(
+                proved::decode,
+                &proved::Spec { format: SampleFormat::Int, ..self.containers() },
+                &mut ahead,
+            );
             ahead.truncate(count);
             self.ahead = ahead;
         }
@@ -347,7 +367,9 @@ impl<R: Read> WavReader<R> {
         let (most, width) = (out.len().min(BLOCK).min(self.left()), usize::from(self.bytes_per_sample));
         let mut scratch;
         let (bytes, fault) = match self.buffer {
-            Some((look, _)) => look(&mut self.reader).map_or_else(|fault| (&[][..], Some(fault)), |bytes| (bytes, None)),
+            Some((look, _)) => {
+                look(&mut self.reader).map_or_else(|fault| (&[][..], Some(fault)), |bytes| (bytes, None))
+            }
             None => {
                 scratch = vec![0; most * width];
                 let first = self.reader.read(&mut scratch);

@@ -59,7 +59,8 @@ macro_rules! sample {
             }
 
             fn read<R: io::Read>(reader: &mut R, format: SampleFormat, bytes: u16, bits: u16) -> Result<$type> {
-                let (spec, mut container, mut count, mut sample) = (containers(format, bits, bytes), [0; 4], 0, [Default::default()]);
+                let (spec, mut container, mut count, mut sample) =
+                    (containers(format, bits, bytes), [0; 4], 0, [Default::default()]);
                 check::<$type>(&spec)?; // An error of the type takes no byte.
                 read_on(reader, &mut container[..usize::from(bytes)], &mut count)?;
                 if count < usize::from(bytes) {
@@ -74,12 +75,19 @@ macro_rules! sample {
                 $as_i16(self)
             }
 
-            const CODING: Option<Coding<$type>> =
-                Some(Coding { format: SampleFormat::$format, from: $from, to: $to, decode: proved::decode, encode: proved::encode });
+            const CODING: Option<Coding<$type>> = Some(Coding {
+                format: SampleFormat::$format,
+                from: $from,
+                to: $to,
+                decode: proved::decode,
+                encode: proved::encode,
+            });
         }
     };
 }
 sample!(i8, Int, |int| int as i8, i32::from, i16::from);
 sample!(i16, Int, |int| int as i16, i32::from, |sample| sample);
 sample!(i32, Int, |int| int, |sample| sample, |sample| sample as i16);
-sample!(f32, Float, |int| f32::from_bits(int as u32), |float| float.to_bits() as i32, |_| panic!("a float has no 16 bits"));
+sample!(f32, Float, |int| f32::from_bits(int as u32), |float| float.to_bits() as i32, |_| panic!(
+    "a float has no 16 bits"
+));

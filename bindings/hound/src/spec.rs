@@ -1,5 +1,5 @@
-use crate::proved::{self, Kind, Next, Recorder};
 pub use crate::proved::Format as SampleFormat;
+use crate::proved::{self, Kind, Next, Recorder};
 use std::ops::Range;
 
 /// What a file says of its samples.

@@ -86,7 +86,9 @@ impl<W: Write + Seek> Core<W> {
     fn spill(&mut self) -> Result<()> {
         if self.count > 0 {
             let (spec, samples) = (self.containers(SampleFormat::Int), &self.buffer[..self.count]);
-            self.waiting = encode_after(self.waiting, &mut self.bytes, &spec, self.count, |spec, bytes| proved::encode(spec, samples, bytes))?;
+            self.waiting = encode_after(self.waiting, &mut self.bytes, &spec, self.count, |spec, bytes| {
+                proved::encode(spec, samples, bytes)
+            })?;
             self.count = 0;
         }
         let result = self.write_waiting(self.waiting);
@@ -125,7 +127,9 @@ impl<W: Write + Seek> Core<W> {
     // Writes samples after the buffered ones.
     pub(crate) fn write_samples<S: Sample + Copy>(&mut self, samples: &[S]) -> Result<()> {
         match S::CODING {
-            Some(coding) => self.write_coded(coding.format, samples.len(), |spec, bytes| (coding.encode)(spec, samples, bytes)),
+            Some(coding) => {
+                self.write_coded(coding.format, samples.len(), |spec, bytes| (coding.encode)(spec, samples, bytes))
+            }
             None => self.write_own(samples.iter().copied()),
         }
     }
@@ -179,7 +183,11 @@ impl<W: Write + Seek> Core<W> {
         if flushes {
             self.medium.writer.flush()?;
         }
-        if self.waiting == 0 { Ok(()) } else { Err(Error::UnfinishedSample) }
+        if self.waiting == 0 {
+            Ok(())
+        } else {
+            Err(Error::UnfinishedSample)
+        }
     }
 }
 
@@ -260,7 +268,11 @@ impl<W: Write + Seek> WavWriter<W> {
     #[inline]
     pub fn get_i16_writer<'s>(&'s mut self, num_samples: u32) -> SampleWriter16<'s, W> {
         let (spec, count) = (self.spec(), num_samples as usize);
-        assert_eq!((spec.sample_format, spec.bits_per_sample), (SampleFormat::Int, 16), "a batch is of integers of 16 bits");
+        assert_eq!(
+            (spec.sample_format, spec.bits_per_sample),
+            (SampleFormat::Int, 16),
+            "a batch is of integers of 16 bits"
+        );
         self.batch.resize(self.batch.len().max(count), 0);
         SampleWriter16 { core: &mut self.core, batch: &mut self.batch[..count], index: 0 }
     }
@@ -315,9 +327,10 @@ impl<W: Read + Write + Seek> WavWriter<W> {
     ///
     /// A file that lacks samples which its header counts is an `IoError`, if a `seek` to its end succeeds. What follows
     /// these samples is overwritten, without an error, also the samples of a recording that was cut off; a file of
-    /// [`append`](WavWriter::append) is cut off there. So repair it first, always, as [`repair_file`](crate::repair_file) does a file. Append only if that reports
-    /// `Whole` or `CutOff`: where it reports `HasChunksAfterData` it repaired nothing, and what would be overwritten
-    /// may be samples ([`repair_file_to_end`](crate::repair_file_to_end)).
+    /// [`append`](WavWriter::append) is cut off there. So repair it first, always, as
+    /// [`repair_file`](crate::repair_file) does a file. Append only if that reports `Whole` or `CutOff`: where it
+    /// reports `HasChunksAfterData` it repaired nothing, and what would be overwritten may be samples
+    /// ([`repair_file_to_end`](crate::repair_file_to_end)).
     pub fn new_append(mut writer: W) -> Result<WavWriter<W>> {
         let info = Walk::over(&mut writer)??;
         let recorder = after_counted(&info, writer.seek(SeekFrom::End(0)).ok())?;
@@ -345,15 +358,18 @@ impl WavWriter<io::BufWriter<fs::File>> {
     /// name are on the disk, and after a `flush` all samples are: it syncs them before the sizes that count them,
     /// and then these.
     ///
-    /// A file that there was is emptied once its folder is synced (Windows syncs no folders, and has no such locks). Until
-    /// the writer is dropped, another one that is durable, or a repair of the file, is an error (`WouldBlock`), if the
-    /// file system has locks.
+    /// A file that there was is emptied once its folder is synced (Windows syncs no folders, and has no such locks).
+    /// Until the writer is dropped, another one that is durable, or a repair of the file, is an error (`WouldBlock`),
+    /// if the file system has locks.
     ///
     /// Only single samples are buffered, up to 4096, and those of an unfinished frame: each
     /// [`write_samples`](crate::blocks::WriteSamples::write_samples) is a write of the system. After a write that
     /// failed, as on a full disk, the writer continues. After a sync that failed each later `flush` fails, since nobody
     /// knows what the disk has.
-    pub fn create_durable<P: AsRef<path::Path>>(filename: P, spec: WavSpec) -> Result<WavWriter<io::BufWriter<fs::File>>> {
+    pub fn create_durable<P: AsRef<path::Path>>(
+        filename: P,
+        spec: WavSpec,
+    ) -> Result<WavWriter<io::BufWriter<fs::File>>> {
         let open = || {
             let file = open_alone(fs::OpenOptions::new().write(true).create(true).truncate(false), filename.as_ref())?;
             file.set_len(0)?;
@@ -367,8 +383,8 @@ impl WavWriter<io::BufWriter<fs::File>> {
     /// [`create_durable`](WavWriter::create_durable) does.
     ///
     /// A recording that was cut off is an error, and so are chunks after the data (`InvalidData`), and samples that the
-    /// header counts and the file lacks (`UnexpectedEof`). Call [`repair_file`](crate::repair_file) first: after `Whole`
-    /// and `CutOff` the file can be appended to.
+    /// header counts and the file lacks (`UnexpectedEof`). Call [`repair_file`](crate::repair_file) first: after
+    /// `Whole` and `CutOff` the file can be appended to.
     pub fn append_durable<P: AsRef<path::Path>>(filename: P) -> Result<WavWriter<io::BufWriter<fs::File>>> {
         let mut file = open_alone(fs::OpenOptions::new().read(true).write(true), filename.as_ref())?;
         file.sync_all()?;
@@ -379,7 +395,11 @@ impl WavWriter<io::BufWriter<fs::File>> {
     }
 
     // Writes the header of a new file, which isn't opened if the spec can't be written.
-    fn over(open: impl FnOnce() -> io::Result<fs::File>, spec: WavSpec, is_durable: bool) -> Result<WavWriter<io::BufWriter<fs::File>>> {
+    fn over(
+        open: impl FnOnce() -> io::Result<fs::File>,
+        spec: WavSpec,
+        is_durable: bool,
+    ) -> Result<WavWriter<io::BufWriter<fs::File>>> {
         let spec = spec.into();
         let (header, recorder) = (proved::header(&spec, 0)?, Recorder::begin(&spec)?);
         let mut file = open()?;
@@ -412,8 +432,8 @@ impl WavWriter<io::BufWriter<fs::File>> {
     }
 }
 
-// A recorder of a file as hound appends to it: after the samples that the header counts, over all that follows them. Where
-// the length of the file isn't known, it is taken for one that ends there.
+// A recorder of a file as hound appends to it: after the samples that the header counts, over all that follows them.
+// Where the length of the file isn't known, it is taken for one that ends there.
 fn after_counted(info: &Info, length: Option<u64>) -> Result<Recorder> {
     let data_length = info.samples * u32::from(info.spec.bytes_per_sample);
     let found = Repair {

@@ -8,7 +8,8 @@ use std::path::PathBuf;
 use std::rc::Rc;
 use std::{env, fs, mem, process};
 
-const MONO: WavSpec = WavSpec { channels: 1, sample_rate: 44100, bits_per_sample: 16, sample_format: SampleFormat::Int };
+const MONO: WavSpec =
+    WavSpec { channels: 1, sample_rate: 44100, bits_per_sample: 16, sample_format: SampleFormat::Int };
 const FLOATS: WavSpec = WavSpec { bits_per_sample: 32, sample_format: SampleFormat::Float, ..MONO };
 
 /// A path of this test's own, whose file is removed afterwards.
@@ -125,7 +126,8 @@ fn a_tone_is_written_and_measured() {
 #[test]
 fn the_bytes_are_those_of_the_format() {
     let file = written(WavSpec { channels: 2, ..MONO }, &[2i16, -3, 5, -7]);
-    assert_eq!(file, *b"RIFF\x2c\0\0\0WAVEfmt \x10\0\0\0\x01\0\x02\0\x44\xac\0\0\x10\xb1\x02\0\x04\0\x10\0data\x08\0\0\0\x02\0\xfd\xff\x05\0\xf9\xff");
+    let header = *b"RIFF\x2c\0\0\0WAVEfmt \x10\0\0\0\x01\0\x02\0\x44\xac\0\0\x10\xb1\x02\0\x04\0\x10\0data\x08\0\0\0";
+    assert_eq!(file, [&header[..], b"\x02\0\xfd\xff\x05\0\xf9\xff"].concat());
     let odd = written(WavSpec { bits_per_sample: 8, ..MONO }, &[1i8]);
     assert_eq!((&odd[4..8], &odd[40..]), (&[38, 0, 0, 0][..], &[1, 0, 0, 0, 129, 0][..]));
     assert_eq!(hound::read_wave_header(&mut &file[..]).unwrap(), 52);
@@ -186,7 +188,10 @@ fn each_type_is_read_and_refused() {
     assert!(matches!(reader.samples::<i8>().next(), Some(Err(Error::TooWide))));
     assert!(matches!(reader.samples::<f32>().next(), Some(Err(Error::InvalidSampleFormat))));
     assert_eq!(reader.samples::<i32>().len(), 0);
-    assert_eq!(WavReader::new(&file[..]).unwrap().into_samples::<i32>().collect::<Result<Vec<_>>>().unwrap(), [300, -300]);
+    assert_eq!(
+        WavReader::new(&file[..]).unwrap().into_samples::<i32>().collect::<Result<Vec<_>>>().unwrap(),
+        [300, -300]
+    );
     let floats = written(FLOATS, &[0.5f32, -0.0]);
     let read = WavReader::new(&floats[..]).unwrap().into_samples::<f32>().map(|sample| sample.unwrap().to_bits());
     assert_eq!(read.collect::<Vec<_>>(), [0.5f32.to_bits(), (-0.0f32).to_bits()]);
@@ -194,14 +199,23 @@ fn each_type_is_read_and_refused() {
     assert!(matches!(writer.write_sample(32768), Err(Error::TooWide)));
     assert!(matches!(writer.write_sample(0.5f32), Err(Error::Unsupported)));
     assert_eq!(writer.len(), 0);
-    assert!(matches!(WavWriter::new(Cursor::new(Vec::new()), WavSpec { bits_per_sample: 12, ..MONO }), Err(Error::Unsupported)));
+    assert!(matches!(
+        WavWriter::new(Cursor::new(Vec::new()), WavSpec { bits_per_sample: 12, ..MONO }),
+        Err(Error::Unsupported)
+    ));
     assert!(matches!(WavReader::new(&b"RIFX"[..]), Err(Error::FormatError("no RIFF tag found"))));
     assert_eq!(WavReader::new(&file[..43]).err().unwrap().to_string(), "Failed to read enough bytes.");
 }
 
 #[test]
 fn a_sample_of_the_other_format_is_taken_by_its_bits_or_unsupported() {
-    for (bits, sample_format) in [(8, SampleFormat::Int), (16, SampleFormat::Int), (24, SampleFormat::Int), (32, SampleFormat::Int), (32, SampleFormat::Float)] {
+    for (bits, sample_format) in [
+        (8, SampleFormat::Int),
+        (16, SampleFormat::Int),
+        (24, SampleFormat::Int),
+        (32, SampleFormat::Int),
+        (32, SampleFormat::Float),
+    ] {
         let mut file = Cursor::new(Vec::new());
         let mut writer = WavWriter::new(&mut file, WavSpec { bits_per_sample: bits, sample_format, ..MONO }).unwrap();
         let result = writer.write_sample(0.5f32);
@@ -291,7 +305,9 @@ fn a_file_is_appended_to_after_batches_and_flushes() {
     assert!(matches!(reader.read_samples(&mut block[..2]), (2, Ok(()))));
     assert!(matches!(reader.read_samples(&mut block[2..]), (3, Ok(()))));
     assert_eq!(block, [1, 2, 3, 4, 5, 9]);
-    assert!(catch_unwind(|| WavWriter::new(Cursor::new(Vec::new()), FLOATS).unwrap().get_i16_writer(1).flush()).is_err());
+    assert!(
+        catch_unwind(|| WavWriter::new(Cursor::new(Vec::new()), FLOATS).unwrap().get_i16_writer(1).flush()).is_err()
+    );
 }
 
 /// Writes so many samples, from a number on: one by one, as a block, a batch, or those of a user's own type.
@@ -394,7 +410,8 @@ fn the_blocks_that_a_full_medium_holds_are_counted() {
                 "flush" => assert!(writer.flush().is_err()),
                 _ => drop(writer),
             }
-            // The block that had no room isn't; the buffer has at most 4096 samples, and those of a frame that was begun.
+            // The block that had no room isn't; the buffer has at most 4096 samples, and those of a frame that was
+            // begun.
             let (counted, frame) = (disk.samples(), usize::from(channels));
             assert!(counted == numbers(counted.len()) && counted.len() % frame == 0);
             assert!(counted.len() <= held && counted.len() + 4096 + frame > held);
@@ -409,7 +426,9 @@ fn what_had_no_room_is_written_once_there_is_some() {
     disk.0.borrow_mut().room = Some(44 + 2 * 3000);
     let accepted = (0..12000).take_while(|&i| writer.write_sample(i as i16).is_ok()).count();
     for _ in 0..3 {
-        assert!(writer.flush().is_err() && writer.write_sample(7i16).is_err() && writer.write_samples(&[7i16; 8]).is_err());
+        assert!(
+            writer.flush().is_err() && writer.write_sample(7i16).is_err() && writer.write_samples(&[7i16; 8]).is_err()
+        );
         assert!(writer.len() as usize == accepted && disk.samples().len() <= 3000);
     }
     disk.0.borrow_mut().room = None;
@@ -426,7 +445,11 @@ fn a_write_that_is_interrupted_or_short_is_continued() {
     impl Write for Slow {
         fn write(&mut self, bytes: &[u8]) -> io::Result<usize> {
             self.1 += 1;
-            if self.1 % 3 == 0 { Err(io::ErrorKind::Interrupted.into()) } else { self.0.write(&bytes[..(bytes.len() + 1) / 2]) }
+            if self.1 % 3 == 0 {
+                Err(io::ErrorKind::Interrupted.into())
+            } else {
+                self.0.write(&bytes[..(bytes.len() + 1) / 2])
+            }
         }
         fn flush(&mut self) -> io::Result<()> {
             self.0.flush()
@@ -600,7 +623,10 @@ fn blocks_have_the_samples_of_an_iterator() {
             opened.seek(7).unwrap();
             assert!(matches!(opened.read_samples(&mut vec![0; length]), (count, Ok(())) if count == length.min(29994)));
             assert_eq!(opened.samples::<i32>().len(), 29994usize.saturating_sub(length));
-            assert_eq!(opened.into_inner().stream_position().unwrap(), end - 29994usize.saturating_sub(length) as u64 * u64::from(bits / 8));
+            assert_eq!(
+                opened.into_inner().stream_position().unwrap(),
+                end - 29994usize.saturating_sub(length) as u64 * u64::from(bits / 8)
+            );
         }
     }
 }
@@ -662,7 +688,10 @@ fn a_file_that_was_cut_off_is_repaired() {
     file[4..8].fill(0);
     fs::write(&path, &file).unwrap();
     let found = hound::repair_file(&path).unwrap();
-    assert_eq!((found.state, found.frames, found.left_over, found.spec_ex.bytes_per_sample), (hound::RepairState::CutOff, 3, 0, 1));
+    assert_eq!(
+        (found.state, found.frames, found.left_over, found.spec_ex.bytes_per_sample),
+        (hound::RepairState::CutOff, 3, 0, 1)
+    );
     let samples = WavReader::open(&path).unwrap().into_samples::<i8>().collect::<Result<Vec<_>>>().unwrap();
     assert_eq!((samples, fs::metadata(&path).unwrap().len()), (vec![1, 2, 3], 48));
     assert_eq!(hound::repair_file(&path).unwrap().state, hound::RepairState::Whole);
@@ -696,7 +725,8 @@ fn a_file_is_appended_to_durably() {
     writer.finalize().unwrap();
     assert_eq!(fs::read(&path).unwrap(), written(MONO, &[1i16, 2, 3, 4, 5]));
     // What can't be synced is an error before it is read.
-    assert!(matches!(WavWriter::append_durable("/dev/null"), Err(Error::IoError(error)) if error.kind() == io::ErrorKind::InvalidInput));
+    let Err(Error::IoError(error)) = WavWriter::append_durable("/dev/null") else { panic!("it is appended to") };
+    assert_eq!(error.kind(), io::ErrorKind::InvalidInput);
 }
 
 #[test]
@@ -948,7 +978,10 @@ fn a_file_gets_no_longer_than_its_sizes_count() {
     assert_eq!(writer.len(), 4_294_967_258 / 2);
     writer.finalize().unwrap();
     let header = file.header.into_inner();
-    assert_eq!((&header[4..8], &header[40..]), (&(4_294_967_294u32).to_le_bytes()[..], &(4_294_967_258u32).to_le_bytes()[..]));
+    assert_eq!(
+        (&header[4..8], &header[40..]),
+        (&(4_294_967_294u32).to_le_bytes()[..], &(4_294_967_258u32).to_le_bytes()[..])
+    );
 }
 
 #[test]

@@ -260,7 +260,14 @@ mod c {
         pub fn hound_sizes(spec: *const Spec, data_start: u64, samples: u64, out: *mut u8, capacity: usize) -> i64;
         pub fn hound_find_damage(file: *const u8, length: usize, found: *mut Repair) -> i32;
         pub fn hound_to_f32(samples: *const i32, count: usize, bits: u16, out: *mut f32, capacity: usize) -> i64;
-        pub fn hound_from_f32(samples: *const f32, count: usize, bits: u16, out: *mut i32, capacity: usize, clipped: *mut u64) -> i64;
+        pub fn hound_from_f32(
+            samples: *const f32,
+            count: usize,
+            bits: u16,
+            out: *mut i32,
+            capacity: usize,
+            clipped: *mut u64,
+        ) -> i64;
         pub fn hound_repair(file: *mut u8, capacity: usize, used: usize, found: *mut Repair) -> i64;
         pub fn hound_repair_to_end(file: *mut u8, capacity: usize, used: usize, found: *mut Repair) -> i64;
         pub fn hound_repairer_begin(length: u64, mode: u32, repairer: *mut Repairer);
@@ -279,8 +286,20 @@ mod c {
     macro_rules! coding {
         ($sample:ty, $decode:ident, $encode:ident) => {
             extern "C" {
-                pub fn $decode(spec: *const Spec, bytes: *const u8, length: usize, out: *mut $sample, count: usize) -> i64;
-                pub fn $encode(spec: *const Spec, samples: *const $sample, count: usize, out: *mut u8, capacity: usize) -> i64;
+                pub fn $decode(
+                    spec: *const Spec,
+                    bytes: *const u8,
+                    length: usize,
+                    out: *mut $sample,
+                    count: usize,
+                ) -> i64;
+                pub fn $encode(
+                    spec: *const Spec,
+                    samples: *const $sample,
+                    count: usize,
+                    out: *mut u8,
+                    capacity: usize,
+                ) -> i64;
             }
         };
     }
@@ -293,8 +312,20 @@ mod c {
         ($sample:ty, $read:ident, $write:ident, $append:ident) => {
             extern "C" {
                 pub fn $read(file: *const u8, length: usize, first: u64, out: *mut $sample, count: usize) -> i64;
-                pub fn $write(spec: *const Spec, samples: *const $sample, count: usize, out: *mut u8, capacity: usize) -> i64;
-                pub fn $append(file: *mut u8, capacity: usize, used: usize, samples: *const $sample, count: usize) -> i64;
+                pub fn $write(
+                    spec: *const Spec,
+                    samples: *const $sample,
+                    count: usize,
+                    out: *mut u8,
+                    capacity: usize,
+                ) -> i64;
+                pub fn $append(
+                    file: *mut u8,
+                    capacity: usize,
+                    used: usize,
+                    samples: *const $sample,
+                    count: usize,
+                ) -> i64;
             }
         };
     }
@@ -346,11 +377,7 @@ impl Info {
     }
 
     fn from_c(found: c::Info) -> Info {
-        Info {
-            spec: Spec::from_c(found.spec),
-            samples: found.samples,
-            data_start: found.data_start,
-        }
+        Info { spec: Spec::from_c(found.spec), samples: found.samples, data_start: found.data_start }
     }
 }
 
@@ -671,6 +698,8 @@ pub fn to_f32(samples: &[i32], bits: u16, out: &mut [f32]) -> Result<usize> {
 pub fn from_f32(samples: &[f32], bits: u16, out: &mut [i32]) -> Result<u64> {
     let mut clipped = 0;
     // SAFETY: as above.
-    checked(unsafe { c::hound_from_f32(samples.as_ptr(), samples.len(), bits, out.as_mut_ptr(), out.len(), &mut clipped) })?;
+    checked(unsafe {
+        c::hound_from_f32(samples.as_ptr(), samples.len(), bits, out.as_mut_ptr(), out.len(), &mut clipped)
+    })?;
     Ok(clipped)
 }

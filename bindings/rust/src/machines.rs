@@ -23,8 +23,8 @@ pub enum Kind {
 /// What a walk, a repairer or a recorder requests: something that is done to a file, at a place of it.
 ///
 /// [`perform`](Effect::perform) does it over a [`Medium`], and reports how it ended. Whoever does it otherwise reports
-/// that by [`done`](Effect::done), [`read`](Effect::read) or [`failed`](Effect::failed). Without a report the same effect
-/// is requested again; only a sync that was begun and may have failed has to be reported as failed.
+/// that by [`done`](Effect::done), [`read`](Effect::read) or [`failed`](Effect::failed). Without a report the same
+/// effect is requested again; only a sync that was begun and may have failed has to be reported as failed.
 #[derive(Clone, Debug, Default)]
 #[repr(transparent)]
 pub struct Effect(c::Effect);
@@ -140,9 +140,9 @@ fn write_at<M: Medium + ?Sized>(medium: &mut M, place: u64, bytes: &[u8]) -> io:
     Ok(())
 }
 
-/// What effects are performed on: a file, or what is like one. What a medium doesn't have is an error (`Unsupported`): a
-/// walk only reads, and a recorder doesn't; where nothing can be cut off, a part of a block that failed may stay after
-/// the data.
+/// What effects are performed on: a file, or what is like one. What a medium doesn't have is an error (`Unsupported`):
+/// a walk only reads, and a recorder doesn't; where nothing can be cut off, a part of a block that failed may stay
+/// after the data.
 pub trait Medium {
     /// Reads bytes at a place, and returns how many: 0 only where the file ends.
     fn read_at(&mut self, _place: u64, _bytes: &mut [u8]) -> io::Result<usize> {
@@ -182,7 +182,11 @@ impl Medium for fs::File {
     }
 
     fn cut(&mut self, place: u64) -> io::Result<()> {
-        if self.metadata()?.len() > place { self.set_len(place) } else { Ok(()) }
+        if self.metadata()?.len() > place {
+            self.set_len(place)
+        } else {
+            Ok(())
+        }
     }
 }
 
@@ -201,7 +205,8 @@ trait Machine {
 
     fn next_effect(&mut self) -> Result<Next<'_, Self::Found>>;
 
-    // Performs all effects. The outer result is the medium's: its first error but that of a cut, where it has ended this.
+    // Performs all effects. The outer result is the medium's: its first error but that of a cut, where it has ended
+    // this.
     fn perform_all<M: Medium + ?Sized>(&mut self, medium: &mut M, block: &[u8]) -> io::Result<Result<Self::Found>> {
         let mut fault = None;
         loop {
@@ -259,7 +264,8 @@ impl Walk {
     }
 
     /// The next read, or what is before the data, which begin after the last one. The errors are those of
-    /// [`info`](crate::info), and [`NotPerformed`](crate::Error::NotPerformed) after a read that failed, which comes again then.
+    /// [`info`](crate::info), and [`NotPerformed`](crate::Error::NotPerformed) after a read that failed, which comes
+    /// again then.
     #[allow(clippy::should_implement_trait)]
     pub fn next(&mut self) -> Result<Next<'_, Info>> {
         self.next_effect()
@@ -270,8 +276,9 @@ impl Walk {
         self.perform_all(medium, &[])
     }
 
-    /// Reads up to the data, and not a byte of them, from the beginning of a file. The outer result is the reader's: its
-    /// first error, also where a read was interrupted. The inner one is that of [`info`](crate::info) over the bytes.
+    /// Reads up to the data, and not a byte of them, from the beginning of a file. The outer result is the reader's:
+    /// its first error, also where a read was interrupted. The inner one is that of [`info`](crate::info) over the
+    /// bytes.
     pub fn over<R: io::Read>(reader: &mut R) -> io::Result<Result<Info>> {
         let (mut walk, mut place, mut skipped) = (Walk::new(), 0, [0; 1024]);
         loop {
@@ -431,12 +438,13 @@ impl Recorder {
         Ok(Recorder(recorder))
     }
 
-    /// A recorder of a file as a repairer of [`Mode::FindDamage`], or [`find_damage`](crate::find_damage), found it. One
-    /// that ends with the samples that its header counts, or with their pad byte, needs nothing that is allowed. Else
-    /// the error is [`IsCutOff`](crate::Error::IsCutOff) or [`ChunksFollow`](crate::Error::ChunksFollow); where samples are missing
-    /// that the header counts it is [`Truncated`](crate::Error::Truncated).
+    /// A recorder of a file as a repairer of [`Mode::FindDamage`], or [`find_damage`](crate::find_damage), found it.
+    /// One that ends with the samples that its header counts, or with their pad byte, needs nothing that is allowed.
+    /// Else the error is [`IsCutOff`](crate::Error::IsCutOff) or [`ChunksFollow`](crate::Error::ChunksFollow); where
+    /// samples are missing that the header counts it is [`Truncated`](crate::Error::Truncated).
     pub fn resume(found: &Repair, allowed: Allowed) -> Result<Recorder> {
-        let (mut recorder, allowed) = (c::Recorder::default(), u32::from(allowed.mend) + 2 * u32::from(allowed.overwrite));
+        let (mut recorder, allowed) =
+            (c::Recorder::default(), u32::from(allowed.mend) + 2 * u32::from(allowed.overwrite));
         checked(unsafe { c::hound_recorder_resume(&found.to_c(), allowed, &mut recorder) }.into())?;
         Ok(Recorder(recorder))
     }
@@ -452,8 +460,9 @@ impl Recorder {
     }
 
     /// Requests that a block of so many samples is written, as [`encode`](crate::encode) gives them: whole frames, else
-    /// the error is [`UnfinishedFrame`](crate::Error::UnfinishedFrame), and [`TooLong`](crate::Error::TooLong) where the sizes wouldn't
-    /// count them. A block that is under way is given up, and cut off where a part of it may be in the file.
+    /// the error is [`UnfinishedFrame`](crate::Error::UnfinishedFrame), and [`TooLong`](crate::Error::TooLong) where
+    /// the sizes wouldn't count them. A block that is under way is given up, and cut off where a part of it may be in
+    /// the file.
     pub fn write(&mut self, samples: u64) -> Result<()> {
         checked(unsafe { c::hound_recorder_write(&mut self.0, samples) }.into()).map(drop)
     }

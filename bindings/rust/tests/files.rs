@@ -1,7 +1,9 @@
 //! The calls over small files.
 use hound_bindings::{
-    append_to, decode, decode_scaled, encode, encode_scaled, find_damage, from_f32, header, info, read, read_into, read_scaled, repair, repair_to_end, size, sizes, to_f32,
-    value_16, value_24, value_32, value_8, write, write_scaled, write_to, Allowed, Container, Error, Format, Kind, Medium, Mode, Next, Recorder, Repairer, Spec, State, Walk, ERRORS,
+    append_to, decode, decode_scaled, encode, encode_scaled, find_damage, from_f32, header, info, read, read_into,
+    read_scaled, repair, repair_to_end, size, sizes, to_f32, value_16, value_24, value_32, value_8, write,
+    write_scaled, write_to, Allowed, Container, Error, Format, Kind, Medium, Mode, Next, Recorder, Repairer, Spec,
+    State, Walk, ERRORS,
 };
 use std::panic::{catch_unwind, AssertUnwindSafe};
 use std::time::Duration;
@@ -10,13 +12,8 @@ use std::{io, mem};
 const MEND: Allowed = Allowed { mend: true, overwrite: false };
 const OVERWRITE: Allowed = Allowed { mend: false, overwrite: true };
 
-const SPEC: Spec = Spec {
-    sample_rate: 44100,
-    channels: 1,
-    bits_per_sample: 16,
-    bytes_per_sample: 0,
-    format: Format::Int,
-};
+const SPEC: Spec =
+    Spec { sample_rate: 44100, channels: 1, bits_per_sample: 16, bytes_per_sample: 0, format: Format::Int };
 
 #[test]
 fn a_file_is_written_and_read() {
@@ -89,7 +86,10 @@ fn an_error_leaves_all_as_it_was() {
     assert_eq!(out, [7; 48]);
     assert_eq!(info(b"RIFX"), Err(Error::NoRiffTag));
     assert_eq!(Error::NoRiffTag.to_string(), "no RIFF tag found");
-    assert_eq!(Error::BitsNot8Or16.to_string(), "bits per sample is not 8, 16 or 24 in a PCM fmt chunk of 18 or 40 bytes");
+    assert_eq!(
+        Error::BitsNot8Or16.to_string(),
+        "bits per sample is not 8, 16 or 24 in a PCM fmt chunk of 18 or 40 bytes"
+    );
     for (i, error) in ERRORS.iter().enumerate() {
         assert_eq!(*error as i64, -1 - i as i64);
     }
@@ -121,7 +121,11 @@ impl Memory {
     }
 
     fn count(&self, length: usize) -> usize {
-        if self.is_slow { length.min(1) } else { length }
+        if self.is_slow {
+            length.min(1)
+        } else {
+            length
+        }
     }
 }
 
@@ -179,7 +183,8 @@ fn a_read_that_failed_comes_again() {
     // One that was not reported, too; and the error of one that was reported without its cause.
     let mut walk = Walk::new();
     for _ in 0..3 {
-        assert!(matches!(walk.next(), Ok(Next::Effect(effect)) if (effect.kind(), effect.place(), effect.length()) == (Kind::Read, 0, 12)));
+        let Ok(Next::Effect(effect)) = walk.next() else { panic!("no effect") };
+        assert_eq!((effect.kind(), effect.place(), effect.length()), (Kind::Read, 0, 12));
     }
     if let Ok(Next::Effect(effect)) = walk.next() {
         effect.failed();
@@ -248,18 +253,30 @@ fn what_no_integer_holds_is_clipped_and_counted() {
     let mut loud = vec![0.25; 1500];
     loud.extend([1.0, -1.0, -1.5, f32::NAN, 0.5f32.powi(16), 1.5 * 0.5f32.powi(15)]);
     let (file, clipped) = write_scaled(&SPEC, &loud).unwrap();
-    assert_eq!((clipped, &file[file.len() - 14..]), (2, &[0, 0x20, 0xff, 0x7f, 0, 0x80, 0, 0x80, 0, 0, 0, 0, 2, 0][..]));
+    assert_eq!(
+        (clipped, &file[file.len() - 14..]),
+        (2, &[0, 0x20, 0xff, 0x7f, 0, 0x80, 0, 0x80, 0, 0, 0, 0, 2, 0][..])
+    );
     loud[0] = 2.0;
     assert_eq!(encode_scaled(&SPEC, &loud, &mut vec![0; 4000]), Ok((3012, 3)));
     assert_eq!(write_scaled(&Spec { channels: 2, ..SPEC }, &[0.0]), Err(Error::UnfinishedFrame));
     let strange = Spec { bits_per_sample: 12, ..SPEC };
-    assert_eq!((encode_scaled(&strange, &[0.0], &mut [0; 8]), decode_scaled(&strange, &[0; 8], &mut [0.0])), (Err(Error::NotWritable), Err(Error::NotWritable)));
+    assert_eq!(
+        (encode_scaled(&strange, &[0.0], &mut [0; 8]), decode_scaled(&strange, &[0; 8], &mut [0.0])),
+        (Err(Error::NotWritable), Err(Error::NotWritable))
+    );
     // Floats have no other scale, and any pattern.
     let floats = Spec { bits_per_sample: 32, format: Format::Float, ..SPEC };
     let (patterns, mut out, mut bytes) = ([2.5, f32::from_bits(0x7fc1_2345)], [0.0; 3], [0; 8]);
     let (file, clipped) = write_scaled(&floats, &patterns).unwrap();
-    assert_eq!((read_scaled(&file, 0, &mut out), clipped, out.map(f32::to_bits)), (Ok(2), 0, [0x4020_0000, 0x7fc1_2345, 0]));
-    assert_eq!((encode_scaled(&floats, &patterns, &mut bytes), bytes), (Ok((8, 0)), [0, 0, 0x20, 0x40, 0x45, 0x23, 0xc1, 0x7f]));
+    assert_eq!(
+        (read_scaled(&file, 0, &mut out), clipped, out.map(f32::to_bits)),
+        (Ok(2), 0, [0x4020_0000, 0x7fc1_2345, 0])
+    );
+    assert_eq!(
+        (encode_scaled(&floats, &patterns, &mut bytes), bytes),
+        (Ok((8, 0)), [0, 0, 0x20, 0x40, 0x45, 0x23, 0xc1, 0x7f])
+    );
     assert_eq!((decode_scaled(&floats, &bytes[4..], &mut out), out[0].to_bits()), (Ok(1), 0x7fc1_2345));
 }
 
@@ -318,7 +335,10 @@ fn the_end_is_none_and_a_missing_sample_an_error() {
     let file = write(&SPEC, &[1i16, 2, 3]).unwrap();
     let mut out = [0i16; 2];
     assert_eq!((read_into(&file, 3, &mut out), read_into(&file, 9, &mut out)), (Ok(0), Ok(0)));
-    assert_eq!((read_into(&file[..49], 1, &mut out), read_into(&file[..49], 2, &mut out)), (Ok(1), Err(Error::Truncated)));
+    assert_eq!(
+        (read_into(&file[..49], 1, &mut out), read_into(&file[..49], 2, &mut out)),
+        (Ok(1), Err(Error::Truncated))
+    );
     assert_eq!(read_into::<i16>(&file[..49], 2, &mut []), Ok(0));
     assert_eq!((read::<i16>(&file[..49]), read::<i16>(&file[..44])), (Ok(vec![1, 2]), Err(Error::Truncated)));
 }
@@ -345,7 +365,10 @@ fn a_block_that_failed_is_cut_off() {
     let mut recorder = Recorder::begin(&SPEC).unwrap();
     recorder.write(2).unwrap();
     assert_eq!(recorder.run(&mut medium, &[1, 0, 2, 0]).unwrap_err().to_string(), "the medium fails");
-    assert_eq!(medium.said, ["write [1, 0, 2, 0] at 44", "write [0, 2, 0] at 45", "write [0, 2, 0] at 45", "cut at 44"]);
+    assert_eq!(
+        medium.said,
+        ["write [1, 0, 2, 0] at 44", "write [0, 2, 0] at 45", "write [0, 2, 0] at 45", "cut at 44"]
+    );
     // A cut that is interrupted has failed, too. Where nothing is cut off, a repair takes the rest for samples.
     assert_eq!((medium.file.len(), recorder.samples()), (45, 0));
     medium = Memory { fails: 3, ..Memory::of(header(&SPEC, 0).unwrap()) };
@@ -355,7 +378,10 @@ fn a_block_that_failed_is_cut_off() {
     recorder.write(2).unwrap();
     recorder.run(&mut medium, &[1, 0, 2, 0]).unwrap().unwrap();
     medium.said.dedup();
-    assert_eq!(medium.said, ["sync", "write [36, 0, 0, 0] at 4", "write [0, 0, 0, 0] at 40", "sync", "write [1, 0, 2, 0] at 44"]);
+    assert_eq!(
+        medium.said,
+        ["sync", "write [36, 0, 0, 0] at 4", "write [0, 0, 0, 0] at 40", "sync", "write [1, 0, 2, 0] at 44"]
+    );
     assert_eq!((find_damage(&medium.file).unwrap().frames, recorder.samples()), (2, 2));
 }
 
@@ -426,9 +452,17 @@ fn a_recorder_makes_a_checkpoint_of_what_was_written() {
     recorder.checkpoint();
     recorder.run(&mut medium, &[]).unwrap().unwrap();
     assert_eq!(medium.file, write(&bytes, &[2i16, 3, 5]).unwrap());
-    assert_eq!(medium.said, [
-        "write [131, 133] at 45", "write [0] at 47", "sync", "write [40, 0, 0, 0] at 4", "write [3, 0, 0, 0] at 40", "sync",
-    ]);
+    assert_eq!(
+        medium.said,
+        [
+            "write [131, 133] at 45",
+            "write [0] at 47",
+            "sync",
+            "write [40, 0, 0, 0] at 4",
+            "write [3, 0, 0, 0] at 40",
+            "sync",
+        ]
+    );
     let stereo = Spec { channels: 2, ..SPEC };
     assert_eq!(Recorder::begin(&stereo).unwrap().write(3), Err(Error::UnfinishedFrame));
     assert_eq!(Recorder::begin(&Spec { channels: 0, ..SPEC }).err(), Some(Error::NotWritable));
@@ -479,7 +513,8 @@ fn perform_losing(recorder: &mut Recorder, medium: &mut Memory, block: &[u8], lo
 fn a_report_that_is_lost_changes_nothing() {
     let bytes = Spec { bits_per_sample: 8, ..SPEC };
     for lost in 0..1 << 14 {
-        let (mut recorder, mut medium, mut number) = (Recorder::begin(&bytes).unwrap(), Memory::of(header(&bytes, 0).unwrap()), 0);
+        let (mut recorder, mut medium, mut number) =
+            (Recorder::begin(&bytes).unwrap(), Memory::of(header(&bytes, 0).unwrap()), 0);
         for block in [&[129, 130, 131][..], &[132, 133]] {
             recorder.write(block.len() as u64).unwrap();
             perform_losing(&mut recorder, &mut medium, block, lost, &mut number);
@@ -513,7 +548,10 @@ fn a_block_whose_report_is_lost_is_cut_off_where_it_is_given_up() {
     }
     recorder.write(1).unwrap();
     recorder.run(&mut medium, &[9, 0]).unwrap().unwrap();
-    assert_eq!((&medium.said[1], medium.file[44..].to_vec(), recorder.samples()), (&"cut at 44".to_string(), vec![9, 0], 1));
+    assert_eq!(
+        (&medium.said[1], medium.file[44..].to_vec(), recorder.samples()),
+        (&"cut at 44".to_string(), vec![9, 0], 1)
+    );
     // One that was requested, and never was an effect, is given up without a trace.
     medium.said.clear();
     recorder.write(2).unwrap();
@@ -539,12 +577,22 @@ fn a_file_is_repaired_as_in_memory() {
     file.truncate(47);
     let mut medium = Memory::of(file.clone());
     let damage = Repairer::new(47, Mode::FindDamage).run(&mut medium).unwrap().unwrap();
-    assert!(damage == find_damage(&file).unwrap() && medium.file == file && medium.said.iter().all(|call| call.starts_with("read")));
-    assert_eq!((damage.state, damage.frames, damage.data_start, damage.length, damage.data_length), (State::CutOff, 3, 44, 47, 0));
+    assert!(
+        damage == find_damage(&file).unwrap()
+            && medium.file == file
+            && medium.said.iter().all(|call| call.starts_with("read"))
+    );
+    assert_eq!(
+        (damage.state, damage.frames, damage.data_start, damage.length, damage.data_length),
+        (State::CutOff, 3, 44, 47, 0)
+    );
     medium.said.clear();
     assert_eq!(Repairer::new(47, Mode::Repair).run(&mut medium).unwrap(), Ok(damage));
     let effects: Vec<_> = medium.said.iter().filter(|call| !call.starts_with("read")).collect();
-    assert_eq!(effects, ["sync", "write [3, 0, 0, 0] at 40", "sync", "write [0] at 47", "sync", "write [40, 0, 0, 0] at 4", "sync"]);
+    assert_eq!(
+        effects,
+        ["sync", "write [3, 0, 0, 0] at 40", "sync", "write [0] at 47", "sync", "write [40, 0, 0, 0] at 4", "sync"]
+    );
     assert_eq!(medium.file, write(&bytes, &[1i16, 2, 3]).unwrap());
 
     let mut file = write(&SPEC, &[2i16, 3]).unwrap();
@@ -565,7 +613,10 @@ fn an_effect_that_failed_ends_a_repairer() {
         let mut repairer = Repairer::new(49, Mode::Repair);
         assert_eq!(repairer.run(&mut medium).unwrap_err().to_string(), "the medium fails");
         let error = if call == "sync" { Error::SyncFailed } else { Error::NotPerformed };
-        assert_eq!((repairer.run(&mut medium).unwrap(), repairer.next().err(), medium.said.len()), (Err(error), Some(error), i + 1));
+        assert_eq!(
+            (repairer.run(&mut medium).unwrap(), repairer.next().err(), medium.said.len()),
+            (Err(error), Some(error), i + 1)
+        );
         assert_eq!(Repairer::new(49, Mode::Repair).run(&mut medium).unwrap().unwrap().frames, 2);
         assert_eq!(medium.file, calls.file);
     }
@@ -573,7 +624,9 @@ fn an_effect_that_failed_ends_a_repairer() {
 
 #[test]
 fn a_recorder_continues_a_file_as_it_is_allowed_to() {
-    let resume = |file: &[u8], allowed| Recorder::resume(&find_damage(file).unwrap(), allowed).map(|recorder| recorder.samples());
+    let resume = |file: &[u8], allowed| {
+        Recorder::resume(&find_damage(file).unwrap(), allowed).map(|recorder| recorder.samples())
+    };
     let file = write(&SPEC, &[2i16, 3, 5]).unwrap();
     assert_eq!(resume(&file, Allowed::default()), Ok(3));
     assert_eq!(resume(&file[..48], OVERWRITE), Err(Error::Truncated));
@@ -591,7 +644,10 @@ fn a_recorder_continues_a_file_as_it_is_allowed_to() {
     let mut medium = Memory::of(with_chunk);
     recorder.write(1).unwrap();
     recorder.run(&mut medium, &[7, 0]).unwrap().unwrap();
-    assert_eq!((&medium.said[0], medium.said.last().unwrap()), (&"cut at 50".to_string(), &"write [7, 0] at 50".to_string()));
+    assert_eq!(
+        (&medium.said[0], medium.said.last().unwrap()),
+        (&"cut at 50".to_string(), &"write [7, 0] at 50".to_string())
+    );
     recorder.checkpoint();
     recorder.run(&mut medium, &[]).unwrap().unwrap();
     assert_eq!(medium.file, write(&SPEC, &[2i16, 3, 5, 7]).unwrap());

@@ -11,7 +11,8 @@ fn main() -> hound::Result<()> {
     let bits = if is_float { 32 } else { words[2].parse().unwrap() };
     let sample_format = if is_float { SampleFormat::Float } else { SampleFormat::Int };
     let spec = WavSpec { channels: 1, sample_rate: 8000, bits_per_sample: bits, sample_format };
-    let mut writer = if Path::new(&words[1]).exists() { WavWriter::append(&words[1])? } else { WavWriter::create(&words[1], spec)? };
+    let mut writer =
+        if Path::new(&words[1]).exists() { WavWriter::append(&words[1])? } else { WavWriter::create(&words[1], spec)? };
     assert_eq!(writer.spec(), spec);
     for byte in io::stdin().lock().bytes() {
         let sample = i32::from(byte?) - 128;

@@ -35,7 +35,10 @@ pub trait Blocks {
 
 impl<R: Read> Blocks for original::WavReader<R> {
     type Error = original::Error;
-    fn block<S: original::Sample + package::Sample>(&mut self, samples: &mut [S]) -> (usize, Result<(), original::Error>) {
+    fn block<S: original::Sample + package::Sample>(
+        &mut self,
+        samples: &mut [S],
+    ) -> (usize, Result<(), original::Error>) {
         let wanted = samples.len();
         for (count, slot) in samples.iter_mut().enumerate() {
             match self.samples().next() {
@@ -50,7 +53,10 @@ impl<R: Read> Blocks for original::WavReader<R> {
 
 impl<R: Read> Blocks for package::WavReader<R> {
     type Error = package::Error;
-    fn block<S: original::Sample + package::Sample>(&mut self, samples: &mut [S]) -> (usize, Result<(), package::Error>) {
+    fn block<S: original::Sample + package::Sample>(
+        &mut self,
+        samples: &mut [S],
+    ) -> (usize, Result<(), package::Error>) {
         package::blocks::ReadSamples::read_samples(self, samples)
     }
 }

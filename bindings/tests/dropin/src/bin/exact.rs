@@ -33,7 +33,15 @@ impl Read for Unsteady {
 }
 
 const READERS: [&str; 9] = [
-    "few bytes", "faults", "Cursor<Vec>", "&mut Cursor", "BufReader of few bytes", "BufReader of faults", "BufReader<File>", "open", "&mut &[u8]",
+    "few bytes",
+    "faults",
+    "Cursor<Vec>",
+    "&mut Cursor",
+    "BufReader of few bytes",
+    "BufReader of faults",
+    "BufReader<File>",
+    "open",
+    "&mut &[u8]",
 ];
 
 both! {
@@ -115,7 +123,8 @@ both! {
 }
 
 fn file(chooser: &mut Chooser, is_long: bool) -> Vec<u8> {
-    let (bits, width, is_float) = chooser.one_of(&[(8u16, 1u16, 0u8), (16, 2, 0), (24, 3, 0), (24, 4, 0), (32, 4, 0), (32, 4, 1), (12, 2, 0)]);
+    let (bits, width, is_float) =
+        chooser.one_of(&[(8u16, 1u16, 0u8), (16, 2, 0), (24, 3, 0), (24, 4, 0), (32, 4, 0), (32, 4, 1), (12, 2, 0)]);
     let channels = 1 + chooser.below(2) as u16;
     let mut file = b"RIFF\0\0\0\0WAVEfmt \x28\0\0\0\xfe\xff".to_vec();
     file.extend(channels.to_le_bytes());
@@ -130,7 +139,11 @@ fn file(chooser: &mut Chooser, is_long: bool) -> Vec<u8> {
     let length = chooser.below(if is_long { 6000 } else { 60 }) as u32 * u32::from(width * channels);
     file.extend(b"data");
     file.extend(length.to_le_bytes());
-    let held = if chooser.below(3) == 0 { chooser.below(u64::from(length) + 1) as u32 } else { length + chooser.below(20) as u32 };
+    let held = if chooser.below(3) == 0 {
+        chooser.below(u64::from(length) + 1) as u32
+    } else {
+        length + chooser.below(20) as u32
+    };
     file.extend((0..held).map(|_| (chooser.next() >> 20) as u8));
     file
 }
@@ -147,7 +160,8 @@ fn main() {
         if reader == "open" || reader == "BufReader<File>" {
             std::fs::write(path, &bytes).unwrap();
         }
-        let (original, package) = (by_original::run(&bytes, seed, reader, path), by_package::run(&bytes, seed, reader, path));
+        let (original, package) =
+            (by_original::run(&bytes, seed, reader, path), by_package::run(&bytes, seed, reader, path));
         if original == package {
             tally.same();
         } else {

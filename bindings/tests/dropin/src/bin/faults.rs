@@ -129,16 +129,21 @@ both! {
 }
 
 fn outcome(record: &Record, file: &[u8]) -> (bool, &'static str) {
-    let read: Option<Vec<i32>> = original::WavReader::new(file).ok().map(|mut reader| match reader.spec().sample_format {
-        original::SampleFormat::Int => reader.samples::<i32>().map_while(|sample| sample.ok()).collect(),
-        original::SampleFormat::Float => reader.samples::<f32>().map_while(|sample| sample.ok()).map(|sample| sample as i32).collect(),
-    });
+    let read: Option<Vec<i32>> =
+        original::WavReader::new(file).ok().map(|mut reader| match reader.spec().sample_format {
+            original::SampleFormat::Int => reader.samples::<i32>().map_while(|sample| sample.ok()).collect(),
+            original::SampleFormat::Float => {
+                reader.samples::<f32>().map_while(|sample| sample.ok()).map(|sample| sample as i32).collect()
+            }
+        });
     match (record.ended, read) {
         (true, None) => (false, "Ok, unreadable"),
         (true, Some(read)) if read == record.accepted => (true, "Ok, exactly the accepted samples"),
         (true, Some(_)) => (false, "Ok, OTHER samples"),
         (false, None) => (record.flushed == 0, "an error, unreadable"),
-        (false, Some(read)) if read.len() >= record.flushed && record.accepted.starts_with(&read) => (true, "an error, at least the flushed samples"),
+        (false, Some(read)) if read.len() >= record.flushed && record.accepted.starts_with(&read) => {
+            (true, "an error, at least the flushed samples")
+        }
         (false, Some(_)) => (false, "an error, OTHER samples"),
     }
 }
@@ -156,18 +161,20 @@ fn full(tally: &mut Tally) {
         let plan = Plan { channels: 1, bits, is_float, burst: 50, appends: false, is_buffered: false };
         let (start, width) = (if bits > 16 { 68 } else { 44 }, usize::from(bits / 8));
         for room in 0..1000 {
-            let [(original, _), (package, flushed)] = [by_original::run as fn(&Faulty, Plan) -> Record, by_package::run].map(|run| {
-                let disk = Faulty(Rc::new(RefCell::new(Disk { room: Some(room), ..Disk::default() })));
-                let record = run(&disk, plan);
-                let disk = disk.0.borrow();
-                (counted(disk.file.get_ref(), start), record.flushed * width)
-            });
+            let [(original, _), (package, flushed)] =
+                [by_original::run as fn(&Faulty, Plan) -> Record, by_package::run].map(|run| {
+                    let disk = Faulty(Rc::new(RefCell::new(Disk { room: Some(room), ..Disk::default() })));
+                    let record = run(&disk, plan);
+                    let disk = disk.0.borrow();
+                    (counted(disk.file.get_ref(), start), record.flushed * width)
+                });
             if package >= original {
                 tally.same();
             } else if package >= flushed && package + BUFFERED * width > original {
                 tally.listed("a full file: the block that had no room isn't counted");
             } else {
-                tally.unexplained(|| format!("{bits} bits {is_float}, full at {room}: {original} bytes, and {package}"));
+                tally
+                    .unexplained(|| format!("{bits} bits {is_float}, full at {room}: {original} bytes, and {package}"));
             }
         }
     }
@@ -178,9 +185,24 @@ fn main() {
     full(&mut tally);
     for (name, run) in [("original", by_original::run as fn(&Faulty, Plan) -> Record), ("package", by_package::run)] {
         let mut outcomes = BTreeMap::new();
-        let formats = [(1, 8, false), (1, 16, false), (1, 24, false), (1, 32, true), (2, 16, false), (3, 8, false), (5, 24, false)];
+        let formats = [
+            (1, 8, false),
+            (1, 16, false),
+            (1, 24, false),
+            (1, 32, true),
+            (2, 16, false),
+            (3, 8, false),
+            (5, 24, false),
+        ];
         for (channels, bits, is_float) in formats {
-            for (burst, appends, is_buffered, goes_on) in [(50, false, false, false), (50, true, false, false), (50, false, true, false), (50, true, true, true), (4500, false, false, false), (4500, true, true, true)] {
+            for (burst, appends, is_buffered, goes_on) in [
+                (50, false, false, false),
+                (50, true, false, false),
+                (50, false, true, false),
+                (50, true, true, true),
+                (4500, false, false, false),
+                (4500, true, true, true),
+            ] {
                 if burst > 50 && (name == "original" || bits == 32) || channels > 1 && name == "original" {
                     continue; // Too many calls, sizes of more than 16 bits, which half a write tears, and torn frames.
                 }

@@ -171,7 +171,11 @@ fn file(chooser: &mut Chooser) -> Vec<u8> {
     }
     if chooser.below(15) > 0 {
         let length = chooser.one_of(&[16u32, 18, 40, 40, 40, 42, 43, 14]);
-        let tag = if length >= 40 { chooser.one_of(&[0xfffeu16, 0xfffe, 0xfffe, 1]) } else { chooser.one_of(&[1u16, 1, 3, 2]) };
+        let tag = if length >= 40 {
+            chooser.one_of(&[0xfffeu16, 0xfffe, 0xfffe, 1])
+        } else {
+            chooser.one_of(&[1u16, 1, 3, 2])
+        };
         let mut fmt = b"fmt ".to_vec();
         fmt.extend(length.to_le_bytes());
         fmt.extend(tag.to_le_bytes());
@@ -272,7 +276,12 @@ fn main() {
         } else if package == by_original(&plain, false) {
             tally.listed("an odd chunk, a fact chunk, or a fmt chunk of more than 40 bytes");
         } else {
-            tally.unexplained(|| format!("seed {seed} {file:02x?}\n  plain: {plain:02x?}{}", from_difference(by_original(&plain, false), package)));
+            tally.unexplained(|| {
+                format!(
+                    "seed {seed} {file:02x?}\n  plain: {plain:02x?}{}",
+                    from_difference(by_original(&plain, false), package)
+                )
+            });
         }
     }
     for _ in 0..count {

@@ -153,7 +153,15 @@ fn main() {
     let path = path.to_str().unwrap();
     let mut least: Vec<(String, [f64; 2])> = Vec::new();
     for _ in 0..rounds {
-        for (run, cases) in [by_original::run::<0>(path), by_package::run::<0>(path), by_original::run::<16>(path), by_package::run::<16>(path)].into_iter().enumerate() {
+        for (run, cases) in [
+            by_original::run::<0>(path),
+            by_package::run::<0>(path),
+            by_original::run::<16>(path),
+            by_package::run::<16>(path),
+        ]
+        .into_iter()
+        .enumerate()
+        {
             for (i, (name, time)) in cases.into_iter().enumerate() {
                 if i == least.len() {
                     least.push((name, [f64::INFINITY; 2]));
