@@ -106,8 +106,9 @@ def check_same(here, there):
         for one in here, there:
             one.leave(whole[:40] + bytes(4) + whole[44:] if len(header) == 44 else whole)
         same("record", *shape, "--append", "--durable", data=DATA[: 55 * frame + frame - 1], status=int(frame > 1))
-        for words in [], ["--float"]:
+        for words in [], ["--float"], ["--to-end"]:
             same("cat", *words, data=here.contents())
+        same("cat", "--to-end", data=header + DATA[: 9 * frame] + b"\1" * (frame - 1), status=int(frame > 1))
         same("cat", data=here.contents()[:-frame], status=1)
         same("record", *shape, "--overwrite", data=DATA[: 33 * frame])
     same("record", "none/take.wav", "44100", "1", "16", "9", status=1)

@@ -127,11 +127,26 @@ def catted_by_model(data, as_floats):
     return 0, out
 
 
+def streamed_by_model(data):
+    """A stream of unknown length with this head, and the same whose header counts its whole frames; or what has no head."""
+    wanted, cause = modelled(data)
+    if wanted is None:
+        return [] if cause in (Cause.DATA_LENGTH, Cause.FRAME_LENGTH) else [(data, data)]
+    spec, start = wanted[:2]
+    if not spec.is_pair():
+        return []  # It is an error also where there is no sample.
+    frames = (len(data) - start) // (spec.channels * spec.width) * spec.channels * spec.width
+    return [tuple(data[: start - 4] + struct.pack("<I", count) + data[start:end] for count, end in ((2**32 - 1, None), (frames, start + frames)))]
+
+
 def check_cat(program, data):
-    for options in ([], ["--float"]):
-        run = subprocess.run([program, *options], input=data, stdout=subprocess.PIPE, stderr=subprocess.PIPE)
-        if (run.returncode, run.stdout) != catted_by_model(data, options != []) or (run.returncode == 1) != (run.stderr != b""):
-            sys.exit(f"rows: {program} makes something else of {data[:80].hex()} .. ({len(data)} bytes): {run}"[:600])
+    streams_of = [(["--to-end"], stream, counted) for stream, counted in streamed_by_model(data)]
+    for options, given, like in ([], data, data), (["--float"], data, data), *streams_of:
+        is_torn = len(given) > len(like)
+        run = subprocess.run([program, *options], input=given, stdout=subprocess.PIPE, stderr=subprocess.PIPE)
+        status, out = catted_by_model(like, options == ["--float"])
+        if (run.returncode, run.stdout) != (status or is_torn, out) or (run.returncode == 1) != (run.stderr != b""):
+            sys.exit(f"rows: {program} makes something else of {given[:80].hex()} .. ({len(given)} bytes): {run}"[:600])
 
 
 def file_by_model(spec, data):

@@ -5,7 +5,7 @@ import { openAsBlob } from "node:fs";
 import fs from "node:fs/promises";
 import os from "node:os";
 import path from "node:path";
-import { HoundError, append, findDamage, info, read, repair, repairFile, write } from "../hound.js";
+import { HoundError, append, findDamage, guessStart, info, read, repair, repairFile, write } from "../hound.js";
 
 const text = (characters) => [...Buffer.from(characters, "latin1")];
 const u16 = (n) => [n & 255, n >> 8 & 255];
@@ -54,6 +54,32 @@ test("odd data have a pad byte, and 8 bits are stored from 128 on", async () => 
   assert.deepEqual(await write(Int16Array.of(-128, 0, 127), { sampleRate: 8000, bitsPerSample: 8 }), file);
   assert.deepEqual(await read(file, { type: "int8" }), Int8Array.of(-128, 0, 127));
   assert.deepEqual(await read(file), Int16Array.of(-128, 0, 127));
+});
+
+test("a stream of unknown length is read to its end", async () => {
+  const data = [1, 0, 2, 0, 3, 0, 4, 0];
+  for (const counted of [0, 2, 0x7ffff000, 0x7fffffff, 0xffffffff]) {
+    for (const file of kinds(byHand([...data, 5, 0, 6], { counted, channels: 2 }))) {
+      assert.deepEqual(await read(file, { toEnd: true }), Int16Array.of(1, 2, 3, 4));
+      assert.deepEqual(await read(file, { toEnd: true, start: 1, frames: 5 }), Int16Array.of(3, 4));
+      assert.deepEqual(await read(file, { toEnd: true, start: 2 }), new Int16Array(0));
+      assert.equal((await info(file, { toEnd: true })).frames, 2);
+    }
+  }
+  const unknown = byHand(data, { counted: 0xffffffff });
+  await fails(read(unknown), "DATA_LENGTH");
+  await assert.rejects(info(unknown), /a stream of unknown length can be read to its end/);
+  await fails(read(unknown.subarray(0, 43), { toEnd: true }), "ENDED");
+});
+
+test("where samples may begin after a damaged header is guessed", async () => {
+  const file = byHand([1, 0, 2, 0]), form = { sampleRate: 8000, bitsPerSample: 16 };
+  for (const given of kinds(file.fill(0, 16, 36))) {
+    assert.equal(await guessStart(given), 44);
+    assert.deepEqual(await bytes((await repair(given, { like: form })).file), byHand([1, 0, 2, 0]));
+  }
+  assert.equal(await guessStart(new Uint8Array(43)), 0);
+  assert.equal((await repair(new Uint8Array(4), { like: form })).frames, 2);
 });
 
 test("24 bits take three bytes or four, and floats keep their bits", async () => {

@@ -68,6 +68,14 @@ class Lost(Folder):
                 self.assertRaises(FileExistsError, lambda: hound.repair(self.path, like=Info(8000, 1, bits)))
                 os.unlink(copy)
         self.leave(bytes(44) + SAMPLES.tobytes())
+        damaged = bytearray(made_by_wave(SAMPLES))
+        damaged[16:36] = bytes(20)  # A fmt chunk of zeros, and another chunk, whose data's header still is there.
+        for more in b"", CHUNK:
+            self.leave(damaged[:36] + more + damaged[36:])
+            self.assertEqual(hound.repair(self.path, like=Info(8000, 2, 16)).frames, 5)
+            copy = self.path[:-4] + ".repaired.wav"
+            self.assertEqual(content_of(copy), made_by_wave(SAMPLES))
+            os.unlink(copy)
         like = hound.info(made_by_wave(SAMPLES))  # It says where the samples begin.
         hound.repair(self.path, like=like, copy=self.path + "2")
         self.assertEqual(content_of(self.path + "2"), made_by_wave(SAMPLES))
@@ -180,6 +188,15 @@ class Command(Folder):
             self.assertEqual(self.run_command("cat", "a.wav"), samples.tobytes())
             exact = array.array("d", [value / 2 ** (bits - 1) for value in values])
             self.assertEqual(self.run_command("cat", "--type", "float64", "-", given=self.content("a.wav")), exact.tobytes())
+        stream = made_by_wave(SAMPLES)
+        stream = stream[:40] + b"\xff" * 4 + stream[44:]
+        self.assertEqual(self.run_command("cat", "--to-end", "-", given=stream), SAMPLES.tobytes())
+        self.assertEqual(self.run_command("cat", "--to-end", "-", given=stream[:-3], status=1), SAMPLES[:8].tobytes())
+        self.assertEqual(self.said, b"hound-wav: -: the last 1 bytes are no whole frame\n")
+        self.assertEqual(self.run_command("cat", "-", given=stream, status=1), b"")
+        self.assertIn(b"a stream of unknown length can be read to its end", self.said)
+        self.run_command("convert", "--to-end", "-", "s.wav", given=stream)
+        self.assertEqual(self.content("s.wav"), made_by_wave(SAMPLES))
         self.leave_as("b.wav", made_by_wave(SAMPLES)[:-3])
         self.assertEqual(self.run_command("cat", "b.wav", status=1), SAMPLES[:8].tobytes())
         self.assertIn(b"b.wav: the header counts a sample that the file does not hold", self.said)

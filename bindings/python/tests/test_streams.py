@@ -100,6 +100,23 @@ class Streams(Case):
             samples = hound.open(io.BytesIO(file)).read(dtype=dtype)
             self.assertEqual((samples.typecode, list(samples)), (code, values))
 
+    def test_a_stream_of_unknown_length(self):
+        for counted in 0, 1, 0x7FFFF000, 0x7FFFFFFF, 0xFFFFFFFF:
+            stream = by_hand(SAMPLES.tobytes(), counted=counted)
+            for file in io.BytesIO(stream), Slow(stream):
+                with hound.open(file, to_end=True) as reader:
+                    self.assertEqual((reader.info[:6], reader.info.frames), ((8000, 2, 16, False, 0, 44), 0))
+                    self.assertEqual((list(reader.read(2)), list(reader.read()), len(reader.read())), (list(SAMPLES[:4]), list(SAMPLES[4:]), 0))
+                    self.assertEqual((reader.tell(), reader.left_over), (5, 0))
+            with hound.open(io.BytesIO(stream[:-3]), to_end=True) as reader:
+                self.assertEqual(([list(block) for block in reader.blocks(3)], reader.left_over), ([list(SAMPLES[:6]), list(SAMPLES[6:8])], 1))
+                reader.seek(1)
+                self.assertEqual((list(reader.read(1)), reader.left_over), (list(SAMPLES[2:4]), 0))
+                reader.seek(100)
+                self.assertEqual(len(reader.read(1)), 0)
+        self.assertRaisesRegex(HoundError, "a stream of unknown length can be read to its end", lambda: hound.open(io.BytesIO(stream)))
+        self.fails(Cause.NO_DATA_CHUNK, lambda: hound.open(io.BytesIO(stream.replace(b"data", b"DATA")), to_end=True))
+
     def test_a_pipe_is_read_no_byte_too_far(self):
         chunk = b"LIST" + struct.pack("<I", 100_001) + bytes(100_002)
         inner, outer = os.pipe()

@@ -255,6 +255,9 @@ mod c {
     extern "C" {
         pub fn hound_info(file: *const u8, length: usize, info: *mut Info) -> i32;
         pub fn hound_walk_next(walk: *mut Walk, info: *mut Info) -> i32;
+        pub fn hound_walk_to_end(walk: *mut Walk, info: *mut Info) -> i32;
+        pub fn hound_whole_frames(spec: *const Spec, length: u64) -> i64;
+        pub fn hound_guess_data(file: *const u8, length: usize) -> i64;
         pub fn hound_size(spec: *const Spec, samples: u64) -> i64;
         pub fn hound_header(spec: *const Spec, samples: u64, out: *mut u8, capacity: usize) -> i64;
         pub fn hound_sizes(spec: *const Spec, data_start: u64, samples: u64, out: *mut u8, capacity: usize) -> i64;
@@ -615,6 +618,20 @@ pub fn find_damage(file: &[u8]) -> Result<Repair> {
     // SAFETY: as above.
     checked(unsafe { c::hound_find_damage(file.as_ptr(), file.len(), &mut found) } as i64)?;
     Ok(Repair::from_c(found))
+}
+
+/// How many of so many bytes of a stream's samples are whole frames. `NotWritable` is returned where a frame of the spec has
+/// no byte, and `TooLong` from 2^63 on.
+pub fn whole_frames(spec: &Spec, length: u64) -> Result<usize> {
+    // SAFETY: as above.
+    checked(unsafe { c::hound_whole_frames(&spec.to_c(), length) })
+}
+
+/// Where the data may begin in a file whose header is damaged: after the first "data" and a length that follow its first
+/// twelve bytes. `NoDataChunk` is returned where there is none. It is a guess, since samples may look like this.
+pub fn guess_data(file: &[u8]) -> Result<usize> {
+    // SAFETY: as above.
+    checked(unsafe { c::hound_guess_data(file.as_ptr(), file.len()) })
 }
 
 /// Decodes samples without a file around them, and returns how many.

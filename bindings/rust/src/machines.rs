@@ -231,7 +231,8 @@ fn next<T>(code: i32, effect: &mut Effect, found: impl FnOnce() -> T) -> Result<
 }
 
 /// A walk to the data of a file that isn't in memory, or comes from a pipe. It requests one part of the file after the
-/// other, no byte twice, none of the data, and of a chunk that it skips the last byte alone.
+/// other, no byte twice, none of the data, and of a chunk that it skips the last byte alone. Of a stream the length that its
+/// header counts isn't looked at, and it finds 0 samples: they are all whole frames that follow.
 ///
 /// ```no_run
 /// # fn main() -> Result<(), Box<dyn std::error::Error>> {
@@ -241,19 +242,23 @@ fn next<T>(code: i32, effect: &mut Effect, found: impl FnOnce() -> T) -> Result<
 /// # }
 /// ```
 #[derive(Clone, Debug, Default)]
-pub struct Walk(c::Walk);
+pub struct Walk {
+    walk: c::Walk,
+    is_stream: bool,
+}
 
 impl Machine for Walk {
     type Found = Info;
 
     fn next_effect(&mut self) -> Result<Next<'_, Info>> {
         let mut found = c::Info::default();
+        let take = if self.is_stream { c::hound_walk_to_end } else { c::hound_walk_next };
         // SAFETY: the pointers are those of references, and nothing is kept; so below.
-        let code = unsafe { c::hound_walk_next(&mut self.0, &mut found) };
+        let code = unsafe { take(&mut self.walk, &mut found) };
         if code == crate::Error::NotPerformed as i32 {
-            self.0.effect.0.report = PENDING;
+            self.walk.effect.0.report = PENDING;
         }
-        next(code, &mut self.0.effect, || Info::from_c(found))
+        next(code, &mut self.walk.effect, || Info::from_c(found))
     }
 }
 
@@ -261,6 +266,11 @@ impl Walk {
     /// A walk from the beginning of a file.
     pub fn new() -> Walk {
         Walk::default()
+    }
+
+    /// A walk from the beginning of a stream, as programs write one into a pipe that don't know its length.
+    pub fn of_stream() -> Walk {
+        Walk { is_stream: true, ..Walk::default() }
     }
 
     /// The next read, or what is before the data, which begin after the last one. The errors are those of
@@ -280,9 +290,14 @@ impl Walk {
     /// its first error, also where a read was interrupted. The inner one is that of [`info`](crate::info) over the
     /// bytes.
     pub fn over<R: io::Read>(reader: &mut R) -> io::Result<Result<Info>> {
-        let (mut walk, mut place, mut skipped) = (Walk::new(), 0, [0; 1024]);
+        Walk::new().take_from(reader)
+    }
+
+    /// The same of this walk, which takes nothing before.
+    pub fn take_from<R: io::Read>(&mut self, reader: &mut R) -> io::Result<Result<Info>> {
+        let (mut place, mut skipped) = (0, [0; 1024]);
         loop {
-            let effect = match walk.next() {
+            let effect = match self.next() {
                 Ok(Next::Effect(effect)) => effect,
                 Ok(Next::Done(info)) => return Ok(Ok(info)),
                 Err(error) => return Ok(Err(error)),

@@ -1,7 +1,7 @@
 //! The calls over small files.
 use hound_bindings::{
-    append_to, decode, decode_scaled, encode, encode_scaled, find_damage, from_f32, header, info, read, read_into,
-    read_scaled, repair, repair_to_end, size, sizes, to_f32, value_16, value_24, value_32, value_8, write,
+    append_to, decode, decode_scaled, encode, encode_scaled, find_damage, from_f32, guess_data, header, info, read, read_into,
+    read_scaled, repair, repair_to_end, size, sizes, to_f32, value_16, value_24, value_32, value_8, whole_frames, write,
     write_scaled, write_to, Allowed, Container, Error, Format, Kind, Medium, Mode, Next, Recorder, Repairer, Spec,
     State, Walk, ERRORS,
 };
@@ -26,6 +26,25 @@ fn a_file_is_written_and_read() {
     let mut two = [0i16; 2];
     assert_eq!(read_into(&file, 1, &mut two), Ok(2));
     assert_eq!(two, [-3, 5]);
+}
+
+#[test]
+fn a_stream_of_unknown_length_is_read_to_its_end() {
+    let mut file = write(&Spec { channels: 2, ..SPEC }, &[2i16, -3, 5, -7]).unwrap();
+    for counted in [0, 0x7fff_f000, 0x7fff_ffff, u32::MAX] {
+        file[40..44].copy_from_slice(&counted.to_le_bytes());
+        let mut stream = &file[..51];
+        let found = Walk::of_stream().take_from(&mut stream).unwrap().unwrap();
+        assert_eq!((found.samples, found.data_start, stream.len()), (0, 44, 7));
+        let held = whole_frames(&found.spec, stream.len() as u64).unwrap();
+        let mut out = [0i16; 4];
+        assert_eq!(decode(&found.spec, &stream[..held], &mut out), Ok(2));
+        assert_eq!(out, [2, -3, 0, 0]);
+    }
+    assert_eq!(Walk::over(&mut &file[..]).unwrap(), Err(Error::DataLength));
+    assert_eq!(whole_frames(&Spec { channels: 0, ..SPEC }, 4), Err(Error::NotWritable));
+    assert_eq!(guess_data(&file), Ok(44));
+    assert_eq!(guess_data(&file[..43]), Err(Error::NoDataChunk));
 }
 
 #[test]

@@ -29,7 +29,9 @@ pub fn guess_data(file: &[u8]) -> Result<usize, Fault>
     ensures within { IfOk result (λ n. n ≤ length file.now) }
 {
     for place in 12..file.len().saturating_sub(7) {
-        if &file[place..place + 4] == b"data".as_slice() {
+        let mut tag = [0; 4];
+        tag.copy_from_slice(&file[place..place + 4]);
+        if tag == *b"data" {
             return Ok(place + 8);
         }
     }
