@@ -392,17 +392,19 @@ static inline const char *hound_error_text(int64_t code) {
 #define HOUND_ASSERT(condition) HOUND_ASSERT_AT(__LINE__, condition)
 #endif
 HOUND_ASSERT(sizeof(float) == 4);
+/* The layout of the structs, made from hound.h by scripts/make_interface. */
 HOUND_ASSERT(sizeof(hound_spec) == 12 && offsetof(hound_spec, channels) == 4
-             && offsetof(hound_spec, bits_per_sample) == 6
-             && offsetof(hound_spec, bytes_per_sample) == 8 && offsetof(hound_spec, sample_format) == 10);
+             && offsetof(hound_spec, bits_per_sample) == 6 && offsetof(hound_spec, bytes_per_sample) == 8
+             && offsetof(hound_spec, sample_format) == 10);
 HOUND_ASSERT(sizeof(hound_info_t) == 24 && offsetof(hound_info_t, samples) == 12
              && offsetof(hound_info_t, data_start) == 16);
 HOUND_ASSERT(sizeof(hound_repair_t) == 48 && offsetof(hound_repair_t, frames) == 12
              && offsetof(hound_repair_t, left_over) == 16 && offsetof(hound_repair_t, state) == 20
              && offsetof(hound_repair_t, data_start) == 24 && offsetof(hound_repair_t, length) == 32
              && offsetof(hound_repair_t, data_length) == 40 && offsetof(hound_repair_t, unused) == 44);
-HOUND_ASSERT(sizeof(hound_effect) == 56 && offsetof(hound_effect, length) == 8 && offsetof(hound_effect, kind) == 12
-             && offsetof(hound_effect, report) == 14 && offsetof(hound_effect, bytes) == 16);
+HOUND_ASSERT(sizeof(hound_effect) == 56 && offsetof(hound_effect, length) == 8
+             && offsetof(hound_effect, kind) == 12 && offsetof(hound_effect, report) == 14
+             && offsetof(hound_effect, bytes) == 16);
 HOUND_ASSERT(sizeof(hound_walk) == 80 && offsetof(hound_walk, spec) == 56 && offsetof(hound_walk, taken) == 68
              && offsetof(hound_walk, part) == 72 && offsetof(hound_walk, fmt_length) == 76);
 HOUND_ASSERT(sizeof(hound_repairer) == 120 && offsetof(hound_repairer, length) == 56
@@ -417,6 +419,7 @@ HOUND_ASSERT(sizeof(hound_recorder) == 88 && offsetof(hound_recorder, data_start
              && offsetof(hound_recorder, channels) == 78 && offsetof(hound_recorder, condition) == 80
              && offsetof(hound_recorder, task) == 82 && offsetof(hound_recorder, has_rest) == 84
              && offsetof(hound_recorder, unused) == 86);
+/* The end of what is made from hound.h. */
 #undef HOUND_ASSERT
 #undef HOUND_ASSERT_AT
 #undef HOUND_NAMED

@@ -75,11 +75,20 @@ export interface Clipping {
   onClipped?: (count: number) => void;
 }
 
+// The names of errors, made from hound.h by scripts/make_interface.
+export type Code =
+  | "ENDED" | "UNSUPPORTED" | "OTHER_FORMAT" | "TOO_WIDE" | "NOT_WRITABLE" | "TRUNCATED" | "TOO_LONG"
+  | "UNFINISHED_FRAME" | "NO_ROOM" | "NO_RIFF_TAG" | "NO_WAVE_TAG" | "NO_DATA_CHUNK" | "NO_FMT_CHUNK" | "FMT_SIZE"
+  | "UNEXPECTED_FMT_SIZE" | "ZERO_CHANNELS" | "BITS_EXCEED_WIDTH" | "INCONSISTENT" | "BITS_NOT_WHOLE_BYTES"
+  | "ZERO_BITS" | "BITS_NOT_8_OR_16" | "EX_SIZE" | "BITS_NOT_32" | "EXTENSIBLE_SIZE" | "DATA_LENGTH" | "FRAME_LENGTH"
+  | "NEEDS_CHECKPOINT" | "SYNC_FAILED" | "IS_CUT_OFF" | "CHUNKS_FOLLOW" | "NOT_PERFORMED"
+// The end of what is made from hound.h.
+
 /** A call failed. */
 export class HoundError extends Error {
-  constructor(code: string);
+  constructor(code: Code);
   /** The name of the cause in hound.h, without HOUND_. */
-  readonly code: string;
+  readonly code: Code;
 }
 
 /** What the header of a file says. The data needn't all be there; of a stream `frames` are those that are. */

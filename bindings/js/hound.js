@@ -7,6 +7,7 @@ import { module } from "./module.js";
 
 // Each error, its code in hound.h without the sign, and its sentence there.
 const ERRORS = {
+  // The errors, made from hound.h by scripts/make_interface.
   ENDED: [1, "the bytes end before the data begin"],
   UNSUPPORTED: [2, "the format is neither PCM nor IEEE float"],
   OTHER_FORMAT: [3, "the samples are floats and the type is an integer, or vice versa"],
@@ -38,6 +39,7 @@ const ERRORS = {
   IS_CUT_OFF: [29, "the recording was cut off, and has to be repaired first"],
   CHUNKS_FOLLOW: [30, "chunks or a tag follow the data, and would be overwritten"],
   NOT_PERFORMED: [31, "the file could not be read or written"],
+  // The end of what is made from hound.h.
 };
 const NAMES = new Map(Object.entries(ERRORS).map(([name, [code]]) => [code, name]));
 
@@ -56,6 +58,22 @@ function checked(code) {
   if (code < 0) throw errorOf(code);
   return Number(code);
 }
+
+// The constants, and where fields are, made from hound.h by scripts/make_interface.
+const [INT, FLOAT, EFFECT_BYTES, READ, WRITE, WRITE_BLOCK, SYNC, CUT, DONE, FAILED] = [0, 1, 40, 1, 2, 3, 4, 5, 1, 2];
+const [FIND_DAMAGE, REPAIR, REPAIR_TO_END, OVERWRITE] = [0, 1, 2, 2];
+const LAYOUT = {
+  spec: { sampleRate: 0, channels: 4, bitsPerSample: 6, bytesPerSample: 8, sampleFormat: 10, size: 12 },
+  info: { spec: 0, samples: 12, dataStart: 16, size: 24 },
+  repair: { spec: 0, frames: 12, leftOver: 16, state: 20, dataStart: 24, length: 32, dataLength: 40, unused: 44, size: 48 },
+  effect: { place: 0, length: 8, kind: 12, report: 14, bytes: 16, size: 56 },
+  walk: { effect: 0, spec: 56, taken: 68, part: 72, fmtLength: 76, size: 80 },
+  repairer: { effect: 0, length: 56, place: 64, dataStart: 72, spec: 80, dataLength: 92, taken: 96, part: 100, fmtLength: 104,
+    number: 108, mode: 112, unused: 116, size: 120 },
+  recorder: { effect: 0, dataStart: 56, dataLength: 64, number: 68, samples: 72, bytesPerSample: 76, channels: 78,
+    condition: 80, task: 82, hasRest: 84, unused: 86, size: 88 },
+};
+// The end of what is made from hound.h.
 
 const PAGE = 65536;
 // How many bytes the front of a file has, where its header is.
@@ -89,13 +107,14 @@ class Memory {
   }
 
   putSpec(spec) {
-    this.view.setUint32(SPEC, spec.sampleRate, true);
-    [spec.channels, spec.bitsPerSample, spec.bytesPerSample, Number(spec.isFloat)].forEach((n, i) => this.view.setUint16(SPEC + 4 + 2 * i, n, true));
+    this.view.setUint32(SPEC + LAYOUT.spec.sampleRate, spec.sampleRate, true);
+    for (const name of ["channels", "bitsPerSample", "bytesPerSample"]) this.view.setUint16(SPEC + LAYOUT.spec[name], spec[name], true);
+    this.view.setUint16(SPEC + LAYOUT.spec.sampleFormat, spec.isFloat ? FLOAT : INT, true);
   }
 
   specAt(place) {
-    const [channels, bitsPerSample, bytesPerSample, format] = [4, 6, 8, 10].map((n) => this.view.getUint16(place + n, true));
-    return { sampleRate: this.view.getUint32(place, true), channels, bitsPerSample, bytesPerSample, isFloat: format !== 0 };
+    const short = (name) => this.view.getUint16(place + LAYOUT.spec[name], true), [channels, bitsPerSample, bytesPerSample] = ["channels", "bitsPerSample", "bytesPerSample"].map(short);
+    return { sampleRate: this.view.getUint32(place + LAYOUT.spec.sampleRate, true), channels, bitsPerSample, bytesPerSample, isFloat: short("sampleFormat") === FLOAT };
   }
 }
 
@@ -197,14 +216,11 @@ function joined(parts, isBlob) {
   return whole;
 }
 
-// Of hound.h: the kinds of effects, how one ended, and how many bytes it has at most.
-const [READ, WRITE, WRITE_BLOCK, SYNC, CUT] = [1, 2, 3, 4, 5];
-const [DONE, FAILED, EFFECT_BYTES] = [1, 2, 40];
 
 /** A walk, a repairer or a recorder. The memory of the instance has it only during a call. */
 class Machine {
-  constructor(size) {
-    this.bytes = new Uint8Array(size);
+  constructor(name) {
+    this.bytes = new Uint8Array(LAYOUT[name].size);
     this.view = new DataView(this.bytes.buffer);
   }
 
@@ -218,22 +234,25 @@ class Machine {
 
   /** The effect that is requested. Its bytes are a part of the machine. */
   get effect() {
-    const length = this.view.getUint32(8, true);
-    return { place: Number(this.view.getBigUint64(0, true)), length, kind: this.view.getUint16(12, true), bytes: this.bytes.subarray(16, 16 + Math.min(length, EFFECT_BYTES)) };
+    const { place, length: at, kind, bytes } = LAYOUT.effect, length = this.view.getUint32(at, true);
+    return {
+      place: Number(this.view.getBigUint64(place, true)), length, kind: this.view.getUint16(kind, true),
+      bytes: this.bytes.subarray(bytes, bytes + Math.min(length, EFFECT_BYTES)),
+    };
   }
 
   /** Reports the effect as done; what was read is fewer bytes only where the file ends. */
   report({ kind, bytes }, part) {
     if (kind === READ) {
       bytes.set(part);
-      this.view.setUint32(8, part.length, true);
+      this.view.setUint32(LAYOUT.effect.length, part.length, true);
     }
-    this.view.setUint16(14, DONE, true);
+    this.view.setUint16(LAYOUT.effect.report, DONE, true);
   }
 
   /** Reports it as failed. */
   fail() {
-    this.view.setUint16(14, FAILED, true);
+    this.view.setUint16(LAYOUT.effect.report, FAILED, true);
   }
 }
 
@@ -262,9 +281,9 @@ function readerOf(file) {
 /** Walks over what is before the data. Of a stream the length that its header counts isn't looked at. */
 function walkOver(file, toEnd) {
   const size = sizeOf(file), readPart = ({ place, length }) => bytesOf(file, Math.min(place, size), Math.min(place + length, size));
-  return performAll(new Machine(80), toEnd ? "walk_to_end" : "walk_next", readPart, (code) => {
+  return performAll(new Machine("walk"), toEnd ? "walk_to_end" : "walk_next", readPart, (code) => {
     checked(code);
-    const samples = shared.view.getUint32(FOUND + 12, true), dataStart = Number(shared.view.getBigUint64(FOUND + 16, true));
+    const samples = shared.view.getUint32(FOUND + LAYOUT.info.samples, true), dataStart = Number(shared.view.getBigUint64(FOUND + LAYOUT.info.dataStart, true));
     return { spec: shared.specAt(FOUND), samples, dataStart };
   });
 }
@@ -387,18 +406,17 @@ export async function write(samples, { onClipped = warn, ...format } = {}) {
 }
 
 const STATES = ["whole", "cutOff", "hasChunksAfterData"];
-// The modes of a repairer, and what a recorder may do.
-const [FIND_DAMAGE, REPAIR, REPAIR_TO_END, OVERWRITE] = [0, 1, 2, 2];
 
 /** What a repairer of this mode finds in a file of so many bytes, once all that it requests is performed. */
 function repairBy(size, mode, perform) {
-  const repairer = new Machine(120);
+  const repairer = new Machine("repairer");
   repairer.call("repairer_begin", size, mode, shared.at(MACHINE));
   return performAll(repairer, "repairer_next", perform, (code) => {
     checked(code);
-    const [frames, leftOver, state, dataLength] = [12, 16, 20, 40].map((n) => shared.view.getUint32(FOUND + n, true));
-    const report = { state: STATES[state], frames, leftOver, ...shared.specAt(FOUND), dataStart: Number(shared.view.getBigUint64(FOUND + 24, true)), dataLength };
-    return { report, found: shared.bytes.slice(FOUND, FOUND + 48) };
+    const [frames, leftOver, state, dataLength] = ["frames", "leftOver", "state", "dataLength"].map((name) => shared.view.getUint32(FOUND + LAYOUT.repair[name], true));
+    const dataStart = Number(shared.view.getBigUint64(FOUND + LAYOUT.repair.dataStart, true));
+    const report = { state: STATES[state], frames, leftOver, ...shared.specAt(FOUND), dataStart, dataLength };
+    return { report, found: shared.bytes.slice(FOUND, FOUND + LAYOUT.repair.size) };
   });
 }
 
@@ -517,7 +535,7 @@ export async function repairFile(path, { toEnd = false } = {}) {
 
 /** What a file of so many bytes, which is looked at, is appended to by. */
 async function resumed(size, perform, allowed) {
-  const { found } = await repairBy(size, FIND_DAMAGE, perform), recorder = new Machine(88);
+  const { found } = await repairBy(size, FIND_DAMAGE, perform), recorder = new Machine("recorder");
   shared.bytes.set(found, FOUND);
   checked(recorder.call("recorder_resume", shared.at(FOUND), allowed, shared.at(MACHINE)));
   return { recorder, spec: shared.specAt(FOUND) };
@@ -608,7 +626,7 @@ async function syncFolder({ open, realpath }, path) {
 
 /** Records a new file at a path, in Node, in the place of one that is there unless that is to be an error. */
 export async function record(path, format, { durable = false, exclusive = false } = {}) {
-  const spec = specFor({}, format ?? {}), recorder = new Machine(88);
+  const spec = specFor({}, format ?? {}), recorder = new Machine("recorder");
   const { constants } = await files(), header = headerOf(spec, 0);
   checked(recorder.call("recorder_begin", shared.at(SPEC), shared.at(MACHINE)));
   spec.bytesPerSample = widthOf(spec.isFloat ? TYPES.float32 : TYPES.int32, spec);
@@ -658,7 +676,7 @@ export async function append(file, samples, { overwrite = false, onClipped = war
   await ready();
   const { recorder: before, spec, parts = [given] } = made.get(given) ?? await resumed(sizeOf(given), readerOf(given), overwrite ? OVERWRITE : 0);
   checkChannels(channels, spec.channels);
-  const recorder = new Machine(88), overlay = new Overlay(parts), { data, clipped } = encoded(type, all, spec);
+  const recorder = new Machine("recorder"), overlay = new Overlay(parts), { data, clipped } = encoded(type, all, spec);
   recorder.bytes.set(before.bytes);
   checked(recorder.call("recorder_write", shared.at(MACHINE), all.length));
   performOver(overlay, recorder, isBlob ? new Blob([data]) : data);

@@ -59,6 +59,7 @@ class Cause(enum.IntEnum):
         cause._value_, cause.sentence = code, sentence
         return cause
 
+    # The errors, made from hound.h by scripts/make_interface.
     ENDED = 1, "the bytes end before the data begin"
     UNSUPPORTED = 2, "the format is neither PCM nor IEEE float"
     OTHER_FORMAT = 3, "the samples are floats and the type is an integer, or vice versa"
@@ -90,6 +91,7 @@ class Cause(enum.IntEnum):
     IS_CUT_OFF = 29, "the recording was cut off, and has to be repaired first"
     CHUNKS_FOLLOW = 30, "chunks or a tag follow the data, and would be overwritten"
     NOT_PERFORMED = 31, "the file could not be read or written"
+    # The end of what is made from hound.h.
 
 
 class State(enum.IntEnum):
@@ -155,6 +157,12 @@ class Repair(NamedTuple):
     left_over: int
 
 
+# The constants and structs, made from hound.h by scripts/make_interface.
+_FIND_DAMAGE, _REPAIR, _REPAIR_TO_END = 0, 1, 2
+_MEND, _OVERWRITE = 1, 2
+_HEADER_BYTES = 68
+
+
 class _Spec(ctypes.Structure):
     _fields_ = [
         ("sample_rate", ctypes.c_uint32),
@@ -166,7 +174,24 @@ class _Spec(ctypes.Structure):
 
 
 class _Info(ctypes.Structure):
-    _fields_ = [("spec", _Spec), ("samples", ctypes.c_uint32), ("data_start", ctypes.c_uint64)]
+    _fields_ = [
+        ("spec", _Spec),
+        ("samples", ctypes.c_uint32),
+        ("data_start", ctypes.c_uint64),
+    ]
+
+
+class _Repair(ctypes.Structure):
+    _fields_ = [
+        ("spec", _Spec),
+        ("frames", ctypes.c_uint32),
+        ("left_over", ctypes.c_uint32),
+        ("state", ctypes.c_uint32),
+        ("data_start", ctypes.c_uint64),
+        ("length", ctypes.c_uint64),
+        ("data_length", ctypes.c_uint32),
+        ("unused", ctypes.c_uint32),
+    ]
 
 
 class _Effect(ctypes.Structure):
@@ -189,19 +214,6 @@ class _Walk(ctypes.Structure):
     ]
 
 
-class _Repair(ctypes.Structure):
-    _fields_ = [
-        ("spec", _Spec),
-        ("frames", ctypes.c_uint32),
-        ("left_over", ctypes.c_uint32),
-        ("state", ctypes.c_uint32),
-        ("data_start", ctypes.c_uint64),
-        ("length", ctypes.c_uint64),
-        ("data_length", ctypes.c_uint32),
-        ("unused", ctypes.c_uint32),
-    ]
-
-
 class _Repairer(ctypes.Structure):
     _fields_ = [
         ("effect", _Effect),
@@ -218,6 +230,22 @@ class _Repairer(ctypes.Structure):
         ("unused", ctypes.c_uint32),
     ]
 
+
+class _Recorder(ctypes.Structure):
+    _fields_ = [
+        ("effect", _Effect),
+        ("data_start", ctypes.c_uint64),
+        ("data_length", ctypes.c_uint32),
+        ("number", ctypes.c_uint32),
+        ("samples", ctypes.c_uint32),
+        ("bytes_per_sample", ctypes.c_uint16),
+        ("channels", ctypes.c_uint16),
+        ("condition", ctypes.c_uint16),
+        ("task", ctypes.c_uint16),
+        ("has_rest", ctypes.c_uint16),
+        ("unused", ctypes.c_uint16),
+    ]
+# The end of what is made from hound.h.
 
 _NAME = "hound_c.dll" if os.name == "nt" else "libhound_c.so"
 _LIBRARY = ctypes.CDLL(os.environ.get("HOUND_C_LIBRARY") or os.path.join(os.path.dirname(__file__), _NAME))
@@ -245,8 +273,6 @@ _size = _function("size", _POINTER, _U64)
 _read = {t: _function("read_" + t, _POINTER, _SIZE, _U64, _POINTER, _SIZE) for t in ("i16", "i32", "f32")}
 _write = {t: _function("write_" + t, _POINTER, _POINTER, _SIZE, _POINTER, _SIZE) for t in ("i16", "i32", "f32")}
 _append = {t: _function("append_" + t, _POINTER, _SIZE, _SIZE, _POINTER, _SIZE) for t in ("i16", "i32", "f32")}
-# The modes of a repairer.
-_FIND_DAMAGE, _REPAIR, _REPAIR_TO_END = range(3)
 
 
 def _checked(code: Any) -> int:

@@ -24,9 +24,10 @@ __all__ = [
     "is_pipe", "perform", "put", "read_at", "replace", "sync", "sync_folder", "sync_once", "take",
 ]  # fmt: skip
 
-# The kinds of effects in hound.h, and the reports.
-READ, WRITE, WRITE_BLOCK, SYNC, CUT = range(1, 6)
+# The kinds of effects, and how one ended, made from hound.h by scripts/make_interface.
+READ, WRITE, WRITE_BLOCK, SYNC, CUT = 1, 2, 3, 4, 5
 DONE, FAILED = 1, 2
+# The end of what is made from hound.h.
 
 _IS_LOCKED = "another program records to, appends to or repairs this file"
 # Without it Windows changes the bytes of lines' ends.

@@ -15,8 +15,8 @@ import weakref
 from typing import IO, Any, Callable, Iterator, List, NamedTuple, Optional, Tuple, TypeVar, Union
 
 from . import (
-    _FIND_DAMAGE, _POINTER, _SIZE, _SPARE, _U64, Cause, Dtype, HoundError, Info, Path, _checked, _Effect, _function,
-    _info_from, _integer, _name_error, _named, _repaired, _Spec, _spec_of, _walk_over, _whole_frames, conversion, disk,
+    _FIND_DAMAGE, _HEADER_BYTES, _OVERWRITE, _POINTER, _SIZE, _SPARE, _U64, Cause, Dtype, HoundError, Info, Path, _checked, _Effect, _function,
+    _info_from, _integer, _name_error, _named, _Recorder, _repaired, _Spec, _spec_of, _walk_over, _whole_frames, conversion, disk,
 )  # fmt: skip
 
 __all__ = ["Reader", "Writer", "append_to", "create"]
@@ -248,22 +248,6 @@ class Reader(_OneAtATime):
         self._finish(_Next(frame, []))
 
 
-class _Recorder(ctypes.Structure):
-    _fields_ = [
-        ("effect", _Effect),
-        ("data_start", ctypes.c_uint64),
-        ("data_length", ctypes.c_uint32),
-        ("number", ctypes.c_uint32),
-        ("samples", ctypes.c_uint32),
-        ("bytes_per_sample", ctypes.c_uint16),
-        ("channels", ctypes.c_uint16),
-        ("condition", ctypes.c_uint16),
-        ("task", ctypes.c_uint16),
-        ("has_rest", ctypes.c_uint16),
-        ("unused", ctypes.c_uint16),
-    ]
-
-
 _INT = ctypes.c_int32
 _decode = {t: _function("decode_" + t, _POINTER, _POINTER, _SIZE, _POINTER, _SIZE) for t in ("i8", "i16", "i32", "f32")}
 _encode = {t: _function("encode_" + t, _POINTER, _POINTER, _SIZE, _POINTER, _SIZE) for t in ("i16", "i32", "f32")}
@@ -273,7 +257,6 @@ _recorder_resume = _function("recorder_resume", _POINTER, ctypes.c_uint32, _POIN
 _recorder_write = _function("recorder_write", _POINTER, _U64, result=_INT)
 _recorder_checkpoint = _function("recorder_checkpoint", _POINTER, result=None)
 _recorder_next = _function("recorder_next", _POINTER, result=_INT)
-_OVERWRITE, _HEADER_BYTES = 2, 68  # HOUND_OVERWRITE and HOUND_HEADER_BYTES
 
 
 class _Recording(NamedTuple):

@@ -16,7 +16,7 @@ pub use scaled::{decode_scaled, encode_scaled, read_scaled, write_scaled};
 use std::time::Duration;
 use std::{error, fmt, fs, io};
 
-// Each error, its code, and the sentence of hound.h for it, which scripts/check_errors compares.
+// Each error, its code, and the sentence of hound.h for it.
 macro_rules! errors {
     ($($name:ident = $code:literal, $sentence:literal;)*) => {
         /// Why a call failed.
@@ -40,6 +40,7 @@ macro_rules! errors {
     };
 }
 errors! {
+    // The errors, made from hound.h by scripts/make_interface.
     Ended = -1, "the bytes end before the data begin";
     Unsupported = -2, "the format is neither PCM nor IEEE float";
     OtherFormat = -3, "the samples are floats and the type is an integer, or vice versa";
@@ -71,6 +72,7 @@ errors! {
     IsCutOff = -29, "the recording was cut off, and has to be repaired first";
     ChunksFollow = -30, "chunks or a tag follow the data, and would be overwritten";
     NotPerformed = -31, "the file could not be read or written";
+    // The end of what is made from hound.h.
 }
 
 impl fmt::Display for Error {
@@ -156,6 +158,25 @@ mod c {
     use super::machines;
     use std::mem::size_of;
 
+    // The constants and structs, made from hound.h by scripts/make_interface.
+    pub const EFFECT_BYTES: usize = 40;
+    pub const HEADER_BYTES: usize = 68;
+    pub const READ: u16 = 1;
+    pub const WRITE: u16 = 2;
+    pub const WRITE_BLOCK: u16 = 3;
+    pub const SYNC: u16 = 4;
+    pub const CUT: u16 = 5;
+    pub const PENDING: u16 = 0;
+    pub const DONE: u16 = 1;
+    pub const FAILED: u16 = 2;
+    pub const INT: u16 = 0;
+    pub const FLOAT: u16 = 1;
+    pub const FIND_DAMAGE: u32 = 0;
+    pub const REPAIR: u32 = 1;
+    pub const REPAIR_TO_END: u32 = 2;
+    pub const MEND: u32 = 1;
+    pub const OVERWRITE: u32 = 2;
+
     #[repr(C)]
     #[derive(Clone, Copy, Debug, Default)]
     pub struct Spec {
@@ -165,17 +186,19 @@ mod c {
         pub bytes_per_sample: u16,
         pub sample_format: u16,
     }
+    const _: () = assert!(size_of::<Spec>() == 12);
 
     #[repr(C)]
-    #[derive(Default)]
+    #[derive(Clone, Debug, Default)]
     pub struct Info {
         pub spec: Spec,
         pub samples: u32,
         pub data_start: u64,
     }
+    const _: () = assert!(size_of::<Info>() == 24);
 
     #[repr(C)]
-    #[derive(Default)]
+    #[derive(Clone, Debug, Default)]
     pub struct Repair {
         pub spec: Spec,
         pub frames: u32,
@@ -186,8 +209,7 @@ mod c {
         pub data_length: u32,
         pub unused: u32,
     }
-
-    pub const EFFECT_BYTES: usize = 40;
+    const _: () = assert!(size_of::<Repair>() == 48);
 
     #[repr(C)]
     #[derive(Clone, Debug)]
@@ -198,12 +220,7 @@ mod c {
         pub report: u16,
         pub bytes: [u8; EFFECT_BYTES],
     }
-
-    impl Default for Effect {
-        fn default() -> Effect {
-            Effect { place: 0, length: 0, kind: 0, report: 0, bytes: [0; EFFECT_BYTES] }
-        }
-    }
+    const _: () = assert!(size_of::<Effect>() == 56);
 
     #[repr(C)]
     #[derive(Clone, Debug, Default)]
@@ -214,6 +231,7 @@ mod c {
         pub part: u32,
         pub fmt_length: u32,
     }
+    const _: () = assert!(size_of::<Walk>() == 80);
 
     #[repr(C)]
     #[derive(Clone, Debug, Default)]
@@ -231,6 +249,7 @@ mod c {
         pub mode: u32,
         pub unused: u32,
     }
+    const _: () = assert!(size_of::<Repairer>() == 120);
 
     #[repr(C)]
     #[derive(Clone, Debug, Default)]
@@ -247,10 +266,14 @@ mod c {
         pub has_rest: u16,
         pub unused: u16,
     }
+    const _: () = assert!(size_of::<Recorder>() == 88);
+    // The end of what is made from hound.h.
 
-    // What the calls write through a pointer, also where 64 bits are aligned as 32 are.
-    const _: () = assert!(size_of::<Info>() == 24 && size_of::<Repair>() == 48 && size_of::<Effect>() == 56);
-    const _: () = assert!(size_of::<Walk>() == 80 && size_of::<Repairer>() == 120 && size_of::<Recorder>() == 88);
+    impl Default for Effect {
+        fn default() -> Effect {
+            Effect { place: 0, length: 0, kind: 0, report: PENDING, bytes: [0; EFFECT_BYTES] }
+        }
+    }
 
     extern "C" {
         pub fn hound_info(file: *const u8, length: usize, info: *mut Info) -> i32;
@@ -352,7 +375,7 @@ impl Spec {
             channels: self.channels,
             bits_per_sample: self.bits_per_sample,
             bytes_per_sample: self.bytes_per_sample,
-            sample_format: matches!(self.format, Format::Float) as u16,
+            sample_format: if self.format == Format::Int { c::INT } else { c::FLOAT },
         }
     }
 
@@ -362,7 +385,7 @@ impl Spec {
             channels: spec.channels,
             bits_per_sample: spec.bits_per_sample,
             bytes_per_sample: spec.bytes_per_sample,
-            format: if spec.sample_format == 0 { Format::Int } else { Format::Float },
+            format: if spec.sample_format == c::INT { Format::Int } else { Format::Float },
         }
     }
 }
@@ -543,7 +566,7 @@ pub fn size(spec: &Spec, samples: u64) -> Result<usize> {
 }
 
 /// How many bytes a header has at most.
-pub const HEADER_BYTES: usize = 68;
+pub const HEADER_BYTES: usize = c::HEADER_BYTES;
 
 /// The header of the file of so many samples.
 pub fn header(spec: &Spec, samples: u64) -> Result<Vec<u8>> {

@@ -29,19 +29,15 @@ pub enum Kind {
 #[repr(transparent)]
 pub struct Effect(c::Effect);
 
-const PENDING: u16 = 0;
-const DONE: u16 = 1;
-const FAILED: u16 = 2;
-
 impl Effect {
     /// What it does.
     pub fn kind(&self) -> Kind {
         match self.0.kind {
-            1 => Kind::Read,
-            2 => Kind::Write,
-            3 => Kind::WriteBlock,
-            4 => Kind::Sync,
-            5 => Kind::Cut,
+            c::READ => Kind::Read,
+            c::WRITE => Kind::Write,
+            c::WRITE_BLOCK => Kind::WriteBlock,
+            c::SYNC => Kind::Sync,
+            c::CUT => Kind::Cut,
             _ => Kind::Nothing,
         }
     }
@@ -69,7 +65,7 @@ impl Effect {
 
     /// Reports that all of it is done.
     pub fn done(&mut self) {
-        self.0.report = DONE;
+        self.0.report = c::DONE;
     }
 
     /// Reports that so many bytes were read: fewer than were requested only where the file ends.
@@ -80,7 +76,7 @@ impl Effect {
 
     /// Reports that it failed, or that a part of it isn't done.
     pub fn failed(&mut self) {
-        self.0.report = FAILED;
+        self.0.report = c::FAILED;
     }
 
     /// Performs it, and reports how it ended, unless the medium panics. Short reads and writes are continued, and those
@@ -256,7 +252,7 @@ impl Machine for Walk {
         // SAFETY: the pointers are those of references, and nothing is kept; so below.
         let code = unsafe { take(&mut self.walk, &mut found) };
         if code == crate::Error::NotPerformed as i32 {
-            self.walk.effect.0.report = PENDING;
+            self.walk.effect.0.report = c::PENDING;
         }
         next(code, &mut self.walk.effect, || Info::from_c(found))
     }
@@ -324,13 +320,14 @@ impl Walk {
 
 /// What a repairer does.
 #[derive(Clone, Copy, Debug, PartialEq, Eq)]
+#[repr(u32)]
 pub enum Mode {
     /// It only reads, and finds what `Repair` would.
-    FindDamage,
+    FindDamage = c::FIND_DAMAGE,
     /// It repairs as [`repair`](crate::repair) does.
-    Repair,
+    Repair = c::REPAIR,
     /// It repairs as [`repair_to_end`](crate::repair_to_end) does.
-    RepairToEnd,
+    RepairToEnd = c::REPAIR_TO_END,
 }
 
 /// A repairer of a file that isn't in memory. It looks at few parts of it: those that a walk looks at, the headers of
@@ -459,7 +456,7 @@ impl Recorder {
     /// samples are missing that the header counts it is [`Truncated`](crate::Error::Truncated).
     pub fn resume(found: &Repair, allowed: Allowed) -> Result<Recorder> {
         let (mut recorder, allowed) =
-            (c::Recorder::default(), u32::from(allowed.mend) + 2 * u32::from(allowed.overwrite));
+            (c::Recorder::default(), c::MEND * u32::from(allowed.mend) + c::OVERWRITE * u32::from(allowed.overwrite));
         checked(unsafe { c::hound_recorder_resume(&found.to_c(), allowed, &mut recorder) }.into())?;
         Ok(Recorder(recorder))
     }
