@@ -1,7 +1,7 @@
 """Builds the wheel of this folder with Python alone, so that `pip install` needs no network: it has the
 shared library that ../lib has for this processor. Where ../lib has none, or with HOUND_C_SOURCE in the
-environment, a C compiler makes one of ../lib/hound_c.c, and with HOUND_C_LIB of the static library in
-that folder. An sdist has lib and c in this folder."""
+environment, a C compiler makes one of ../rust/hound_c.c, and with HOUND_C_LIB of the static library in
+that folder. An sdist has lib, c and rust in this folder."""
 import base64
 import hashlib
 import os
@@ -19,7 +19,7 @@ NAME, VERSION = "hound_bindings", "0.2.0"
 IS_SDIST = os.path.exists(os.path.join(HERE, "PKG-INFO"))
 BINDINGS = HERE if IS_SDIST else os.path.dirname(HERE)
 LICENSE = os.path.join(HERE if IS_SDIST else os.path.dirname(BINDINGS), "LICENSE")
-HEADER, SOURCE = os.path.join(BINDINGS, "c", "hound.h"), os.path.join(BINDINGS, "lib", "hound_c.c")
+HEADER, SOURCE = os.path.join(BINDINGS, "c", "hound.h"), os.path.join(BINDINGS, "rust", "hound_c.c")
 METADATA = f"""Metadata-Version: 2.1
 Name: {NAME}
 Version: {VERSION}
@@ -50,17 +50,16 @@ def is_msvc(words):
 
 
 def compiling(words, library):
-    """The command that compiles ../lib/hound_c.c."""
+    """The command that compiles ../rust/hound_c.c."""
     name, machine, has_32_bits = system()
-    include = os.path.dirname(HEADER)
     if is_msvc(words):
         with open(HEADER) as file:
             exports = re.findall(r"^int(?:32|64)_t (hound_\w+)\(", file.read(), flags=re.M)
         return [
-            *words, "/nologo", "/O2", "/LD", f"/I{include}", SOURCE, f"/Fo{library}.obj", f"/Fe{library}",
+            *words, "/nologo", "/O2", "/LD", SOURCE, f"/Fo{library}.obj", f"/Fe{library}",
             "/link", *(f"/EXPORT:{export}" for export in exports),
         ]  # fmt: skip
-    options = ["-shared", "-std=c99", "-O3", "-I", include]
+    options = ["-shared", "-std=c99", "-O3"]
     options += ["-static-libgcc"] if name == "Windows" else ["-fPIC"]
     if name == "Darwin":
         options += ["-arch", machine]
