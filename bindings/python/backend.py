@@ -10,6 +10,7 @@ import re
 import shutil
 import struct
 import subprocess
+import sys
 import sysconfig
 import tempfile
 import zipfile
@@ -110,6 +111,23 @@ def wheel_tag():
     return tag
 
 
+def manual(library):
+    """The page for `man`, over this library: what --help prints of the command and of its commands."""
+    environment = {**os.environ, "HOUND_C_LIBRARY": library, "PYTHONPATH": HERE, "COLUMNS": "74"}
+
+    def printed(*words):
+        command = [sys.executable, "-B", "-m", NAME, *words, "--help"]
+        return subprocess.run(command, env=environment, check=True, stdout=subprocess.PIPE, universal_newlines=True).stdout
+
+    parts = {"hound-wav": printed()}
+    parts.update((f"hound-wav {name}", printed(name)) for name in re.findall(r"(?m)^    (\w+)  ", parts["hound-wav"]))
+    page = f'.TH HOUND-WAV 1 "" "{NAME} {VERSION}"\n.SH NAME\nhound-wav \\- reads, repairs, converts and records WAV files\n'
+    for title, text in parts.items():
+        text = text.replace("\\", "\\e").replace("-", "\\-")
+        page += f'.SH "{title}"\n.nf\n' + re.sub("(?m)^(?=[.'])", r"\\&", text) + ".fi\n"
+    return page.encode()
+
+
 def build_wheel(wheel_directory, config_settings=None, metadata_directory=None):
     """Writes the wheel, and returns its file name."""
     tag, files = wheel_tag(), {}
@@ -120,6 +138,8 @@ def build_wheel(wheel_directory, config_settings=None, metadata_directory=None):
         library = shared_library(folder)
         with open(library, "rb") as file:
             files[f"{NAME}/{os.path.basename(library)}"] = file.read()
+        if system()[0] != "Windows":
+            files[f"{NAME}-{VERSION}.data/data/share/man/man1/hound-wav.1"] = manual(library)
     info, tags = f"{NAME}-{VERSION}.dist-info", "".join(f"Tag: py3-none-{one}\n" for one in tag.split("-")[2].split("."))
     with open(LICENSE, "rb") as file:
         files[f"{info}/LICENSE"] = file.read()
