@@ -11,7 +11,7 @@
 
    A call returns 0 or an error of hound.h; hound_file_text has its sentence. Where the system failed the error isn't 0 and
    `fault` is the errno. A hound_file is for one thread at a time. Windows syncs no folder: a loss of power there may take
-   the name of a new file. There a path has the letters of the system's code page, and as a rule at most 260. */
+   the name of a new file. There a path is UTF-8, too, and may be longer than 260. */
 #ifndef HOUND_FILE_H
 #define HOUND_FILE_H
 #ifndef _GNU_SOURCE
@@ -35,7 +35,45 @@
 #endif
 #include <io.h>
 #include <windows.h>
+#include <shellapi.h>
+#ifdef _MSC_VER
+#pragma comment(lib, "shell32")
+#endif
 
+enum { HOUND_FILE_LETTERS = 32768 }; /* as many as a path has at most */
+
+/* The path for calls of Windows, in this room: with a prefix where it is long. NULL and errno where it is none. */
+static inline const wchar_t *hound_file_wide(const char *path, wchar_t *room) {
+    wchar_t given[HOUND_FILE_LETTERS], *full = room + 6;
+    DWORD length = 0, most = HOUND_FILE_LETTERS - 6;
+    if (MultiByteToWideChar(CP_UTF8, MB_ERR_INVALID_CHARS, path, -1, given, HOUND_FILE_LETTERS) > 0) length = GetFullPathNameW(given, most, full, NULL);
+    if (length == 0 || length >= most) return errno = EINVAL, (const wchar_t *)NULL;
+    if (length < MAX_PATH || full[2] == L'?' || full[2] == L'.') return full;
+    if (full[0] != L'\\') return (const wchar_t *)memcpy(full - 4, L"\\\\?\\", 4 * sizeof *full);
+    return (const wchar_t *)memcpy(full - 6, L"\\\\?\\UNC\\", 8 * sizeof *full); /* in the place of a server's two */
+}
+/* The arguments of a program in UTF-8, as a path is; they stay as they are where there is no memory. */
+static inline void hound_file_arguments(int *count, char ***arguments) {
+    int i = 0, all, size;
+    wchar_t **wide = CommandLineToArgvW(GetCommandLineW(), &all);
+    char **words = wide ? (char **)calloc((size_t)all + 1, sizeof *words) : NULL;
+    for (; words && i < all; i++) {
+        size = WideCharToMultiByte(CP_UTF8, 0, wide[i], -1, NULL, 0, NULL, NULL);
+        if (!(words[i] = (char *)malloc((size_t)size))) return;
+        WideCharToMultiByte(CP_UTF8, 0, wide[i], -1, words[i], size, NULL, NULL);
+    }
+    if (words) *count = all, *arguments = words;
+}
+static inline int hound_file_remove(const char *path) {
+    wchar_t room[HOUND_FILE_LETTERS];
+    const wchar_t *wide = hound_file_wide(path, room);
+    return wide ? _wremove(wide) : -1;
+}
+static inline int hound_file_open_at(const char *path, int flags) {
+    wchar_t room[HOUND_FILE_LETTERS];
+    const wchar_t *wide = hound_file_wide(path, room);
+    return wide ? _wopen(wide, flags | _O_RDWR | _O_BINARY | _O_NOINHERIT, _S_IREAD | _S_IWRITE) : -1;
+}
 static inline int hound_file_seek(int descriptor, uint64_t place) {
     return _lseeki64(descriptor, (__int64)place, SEEK_SET) < 0 ? -1 : 0;
 }
@@ -45,7 +83,6 @@ static inline int64_t hound_file_get(int descriptor, void *out, size_t count, ui
 static inline int64_t hound_file_put(int descriptor, const void *bytes, size_t count, uint64_t place) {
     return hound_file_seek(descriptor, place) < 0 ? -1 : _write(descriptor, bytes, (unsigned)count);
 }
-static inline int hound_file_open_at(const char *path, int flags) { return _open(path, flags | _O_RDWR | _O_BINARY | _O_NOINHERIT, _S_IREAD | _S_IWRITE); }
 static inline int hound_file_close_at(int descriptor) { return _close(descriptor); }
 static inline int hound_file_resize(int descriptor, uint64_t length) {
     errno = _chsize_s(descriptor, (__int64)length);
@@ -85,6 +122,8 @@ static inline int64_t hound_file_get(int descriptor, void *out, size_t count, ui
 static inline int64_t hound_file_put(int descriptor, const void *bytes, size_t count, uint64_t place) {
     return pwrite(descriptor, bytes, count, (off_t)place);
 }
+static inline void hound_file_arguments(int *count, char ***arguments) { (void)count, (void)arguments; }
+static inline int hound_file_remove(const char *path) { return remove(path); }
 static inline int hound_file_open_at(const char *path, int flags) { return open(path, flags | O_RDWR | O_CLOEXEC, 0666); }
 static inline int hound_file_close_at(int descriptor) { return close(descriptor); }
 static inline int hound_file_resize(int descriptor, uint64_t length) { return ftruncate(descriptor, (off_t)length); }
@@ -216,9 +255,9 @@ static inline int32_t hound_file_examine(hound_file *file, uint64_t length, uint
 
 /* Closes a file after a call that failed, and removes it where that had made it. */
 static inline int32_t hound_file_give_up(hound_file *file, const char *path, int is_made, int32_t code) {
-    if (is_made && remove(path) == 0) is_made = 0;
+    if (is_made && hound_file_remove(path) == 0) is_made = 0;
     if (file->descriptor >= 0) hound_file_close_at(file->descriptor);
-    if (is_made) remove(path); /* Windows removes no open file. */
+    if (is_made) hound_file_remove(path); /* Windows removes no open file. */
     file->descriptor = -1;
     return code;
 }

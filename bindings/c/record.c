@@ -38,6 +38,7 @@ int main(int argc, char **argv) {
     static const char usage[] = "usage: record FILE RATE CHANNELS BITS FRAMES [--durable] [--append | --overwrite]";
     uint64_t numbers[4] = {0}, most[4] = {UINT32_MAX, UINT16_MAX, 32, UINT32_MAX};
     int is_durable = 0, is_appended = 0, is_overwritten = 0, fault;
+    hound_file_arguments(&argc, &argv);
     for (int i = 2; i < argc; i++) {
         if (i >= 6 && !strcmp(argv[i], "--durable")) is_durable = 1;
         else if (i >= 6 && !strcmp(argv[i], "--append")) is_appended = 1;

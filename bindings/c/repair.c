@@ -10,6 +10,7 @@ static void stop(const char *why) { exit((fprintf(stderr, "repair: %s\n", why), 
 
 int main(int argc, char **argv) {
     static const char *const states[] = {"whole", "cut off", "with chunks after the data"};
+    hound_file_arguments(&argc, &argv);
     int is_to_end = argc == 3 && !strcmp(argv[2], "--to-end");
     if (argc != 2 + is_to_end) stop("usage: repair FILE [--to-end]");
     hound_file file;

@@ -1,7 +1,7 @@
 """Builds the wheel of this folder with Python alone, so that `pip install` needs no network: it has the
 shared library that ../lib has for this processor. Where ../lib has none, or with HOUND_C_SOURCE in the
-environment, a C compiler makes one of ../lib/hound_c.c, and with HOUND_C_LIB of the static library in
-that folder. An sdist has lib and c in this folder."""
+environment, a C compiler makes one of ../rust/hound_c.c, and with HOUND_C_LIB of the static library in
+that folder. An sdist has lib, c and rust in this folder."""
 import base64
 import hashlib
 import os
@@ -10,6 +10,7 @@ import re
 import shutil
 import struct
 import subprocess
+import sys
 import sysconfig
 import tempfile
 import zipfile
@@ -19,7 +20,7 @@ NAME, VERSION = "hound_bindings", "0.2.0"
 IS_SDIST = os.path.exists(os.path.join(HERE, "PKG-INFO"))
 BINDINGS = HERE if IS_SDIST else os.path.dirname(HERE)
 LICENSE = os.path.join(HERE if IS_SDIST else os.path.dirname(BINDINGS), "LICENSE")
-HEADER, SOURCE = os.path.join(BINDINGS, "c", "hound.h"), os.path.join(BINDINGS, "lib", "hound_c.c")
+HEADER, SOURCE = os.path.join(BINDINGS, "c", "hound.h"), os.path.join(BINDINGS, "rust", "hound_c.c")
 METADATA = f"""Metadata-Version: 2.1
 Name: {NAME}
 Version: {VERSION}
@@ -50,17 +51,16 @@ def is_msvc(words):
 
 
 def compiling(words, library):
-    """The command that compiles ../lib/hound_c.c."""
+    """The command that compiles ../rust/hound_c.c."""
     name, machine, has_32_bits = system()
-    include = os.path.dirname(HEADER)
     if is_msvc(words):
         with open(HEADER) as file:
             exports = re.findall(r"^int(?:32|64)_t (hound_\w+)\(", file.read(), flags=re.M)
         return [
-            *words, "/nologo", "/O2", "/LD", f"/I{include}", SOURCE, f"/Fo{library}.obj", f"/Fe{library}",
+            *words, "/nologo", "/O2", "/LD", SOURCE, f"/Fo{library}.obj", f"/Fe{library}",
             "/link", *(f"/EXPORT:{export}" for export in exports),
         ]  # fmt: skip
-    options = ["-shared", "-std=c99", "-O3", "-I", include]
+    options = ["-shared", "-std=c99", "-O3"]
     options += ["-static-libgcc"] if name == "Windows" else ["-fPIC"]
     if name == "Darwin":
         options += ["-arch", machine]
@@ -111,6 +111,23 @@ def wheel_tag():
     return tag
 
 
+def manual(library):
+    """The page for `man`, over this library: what --help prints of the command and of its commands."""
+    environment = {**os.environ, "HOUND_C_LIBRARY": library, "PYTHONPATH": HERE, "COLUMNS": "74"}
+
+    def printed(*words):
+        command = [sys.executable, "-B", "-m", NAME, *words, "--help"]
+        return subprocess.run(command, env=environment, check=True, stdout=subprocess.PIPE, universal_newlines=True).stdout
+
+    parts = {"hound-wav": printed()}
+    parts.update((f"hound-wav {name}", printed(name)) for name in re.findall(r"(?m)^    (\w+)  ", parts["hound-wav"]))
+    page = f'.TH HOUND-WAV 1 "" "{NAME} {VERSION}"\n.SH NAME\nhound-wav \\- reads, repairs, converts and records WAV files\n'
+    for title, text in parts.items():
+        text = text.replace("\\", "\\e").replace("-", "\\-")
+        page += f'.SH "{title}"\n.nf\n' + re.sub("(?m)^(?=[.'])", r"\\&", text) + ".fi\n"
+    return page.encode()
+
+
 def build_wheel(wheel_directory, config_settings=None, metadata_directory=None):
     """Writes the wheel, and returns its file name."""
     tag, files = wheel_tag(), {}
@@ -121,6 +138,8 @@ def build_wheel(wheel_directory, config_settings=None, metadata_directory=None):
         library = shared_library(folder)
         with open(library, "rb") as file:
             files[f"{NAME}/{os.path.basename(library)}"] = file.read()
+        if system()[0] != "Windows":
+            files[f"{NAME}-{VERSION}.data/data/share/man/man1/hound-wav.1"] = manual(library)
     info, tags = f"{NAME}-{VERSION}.dist-info", "".join(f"Tag: py3-none-{one}\n" for one in tag.split("-")[2].split("."))
     with open(LICENSE, "rb") as file:
         files[f"{info}/LICENSE"] = file.read()

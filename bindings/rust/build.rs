@@ -1,6 +1,5 @@
 //! Links the library that bindings/lib has for the target, or that the folder HOUND_C_LIB has. Where there is none, or
-//! with HOUND_C_SOURCE in the environment, it compiles hound_c.c. A packaged crate has lib and c of bindings in its
-//! folder.
+//! with HOUND_C_SOURCE in the environment, it compiles hound_c.c. A packaged crate has lib of bindings in its folder.
 use std::path::{Path, PathBuf};
 use std::process::{self, Command};
 use std::{env, fs, io};
@@ -47,12 +46,11 @@ fn compilers(target: &str) -> Vec<String> {
 }
 
 // Compiles hound_c.c to a static library in a folder. An error is that of a program that isn't there.
-fn compile(compiler: &str, bindings: &Path, folder: &Path) -> io::Result<()> {
-    let (source, include) = (bindings.join("lib/hound_c.c"), bindings.join("c"));
+fn compile(compiler: &str, source: &Path, folder: &Path) -> io::Result<()> {
     let mut words = compiler.split_whitespace();
     let program = words.next().unwrap_or_default();
     let mut command = Command::new(program);
-    command.args(words).arg("-I").arg(include).arg(&source).current_dir(folder);
+    command.args(words).arg(source).current_dir(folder);
     if program.ends_with("cl") || program.ends_with("cl.exe") {
         run(command.args(["/nologo", "/O2", "/c"]))?;
         return run(Command::new("lib").args(["/nologo", "/OUT:hound_c.lib", "hound_c.obj"]).current_dir(folder));
@@ -68,39 +66,44 @@ fn compile(compiler: &str, bindings: &Path, folder: &Path) -> io::Result<()> {
     run(Command::new(archiver).args(["crs", "libhound_c.a", "hound_c.o"]).current_dir(folder))
 }
 
-fn compiled(bindings: &Path) -> PathBuf {
-    for part in ["lib/hound_c.c", "c/hound.h"] {
-        println!("cargo:rerun-if-changed={}", bindings.join(part).display());
-    }
+fn compiled(source: &Path) -> PathBuf {
+    println!("cargo:rerun-if-changed={}", source.display());
     let (target, folder) = (variable("TARGET"), PathBuf::from(variable("OUT_DIR")));
     let tried = compilers(&target);
-    if !tried.iter().any(|compiler| compile(compiler, bindings, &folder).is_ok()) {
+    if !tried.iter().any(|compiler| compile(compiler, source, &folder).is_ok()) {
         fail(format!(
-            "bindings/lib has no library for {target}, and no C compiler for it is there ({}): set CC to one",
+            "no library for {target} is carried, and no C compiler for it is there ({}): set CC to one",
             tried.join(", ")
         ));
     }
     folder
 }
 
+// The folder of an archive.
+fn existing(folder: &Path) -> PathBuf {
+    let archive = folder.join("libhound_c.a");
+    let archive = fs::canonicalize(&archive).unwrap_or_else(|_| {
+        fail(format!(
+            "{} isn't there: set HOUND_C_LIB to the absolute path of the folder that holds it",
+            archive.display()
+        ))
+    });
+    println!("cargo:rerun-if-changed={}", archive.display());
+    archive.parent().unwrap_or(Path::new("/")).to_path_buf()
+}
+
 fn main() {
     let package = PathBuf::from(variable("CARGO_MANIFEST_DIR"));
-    let bindings = if package.join("lib/hound_c.c").exists() { package } else { package.join("..") };
-    let carried =
-        bindings.join(format!("lib/{}-{}", variable("CARGO_CFG_TARGET_ARCH"), variable("CARGO_CFG_TARGET_OS")));
+    let carried = format!("lib/{}-{}", variable("CARGO_CFG_TARGET_ARCH"), variable("CARGO_CFG_TARGET_OS"));
+    let mut carried = [package.join(&carried), package.join("..").join(&carried)].into_iter();
     let (named, from_source) = (variable("HOUND_C_LIB"), variable("HOUND_C_SOURCE"));
-    let folder = if named.is_empty() && (!from_source.is_empty() || !carried.join("libhound_c.a").exists()) {
-        compiled(&bindings)
+    let folder = if !named.is_empty() {
+        existing(Path::new(&named))
     } else {
-        let archive = if named.is_empty() { carried } else { PathBuf::from(named) }.join("libhound_c.a");
-        let archive = fs::canonicalize(&archive).unwrap_or_else(|_| {
-            fail(format!(
-                "{} isn't there: set HOUND_C_LIB to the absolute path of the folder that holds it",
-                archive.display()
-            ))
-        });
-        println!("cargo:rerun-if-changed={}", archive.display());
-        archive.parent().unwrap_or(Path::new("/")).to_path_buf()
+        match carried.find(|folder| from_source.is_empty() && folder.join("libhound_c.a").exists()) {
+            Some(folder) => existing(&folder),
+            None => compiled(&package.join("hound_c.c")),
+        }
     };
     println!("cargo:rustc-link-search=native={}", folder.display());
     println!("cargo:rustc-link-lib=static=hound_c");

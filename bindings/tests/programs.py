@@ -1,7 +1,7 @@
 #!/usr/bin/env python3
 """The programs of bindings/c, compiled for another system or processor, beside those of this one: what they print, their
 status, and each file have to be the same, byte for byte. Then two of them at one file, one that is killed and whose file
-is repaired, how often a durable file is synced, and a file of 3 GB. With --wrong their wrong versions for Windows have to be found.
+is repaired, how often a durable file is synced, a file of 3 GB, and other names. With --wrong their wrong versions for Windows have to be found.
 
 usage: programs.py HERE THERE [RUN..]     (folders with cat, record and repair; there with .exe; RUN runs those)
        programs.py --wrong HERE SCRATCH RUN LIBRARY COMPILER..     (the compiler's words, for programs of that library)"""
@@ -18,6 +18,8 @@ NAMES = "cat", "record", "repair"
 SHAPES = (8, 1, 7), (16, 2, 100), (24, 3, 50), (32, 1, 1000)
 LIST = b"LIST\4\0\0\0INFO"
 LOCKED = b"another program records to this file or repairs it"
+# Names with letters of two scripts, which no code page has together, and of more than 260.
+OTHER_NAMES = "\u0437\u0432\u0443\u043a \u97f3.wav", os.path.join("long" * 50, "longer" * 40, "take.wav")
 # Bytes that a text has another meaning for: both ends of a line, and the end of a text on Windows.
 DATA = b"\r\n\x1a" * 40 + random.Random(5).randbytes(4000)
 WRONG = {
@@ -28,6 +30,8 @@ WRONG = {
     "lengths of 32 bits": ("(uint64_t)about.st_size, *is_regular = (about.st_mode & _S_IFMT)", "(uint32_t)about.st_size & 0x7FFFFFFF, *is_regular = (about.st_mode & _S_IFMT)"),
     "nothing is synced": ("return _commit(descriptor);", "return (void)descriptor, 0;"),
     "nothing is cut off": ("_chsize_s(descriptor, (__int64)length)", "((void)length, (void)descriptor, 0)"),
+    "paths of the code page": ("CP_UTF8, MB_ERR_INVALID_CHARS, path", "CP_ACP, 0, path"),
+    "arguments of the code page": ("*count = all, *arguments = words", "*count = all"),
 }
 
 
@@ -45,7 +49,7 @@ class Programs:
 
     def __init__(self, folder, scratch, run=(), ending=""):
         self.words = {name: [*run, os.path.join(folder, name + ending)] for name in NAMES}
-        self.path = os.path.join(scratch, "take.wav")
+        self.folder, self.path = scratch, os.path.join(scratch, "take.wav")
         os.mkdir(scratch)
 
     def contents(self):
@@ -59,8 +63,7 @@ class Programs:
             file.write(contents)
 
     def begun(self, name, *words):
-        cwd = os.path.dirname(self.path)
-        return subprocess.Popen([*self.words[name], *words], stdin=subprocess.PIPE, stdout=subprocess.PIPE, stderr=subprocess.PIPE, cwd=cwd)
+        return subprocess.Popen([*self.words[name], *words], stdin=subprocess.PIPE, stdout=subprocess.PIPE, stderr=subprocess.PIPE, cwd=self.folder)
 
     def ran(self, name, *words, data=b""):
         """The status, what is printed, and the file."""
@@ -132,8 +135,7 @@ def syncs(one):
     """How often the system stores the file of a durable recording."""
     log = one.path + ".log"
     words = ["strace", "-f", "-y", "-qq", "-o", log, "-e", "trace=fsync", *one.words["record"], "take.wav", "8000", "2", "16", "100"]
-    folder = os.path.dirname(one.path)
-    subprocess.run([*words, "--overwrite", "--durable"], input=DATA, cwd=folder, stdout=subprocess.DEVNULL, stderr=subprocess.DEVNULL, timeout=20)
+    subprocess.run([*words, "--overwrite", "--durable"], input=DATA, cwd=one.folder, stdout=subprocess.DEVNULL, stderr=subprocess.DEVNULL, timeout=20)
     with open(log) as file:
         return file.read().count("take.wav>")
 
@@ -173,6 +175,19 @@ def check_long(there):
     expect(f"a file of 3 GB: {ran}", ran.returncode == 0 and header[40:] == (length - 44).to_bytes(4, "little"))
 
 
+def check_names(here, there):
+    """A recording at each of the other names, which a second one rejects, and its repair."""
+    for name in OTHER_NAMES:
+        both = []
+        for one in here, there:
+            one.path = os.path.join(one.folder, name)
+            os.makedirs(os.path.dirname(one.path), exist_ok=True)
+            recordings = [one.ran("record", name, "8000", "1", "16", "100", data=DATA) for _ in range(2)]
+            both.append([*recordings, one.ran("repair", name)])
+        wanted, got = both
+        expect(f"at {name!a}: {got!r} is not {wanted!r}"[:2000], wanted == got and [ran[0] for ran in got] == [0, 1, 0])
+
+
 def check(here, folder, scratch, run, ending=".exe"):
     """What was tried."""
     with tempfile.TemporaryDirectory(dir=scratch) as work:
@@ -184,6 +199,7 @@ def check(here, folder, scratch, run, ending=".exe"):
             check_synced(one, other)
             check_killed(one, other)
             check_long(other)
+            check_names(one, other)
             first.stdin.close()
     return count
 
@@ -212,11 +228,12 @@ def check_wrong(here, scratch, run, library, compiler):
 
 def main():
     words = sys.argv[1:]
+    os.environ["LC_ALL"] = "C.UTF-8"  # by which wine reads names
     try:
         if words[0] == "--wrong":
             check_wrong(words[1], words[2], words[3:4], words[4], words[5:])
         else:
-            print(f"programs: {check(words[0], words[1], None, words[2:])} runs of cat, record and repair are the same; two at one file, a kill, syncs, 3 GB")
+            print(f"programs: {check(words[0], words[1], None, words[2:])} runs of cat, record and repair are the same; two at one file, a kill, syncs, 3 GB, other names")
     except Wrong as error:
         sys.exit(f"programs: {error}")
 

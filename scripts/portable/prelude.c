@@ -1,12 +1,14 @@
 /* The functions of hound.h in C99, for computers that bindings/lib has no library for. scripts/portable/convert.py makes
    this file from the proved module hound_c.wasm, whose sha256 is
    @MODULE@: don't edit it.
-     cc -O3 -Ibindings/c -c bindings/lib/hound_c.c
+     cc -O3 -c bindings/rust/hound_c.c
 
    Numbers are the module's: an i32 is a uint32_t, an i64 or an address a uint64_t, and an address is one of this process.
    No call allocates or keeps a state, and a call takes at most @GREATEST@ bytes of stack for the module's own frames. */
-#include "hound.h"
 #include <float.h>
+
+/* hound.h without its comments. */
+@HEADER@
 
 #if (defined(__BYTE_ORDER__) && defined(__ORDER_LITTLE_ENDIAN__) && __BYTE_ORDER__ != __ORDER_LITTLE_ENDIAN__) || defined(__BIG_ENDIAN__)
 #error "hound_c.c is for little-endian processors"

@@ -358,9 +358,9 @@ impl WavWriter<io::BufWriter<fs::File>> {
     /// name are on the disk, and after a `flush` all samples are: it syncs them before the sizes that count them,
     /// and then these.
     ///
-    /// A file that there was is emptied once its folder is synced (Windows syncs no folders, and has no such locks).
-    /// Until the writer is dropped, another one that is durable, or a repair of the file, is an error (`WouldBlock`),
-    /// if the file system has locks.
+    /// A file that there was is emptied once its folder is synced (Windows syncs no folders). Until the writer is
+    /// dropped, another one that is durable, or a repair of the file, is an error (`WouldBlock`), if the file system
+    /// has locks.
     ///
     /// Only single samples are buffered, up to 4096, and those of an unfinished frame: each
     /// [`write_samples`](crate::blocks::WriteSamples::write_samples) is a write of the system. After a write that

@@ -108,12 +108,15 @@ class Backend(unittest.TestCase):
         self.assertEqual((words[words.index("-arch") + 1], library), ("arm64", "libhound_c.so"))
 
     def test_a_wheel(self):
-        """It has the modules and the command."""
+        """It has the modules, the command and its page for `man`."""
         with zipfile.ZipFile(os.path.join(self.folder, backend.build_wheel(self.folder))) as wheel:
             names, info = wheel.namelist(), f"hound_bindings-{backend.VERSION}.dist-info"
             points = wheel.read(f"{info}/entry_points.txt").decode()
+            page = wheel.read(f"hound_bindings-{backend.VERSION}.data/data/share/man/man1/hound-wav.1").decode()
         modules = [name for name in os.listdir(os.path.join(backend.HERE, "hound_bindings")) if name.endswith(".py")]
         self.assertLessEqual({f"hound_bindings/{name}" for name in [*modules, "py.typed"]}, set(names))
+        self.assertLessEqual({f'.SH "hound-wav {name}"' for name in ("info", "repair", "cat", "convert", "record")}, set(page.split("\n")))
+        self.assertIn("\n  \\-\\-dry\\-run ", page)
         self.assertEqual(points, "[console_scripts]\nhound-wav = hound_bindings.command:main\n")
 
     def test_tags(self):

@@ -510,8 +510,8 @@ pub fn info(file: &[u8]) -> Result<Info> {
 }
 
 /// Locks a file that is open until it is closed, without waiting: where another program has locked it, or this one has
-/// opened and locked it before, the error is `WouldBlock`. A file system without locks is no error, and neither is
-/// another system than Unix.
+/// opened and locked it before, the error is `WouldBlock`; on Windows also where it has locked the same `File`. A file
+/// system without locks is no error, and neither is another system than Unix and Windows.
 pub fn lock(file: &fs::File) -> io::Result<()> {
     match lock_by_system(file) {
         Err(error) if error.kind() == io::ErrorKind::WouldBlock => {
@@ -536,7 +536,31 @@ fn lock_by_system(file: &fs::File) -> io::Result<()> {
     }
 }
 
-#[cfg(not(unix))]
+// Locks one byte that no file has, since others can't read what is locked.
+#[cfg(windows)]
+fn lock_by_system(file: &fs::File) -> io::Result<()> {
+    use std::os::windows::io::{AsRawHandle, RawHandle};
+    #[repr(C)]
+    struct Overlapped {
+        unused: [usize; 2],
+        place: u64,
+        event: usize,
+    }
+    extern "system" {
+        fn LockFileEx(file: RawHandle, flags: u32, zero: u32, low: u32, high: u32, place: &mut Overlapped) -> i32;
+    }
+    const EXCLUSIVE_WITHOUT_WAITING: u32 = 3;
+    const IS_LOCKED: i32 = 33;
+    let mut place = Overlapped { unused: [0; 2], place: 1 << 62, event: 0 };
+    // SAFETY: the file is open, and without waiting nothing of the call is kept.
+    match unsafe { LockFileEx(file.as_raw_handle(), EXCLUSIVE_WITHOUT_WAITING, 0, 1, 0, &mut place) } {
+        0 if io::Error::last_os_error().raw_os_error() == Some(IS_LOCKED) => Err(io::ErrorKind::WouldBlock.into()),
+        0 => Err(io::Error::last_os_error()),
+        _ => Ok(()),
+    }
+}
+
+#[cfg(not(any(unix, windows)))]
 fn lock_by_system(_: &fs::File) -> io::Result<()> {
     Ok(())
 }

@@ -202,8 +202,12 @@ fn a_read_that_failed_comes_again() {
     // One that was not reported, too; and the error of one that was reported without its cause.
     let mut walk = Walk::new();
     for _ in 0..3 {
-        let Ok(Next::Effect(effect)) = walk.next() else { panic!("no effect") };
-        assert_eq!((effect.kind(), effect.place(), effect.length()), (Kind::Read, 0, 12));
+        match walk.next() {
+            Ok(Next::Effect(effect)) => {
+                assert_eq!((effect.kind(), effect.place(), effect.length()), (Kind::Read, 0, 12))
+            }
+            other => panic!("{other:?}"),
+        }
     }
     if let Ok(Next::Effect(effect)) = walk.next() {
         effect.failed();
@@ -730,8 +734,8 @@ fn a_file_that_is_open_is_locked_once() {
     let open = || std::fs::OpenOptions::new().append(true).create(true).open(&path).unwrap();
     let file = open();
     hound_bindings::lock(&file).unwrap();
-    hound_bindings::lock(&file).unwrap();
-    if cfg!(unix) {
+    assert_eq!(hound_bindings::lock(&file).is_ok(), !cfg!(windows));
+    if cfg!(any(unix, windows)) {
         let error = hound_bindings::lock(&open()).unwrap_err();
         assert_eq!((error.kind(), error.to_string().len()), (std::io::ErrorKind::WouldBlock, 59));
     }

@@ -1,12 +1,257 @@
 /* The functions of hound.h in C99, for computers that bindings/lib has no library for. scripts/portable/convert.py makes
    this file from the proved module hound_c.wasm, whose sha256 is
    aa7d4ef294582005c9d98d97405df8efba2a7a75308d531605545848474f2ad7: don't edit it.
-     cc -O3 -Ibindings/c -c bindings/lib/hound_c.c
+     cc -O3 -c bindings/rust/hound_c.c
 
    Numbers are the module's: an i32 is a uint32_t, an i64 or an address a uint64_t, and an address is one of this process.
    No call allocates or keeps a state, and a call takes at most 2032 bytes of stack for the module's own frames. */
-#include "hound.h"
 #include <float.h>
+
+/* hound.h without its comments. */
+#ifndef HOUND_H
+#define HOUND_H
+#include <stddef.h>
+#include <stdint.h>
+#ifdef __cplusplus
+extern "C" {
+#endif
+#define HOUND_VERSION_MAJOR 0
+#define HOUND_VERSION_MINOR 2
+#define HOUND_VERSION_PATCH 0
+#define HOUND_VERSION "0.2.0"
+#ifdef __GNUC__
+#define HOUND_NONNULL __attribute__((nonnull))
+#else
+#define HOUND_NONNULL
+#endif
+enum {
+    HOUND_ENDED = -1,
+    HOUND_UNSUPPORTED = -2,
+    HOUND_OTHER_FORMAT = -3,
+    HOUND_TOO_WIDE = -4,
+    HOUND_NOT_WRITABLE = -5,
+    HOUND_TRUNCATED = -6,
+    HOUND_TOO_LONG = -7,
+    HOUND_UNFINISHED_FRAME = -8,
+    HOUND_NO_ROOM = -9,
+    HOUND_NO_RIFF_TAG = -10,
+    HOUND_NO_WAVE_TAG = -11,
+    HOUND_NO_DATA_CHUNK = -12,
+    HOUND_NO_FMT_CHUNK = -13,
+    HOUND_FMT_SIZE = -14,
+    HOUND_UNEXPECTED_FMT_SIZE = -15,
+    HOUND_ZERO_CHANNELS = -16,
+    HOUND_BITS_EXCEED_WIDTH = -17,
+    HOUND_INCONSISTENT = -18,
+    HOUND_BITS_NOT_WHOLE_BYTES = -19,
+    HOUND_ZERO_BITS = -20,
+    HOUND_BITS_NOT_8_OR_16 = -21,
+    HOUND_EX_SIZE = -22,
+    HOUND_BITS_NOT_32 = -23,
+    HOUND_EXTENSIBLE_SIZE = -24,
+    HOUND_DATA_LENGTH = -25,
+    HOUND_FRAME_LENGTH = -26,
+    HOUND_NEEDS_CHECKPOINT = -27,
+    HOUND_SYNC_FAILED = -28,
+    HOUND_IS_CUT_OFF = -29,
+    HOUND_CHUNKS_FOLLOW = -30,
+    HOUND_NOT_PERFORMED = -31
+};
+enum { HOUND_INT = 0, HOUND_FLOAT = 1 };
+enum {
+    HOUND_WHOLE = 0,
+    HOUND_CUT_OFF = 1,
+    HOUND_HAS_CHUNKS_AFTER_DATA = 2
+};
+typedef struct {
+    uint32_t sample_rate;
+    uint16_t channels;
+    uint16_t bits_per_sample;
+    uint16_t bytes_per_sample;
+    uint16_t sample_format;
+} hound_spec;
+typedef struct {
+    hound_spec spec;
+    uint32_t samples;
+    uint64_t data_start;
+} hound_info_t;
+typedef struct {
+    hound_spec spec;
+    uint32_t frames;
+    uint32_t left_over;
+    uint32_t state;
+    uint64_t data_start;
+    uint64_t length;
+    uint32_t data_length;
+    uint32_t unused;
+} hound_repair_t;
+int32_t hound_info(const uint8_t *file, size_t length, hound_info_t *info) HOUND_NONNULL;
+enum {
+    HOUND_NOTHING,
+    HOUND_READ,
+    HOUND_WRITE,
+    HOUND_WRITE_BLOCK,
+    HOUND_SYNC,
+    HOUND_CUT
+};
+enum { HOUND_PENDING, HOUND_DONE, HOUND_FAILED };
+enum { HOUND_EFFECT_BYTES = 40 };
+typedef struct {
+    uint64_t place;
+    uint32_t length;
+    uint16_t kind;
+    uint16_t report;
+    uint8_t bytes[HOUND_EFFECT_BYTES];
+} hound_effect;
+typedef struct {
+    hound_effect effect;
+    hound_spec spec;
+    uint32_t taken, part, fmt_length;
+} hound_walk;
+#define HOUND_WALK_BEGIN {{0, 0, 0, 0, {0}}, {0, 0, 0, 0, 0}, 0, 0, 0}
+int32_t hound_walk_next(hound_walk *walk, hound_info_t *info) HOUND_NONNULL;
+int32_t hound_walk_to_end(hound_walk *walk, hound_info_t *info) HOUND_NONNULL;
+int64_t hound_whole_frames(const hound_spec *spec, uint64_t length) HOUND_NONNULL;
+int64_t hound_guess_data(const uint8_t *file, size_t length) HOUND_NONNULL;
+int64_t hound_read_i16(const uint8_t *file, size_t length, uint64_t first, int16_t *out, size_t count) HOUND_NONNULL;
+int64_t hound_read_i32(const uint8_t *file, size_t length, uint64_t first, int32_t *out, size_t count) HOUND_NONNULL;
+int64_t hound_read_f32(const uint8_t *file, size_t length, uint64_t first, float *out, size_t count) HOUND_NONNULL;
+int64_t hound_size(const hound_spec *spec, uint64_t samples) HOUND_NONNULL;
+enum { HOUND_HEADER_BYTES = 68 };
+int64_t hound_header(const hound_spec *spec, uint64_t samples, uint8_t *out, size_t capacity) HOUND_NONNULL;
+int64_t hound_sizes(const hound_spec *spec, uint64_t data_start, uint64_t samples, uint8_t *out, size_t capacity) HOUND_NONNULL;
+int64_t hound_write_i16(const hound_spec *spec, const int16_t *samples, size_t count, uint8_t *out, size_t capacity) HOUND_NONNULL;
+int64_t hound_write_i32(const hound_spec *spec, const int32_t *samples, size_t count, uint8_t *out, size_t capacity) HOUND_NONNULL;
+int64_t hound_write_f32(const hound_spec *spec, const float *samples, size_t count, uint8_t *out, size_t capacity) HOUND_NONNULL;
+int64_t hound_append_i16(uint8_t *file, size_t capacity, size_t used, const int16_t *samples, size_t count) HOUND_NONNULL;
+int64_t hound_append_i32(uint8_t *file, size_t capacity, size_t used, const int32_t *samples, size_t count) HOUND_NONNULL;
+int64_t hound_append_f32(uint8_t *file, size_t capacity, size_t used, const float *samples, size_t count) HOUND_NONNULL;
+int64_t hound_repair(uint8_t *file, size_t capacity, size_t used, hound_repair_t *found) HOUND_NONNULL;
+int64_t hound_repair_to_end(uint8_t *file, size_t capacity, size_t used, hound_repair_t *found) HOUND_NONNULL;
+int32_t hound_find_damage(const uint8_t *file, size_t length, hound_repair_t *found) HOUND_NONNULL;
+typedef struct {
+    hound_effect effect;
+    uint64_t length, place, data_start;
+    hound_spec spec;
+    uint32_t data_length, taken, part, fmt_length, number, mode, unused;
+} hound_repairer;
+enum {
+    HOUND_FIND_DAMAGE,
+    HOUND_REPAIR,
+    HOUND_REPAIR_TO_END
+};
+void hound_repairer_begin(uint64_t length, uint32_t mode, hound_repairer *repairer) HOUND_NONNULL;
+int32_t hound_repairer_next(hound_repairer *repairer, hound_repair_t *found) HOUND_NONNULL;
+int64_t hound_decode_i8(const hound_spec *spec, const uint8_t *bytes, size_t length, int8_t *out, size_t count) HOUND_NONNULL;
+int64_t hound_decode_i16(const hound_spec *spec, const uint8_t *bytes, size_t length, int16_t *out, size_t count) HOUND_NONNULL;
+int64_t hound_decode_i32(const hound_spec *spec, const uint8_t *bytes, size_t length, int32_t *out, size_t count) HOUND_NONNULL;
+int64_t hound_decode_f32(const hound_spec *spec, const uint8_t *bytes, size_t length, float *out, size_t count) HOUND_NONNULL;
+int64_t hound_encode_i8(const hound_spec *spec, const int8_t *samples, size_t count, uint8_t *out, size_t capacity) HOUND_NONNULL;
+int64_t hound_encode_i16(const hound_spec *spec, const int16_t *samples, size_t count, uint8_t *out, size_t capacity) HOUND_NONNULL;
+int64_t hound_encode_i32(const hound_spec *spec, const int32_t *samples, size_t count, uint8_t *out, size_t capacity) HOUND_NONNULL;
+int64_t hound_encode_f32(const hound_spec *spec, const float *samples, size_t count, uint8_t *out, size_t capacity) HOUND_NONNULL;
+int32_t hound_value_8(uint32_t container);
+int32_t hound_value_16(uint32_t container);
+int32_t hound_value_24(uint32_t container);
+int32_t hound_value_32(uint32_t container);
+int64_t hound_to_f32(const int32_t *samples, size_t count, uint16_t bits, float *out, size_t capacity) HOUND_NONNULL;
+int64_t hound_from_f32(const float *samples, size_t count, uint16_t bits, int32_t *out, size_t capacity, uint64_t *clipped) HOUND_NONNULL;
+typedef struct {
+    hound_effect effect;
+    uint64_t data_start;
+    uint32_t data_length;
+    uint32_t number;
+    uint32_t samples;
+    uint16_t bytes_per_sample, channels, condition, task, has_rest, unused;
+} hound_recorder;
+int32_t hound_recorder_begin(const hound_spec *spec, hound_recorder *recorder) HOUND_NONNULL;
+enum {
+    HOUND_MEND = 1,
+    HOUND_OVERWRITE = 2
+};
+int32_t hound_recorder_resume(const hound_repair_t *found, uint32_t allowed, hound_recorder *recorder) HOUND_NONNULL;
+int32_t hound_recorder_write(hound_recorder *recorder, uint64_t samples) HOUND_NONNULL;
+void hound_recorder_checkpoint(hound_recorder *recorder) HOUND_NONNULL;
+int32_t hound_recorder_next(hound_recorder *recorder) HOUND_NONNULL;
+static inline const char *hound_error_text(int64_t code) {
+    switch (code) {
+    case HOUND_ENDED: return "the bytes end before the data begin";
+    case HOUND_UNSUPPORTED: return "the format is neither PCM nor IEEE float";
+    case HOUND_OTHER_FORMAT: return "the samples are floats and the type is an integer, or vice versa";
+    case HOUND_TOO_WIDE: return "the samples are wider than the type, or a value than its bits";
+    case HOUND_NOT_WRITABLE: return "samples of this spec are not read or written";
+    case HOUND_TRUNCATED: return "the header counts a sample that the file does not hold (a stream of unknown length can be read to its end)";
+    case HOUND_TOO_LONG: return "the sizes of the file would not fit in 32 bits";
+    case HOUND_UNFINISHED_FRAME: return "the samples are no whole frames";
+    case HOUND_NO_ROOM: return "more bytes are needed than the capacity";
+    case HOUND_NO_RIFF_TAG: return "no RIFF tag found";
+    case HOUND_NO_WAVE_TAG: return "no WAVE tag found";
+    case HOUND_NO_DATA_CHUNK: return "missing data chunk";
+    case HOUND_NO_FMT_CHUNK: return "missing fmt chunk";
+    case HOUND_FMT_SIZE: return "invalid fmt chunk size";
+    case HOUND_UNEXPECTED_FMT_SIZE: return "unexpected fmt chunk size";
+    case HOUND_ZERO_CHANNELS: return "file contains zero channels";
+    case HOUND_BITS_EXCEED_WIDTH: return "sample bits exceeds size of sample";
+    case HOUND_INCONSISTENT: return "inconsistent fmt chunk";
+    case HOUND_BITS_NOT_WHOLE_BYTES: return "bits per sample is not a multiple of 8";
+    case HOUND_ZERO_BITS: return "bits per sample is 0";
+    case HOUND_BITS_NOT_8_OR_16: return "bits per sample is not 8, 16 or 24 in a PCM fmt chunk of 18 or 40 bytes";
+    case HOUND_EX_SIZE: return "unexpected WAVEFORMATEX size";
+    case HOUND_BITS_NOT_32: return "bits per sample is not 32";
+    case HOUND_EXTENSIBLE_SIZE: return "unexpected WAVEFORMATEXTENSIBLE size";
+    case HOUND_DATA_LENGTH: return "data chunk length is not a multiple of sample size (a stream of unknown length can be read to its end)";
+    case HOUND_FRAME_LENGTH: return "invalid data chunk length (a stream of unknown length can be read to its end)";
+    case HOUND_NEEDS_CHECKPOINT: return "a write failed or a checkpoint is not done, and no samples are written before one is";
+    case HOUND_SYNC_FAILED: return "a sync failed, and it is unknown what is stored";
+    case HOUND_IS_CUT_OFF: return "the recording was cut off, and has to be repaired first";
+    case HOUND_CHUNKS_FOLLOW: return "chunks or a tag follow the data, and would be overwritten";
+    case HOUND_NOT_PERFORMED: return "the file could not be read or written";
+    default: return code < 0 ? "unknown error" : "no error";
+    }
+}
+#ifdef __cplusplus
+}
+#endif
+#if defined(__cplusplus) && __cplusplus >= 201103L
+#define HOUND_ASSERT(condition) static_assert(condition, #condition)
+#elif defined(__STDC_VERSION__) && __STDC_VERSION__ >= 201112L
+#define HOUND_ASSERT(condition) _Static_assert(condition, #condition)
+#else
+#define HOUND_NAMED(line) hound_assertion_##line
+#define HOUND_ASSERT_AT(line, condition) typedef char HOUND_NAMED(line)[(condition) ? 1 : -1]
+#define HOUND_ASSERT(condition) HOUND_ASSERT_AT(__LINE__, condition)
+#endif
+HOUND_ASSERT(sizeof(float) == 4);
+HOUND_ASSERT(sizeof(hound_spec) == 12 && offsetof(hound_spec, channels) == 4
+             && offsetof(hound_spec, bits_per_sample) == 6 && offsetof(hound_spec, bytes_per_sample) == 8
+             && offsetof(hound_spec, sample_format) == 10);
+HOUND_ASSERT(sizeof(hound_info_t) == 24 && offsetof(hound_info_t, samples) == 12
+             && offsetof(hound_info_t, data_start) == 16);
+HOUND_ASSERT(sizeof(hound_repair_t) == 48 && offsetof(hound_repair_t, frames) == 12
+             && offsetof(hound_repair_t, left_over) == 16 && offsetof(hound_repair_t, state) == 20
+             && offsetof(hound_repair_t, data_start) == 24 && offsetof(hound_repair_t, length) == 32
+             && offsetof(hound_repair_t, data_length) == 40 && offsetof(hound_repair_t, unused) == 44);
+HOUND_ASSERT(sizeof(hound_effect) == 56 && offsetof(hound_effect, length) == 8
+             && offsetof(hound_effect, kind) == 12 && offsetof(hound_effect, report) == 14
+             && offsetof(hound_effect, bytes) == 16);
+HOUND_ASSERT(sizeof(hound_walk) == 80 && offsetof(hound_walk, spec) == 56 && offsetof(hound_walk, taken) == 68
+             && offsetof(hound_walk, part) == 72 && offsetof(hound_walk, fmt_length) == 76);
+HOUND_ASSERT(sizeof(hound_repairer) == 120 && offsetof(hound_repairer, length) == 56
+             && offsetof(hound_repairer, place) == 64 && offsetof(hound_repairer, data_start) == 72
+             && offsetof(hound_repairer, spec) == 80 && offsetof(hound_repairer, data_length) == 92
+             && offsetof(hound_repairer, taken) == 96 && offsetof(hound_repairer, part) == 100
+             && offsetof(hound_repairer, fmt_length) == 104 && offsetof(hound_repairer, number) == 108
+             && offsetof(hound_repairer, mode) == 112 && offsetof(hound_repairer, unused) == 116);
+HOUND_ASSERT(sizeof(hound_recorder) == 88 && offsetof(hound_recorder, data_start) == 56
+             && offsetof(hound_recorder, data_length) == 64 && offsetof(hound_recorder, number) == 68
+             && offsetof(hound_recorder, samples) == 72 && offsetof(hound_recorder, bytes_per_sample) == 76
+             && offsetof(hound_recorder, channels) == 78 && offsetof(hound_recorder, condition) == 80
+             && offsetof(hound_recorder, task) == 82 && offsetof(hound_recorder, has_rest) == 84
+             && offsetof(hound_recorder, unused) == 86);
+#undef HOUND_ASSERT
+#undef HOUND_ASSERT_AT
+#undef HOUND_NAMED
+#endif
 
 #if (defined(__BYTE_ORDER__) && defined(__ORDER_LITTLE_ENDIAN__) && __BYTE_ORDER__ != __ORDER_LITTLE_ENDIAN__) || defined(__BIG_ENDIAN__)
 #error "hound_c.c is for little-endian processors"
