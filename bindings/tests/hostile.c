@@ -48,11 +48,11 @@ int main(int argc, char **argv) {
         must(walked(hound_walk_next, file, length, &parted) == code, "the same by parts");
         must(code < 0 || (!memcmp(&parted.spec, &info.spec, sizeof info.spec) && parted.samples == info.samples
                           && parted.data_start == info.data_start), "the same head by parts");
-        code = walked(hound_walk_to_end, file, length, &parted);
-        must(code <= 0 && code > HOUND_DATA_LENGTH, "a code of a stream");
+        int32_t of_stream = walked(hound_walk_to_end, file, length, &parted);
+        must(of_stream == (code == HOUND_DATA_LENGTH || code == HOUND_FRAME_LENGTH ? 0 : code), "a code of a stream");
+        must(of_stream < 0 || (hound_whole_frames(&parted.spec, length) <= (int64_t)length && parted.samples == 0), "a stream");
         int64_t guessed = hound_guess_data(file, length);
         must(guessed == HOUND_NO_DATA_CHUNK || (guessed >= 20 && guessed <= (int64_t)length), "a place within the file");
-        must(code != 0 || hound_whole_frames(&parted.spec, length) <= (int64_t)length, "no more than there is");
         hound_walk any;
         for (size_t j = 0; j < sizeof any; j++) ((uint8_t *)&any)[j] = (uint8_t)some(some(2) ? 256 : 4);
         int32_t next = hound_walk_next(&any, &parted);
