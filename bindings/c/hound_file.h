@@ -11,7 +11,7 @@
 
    A call returns 0 or an error of hound.h; hound_file_text has its sentence. Where the system failed the error isn't 0 and
    `fault` is the errno. A hound_file is for one thread at a time. Windows syncs no folder: a loss of power there may take
-   the name of a new file. There a path is UTF-8, too, and may be longer than 260. */
+   the name of a new file. There a path is UTF-8, too, may be longer than 260, and takes 128 KB of stack. */
 #ifndef HOUND_FILE_H
 #define HOUND_FILE_H
 #ifndef _GNU_SOURCE

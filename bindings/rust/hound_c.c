@@ -7,7 +7,7 @@
    No call allocates or keeps a state, and a call takes at most 2032 bytes of stack for the module's own frames. */
 #include <float.h>
 
-/* hound.h without its comments. */
+/* hound.h without its comments and its inline function. */
 #ifndef HOUND_H
 #define HOUND_H
 #include <stddef.h>
@@ -173,42 +173,6 @@ int32_t hound_recorder_resume(const hound_repair_t *found, uint32_t allowed, hou
 int32_t hound_recorder_write(hound_recorder *recorder, uint64_t samples) HOUND_NONNULL;
 void hound_recorder_checkpoint(hound_recorder *recorder) HOUND_NONNULL;
 int32_t hound_recorder_next(hound_recorder *recorder) HOUND_NONNULL;
-static inline const char *hound_error_text(int64_t code) {
-    switch (code) {
-    case HOUND_ENDED: return "the bytes end before the data begin";
-    case HOUND_UNSUPPORTED: return "the format is neither PCM nor IEEE float";
-    case HOUND_OTHER_FORMAT: return "the samples are floats and the type is an integer, or vice versa";
-    case HOUND_TOO_WIDE: return "the samples are wider than the type, or a value than its bits";
-    case HOUND_NOT_WRITABLE: return "samples of this spec are not read or written";
-    case HOUND_TRUNCATED: return "the header counts a sample that the file does not hold (a stream of unknown length can be read to its end)";
-    case HOUND_TOO_LONG: return "the sizes of the file would not fit in 32 bits";
-    case HOUND_UNFINISHED_FRAME: return "the samples are no whole frames";
-    case HOUND_NO_ROOM: return "more bytes are needed than the capacity";
-    case HOUND_NO_RIFF_TAG: return "no RIFF tag found";
-    case HOUND_NO_WAVE_TAG: return "no WAVE tag found";
-    case HOUND_NO_DATA_CHUNK: return "missing data chunk";
-    case HOUND_NO_FMT_CHUNK: return "missing fmt chunk";
-    case HOUND_FMT_SIZE: return "invalid fmt chunk size";
-    case HOUND_UNEXPECTED_FMT_SIZE: return "unexpected fmt chunk size";
-    case HOUND_ZERO_CHANNELS: return "file contains zero channels";
-    case HOUND_BITS_EXCEED_WIDTH: return "sample bits exceeds size of sample";
-    case HOUND_INCONSISTENT: return "inconsistent fmt chunk";
-    case HOUND_BITS_NOT_WHOLE_BYTES: return "bits per sample is not a multiple of 8";
-    case HOUND_ZERO_BITS: return "bits per sample is 0";
-    case HOUND_BITS_NOT_8_OR_16: return "bits per sample is not 8, 16 or 24 in a PCM fmt chunk of 18 or 40 bytes";
-    case HOUND_EX_SIZE: return "unexpected WAVEFORMATEX size";
-    case HOUND_BITS_NOT_32: return "bits per sample is not 32";
-    case HOUND_EXTENSIBLE_SIZE: return "unexpected WAVEFORMATEXTENSIBLE size";
-    case HOUND_DATA_LENGTH: return "data chunk length is not a multiple of sample size (a stream of unknown length can be read to its end)";
-    case HOUND_FRAME_LENGTH: return "invalid data chunk length (a stream of unknown length can be read to its end)";
-    case HOUND_NEEDS_CHECKPOINT: return "a write failed or a checkpoint is not done, and no samples are written before one is";
-    case HOUND_SYNC_FAILED: return "a sync failed, and it is unknown what is stored";
-    case HOUND_IS_CUT_OFF: return "the recording was cut off, and has to be repaired first";
-    case HOUND_CHUNKS_FOLLOW: return "chunks or a tag follow the data, and would be overwritten";
-    case HOUND_NOT_PERFORMED: return "the file could not be read or written";
-    default: return code < 0 ? "unknown error" : "no error";
-    }
-}
 #ifdef __cplusplus
 }
 #endif

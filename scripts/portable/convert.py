@@ -364,7 +364,8 @@ def converted(wasm, header):
     with open(os.path.join(os.path.dirname(os.path.abspath(__file__)), "prelude.c")) as file:
         text = file.read()
     rows = [", ".join(map(str, module.data[first : first + 32])) for first in range(0, len(module.data), 32)]
-    declared = re.sub(r"\n\s*\n", "\n", re.sub(r"(?s) */\*.*?\*/", "", header)).strip()
+    declared = re.sub(r"(?s) */\*.*?\*/|^static inline .*?^}$", "", header, flags=re.M)
+    declared = re.sub(r"\n\s*\n", "\n", declared).strip()
     for word, value in (("HEADER", declared), ("MODULE", hashlib.sha256(wasm).hexdigest()), ("GREATEST", greatest), ("LENGTH", len(module.data)), ("BYTES", ",\n    ".join(rows))):
         text = text.replace(f"@{word}@", str(value))
     signatures = [signature(function) + ";" for function in reached]

@@ -7,7 +7,7 @@
    No call allocates or keeps a state, and a call takes at most @GREATEST@ bytes of stack for the module's own frames. */
 #include <float.h>
 
-/* hound.h without its comments. */
+/* hound.h without its comments and its inline function. */
 @HEADER@
 
 #if (defined(__BYTE_ORDER__) && defined(__ORDER_LITTLE_ENDIAN__) && __BYTE_ORDER__ != __ORDER_LITTLE_ENDIAN__) || defined(__BIG_ENDIAN__)
