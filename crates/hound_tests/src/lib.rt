@@ -7,8 +7,6 @@ mod answers;
 #[cfg(test)]
 mod documented;
 #[cfg(test)]
-mod durable;
-#[cfg(test)]
 mod lent;
 #[cfg(test)]
 mod memory;
