@@ -1,13 +1,12 @@
 // The recorders of `hound_callers`, each run once.
 use hound::{Durable, FileState, FoundFile, Journal, Step, Tape, WavReader, WavSpecEx, WavWriter};
 use hound_callers::{
-    append_blocks, append_by_effects, continue_by_effects, finish, finish_durable,
+    Twelve, append_blocks, append_by_effects, continue_by_effects, finish, finish_durable,
     opened_meanwhile, pack_one, publish_and_continue, publish_durably, record_at_once,
     record_batch, record_by_effects, record_mixed, record_safely, record_steps, record_twelve,
     record_twelve_and_repair, record_twelve_through_a_loss, write_if_short,
 };
 use hound_test_helpers::{FOUR_SAMPLES, empty_tape, integers, read_all, sixteen, tape_of};
-use hound_types::Twelve;
 use std::alloc::Global;
 use std::test::Fail;
 
