@@ -1,6 +1,6 @@
 -- What is left in the medium within a durable one.
 use Rattle.std.proofs.lemmas.Grind.{common_steps}
-use Rattle.std.proofs.Common.{◌≡◌, ◌-◌, ◌≤◌, [], length, IsTrue, inr, sym, ap, subst, arith}
+use Rattle.std.proofs.Common.{◌≡◌, ◌≤◌, [], length, IsTrue, inr, sym, ap, subst, arith}
 use Rattle.std.proofs.lemmas.Bool.{cond-true}
 use Rattle.hound_medium.specs.{overlay, MediumState, WhereKeeps}
 use Rattle.hound_durable.specs.{within, Ascends, SurvivesLoss, own, replays_own}

@@ -1,5 +1,5 @@
 -- A run of a writer: how it begins, its steps as calls, the containers of each, and how it ends.
-use Rattle.std.specs.Prelude.{ℤ, ◌&&◌, ◌==◌, Bool, true, false, if◌then◌else◌, List, [], ◌∷◌, ◌++◌, Result, Err, ℕ, ◌≡◌, ◌+◌, ◌⊎◌, replicate, length, map, Ok}
+use Rattle.std.specs.Prelude.{ℤ, ◌&&◌, ◌==◌, Bool, true, false, if◌then◌else◌, List, [], ◌∷◌, ◌++◌, Result, Err, ℕ, ◌≡◌, ◌⊎◌, replicate, length, map, Ok}
 use Rattle.std.specs.List.{flat_map}
 use Rattle.hound_spec.specs.declared.error.Error.{Error}
 use Rattle.hound_spec.specs.declared.spec.SampleFormat.{SampleFormat}
