@@ -4,9 +4,8 @@
 usage: ./expected.py SINE
 
 SINE is the file that the first example in the original crate's README writes. It needs sox, ffmpeg, and a
-python that has audioop, chunk and wave, as 3.11."""
+python that has chunk and wave, as 3.11."""
 import array
-import audioop
 import chunk
 import math
 import os
@@ -55,13 +54,6 @@ def levels(name):
         print(f"{seconds:.1f} s  channel 1  RMS {rms:.2f} dBFS, peak {20 * math.log10(peak):.2f} dBFS")
 
 
-def mulaw(name):
-    numbers = samples_of(name)
-    coded = audioop.ulaw2lin(audioop.lin2ulaw(numbers.tobytes(), 2), 2)
-    errors = [abs(a - b) for a, b in zip(numbers, array.array("h", coded))]
-    print(f"largest error {max(errors)}, mean error {sum(errors) / len(errors):.3f}")
-
-
 def info(name):
     with open(name, "rb") as file:
         file.read(12)
@@ -94,7 +86,6 @@ with tempfile.TemporaryDirectory() as folder:
     sox("ramp.wav", sine, "ramp.wav", "joined.wav")
     say("joined.wav")
     levels("ramp.wav")
-    mulaw(sine)
     info(os.path.join(here, "data", "list.wav"))
     with open("five.s16", "wb") as file:
         array.array("h", [2, -3, 5, -7, 11, -13, 17, -19, 23, -29]).tofile(file)

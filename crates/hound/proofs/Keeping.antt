@@ -469,11 +469,6 @@ module _ {W : Type 0} (kind : Ghosts W) where
       ((went kind told r.calls r.first left.last r.lead).front
       (omega (arith, a.sound.after_head)))
 
--- an end accepts nothing
-pub all_accepted : (before : List Call) (end : Call) → end.asked ≡ publish
-    → accepted_by_all (before ++ (end ∷ [])) ≡ accepted_by_all before
-all_accepted before end asked = grind (arith, common_steps)
-
 -- What survives in a medium of this past that was flushed up to f, no earlier than the flushes of
 -- these calls did, and then wrote bytes at ascending places only, if what a loss leaves counts.
 pub survives_counted : (s : WavSpecEx) (start : ℕ) (found : List (List ℕ)) (calls : List Call)
@@ -499,16 +494,3 @@ survives_counted s start found calls medium f n p later within ascends counts = 
     p.kept_after_loss f sector contents begun later within ascends some one lost,
   );
 }
-
--- it does after an end
-pub survives : (s : WavSpecEx) (start : ℕ) (found : List (List ℕ)) (before : List Call)
-    (end : Call) (medium : MediumState) (f n : ℕ)
-    → Promises s start found (before ++ (end ∷ [])) medium → end.asked ≡ publish
-    → medium.flushed ≤ f → f ≤ length medium.past → Ascends medium.past f (length medium.past)
-    → SurvivesAtEnd s start found (before ++ (end ∷ [])) (record medium { flushed = f; faults = n })
-survives s start found before end medium f n p asked later within ascends =
-    survives_counted s start found (before ++ (end ∷ [])) medium f n p later within ascends
-    (λ begun sector contents some one lost.
-    subst (λ l. Counts s start (found ++ l) contents) (sym (all_accepted before end asked))
-    (p.after_loss before [] end f (length medium.past) sector contents refl begun within
-    (p.in_order before [] (end ∷ []) refl).1 (omega arith) ascends some one lost).0)

@@ -1,18 +1,17 @@
 -- A run of a writer: how it begins, its steps as calls, the containers of each, and how it ends.
-use Rattle.std.specs.Prelude.{ℤ, ◌&&◌, ◌==◌, Bool, true, false, if◌then◌else◌, List, [], ◌∷◌, ◌++◌, Result, Err, ℕ, ◌≡◌, ◌+◌, ◌/◌, ◌≤◌, ◌⊎◌, replicate, length, drop, map, Ok}
+use Rattle.std.specs.Prelude.{ℤ, ◌&&◌, ◌==◌, Bool, true, false, if◌then◌else◌, List, [], ◌∷◌, ◌++◌, Result, Err, ℕ, ◌≡◌, ◌⊎◌, replicate, length, map, Ok}
 use Rattle.std.specs.List.{flat_map}
 use Rattle.hound_spec.specs.declared.error.Error.{Error}
 use Rattle.hound_spec.specs.declared.spec.SampleFormat.{SampleFormat}
 use Rattle.hound_spec.specs.declared.spec.SampleFormat.TheVariants.{Int, Float}
 use Rattle.hound_spec.specs.declared.spec.WavSpec.{WavSpec}
 use Rattle.hound_spec.specs.declared.spec.WavSpecEx.{WavSpecEx}
-use Rattle.hound_sample.specs.{Refusal, unsupported, int_container, pattern_container, containers}
+use Rattle.hound_sample.specs.{Refusal, unsupported, int_container, pattern_container}
 use Rattle.hound_medium.specs.{MediumState, WhereTells, WhereKeeps}
 use Rattle.hound_writer.specs.{Ghosts, container_in, containers_in, mark_of, Asked, Does, publish, write, Begun, Call, Lead, appended, asked_by_all, found_in, new_file, start_of, WriterState, ChangesSizesOnly, IsWhole, accepted_samples, Appends, IsNotAppended, Begins, IsNotBegun, Finishes}
-use Rattle.hound.specs.Headline.{accepted_of, HoldsAtEnd, Promises, SurvivesAtEnd}
+use Rattle.hound.specs.Headline.{accepted_of, HoldsAtEnd, Promises}
 use Rattle.hound.specs.declared.session.Step.{Step}
 use Rattle.hound.specs.declared.session.Step.TheVariants.{Whole, Bits, Batch, Flush}
-use Rattle.hound_walk.specs.{Head}
 use Rattle.hound.specs.declared.session.Begin.{Begin}
 use Rattle.hound.specs.declared.session.Begin.TheVariants.{New, Append}
 use Rattle.hound.specs.declared.session.End.{End}
@@ -117,13 +116,6 @@ pub record Ran {M : Type 0} (kind : Ghosts M) (begin : Begin)
       Promises s (start_of s file) (found_in file)
       (calls ++ (end_call kind.state last finished ∷ [])) (kind.state medium))
 
--- all calls of a run, the end among them
-abbrev pub all_calls : {M : Type 0} {kind : Ghosts M} {begin : Begin}
-    {steps : List Step} {marks : List Bool} {end : End} {old : M}
-    {answer : Result (Unit {0}) Error} {medium : M} →
-    Ran kind begin steps marks end old answer medium → List Call
-all_calls {kind = kind} run = run.calls ++ (end_call kind.state run.last run.finished ∷ [])
-
 -- what `run_session` does; where the run doesn't begin no step is taken
 abbrev pub IsSession : {M : Type 0} → Ghosts M → Begin → List Step →
     List Bool → End → M → Result (Unit {0}) Error → M → Type 0
@@ -131,15 +123,3 @@ IsSession kind begin steps marks end old answer medium =
     ((e : Error) × (answer ≡ Err e) × IsNotBegunAs kind begin old medium e
     × (marks ≡ replicate (length steps) false))
     ⊎ Ran kind begin steps marks end old answer medium
-
--- What a loss of power leaves of a run that appended to a file, whose data were complete.
-pub record AppendedSurvives (before : List ℕ) (calls : List Call) (medium : MediumState) : Type 0
-  where
-    pub spec_ex : WavSpecEx
-    pub data_length : ℕ
-    pub start : ℕ
-    pub head : Head before spec_ex data_length start
-    pub survives : start + data_length ≤ length before →
-        let width = spec_ex.bytes_per_sample in
-        SurvivesAtEnd spec_ex start (containers width (data_length / width) (drop start before))
-        calls medium

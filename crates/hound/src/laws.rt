@@ -1,5 +1,5 @@
 // What holds for every run.
-ghost use Rattle.std.specs.Prelude.{◌≡◌, ◌<◌, ◌≤◌, ◌-◌, ◌*◌, ◌/◌, ◌%◌, ℕ, Bool, true, IsTrue, List, [], ◌∷◌, ◌++◌, Ok, Result, is_ok, length, map};
+ghost use Rattle.std.specs.Prelude.{◌≡◌, ◌<◌, ◌≤◌, ◌-◌, ◌/◌, ◌%◌, ℕ, Bool, true, IsTrue, List, [], ◌∷◌, ◌++◌, Ok, Result, is_ok, length, map};
 ghost use Rattle.std.specs.List.{AllByRecursion, concat};
 ghost use Rattle.std.specs.declared.io.Error.{Error as IoFault};
 ghost use Rattle.hound_spec.specs.declared.error.Error.{Error};
@@ -8,7 +8,7 @@ ghost use Rattle.hound_spec.specs.{canonical, data_start, riff_size};
 ghost use Rattle.hound_medium.specs.{MediumState, WhereKeeps, WhereTells, moment};
 ghost use Rattle.hound_durable.specs.{Ascends, SurvivesLoss, place_of};
 ghost use Rattle.hound_sample.specs.{Refusal, int_container};
-ghost use Rattle.hound_writer.specs.{mark_of, AcceptAnswer, AcceptsBytes, ChangesSizesOnly, appended, AcceptsEach, i16_bytes, AreKnown, Asked, Begun, Call, IsKnown, Known, Lead, Left, Recorded, answered, sample_count, asked_by_all, found_in, made, marked, new_file, publish, start_of, IsSameFile, Finishes, WriterState, IsWhole, accepted_samples, data_length, AreFrames, IsPublishResult, IsSound, CountsAtMost, LeavesWriter, PutsAt, ReadsAs, field, Log, Performed, checkpoint, handed_in, log_kind, Directed, IsSynced, AgreeTo, Counts, end_of};
+ghost use Rattle.hound_writer.specs.{mark_of, AcceptAnswer, AcceptsBytes, ChangesSizesOnly, appended, AcceptsEach, i16_bytes, AreKnown, Asked, Begun, Call, IsKnown, Known, Lead, Left, Recorded, answered, sample_count, asked_by_all, found_in, made, marked, new_file, publish, start_of, IsSameFile, Finishes, WriterState, IsWhole, accepted_samples, data_length, IsSound, CountsAtMost, LeavesWriter, PutsAt, ReadsAs, field, Log, Performed, handed_in, log_kind, Directed, IsSynced, AgreeTo, Counts, end_of};
 ghost use Rattle.hound_writer.specs.declared.recorder.Recorder.{Recorder};
 ghost use Rattle.hound_writer.specs.declared.effects.Effect.TheVariants.{Size, Sync};
 ghost use Rattle.hound_repair.specs.{ReadsFrames, Repairs};
@@ -205,18 +205,6 @@ pub fn an_append_keeps_the_front<M: Medium>()
 /// (`so_far` of [`what_is_kept`]): it counts, and has lost no sample that a flush has published.
 pub fn what_a_loss_leaves<M: Medium>()
     ensures { WhereKeeps M.tells M.keeps (LeftWithin (⟦<Durable<M> as Placed>⟧)) }
-{}
-
-/// The effects of a checkpoint, all of them or up to one that failed, publish as `flush` does: at an Ok
-/// of whole frames the file is read as exactly the samples that were written.
-pub fn a_checkpoint_publishes()
-    ensures { (w : WriterState Log) (end : Log) (performed : Result Unit IoFault) (are_frames : Bool)
-        (answer : Result Unit Error) → w.buffered ≡ [] → IsSound w
-        → CountsAtMost w.spec_ex w.data_start w.bytes_written w.medium.state.contents
-        → Performed (checkpoint w.data_start w.bytes_written) performed w.medium end
-        → IsPublishResult performed are_frames answer
-        → (IsTrue are_frames → AreFrames w) × (AreFrames w → IsTrue are_frames)
-        → LeavesWriter log_kind answer w (record w { medium = end }) }
 {}
 
 /// A recording that a recorder directed ([`a_recorder_directs`](crate::a_recorder_directs)) keeps all

@@ -8,8 +8,7 @@
 //! To write a file: [`WavWriter`] (`create` on disk, `create_durable` if each `flush` has to
 //! sync, `new` into any [`Medium`], `append` and `new_append` to append to one),
 //! `write_sample`, `write_samples` of a slice or a batch of `get_i16_writer`, `flush` for a
-//! checkpoint, and `finalize`. A whole run as one call: [`run_session`], [`run_sessions`],
-//! [`run_durable_session`].
+//! checkpoint, and `finalize`. A whole run as one call: [`run_session`], [`run_sessions`].
 //!
 //! To read one: [`WavReader`] (`open`, or `new` over any reader), `samples` or `into_samples`,
 //! `read_samples` for many at once, `seek`; [`read_wave_header`] for only the first twelve bytes.
@@ -71,14 +70,12 @@
 //! after it.
 #![tactic(auto)]
 
-mod durable;
 mod laws;
 mod runs;
 mod session;
 mod sessions;
 mod steps;
 
-pub use durable::run_durable_session;
 pub use hound_durable::{Durable, SyncedFile, a_durable_medium_ascends};
 pub use hound_medium::{Journal, Medium, Placed, Source, Tape, put_all};
 pub use hound_reader::{
@@ -105,7 +102,7 @@ pub use hound_writer::{
     an_effect_may_be_repeated, one_append_answer,
 };
 pub use laws::{
-    a_batch_is_its_values, a_checkpoint_holds, a_checkpoint_publishes, a_recording_is_kept,
+    a_batch_is_its_values, a_checkpoint_holds, a_recording_is_kept,
     a_repair_loses_no_published_sample, a_run_leaves_its_calls, a_write_is_marked_by_its_ok,
     a_writer_holds_its_calls, an_append_keeps_the_front, an_ok_flush_is_kept, calls_are_a_run,
     other_orders_lose, sessions_leave_one_file, what_a_loss_leaves, what_is_kept, what_is_known,

@@ -1,10 +1,11 @@
 // The functions of `callers` and `reading`, each run once.
 use hound::{Source, WavReader, WavWriter};
 use hound_callers::{
-    open_written, publish, read_block, read_from, record_at_once, record_checkpoint, reopen,
-    sample_at, samples_of,
+    give_up_batch, look_and_repair, open_written, publish, read_block, read_from, record_at_once,
+    record_checkpoint, reopen, sample_at, samples_of,
 };
 use hound_test_helpers::{FOUR_SAMPLES, NO_SAMPLES, empty_tape, sixteen, tape_of};
+use std::alloc::Global;
 use std::test::Fail;
 
 // Stereo, 44100 Hz, 16 bits: 2, -3, 5, -7.
@@ -12,9 +13,15 @@ const STEREO: &[u8] = b"RIFF\x2c\0\0\0WAVEfmt \x10\0\0\0\
     \x01\0\x02\0\x44\xac\0\0\x10\xb1\x02\0\x04\0\x10\0\
     data\x08\0\0\0\x02\0\xfd\xff\x05\0\xf9\xff";
 
+// The same file, cut off before its sizes were written.
+const CUT_OFF: &[u8] = b"RIFF\0\0\0\0WAVEfmt \x10\0\0\0\
+    \x01\0\x02\0\x44\xac\0\0\x10\xb1\x02\0\x04\0\x10\0\
+    data\0\0\0\0\x02\0\xfd\xff\x05\0\xf9\xff";
+
 #[test]
 fn a_recorder_publishes_each_sample(rt: HostRuntime) -> Result<(), Fail> {
     let mut writer = WavWriter::new(empty_tape(rt.alloc()), sixteen(1))?;
+    give_up_batch(rt.alloc(), &mut writer, 9)?;
     for sample in [2i16, -3, 5, -7] {
         record_checkpoint(&mut writer, sample)?;
     }
@@ -31,6 +38,20 @@ fn a_written_file_is_opened(rt: HostRuntime) -> Result<(), Fail> {
     let count = reader.len();
     let is_at_data = reader.into_inner() == [2u8, 0, 0xfd, 0xff, 5, 0, 0xf9, 0xff].as_slice();
     assert_eq!(rt; (count, is_at_data), (4, true));
+    Ok(())
+}
+
+// Whether it is repaired, with its two frames.
+fn is_mended(alloc: Global) -> Result<bool, Fail> {
+    match look_and_repair(tape_of(alloc, CUT_OFF)?) {
+        Ok((tape, found)) => Ok(found.frames == 2 && tape.bytes() == STEREO),
+        Err((_, error)) => Err(Fail::from(error)),
+    }
+}
+
+#[test]
+fn a_file_is_looked_at_and_repaired(rt: HostRuntime) -> Result<(), Fail> {
+    assert!(rt; is_mended(rt.alloc())?);
     Ok(())
 }
 

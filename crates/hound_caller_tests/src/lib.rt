@@ -1,5 +1,5 @@
-//! Tests over the public items of `hound`, for what its rows (`hound_rows`) can't do: callers that prove
-//! something, and files on a disk.
+//! Tests that call the functions of `hound_callers`, for what rows (`hound_rows`) can't do: what those leave,
+//! files on a disk, and losses of power.
 #![tactic(auto)]
 
 #[cfg(test)]

@@ -1,6 +1,6 @@
 // Losses of power over a medium in memory. A machine that loses power is a medium whose calls all
 // fail from then on; of what was written since the last flush any sector may be saved or lost.
-use hound::{Begin, Durable, End, Journal, Medium, Step, Tape, WavReader, run_durable_session};
+use hound::{Begin, Durable, End, Journal, Medium, Step, Tape, WavReader, run_session};
 use hound_callers::repair_recording;
 use hound_test_helpers::integers;
 use std::alloc::Global;
@@ -132,14 +132,9 @@ fn a_loss_of_power_loses_no_published_sample(rt: HostRuntime) -> Result<(), Fail
         journal.fail(calls, u64::MAX);
         let mut marks = [false; 16];
         let begin = Begin::New(spec_ex);
-        let (journal, _) = run_durable_session(
-            alloc,
-            journal,
-            begin,
-            &STEPS,
-            &mut marks,
-            End::Drop,
-        );
+        let medium = Durable::new(journal);
+        let (medium, _) = run_session(alloc, medium, begin, &STEPS, &mut marks, End::Drop);
+        let journal = medium.into_inner();
         if journal.flushed() < HEADER {
             continue;
         }

@@ -1,13 +1,12 @@
 // The recorders of `hound_callers`, each run once.
 use hound::{Durable, FileState, FoundFile, Journal, Step, Tape, WavReader, WavSpecEx, WavWriter};
 use hound_callers::{
-    append_blocks, append_by_effects, continue_by_effects, finish, finish_durable,
-    opened_meanwhile, pack_one, publish_and_continue, record_at_once, record_batch,
-    record_by_effects, record_mixed, record_safely, record_steps, record_twelve,
+    Twelve, append_blocks, append_by_effects, continue_by_effects, finish, finish_durable,
+    opened_meanwhile, pack_one, publish_and_continue, publish_durably, record_at_once,
+    record_batch, record_by_effects, record_mixed, record_safely, record_steps, record_twelve,
     record_twelve_and_repair, record_twelve_through_a_loss, write_if_short,
 };
 use hound_test_helpers::{FOUR_SAMPLES, empty_tape, integers, read_all, sixteen, tape_of};
-use hound_types::Twelve;
 use std::alloc::Global;
 use std::test::Fail;
 
@@ -250,7 +249,9 @@ fn takes_i16s(alloc: Global) -> hound::Result<bool> {
 fn ends_durably(alloc: Global) -> hound::Result<bool> {
     let journal = Journal::new(alloc, Vec::new(alloc))?;
     let mut writer = WavWriter::new(Durable::new(journal), sixteen(1))?;
-    record_at_once(&mut writer, &[2i16, -3, 5, -7])?;
+    record_at_once(&mut writer, &[2i16, -3])?;
+    writer.write_samples(&[5i16, -7])?;
+    publish_durably(&mut writer)?;
     let (journal, result) = finish_durable(writer);
     result?;
     let taken = journal.taken();

@@ -1,19 +1,22 @@
-//! What a user builds over the public items of `hound` alone: functions that prove something of
-//! their own from its contracts.
+//! What a user builds over the public items of `hound` alone: sample types, and functions that prove
+//! something of their own from its contracts.
 #![tactic(auto)]
 
 mod callers;
 mod editing;
+mod either;
 mod example;
 mod reading;
 mod recorder;
 mod recording;
+mod twelve;
 
 pub use callers::{
     finish, give_up_batch, look_and_repair, open_written, publish, record_checkpoint,
     repair_recording, sample_at, samples_of,
 };
 pub use editing::append_blocks;
+pub use either::EitherSample;
 pub use example::record_and_read;
 pub use reading::{opened_meanwhile, read_block, read_from, reopen};
 pub use recorder::{append_by_effects, continue_by_effects, record_by_effects};
@@ -22,3 +25,4 @@ pub use recording::{
     record_batch, record_checkpoints, record_mixed, record_safely, record_steps, record_twelve,
     record_twelve_and_repair, record_twelve_through_a_loss, write_if_short,
 };
+pub use twelve::Twelve;

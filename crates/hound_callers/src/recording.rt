@@ -7,6 +7,7 @@ ghost use Rattle.hound.specs.declared.session.End.TheVariants.{Drop, Finalize};
 ghost use Rattle.hound.specs.declared.session.Step.TheVariants.{Whole};
 ghost use Rattle.hound_callers.specs.Recording.{HaveContainers, IsNoBatch, IsPublished, IsStopped, PublishesBlocks, ReadsSince, StopsAt, WritesAndFlushes, all_asked, block_asks, containers_by, published_calls, recorder_asks};
 
+use crate::twelve::Twelve;
 use hound::{
     Begin, Durable, End, Error, Medium, Placed, Repair, Sample, SampleWriter16, Source, Step,
     WavSpecEx, WavWriter, a_batch_is_its_values, a_block_is_its_samples, a_durable_medium_ascends,
@@ -14,7 +15,6 @@ use hound::{
     an_ok_flush_is_kept, calls_are_a_run, i16s_are_kept, repair_to_end, run_session,
     sessions_leave_one_file, what_a_loss_leaves, what_is_kept, what_is_known,
 };
-use hound_types::Twelve;
 use std::alloc::Global;
 use std::result;
 

@@ -1,13 +1,29 @@
-//! The examples of `hound_file_examples` and `hound_editing_examples`, as one program: the name that it
-//! is called by, as `sine` by a link, says which runs.
+//! Examples of programs, a page each, to be copied into `src/main.rt` of a crate of one's own (whose first
+//! line is `#![tactic(auto)]`). Here they are one program: the name that it is called by, as `sine` by a
+//! link, says which runs.
 #![tactic(auto)]
 
-use hound_editing_examples::{
-    convert, dither, join, merge, mix, normalize, resample, reverse, silences, split,
-};
-use hound_file_examples::{
-    append, faulty, floats, info, levels, memory, mend, mulaw, pipe, record, sine, stream, tone,
-};
+mod append;
+mod convert;
+mod faulty;
+mod floats;
+mod info;
+mod join;
+mod levels;
+mod memory;
+mod mend;
+mod merge;
+mod mix;
+mod normalize;
+mod pipe;
+mod record;
+mod reverse;
+mod silences;
+mod sine;
+mod split;
+mod stream;
+mod tone;
+
 use std::env;
 use std::process::ExitCode;
 
@@ -18,7 +34,6 @@ fn main(rt: HostRuntime) -> hound::Result<ExitCode> {
     match file_name(program.as_str()) {
         "append" => append::main(rt),
         "convert" => convert::main(rt),
-        "dither" => dither::main(rt),
         "faulty" => faulty::main(rt),
         "floats" => floats::main(rt),
         "info" => info::main(rt),
@@ -28,11 +43,9 @@ fn main(rt: HostRuntime) -> hound::Result<ExitCode> {
         "mend" => mend::main(rt),
         "merge" => merge::main(rt),
         "mix" => mix::main(rt),
-        "mulaw" => mulaw::main(rt),
         "normalize" => normalize::main(rt),
         "pipe" => pipe::main(rt),
         "record" => record::main(rt),
-        "resample" => resample::main(rt),
         "reverse" => reverse::main(rt),
         "silences" => silences::main(rt),
         "sine" => sine::main(rt),
@@ -41,8 +54,8 @@ fn main(rt: HostRuntime) -> hound::Result<ExitCode> {
         "tone" => tone::main(rt),
         _ => {
             println!(rt;
-                "append convert dither faulty floats info join levels memory mend merge mix mulaw \
-                 normalize pipe record resample reverse silences sine split stream tone"
+                "append convert faulty floats info join levels memory mend merge mix normalize pipe record \
+                 reverse silences sine split stream tone"
             )?;
             Ok(ExitCode::SUCCESS)
         }

@@ -1,4 +1,5 @@
-//! Tests of the layers below the writer: what their rows (`hound_rows`) can't do.
+//! Tests of the layers below `hound`, for what rows (`hound_rows`) can't do: definitions that the prover
+//! evaluates, media of a user's own, texts of errors.
 #![tactic(auto)]
 
 #[cfg(test)]

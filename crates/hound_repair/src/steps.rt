@@ -70,13 +70,13 @@ pub struct Look {
     pub stage: Stage,
 }
 
-/// Where one part leads.
+// Where one part leads.
 #[derive(Clone, Copy)]
-pub enum LookStep {
-    /// To another part.
+enum LookStep {
+    // To another part.
     Next(Stage),
 
-    /// To what was found.
+    // To what was found.
     Found(Damage),
 }
 
@@ -324,9 +324,9 @@ fn take_header(length: u64, walk: HeadWalk, bytes: &[u8]) -> Result<LookStep, Re
     }
 }
 
-/// Takes the bytes that a look asks for, fewer only at the end of the file, and returns where they
-/// lead: to another part, or to what [`repair`](crate::repair) finds. At an error the look has ended.
-pub fn take_asked(look: Look, bytes: &[u8]) -> Result<LookStep, Refusal>
+// Takes the bytes that a look asks for, fewer only at the end of the file, and returns where they
+// lead: to another part, or to what `repair` finds. At an error the look has ended.
+fn take_asked(look: Look, bytes: &[u8]) -> Result<LookStep, Refusal>
     requires sound { IsSoundStage look.stage }
     ensures leads { (file : List ℕ) → IsLengthOf look.length file
         → IsAtStage (may_be_chunks look.rest) file look.stage → IsAsked look file bytes.now

@@ -2,10 +2,10 @@
 use crate::readers::Sum;
 use crate::values::{Kind, Value, at_type, put_value};
 use hound::{FloatBits, Medium, Result, WavReader, WavWriter};
+use hound_callers::Twelve;
 use hound_row_helpers::counting::Counted;
 use hound_row_helpers::line::Line;
 use hound_row_helpers::row::Row;
-use hound_types::Twelve;
 use std::io;
 
 // For a longer slice only a sum is shown.

@@ -5,11 +5,11 @@ use crate::blocks::read_blocks;
 use crate::media::set_faults;
 use crate::values::{Kind, Value, at_type, show};
 use hound::{Error, FloatBits, Journal, Source, Tape, WavReader, read_wave_header};
+use hound_callers::Twelve;
 use hound_row_helpers::feed::Feed;
 use hound_row_helpers::line::Line;
 use hound_row_helpers::row::{Row, find, parts};
 use hound_row_helpers::sweep::Sweep;
-use hound_types::Twelve;
 use std::io;
 
 /// `riff BYTES OPTION..`

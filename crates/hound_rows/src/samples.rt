@@ -1,9 +1,9 @@
 // Rows of single samples.
 use crate::values::{Kind, Value, at_type, show};
 use hound::{FloatBits, Sample, SampleFormat};
+use hound_callers::Twelve;
 use hound_row_helpers::row::Row;
 use hound_row_helpers::sink::Sink;
-use hound_types::Twelve;
 
 /// `encode TYPE VALUE BITS WIDTH`, `write TYPE VALUE BITS SINK`, `write_padded TYPE VALUE BITS
 /// WIDTH SINK`, `decode TYPE FORMAT WIDTH BITS BYTES` and `short TYPE VALUE`

@@ -1,8 +1,8 @@
 // The types of samples in rows.
 use hound::{FloatBits, Sample};
+use hound_callers::Twelve;
 use hound_row_helpers::line::Line;
 use hound_row_helpers::row::Row;
-use hound_types::Twelve;
 
 /// A type of samples.
 pub trait Value: Sample + Copy {

@@ -9,10 +9,10 @@ use crate::values::{Kind, Value, at_type};
 use hound::{
     Begin, Error, FloatBits, Medium, Result, SampleFormat, SampleWriter16, Source, WavWriter,
 };
+use hound_callers::Twelve;
 use hound_row_helpers::counting::Counted;
 use hound_row_helpers::row::{Row, find, name_and_value, parts};
 use hound_row_helpers::sweep::Sweep;
-use hound_types::Twelve;
 use std::result;
 
 // What is done with a writer.

@@ -1,13 +1,11 @@
-//! Tests over the public items of `hound`, for what its rows (`hound_rows`) can't do: allocations that
-//! fail, the words that clauses import, and the examples of the documentation.
+//! Tests over the public items of `hound` and of the program alone, for what rows (`hound_rows`) can't do:
+//! allocations that fail, the words that clauses import, and the examples of the documentation.
 #![tactic(auto)]
 
 #[cfg(test)]
 mod answers;
 #[cfg(test)]
 mod documented;
-#[cfg(test)]
-mod durable;
 #[cfg(test)]
 mod lent;
 #[cfg(test)]

@@ -16,12 +16,12 @@ use hound_medium::Source;
 use hound_number::{Input, u32_at};
 use hound_spec::{WAVEFORMATEXTENSIBLE_LENGTH, WavSpecEx};
 
-/// What one chunk was (RIFF, "Chunks").
+// What one chunk was (RIFF, "Chunks").
 #[derive(Drop)]
-pub enum ChunkRead {
-    /// The tag and length of the data chunk: the spec that came before it, and its length.
+pub(crate) enum ChunkRead {
+    // The tag and length of the data chunk: the spec that came before it, and its length.
     Data(WavSpecEx, u32),
-    /// A whole chunk before it: the spec so far, and the bytes taken since the WAVE tag.
+    // A whole chunk before it: the spec so far, and the bytes taken since the WAVE tag.
     Other(Option<WavSpecEx>, u32),
 }
 

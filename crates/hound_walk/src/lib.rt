@@ -14,7 +14,7 @@ mod laws;
 mod parts;
 
 pub use cause::{Cause, HeadError, Reason, error_of};
-pub use chunks::{ChunkRead, FileHead, find_data, read_until_data};
+pub use chunks::{FileHead, find_data, read_until_data};
 pub use head::{read_until_samples, read_wave_header};
 pub use input::Counted;
 pub use laws::{one_answer, written_is_head};

@@ -1,7 +1,7 @@
 use Rattle.std.proofs.Common.{◌∷◌, [], IsOk, take, arith, sym, subst, length-take}
 use Rattle.std.specs.List.{All}
 use Rattle.hound.specs.{made, publish, WavSpecEx}
-use Rattle.hound_types.specs.contracts.twelve.TwelveSample.TheImpl.{ghosts}
+use Rattle.hound_callers.specs.contracts.twelve.TwelveSample.TheImpl.{ghosts}
 use Rattle.hound_callers.specs.Recording.{containers_by}
 use Rattle.hound_callers.proofs.Publishing.{last_flush}
 use Rattle.hound_callers.proofs.recording.record_checkpoints.Goals as goal

@@ -1,5 +1,5 @@
 // A sample type for files of either format.
-ghost use Rattle.hound_types.specs.Either.{IsWhole, either_container, either_container-in_width, either_meaning, either_refusal, either_i16};
+ghost use Rattle.hound_callers.specs.Either.{IsWhole, either_container, either_container-in_width, either_meaning, either_refusal, either_i16};
 
 use hound::{FloatBits, Result, Sample, SampleFormat};
 use std::io;

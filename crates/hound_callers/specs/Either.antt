@@ -2,8 +2,8 @@
 use Rattle.std.specs.Prelude.{◌≡◌, ℕ, ℤ, pos, ◌≤◌, ⊤, List, length, Option, Result, Ok}
 use Rattle.hound.specs.{Refusal, int_container, pattern_container, ReadRefusal, float_refusal, int_meaning, int_refusal, low_i16, pattern, int_container-in_width, pattern_container-in_width, SampleFormat}
 use Rattle.hound.specs.declared.SampleFormat.TheVariants.{Int, Float}
-use Rattle.hound_types.specs.declared.either.EitherSample.{EitherSample}
-use Rattle.hound_types.specs.declared.either.EitherSample.TheVariants.{Whole, Bits}
+use Rattle.hound_callers.specs.declared.either.EitherSample.{EitherSample}
+use Rattle.hound_callers.specs.declared.either.EitherSample.TheVariants.{Whole, Bits}
 
 abbrev pub either_container : EitherSample → ℕ → ℕ → Result (List ℕ) Refusal
 either_container (Whole value) bits width = int_container value bits width

@@ -1,6 +1,6 @@
 """Tries what needs no virtual machine: the log of a disk, what a loss of power may leave, and what a file is held to.
 
-usage: python3 scripts/power/check.py"""
+usage: python3 doubt/power/check.py"""
 import os
 import socket
 import struct

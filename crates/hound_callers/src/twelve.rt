@@ -1,6 +1,6 @@
 // A sample type of a user's own.
 ghost use Rattle.std.specs.Prelude.{◌≡◌, ⊤};
-ghost use Rattle.hound_types.specs.Twelve.{low_twelve, twelve_container, twelve_container-in_width, twelve_meaning, twelve_refusal};
+ghost use Rattle.hound_callers.specs.Twelve.{low_twelve, twelve_container, twelve_container-in_width, twelve_meaning, twelve_refusal};
 
 use hound::{Error, Result, Sample, SampleFormat};
 use std::io;

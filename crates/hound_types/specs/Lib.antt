@@ -1,2 +1,0 @@
-pub mod Twelve
-pub mod Either
