@@ -1,5 +1,5 @@
 // Items: a reader that saves its last fault, and one that counts the bytes that it gives.
-ghost use Rattle.std.specs.Prelude.{◌≡◌, ◌<◌, ◌≤◌, List, Option, Result, ℕ, None, IsSome, length, take};
+ghost use Rattle.std.specs.Prelude.{◌≡◌, ◌<◌, ◌≤◌, List, Option, Result, ℕ, None, IsSome, IfSome, length, take};
 ghost use Rattle.hound_sample.specs.{FillsFront, error_of_item};
 ghost use Rattle.hound_sample.specs.declared.item.ItemError.{ItemError};
 ghost use Rattle.hound_reader.specs.Reader.{AnswersReadMany, refusal_at, AnswersRead, taken_without, HasGiven, HasGiven-prop};
@@ -168,16 +168,43 @@ impl<R: io::Read, B: CountStart> io::Read for CountingReader<'_, R, B> {
     }
 }
 
+impl<R: io::Read, B: CountStart> CountingReader<'_, R, B> {
+    // The next bytes, as many as the array has: a constant number, which needs no call that copies.
+    #[inline(always)]
+    fn next_array<const N: usize>(&mut self) -> Option<[u8; N]>
+        ensures whole { IfSome result (Consumes (R.remaining self.old.reader.now.reader)
+            (R.remaining self.new.reader.now.reader)) }
+        ensures part { result ≡ None → (taken : List ℕ) × (length taken < N)
+            × Consumes (R.remaining self.old.reader.now.reader) (R.remaining self.new.reader.now.reader) taken }
+    {
+        let mut bytes = [0; N];
+        let count = self.reader.fill(&mut bytes);
+        self.given = self.given.saturating_add(count as u64);
+        if count == N {
+            return Some(bytes);
+        }
+        None
+    }
+}
+
 impl<R: io::Read, B: CountStart> ContainerReader for CountingReader<'_, R, B> {
     #[inline(always)]
     fn next_container(&mut self, bytes: u16) -> Option<[u8; 4]> {
-        let mut container = [0; 4];
-        let count = self.reader.fill(&mut container[..bytes as usize]);
-        self.given = self.given.saturating_add(count as u64);
-        if count == bytes as usize {
-            return Some(container);
+        match bytes {
+            1 => {
+                let [a] = self.next_array::<1>()?;
+                Some([a, 0, 0, 0])
+            }
+            2 => {
+                let [a, b] = self.next_array::<2>()?;
+                Some([a, b, 0, 0])
+            }
+            3 => {
+                let [a, b, c] = self.next_array::<3>()?;
+                Some([a, b, c, 0])
+            }
+            _ => self.next_array::<4>(),
         }
-        None
     }
 }
 

@@ -98,7 +98,27 @@ pub(crate) fn read_container<S: Decode, R: io::Read>(
     }
 }
 
-/// Takes the next container and decodes it, as [`Sample::read_item`](crate::Sample::read_item) does.
+// Takes the next container and decodes it.
+#[inline(always)]
+fn decode_container<S: Decode, R: ContainerReader>(
+    reader: &mut R,
+    fmt: SampleFormat,
+    bytes: u16,
+    bits: u16,
+) -> result::Result<S, ItemError>
+    requires decodes { S.decode_refusal fmt bytes bits ≡ None }
+    requires some { 1 ≤ bytes }
+    requires few { bytes ≤ 4 }
+    ensures { ReadsItem None (S.value fmt bytes bits) bytes (R.remaining reader.old) (R.remaining reader.new) result }
+{
+    match reader.next_container(bytes) {
+        Some(container) => Ok(S::decode(&container[..bytes as usize], fmt, bytes, bits)),
+        None => Err(ItemError::Failed),
+    }
+}
+
+/// Takes the next container and decodes it, as [`Sample::read_item`](crate::Sample::read_item) does,
+/// with constant widths for each pair.
 #[inline(always)]
 pub(crate) fn decode_next<S: Decode, R: ContainerReader>(
     reader: &mut R,
@@ -113,9 +133,12 @@ pub(crate) fn decode_next<S: Decode, R: ContainerReader>(
     if let Err(error) = S::check(fmt, bytes, bits) {
         return Err(reason_of(error));
     }
-    match reader.next_container(bytes) {
-        Some(container) => Ok(S::decode(&container[..bytes as usize], fmt, bytes, bits)),
-        None => Err(ItemError::Failed),
+    match (bytes, bits) {
+        (1, _) => decode_container(reader, fmt, 1, 8),
+        (2, _) => decode_container(reader, fmt, 2, 16),
+        (3, _) => decode_container(reader, fmt, 3, 24),
+        (4, 24) => decode_container(reader, fmt, 4, 24),
+        _ => decode_container(reader, fmt, 4, 32),
     }
 }
 
