@@ -9,7 +9,7 @@ use crate::outcome::{Outcome, first_outcome};
 use crate::patch::patch;
 use hound_medium::Medium;
 use hound_sample::{Sample, have_containers};
-use hound_spec::{Error, Result, WavSpecEx, riff_size};
+use hound_spec::{Error, Result, WavSpecEx, riff_size, riff_size_fits};
 use std::io;
 use std::marker::Model;
 
@@ -62,8 +62,7 @@ fn fast_path_limit_of(data_start: u64, data_bytes_written: u32) -> usize
     requires small { data_start ≤ 2 ^ 33 }
     ensures room { IsLimit data_start data_bytes_written result }
 {
-    let size = riff_size(data_start, data_bytes_written as u64 + BLOCK_LENGTH as u64);
-    if size <= u32::MAX as u64 {
+    if riff_size_fits(data_start, data_bytes_written as u64 + BLOCK_LENGTH as u64) {
         BLOCK_LENGTH - 3
     } else {
         0
@@ -122,7 +121,7 @@ impl<W: Medium> Output<W> {
         ensures room { IsTrue result ↔ HasRoom self.now more }
         ensures valid { IsValid W.Placed self.now }
     {
-        riff_size(self.data_start, self.data_length() as u64 + more) <= u32::MAX as u64
+        riff_size_fits(self.data_start, self.data_length() as u64 + more)
     }
 
     // How many bytes the accepted samples have.
