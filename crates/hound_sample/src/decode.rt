@@ -1,9 +1,10 @@
 // Containers that are read and decoded: one, or many in few reads, which fill pieces of whole
 // containers.
-ghost use Rattle.std.specs.Prelude.{◌≡◌, ◌≤◌, ◌<◌, ◌*◌, ◌⊎◌, ℕ, List, length, map, take, Option, None, IsOk, IsSome, OnErr, OnOk};
+ghost use Rattle.std.specs.Prelude.{◌≡◌, ◌≤◌, ◌<◌, ◌*◌, ℕ, List, length, map, take, Option, None, IsOk, IsSome, OnErr, OnOk};
 ghost use Rattle.std.specs.Io.KnownBytes.{Consumes};
 ghost use Rattle.hound_sample.specs.Container.{containers};
 ghost use Rattle.hound_sample.specs.Reading.{ReadsItem, FillsFront, ReadsEach, items_of, ReadRefusal, Reads, float_refusal, int_refusal, read_error};
+ghost use Rattle.hound_spec.specs.{IsPair};
 ghost use Rattle.hound_spec.specs.declared.spec.SampleFormat.{SampleFormat};
 ghost use Rattle.hound_spec.specs.declared.spec.SampleFormat.TheVariants.{Float, Int};
 
@@ -33,12 +34,7 @@ pub trait Decode: Sized + Drop {
     /// errors of [`Sample::read`](crate::Sample::read).
     fn check(fmt: SampleFormat, bytes: u16, bits: u16) -> Result<()>
         ensures check { result ≡ read_error (decode_refusal fmt bytes bits) }
-        ensures some { IsOk result → 1 ≤ bytes }
-        ensures few { IsOk result → bytes ≤ 4 }
-        ensures one_byte { IsOk result → bytes ≡ 1 → bits ≡ 8 }
-        ensures two_bytes { IsOk result → bytes ≡ 2 → bits ≡ 16 }
-        ensures three_bytes { IsOk result → bytes ≡ 3 → bits ≡ 24 }
-        ensures four_bytes { IsOk result → bytes ≡ 4 → (bits ≡ 24) ⊎ (bits ≡ 32) };
+        ensures pair { IsOk result → IsPair fmt bits bytes };
 
     /// The value of a container of this many bytes.
     fn decode(container: &[u8], fmt: SampleFormat, bytes: u16, bits: u16) -> Self
@@ -58,12 +54,7 @@ pub(crate) fn check_type(
 ) -> Result<()>
     ensures int { format ≡ Int → result ≡ read_error (int_refusal most fmt bytes bits) }
     ensures float { format ≡ Float → most ≡ 4 → result ≡ read_error (float_refusal fmt bytes bits) }
-    ensures some { IsOk result → 1 ≤ bytes }
-    ensures few { IsOk result → bytes ≤ 4 }
-    ensures one_byte { IsOk result → bytes ≡ 1 → bits ≡ 8 }
-    ensures two_bytes { IsOk result → bytes ≡ 2 → bits ≡ 16 }
-    ensures three_bytes { IsOk result → bytes ≡ 3 → bits ≡ 24 }
-    ensures four_bytes { IsOk result → bytes ≡ 4 → (bits ≡ 24) ⊎ (bits ≡ 32) }
+    ensures pair { IsOk result → IsPair fmt bits bytes }
 {
     if fmt == format && bytes <= most && is_pair(fmt, bits, bytes) {
         return Ok(());

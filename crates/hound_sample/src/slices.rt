@@ -1,7 +1,8 @@
 // The containers of many samples, one after the other: checked, stored and decoded at once.
 //
 // Each loop is written once and called for each pair of bits and bytes, whose numbers are constants
-// there, so that LLVM makes vectors of it.
+// there, so that LLVM makes vectors of it. A new pair needs an arm in each `match`: by the last arm
+// it is right, but slow, and nothing reports it.
 ghost use Rattle.std.specs.Prelude.{◌≡◌, ◌+◌, ◌*◌, ◌≤◌, ◌++◌, None, IsOk, is_ok, length, map, take};
 ghost use Rattle.hound_sample.specs.Container.{containers, all_containers, first_error, joined_containers};
 
