@@ -8,7 +8,7 @@ ghost use Rattle.hound_spec.specs.{IsPair};
 ghost use Rattle.hound_spec.specs.declared.spec.SampleFormat.{SampleFormat};
 ghost use Rattle.hound_spec.specs.declared.spec.SampleFormat.TheVariants.{Float, Int};
 
-use crate::item::{ContainerReader, ItemError, reason_of};
+use crate::item::{ContainerReader, SampleError, reason_of};
 use hound_number::{early_end, read_into};
 use hound_spec::{Error, Result, SampleFormat, is_pair};
 use std::{io, result};
@@ -96,7 +96,7 @@ fn decode_container<S: Decode, R: ContainerReader>(
     fmt: SampleFormat,
     bytes: u16,
     bits: u16,
-) -> result::Result<S, ItemError>
+) -> result::Result<S, SampleError>
     requires decodes { S.decode_refusal fmt bytes bits ≡ None }
     requires some { 1 ≤ bytes }
     requires few { bytes ≤ 4 }
@@ -104,7 +104,7 @@ fn decode_container<S: Decode, R: ContainerReader>(
 {
     match reader.next_container(bytes) {
         Some(container) => Ok(S::decode(&container[..bytes as usize], fmt, bytes, bits)),
-        None => Err(ItemError::Failed),
+        None => Err(SampleError::Failed),
     }
 }
 
@@ -116,7 +116,7 @@ pub(crate) fn decode_next<S: Decode, R: ContainerReader>(
     fmt: SampleFormat,
     bytes: u16,
     bits: u16,
-) -> result::Result<S, ItemError>
+) -> result::Result<S, SampleError>
     ensures item { ReadsItem (S.decode_refusal fmt bytes bits) (S.value fmt bytes bits) bytes
         (R.remaining reader.old) (R.remaining reader.new) result }
     ensures untouched { IsSome (S.decode_refusal fmt bytes bits) → reader.new ≡ reader.old }

@@ -6,16 +6,15 @@ use Rattle.std.proofs.Math.Nat.{mul-div_cancel_left, mul-le-mul_right, mul-mod_r
 use Rattle.std.specs.List.{concat}
 use Rattle.std.specs.declared.io.Error.{Error as IoFault}
 use Rattle.hound_medium.specs.{overlay, WhereKeeps, WhereTells}
-use Rattle.hound_sample.specs.{Refusal, too_wide, unsupported, containers}
+use Rattle.hound_sample.specs.{Refusal, containers, error_of, error_of_sample, first_error, reason_of}
+use Rattle.hound_sample.proofs.Reading.{same_error}
 use Rattle.hound_spec.specs.declared.error.Error.{Error}
 use Rattle.hound_spec.specs.declared.error.Error.TheVariants.{TooLong}
 use Rattle.hound_spec.specs.declared.spec.WavSpecEx.{WavSpecEx}
 use Rattle.hound_spec.specs.{greatest_u32}
-use Rattle.hound_writer.specs.Accepting.{AcceptsBytes, whole_containers, Accepts, containers_in, outcome_of, sample_bytes}
-use Rattle.hound_writer.specs.Parts.{result_of, IsConsistent}
+use Rattle.hound_writer.specs.Accepting.{AcceptsBytes, whole_containers, Accepts, containers_in, sample_bytes}
+use Rattle.hound_writer.specs.Parts.{IsConsistent}
 use Rattle.hound_writer.specs.Writer.{Ghosts, WriterState, HasRoom, IsCounted, IsWhole}
-use Rattle.hound_writer.specs.declared.outcome.Outcome.{Outcome}
-use Rattle.hound_writer.specs.declared.outcome.Outcome.TheVariants.{Accepted}
 use Rattle.hound_writer.proofs.Accepting.{type_refuses}
 use Rattle.hound_sample.proofs.Joined.{joined, joined_size}
 use Rattle.hound_writer.proofs.Samples.{valid_of}
@@ -85,19 +84,16 @@ module _ {V : Type 0} (container : V → ℕ → ℕ → Result (List ℕ) Refus
       counts = (valid_of kind moved limit w known).counts
 
       -- one of them has no container
-      pub many_refused : (outcome : Outcome) (fault : IoFault)
-          → outcome ≡ outcome_of (containers_in container w.spec_ex values)
-          → (outcome ≡ Accepted → ⊥)
-          → Accepts kind (containers_in container w.spec_ex values)
-          (result_of outcome fault) w w
-      many_refused outcome fault is other = go (containers_in container w.spec_ex values) is
+      pub many_refused : (answer : Result (Unit {0}) Error)
+          → answer ≡ first_error (containers_in container w.spec_ex values)
+          → (IsOk (containers_in container w.spec_ex values) → ⊥)
+          → Accepts kind (containers_in container w.spec_ex values) answer w w
+      many_refused answer is none = rw is (go (containers_in container w.spec_ex values) none)
         where
-          go : (asked : Result (List (List ℕ)) Refusal) → outcome ≡ outcome_of asked
-              → Accepts kind asked (result_of outcome fault) w w
-          go (Ok list) is = absurd (other is)
-          go (Err too_wide) is = rw is (type_refuses kind w too_wide counts replays)
-          go (Err unsupported) is =
-              rw is (type_refuses kind w unsupported counts replays)
+          go : (asked : Result (List (List ℕ)) Refusal) → (IsOk asked → ⊥)
+              → Accepts kind asked (first_error asked) w w
+          go (Ok list) none = absurd (none refl)
+          go (Err refusal) none = type_refuses kind w refusal counts replays
 
       -- the file has no room for all of them
       pub many_too_long : IsOk (containers_in container w.spec_ex values)
@@ -125,8 +121,9 @@ module _ {V : Type 0} (container : V → ℕ → ℕ → Result (List ℕ) Refus
           mul-le-mul_right (length values) known.sound.width in
           many_too_long have (λ room. omega (arith, many, room, wide))
 
--- the outcome of samples whose containers were checked
-pub looked_at : {T : Type 0} (asked : Result T Refusal) → Accepted ≡ outcome_of asked → IsOk asked
-looked_at (Ok list) is = refl
-looked_at (Err too_wide) is = cc
-looked_at (Err unsupported) is = cc
+-- the error of the first sample that has no container, by its reason
+pub by_reason : {T : Type 0} (asked : Result T Refusal) (e : Error) (fault : IoFault)
+    → Err e ≡ first_error asked → Err (error_of_sample (reason_of e) fault) ≡ first_error asked
+by_reason (Ok list) e fault is = cc
+by_reason (Err refusal) e fault is =
+    let same : e ≡ error_of refusal = cc in rw same (ap Err (same_error refusal fault))
