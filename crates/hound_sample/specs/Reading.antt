@@ -92,6 +92,11 @@ reason_of InvalidSampleFormat = items.OtherFormat
 reason_of TooWide = items.TooWide
 reason_of _ = items.Unsupported
 
+-- Ok if all values have containers, or the reason of the first that has none
+abbrev pub first_reason : {T : Type 0} → Result T Refusal → Result (Unit {0}) SampleError
+first_reason (Ok list) = Ok tt
+first_reason (Err refusal) = Err (reason_of (error_of refusal))
+
 -- the error of that reason, with this saved fault
 abbrev pub error_of_sample : SampleError → IoFault → Error
 error_of_sample items.Failed fault = IoError fault

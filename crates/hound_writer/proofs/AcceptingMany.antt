@@ -6,8 +6,8 @@ use Rattle.std.proofs.Math.Nat.{mul-div_cancel_left, mul-le-mul_right, mul-mod_r
 use Rattle.std.specs.List.{concat}
 use Rattle.std.specs.declared.io.Error.{Error as IoFault}
 use Rattle.hound_medium.specs.{overlay, WhereKeeps, WhereTells}
-use Rattle.hound_sample.specs.{Refusal, containers, error_of, error_of_sample, first_error, reason_of}
-use Rattle.hound_sample.proofs.Reading.{same_error}
+use Rattle.hound_sample.specs.{Refusal, answer_of, containers, first_reason}
+use Rattle.hound_sample.specs.declared.item.SampleError.{SampleError}
 use Rattle.hound_spec.specs.declared.error.Error.{Error}
 use Rattle.hound_spec.specs.declared.error.Error.TheVariants.{TooLong}
 use Rattle.hound_spec.specs.declared.spec.WavSpecEx.{WavSpecEx}
@@ -17,6 +17,7 @@ use Rattle.hound_writer.specs.Parts.{IsConsistent}
 use Rattle.hound_writer.specs.Writer.{Ghosts, WriterState, HasRoom, IsCounted, IsWhole}
 use Rattle.hound_writer.proofs.Accepting.{type_refuses}
 use Rattle.hound_sample.proofs.Joined.{joined, joined_size}
+use Rattle.hound_sample.proofs.Reading.{same_error}
 use Rattle.hound_writer.proofs.Samples.{valid_of}
 use Rattle.hound_writer.proofs.Writing.{bytes_too_long}
 
@@ -84,16 +85,16 @@ module _ {V : Type 0} (container : V → ℕ → ℕ → Result (List ℕ) Refus
       counts = (valid_of kind moved limit w known).counts
 
       -- one of them has no container
-      pub many_refused : (answer : Result (Unit {0}) Error)
-          → answer ≡ first_error (containers_in container w.spec_ex values)
+      pub many_refused : (told : Result (Unit {0}) SampleError) (fault : IoFault)
+          → told ≡ first_reason (containers_in container w.spec_ex values)
           → (IsOk (containers_in container w.spec_ex values) → ⊥)
-          → Accepts kind (containers_in container w.spec_ex values) answer w w
-      many_refused answer is none = rw is (go (containers_in container w.spec_ex values) none)
+          → Accepts kind (containers_in container w.spec_ex values) (answer_of told fault) w w
+      many_refused told fault is none = rw is (go (containers_in container w.spec_ex values) none)
         where
           go : (asked : Result (List (List ℕ)) Refusal) → (IsOk asked → ⊥)
-              → Accepts kind asked (first_error asked) w w
+              → Accepts kind asked (answer_of (first_reason asked) fault) w w
           go (Ok list) none = absurd (none refl)
-          go (Err refusal) none = type_refuses kind w refusal counts replays
+          go (Err refusal) none = rw (same_error refusal fault) (type_refuses kind w refusal counts replays)
 
       -- the file has no room for all of them
       pub many_too_long : IsOk (containers_in container w.spec_ex values)
@@ -120,10 +121,3 @@ module _ {V : Type 0} (container : V → ℕ → ℕ → Result (List ℕ) Refus
           let wide : 1 * length values ≤ w.spec_ex.bytes_per_sample * length values =
           mul-le-mul_right (length values) known.sound.width in
           many_too_long have (λ room. omega (arith, many, room, wide))
-
--- the error of the first sample that has no container, by its reason
-pub by_reason : {T : Type 0} (asked : Result T Refusal) (e : Error) (fault : IoFault)
-    → Err e ≡ first_error asked → Err (error_of_sample (reason_of e) fault) ≡ first_error asked
-by_reason (Ok list) e fault is = cc
-by_reason (Err refusal) e fault is =
-    let same : e ≡ error_of refusal = cc in rw same (ap Err (same_error refusal fault))

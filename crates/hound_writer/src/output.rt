@@ -318,10 +318,7 @@ impl<W: Medium> Output<W> {
         let bits = self.spec_ex.spec.bits_per_sample;
         let width = self.spec_ex.bytes_per_sample;
         if !have_containers(samples, bits, width) {
-            return match check_containers(samples, bits, width) {
-                Ok(()) => Ok(()),
-                Err(first) => Err(reason_of(first)),
-            };
+            return check_containers(samples, bits, width);
         }
         // Few samples need no more than this, as one does.
         if samples.len() < BLOCK_LENGTH

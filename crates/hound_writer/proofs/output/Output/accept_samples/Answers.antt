@@ -1,27 +1,18 @@
 use Rattle.std.proofs.lemmas.Grind.{common_steps}
-use Rattle.std.proofs.Common.{◌∙◌, Ok, Err, IsOk, sym, arith}
+use Rattle.std.proofs.Common.{◌∙◌, Ok, Err, sym, arith}
 use Rattle.std.proofs.lemmas.Bool.{false≢true}
 use Rattle.hound_spec.specs.declared.error.Error.TheVariants.{IoError}
-use Rattle.hound_writer.specs.Accepting.{containers_in}
-use Rattle.hound_writer.proofs.AcceptingMany.{by_reason, many_asked, many_refused, many_too_long, too_many}
+use Rattle.hound_writer.proofs.AcceptingMany.{many_asked, many_refused, many_too_long, too_many}
 use Rattle.hound_writer.proofs.output.Output.accept_samples.Goals as goal
-use Rattle.hound_writer.proofs.output.Output.accept_samples.Goals.{in-Ok, in-Err}
 
 pub returns-then-not-have_containers :
     goal.returns-then-not-have_containers
 returns-then-not-have_containers g c =
     let W = g.W.Placed in
-    let refused = many_refused g.S.Sample.container g.met.S.Sample.in_width c.args.samples.now W _ _ _ c.self.invariant
-    (g.met.W.Medium.replays _) in
-    let none : IsOk (containers_in g.S.Sample.container c.self.inside.spec_ex c.args.samples.now) → ⊥ =
-    λ have. false≢true (sym c.if-not-have_containers.true ∙ c.have_containers.ensures ∙ have) in
     rw (← c.self.view_is)
-    (elim c.match-check_containers.branch [
-      | in-Ok b ↦ rw b.result-is (refused (Ok tt) (rw (← b.in-Ok.is) c.check_containers.ensures) none)
-      | in-Err b ↦
-          rw (b.result-is, b.reason_of.ensures)
-          (refused _ (by_reason _ b.in-Err.first c.args.fault.now (rw (← b.in-Err.is) c.check_containers.ensures)) none)
-    ])
+    (many_refused g.S.Sample.container g.met.S.Sample.in_width c.args.samples.now W _ _ _ c.self.invariant
+    (g.met.W.Medium.replays _) _ c.args.fault.now c.check_containers.ensures
+    (λ have. false≢true (sym c.if-not-have_containers.true ∙ c.have_containers.ensures ∙ have)))
 
 pub returns-then-len-samples : goal.returns-then-len-samples
 returns-then-len-samples g c =
