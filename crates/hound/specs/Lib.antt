@@ -9,9 +9,9 @@ pub use Rattle.hound_spec.specs.declared.error.Error.{Error}
 pub use Rattle.hound_spec.specs.declared.spec.SampleFormat.{SampleFormat}
 pub use Rattle.hound_spec.specs.declared.spec.WavSpec.{WavSpec}
 pub use Rattle.hound_spec.specs.declared.spec.WavSpecEx.{WavSpecEx}
-pub use Rattle.hound_sample.specs.{IsEncoded, Refusal, WritesContainer, all_containers, and_more, bytes_in, containers, error_of, first_error, fits, if_fits, int_bytes, joined_containers, offset_byte, too_wide, unsupported, contained, int_container-in_width, pattern_container-in_width, FillsFront, ReadRefusal, Reads, ReadsContainer, ReadsEach, ReadsItem, TakesContainer, TakesPart, answer_of, error_of_item, error_of_read, float_refusal, int_meaning, int_refusal, items_of, low_i16, misfit, other_format, pattern, read_error, reason_of, clipped, float_of_int, full_scale, scaled, with_bits}
+pub use Rattle.hound_sample.specs.{IsEncoded, Refusal, WritesContainer, all_containers, and_more, bytes_in, containers, error_of, fits, if_fits, int_bytes, joined_containers, offset_byte, too_wide, unsupported, contained, int_container-in_width, pattern_container-in_width, FillsFront, ReadRefusal, Reads, ReadsContainer, ReadsEach, ReadsItem, TakesContainer, TakesPart, answer_of, error_of_read, error_of_sample, first_reason, float_refusal, int_meaning, int_refusal, items_of, low_i16, misfit, other_format, pattern, read_error, reason_of, clipped, float_of_int, full_scale, scaled, with_bits}
 unfoldable pub use Rattle.hound_sample.specs.{int_container, pattern_container}
-pub use Rattle.hound_sample.specs.declared.item.ItemError.{ItemError}
+pub use Rattle.hound_sample.specs.declared.item.SampleError.{SampleError}
 pub use Rattle.hound_medium.specs.{FlushedSince, Flushes, Gets, Goes, IsMoved, MediumState, Puts, PutsAll, PutsFirst, Shifts, Span, Stays, WhereKeeps, WhereTells, count_of, faults_after, moment, one_more, overlay, place_reached, placed, put_at, unknown, FailsAt, IsNumbered, SameRequests, calls, greatest_count}
 pub use Rattle.hound_durable.specs.{Ascends, IsBelow, IsItsFault, IsLastBefore, LeadsBack, OnlySyncs, SurvivesLoss, byte_at, left_of, left_own, own, place_of, replays_own, Around, synced, within}
 pub use Rattle.hound_walk.specs.{IsSoundSpec, by_subformat, fmt_len, fmt_of, spec_of, width_of, with_format, with_valid_bits, Answer, Answers, AnswersFile, Chunk, Chunks, HasOneAnswer, HasOneFileAnswer, Head, IsChunk, IsDataPlace, Readable, Refused, Unreadable, Walk, chunk_bytes, cut_fault, data_fault, fault_of, first_fault, fmt_fault, joined, last_spec, ok_of, readable, unreadable, AreTaken, CountsFailed, Gives, IsSoundChunk, IsSoundOption, ReadsChunk, ReadsContent, ReadsFormat, RefusedAfter, Refuses, RefusesFront, ReportsFront, SaysContent, TakesAll, TakesFor, TakesFront, TakesLess, UnreadableAfter, Walked, Walks, chunk_taken, content_taken, content_takes, front_taken, FailsAs, IsRefusal, Names, OpensAs, ReportsError, reason_text, AnswersBytes, FindsData, Untouched, account_of, faults_after_walk, unread, IsAfter, IsAhead, IsAt, IsAtPart, IsNearer, IsSoundStep, LeadsTo, Reaches, part_bytes, part_length, part_start, parts_left}
@@ -21,7 +21,7 @@ pub use Rattle.hound_walk.specs.declared.cause.HeadError.{HeadError}
 pub use Rattle.hound_walk.specs.declared.cause.Reason.{Reason}
 pub use Rattle.hound_walk.specs.declared.chunks.FileHead.{FileHead}
 pub use Rattle.hound_reader.specs.{AnswersNext, AnswersRead, AnswersReadMany, AreContainers, AreItems, CountsTaken, GivesItem, GivesItems, GivesItemsOfBytes, HasGiven, HasGiven-prop, HasSoundCounts, HasWholeFrames, IsNext, ReaderState, ReadsBlock, TookBytes, meaning_at, over_bytes, refusal_at, requested, samples_left, taken_without, AnswersSamples, FindsSamples, IsNotOpened, OpensSource, LendsNext, TakesNext, lender, lent_reader, taken_reader, Follows, HasSought, IsAtCount, IsMeaningOf, IsWhereCounted, PassesItem, ReadsInPlace, Recounts, Seeks, bytes_before, container_at, count_after, samples_before, way_to}
-pub use Rattle.hound_writer.specs.{AcceptAnswer, Accepts, AcceptsBytes, AcceptsEach, Adds, AddsAtEach, AddsToFile, AreI16, FitAnswer, IsIoError, IsPublishing, IsStored, OnPublished, OnRefused, StaysStored, StaysTrue, UnlessFailed, container_in, containers_in, faults_told, i16_bytes, if_marked, mark_of, one, outcome_of, sample_bytes, whole_containers, AnswersAppend, AppendAnswer, AppendFault, Appends, FailsCheck, FollowsData, HasOneAppendAnswer, IsAppendFault, IsFileError, IsMediumError, IsNotAppended, NamesFault, PutsNothing, appendable, by_bytes, faulty, too_long, IsSameFile, WritesToBatch, batch_bytes, batch_lender, batch_writer, remaining, Begins, BeginsFile, HasBegun, IsNotBegun, PutsHeader, CountsAtMost, GoesAtEach, GoesOut, GoesToFile, HasSize, IsConsistent, IsLimit, IsPatched, IsPublishResult, Patches, PatchesAtEach, PutsAt, StaysAround, after_out, all_out, memory_bytes, of_fields, or_fault, result_of, AreKnown, Asked, Begun, Call, Does, Ends, Extends, HadData, HasSameCalls, IsKnown, IsSeen, Known, Lead, LeftBy, Opens, RecordedBy, Seen, answered, appended, asked_by_all, found_in, handed_in, made, mark_seen, marked, new_file, publish, result_seen, start_of, unseen, with_memory, write, AreFrames, ChangesSizesOnly, Counts, Ghosts, HasHeader, HasRoom, HasSameSamples, IsBegun, IsCounted, IsPadded, IsSixteen, IsSound, IsValid, IsWhole, ReadsFirst, SameButSizes, WriterState, accepted_bytes, accepted_samples, block_length, data_end, data_length, field, padded_end, sample_count, Checkpoints, Finishes, IsHalfPublished, IsOldOrNew, IsOutside, LeavesWriter, OncePutBefore, Publishes, PublishesAtEach, PublishesTo, PutsFrom, PutsLast, ReadsAs, place_after, Log, Performed, Performs, checkpoint, log_kind, nth, pad_effects, size_effects, AppendsRecorder, BeginsRecorder, HasData, HasFailed, HasNoData, NextEffect, Places, Reports, advanced, effects_of, length_with, recorder_of, ContinuesAfter, Resumes, ResumesAfter, ends_whole, found_frame, kept_as, kept_length, rest_follows, resumed_recorder, Abandons, Advances, AsksForBlock, AsksForCheckpoint, EffectEnds, EndsEffect, GivesUp, GoesOn, HasEnded, IsClear, IsSaved, SavesFirst, Settles, TakesBlock, ThenGoesOn, end_of, saved_of, AgreeTo, Directed, InStep, IsCutOff, IsIdle, IsOrdered, IsRecorderOf, IsSynced, Opened, Resumed, block_known, cut_known, resumed_file, writer_of, IsSaid, Repeats, written_first}
+pub use Rattle.hound_writer.specs.{AcceptAnswer, Accepts, AcceptsBytes, AcceptsEach, Adds, AddsAtEach, AddsToFile, AreI16, FitAnswer, IsIoError, IsPublishing, IsStored, OnPublished, OnRefused, StaysStored, StaysTrue, UnlessFailed, container_in, containers_in, faults_told, i16_bytes, if_marked, mark_of, one, sample_bytes, whole_containers, AnswersAppend, AppendAnswer, AppendFault, Appends, FailsCheck, FollowsData, HasOneAppendAnswer, IsAppendFault, IsFileError, IsMediumError, IsNotAppended, NamesFault, PutsNothing, appendable, by_bytes, faulty, too_long, IsSameFile, WritesToBatch, batch_bytes, batch_lender, batch_writer, remaining, Begins, BeginsFile, HasBegun, IsNotBegun, PutsHeader, CountsAtMost, GoesAtEach, GoesOut, GoesToFile, HasSize, IsConsistent, IsLimit, IsPatched, IsPublishResult, Patches, PatchesAtEach, PutsAt, StaysAround, after_out, all_out, memory_bytes, of_fields, or_fault, AreKnown, Asked, Begun, Call, Does, Ends, Extends, HadData, HasSameCalls, IsKnown, IsSeen, Known, Lead, LeftBy, Opens, RecordedBy, Seen, answered, appended, asked_by_all, found_in, handed_in, made, mark_seen, marked, new_file, publish, result_seen, start_of, unseen, with_memory, write, AreFrames, ChangesSizesOnly, Counts, Ghosts, HasHeader, HasRoom, HasSameSamples, IsBegun, IsCounted, IsPadded, IsSixteen, IsSound, IsValid, IsWhole, ReadsFirst, SameButSizes, WriterState, accepted_bytes, accepted_samples, block_length, data_end, data_length, field, padded_end, sample_count, Checkpoints, Finishes, IsHalfPublished, IsOldOrNew, IsOutside, LeavesWriter, OncePutBefore, Publishes, PublishesAtEach, PublishesTo, PutsFrom, PutsLast, ReadsAs, place_after, Log, Performed, Performs, checkpoint, log_kind, nth, pad_effects, size_effects, AppendsRecorder, BeginsRecorder, HasData, HasFailed, HasNoData, NextEffect, Places, Reports, advanced, effects_of, length_with, recorder_of, ContinuesAfter, Resumes, ResumesAfter, ends_whole, found_frame, kept_as, kept_length, rest_follows, resumed_recorder, Abandons, Advances, AsksForBlock, AsksForCheckpoint, EffectEnds, EndsEffect, GivesUp, GoesOn, HasEnded, IsClear, IsSaved, SavesFirst, Settles, TakesBlock, ThenGoesOn, end_of, saved_of, AgreeTo, Directed, InStep, IsCutOff, IsIdle, IsOrdered, IsRecorderOf, IsSynced, Opened, Resumed, block_known, cut_known, resumed_file, writer_of, IsSaid, Repeats, written_first}
 unfoldable pub use Rattle.hound_writer.specs.{head_fault, Left, Recorded, with_sizes}
 pub use Rattle.hound_writer.specs.declared.effects.Action.{Action}
 pub use Rattle.hound_writer.specs.declared.effects.Effect.{Effect}

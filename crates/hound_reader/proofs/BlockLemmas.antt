@@ -7,11 +7,11 @@ use Rattle.std.specs.declared.io.Error.{Error as IoFault}
 use Rattle.hound_number.specs.{WhereKnown}
 use Rattle.hound_spec.specs.declared.error.Error.{Error}
 use Rattle.hound_spec.specs.declared.spec.SampleFormat.{SampleFormat}
-use Rattle.hound_sample.specs.{FillsFront, items_of, answer_of, ReadsEach, ReadRefusal, Reads, error_of_read, ReadsItem, reason_of, error_of_item}
+use Rattle.hound_sample.specs.{FillsFront, items_of, answer_of, ReadsEach, ReadRefusal, Reads, error_of_read, ReadsItem, reason_of, error_of_sample}
 use Rattle.std.proofs.lemmas.Nat.{mul-le}
 use Rattle.hound_walk.specs.{AreTaken}
 use Rattle.hound_reader.specs.Reader.{ReadsBlock, requested, GivesItemsOfBytes, over_bytes, HasGiven, taken_without, GivesItems, ReaderState, IsNext, CountsTaken, refusal_at, meaning_at, samples_left}
-use Rattle.hound_sample.specs.declared.item.ItemError.{ItemError}
+use Rattle.hound_sample.specs.declared.item.SampleError.{SampleError}
 use Rattle.hound_reader.proofs.ItemLemmas.{a_container_is_taken, later}
 
 -- an Ok of a type that doesn't read the samples
@@ -21,21 +21,21 @@ no_value value error is = cc
 
 -- the error of a type that doesn't read the samples, by its reason
 refusal_by_reason : (refusal : ReadRefusal) (fault : IoFault)
-    → error_of_item (reason_of (error_of_read refusal)) fault ≡ error_of_read refusal
+    → error_of_sample (reason_of (error_of_read refusal)) fault ≡ error_of_read refusal
 refusal_by_reason refusal fault = grind (arith, common_steps)
 
 -- an error that ended samples, by its reason, whichever the fault is
 error_by_reason : {A : Type 0} (refusal : Option ReadRefusal) (meaning : List ℕ → A) (width : ℕ)
     (old new : Option (List ℕ)) (e : Error) (fault : IoFault)
     → Reads refusal meaning width old new (Err e)
-    → Reads refusal meaning width old new (Err (error_of_item (reason_of e) fault))
+    → Reads refusal meaning width old new (Err (error_of_sample (reason_of e) fault))
 error_by_reason refusal meaning width old new e fault read = grind (arith, common_steps, refusal_by_reason)
 
 pub each_by_reason : {A : Type 0} (refusal : Option ReadRefusal) (meaning : List ℕ → A) (width : ℕ)
-    (values : List A) (e : Error) (reason : ItemError) (fault : IoFault) (old new : Option (List ℕ))
+    (values : List A) (e : Error) (reason : SampleError) (fault : IoFault) (old new : Option (List ℕ))
     → reason ≡ reason_of e
     → ReadsEach refusal meaning width (map Ok values ++ (Err e ∷ [])) old new
-    → ReadsEach refusal meaning width (map Ok values ++ (Err (error_of_item reason fault) ∷ [])) old new
+    → ReadsEach refusal meaning width (map Ok values ++ (Err (error_of_sample reason fault) ∷ [])) old new
 each_by_reason refusal meaning width [] e reason fault old new is (mid, read, same) =
     let told = error_by_reason refusal meaning width old mid e fault read in (mid, rw is told, same)
 each_by_reason refusal meaning width (value ∷ values) e reason fault old new is (mid, read, rest) =
@@ -85,28 +85,28 @@ each_takes refusal meaning width (value ∷ values) xs new (mid, read, rest) =
 
 -- an item without a sample took as many bytes as were given after the samples
 pub torn_takes : {A : Type 0} (refusal : Option ReadRefusal) (meaning : List ℕ → A) (width : ℕ)
-    (values : List A) (reason : ItemError) (fault : IoFault) (given : ℕ)
+    (values : List A) (reason : SampleError) (fault : IoFault) (given : ℕ)
     (old mid new : Option (List ℕ)) → length values * width + width < 2 ^ 64
     → HasGiven old given new → ReadsEach refusal meaning width (map Ok values) old mid
-    → Reads refusal meaning width mid new (Err (error_of_item reason fault))
+    → Reads refusal meaning width mid new (Err (error_of_sample reason fault))
     → (old ≡ None → mid ≡ None)
     → WhereKnown mid new (AreTaken (taken_without reason (given - length values * width) width))
 torn_takes refusal meaning width values reason fault given old mid new few has before read same = grind (arith, common_steps, each_takes, length-drop)
 
-pub taken_few : (reason : ItemError) (given width : ℕ) → taken_without reason given width ≤ width
+pub taken_few : (reason : SampleError) (given width : ℕ) → taken_without reason given width ≤ width
 taken_few reason given width = grind (arith, common_steps)
 
 -- an item without a sample is given, whichever its fault is
 pub no_sample_is_given : {R A : Type 0} (left : R → Option (List ℕ))
     (refusal : SampleFormat → ℕ → ℕ → Option ReadRefusal) (meaning : SampleFormat → ℕ → ℕ → List ℕ → A)
-    (old new : ReaderState R) (reason : ItemError) (given : ℕ)
+    (old new : ReaderState R) (reason : SampleError) (given : ℕ)
     → old.samples_read < old.num_samples → old.spec_ex.bytes_per_sample < 2 ^ 64
     → new ≡ later old 1 (taken_without reason given old.spec_ex.bytes_per_sample) new.reader
     → ReadsItem (refusal_at refusal old.spec_ex) (meaning_at meaning old.spec_ex)
     old.spec_ex.bytes_per_sample (left old.reader) (left new.reader) (Err reason)
     → (IsSome (refusal_at refusal old.spec_ex) → new.reader ≡ old.reader)
     → HasGiven (left old.reader) given (left new.reader) → (fault : IoFault)
-    → IsNext left refusal meaning (Some (Err (error_of_item reason fault))) old new
+    → IsNext left refusal meaning (Some (Err (error_of_sample reason fault))) old new
 no_sample_is_given left refusal meaning old new reason given inside small is read untouched has fault =
     let width = old.spec_ex.bytes_per_sample in
     let known : WhereKnown (left old.reader) (left new.reader) (AreTaken (taken_without reason given width)) =
@@ -116,7 +116,7 @@ no_sample_is_given left refusal meaning old new reason given inside small is rea
     grind (arith, common_steps, taken, read fault)
 
 -- how many bytes a block took: its containers, and what was taken for an item without a sample
-abbrev pub block_bytes : {T : Type 0} → ℕ → ℕ → ℕ → Result T ItemError → ℕ
+abbrev pub block_bytes : {T : Type 0} → ℕ → ℕ → ℕ → Result T SampleError → ℕ
 block_bytes count width given (Ok done) = count * width
 block_bytes count width given (Err reason) =
     count * width + taken_without reason (given - count * width) width
@@ -158,7 +158,7 @@ module _ {A : Type 0} (refusal : SampleFormat → ℕ → ℕ → Option ReadRef
       (next, given, items_more items item next mid new before step)
 
   -- samples that were read, and the error that ended them, are items
-  block_items : (values : List A) (answer : Result (Unit {0}) ItemError) (fault : IoFault)
+  block_items : (values : List A) (answer : Result (Unit {0}) SampleError) (fault : IoFault)
       (given : ℕ) (old : ReaderState (Option (List ℕ))) (new : Option (List ℕ))
       → requested (length values) answer ≤ samples_left old
       → length values * old.spec_ex.bytes_per_sample + old.spec_ex.bytes_per_sample < 2 ^ 64
@@ -179,7 +179,7 @@ module _ {A : Type 0} (refusal : SampleFormat → ℕ → ℕ → Option ReadRef
       let torn = taken_without reason (given - k * width) width in
       let next = later old k (k * width) mid in
       let last : ReaderState (Option (List ℕ)) = later next 1 torn new in
-      subst (Gives (map Ok values ++ (Err (error_of_item reason fault) ∷ [])) old)
+      subst (Gives (map Ok values ++ (Err (error_of_sample reason fault) ∷ [])) old)
       (let e : last ≡ later old (k + 1) (k * width + torn) new = grind (arith, common_steps) in e)
       (items_more (map Ok values) _ old next last
       (samples_are_items values old mid (omega (arith, few)) before)
@@ -206,7 +206,7 @@ front_filled count wanted xs ys within size few rest =
 module _ {R A : Type 0} (left : R → Option (List ℕ))
     (refusal : SampleFormat → ℕ → ℕ → Option ReadRefusal) (meaning : SampleFormat → ℕ → ℕ → List ℕ → A) where
   -- samples that were read into the front of a slice, and the error that ended them, are a block
-  pub is_block : (count wanted given : ℕ) (told answer : Result (Unit {0}) ItemError)
+  pub is_block : (count wanted given : ℕ) (told answer : Result (Unit {0}) SampleError)
       (fault : IoFault) (xs ys : List A) (old new : ReaderState R) → told ≡ answer
       → wanted ≡ min (length xs) (samples_left old) → length ys ≡ length (take wanted xs)
       → old.num_samples < 2 ^ 32 → old.spec_ex.bytes_per_sample ≤ 2 ^ 16

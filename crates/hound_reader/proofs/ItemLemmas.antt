@@ -9,7 +9,7 @@ use Rattle.hound_spec.specs.declared.spec.SampleFormat.{SampleFormat}
 use Rattle.hound_sample.specs.{ReadRefusal, Reads, answer_of}
 use Rattle.hound_walk.specs.{AreTaken}
 use Rattle.hound_reader.specs.Reader.{ReaderState, IsNext, refusal_at, meaning_at, samples_left, AreItems, GivesItems}
-use Rattle.hound_sample.specs.declared.item.ItemError.{ItemError}
+use Rattle.hound_sample.specs.declared.item.SampleError.{SampleError}
 
 -- an Ok took exactly a container
 pub a_container_is_taken : {A : Type 0} (refusal : Option ReadRefusal) (meaning : List ℕ → A)
@@ -28,7 +28,7 @@ later reading samples bytes reader = record reading {
 -- a sample was given, as `read` of its type does it
 pub a_sample_is_given : {R A : Type 0} (left : R → Option (List ℕ))
     (refusal : SampleFormat → ℕ → ℕ → Option ReadRefusal) (meaning : SampleFormat → ℕ → ℕ → List ℕ → A)
-    (old new : ReaderState R) (answer : Result A ItemError) (fault : IoFault) (value : A)
+    (old new : ReaderState R) (answer : Result A SampleError) (fault : IoFault) (value : A)
     → old.samples_read < old.num_samples
     → new ≡ later old 1 old.spec_ex.bytes_per_sample new.reader
     → Reads (refusal_at refusal old.spec_ex)

@@ -6,12 +6,12 @@ use Rattle.hound_spec.specs.declared.error.Error.{Error}
 use Rattle.hound_spec.specs.declared.error.Error.TheVariants.{IoError}
 use Rattle.hound_spec.specs.declared.spec.SampleFormat.{SampleFormat}
 use Rattle.hound_spec.specs.declared.spec.WavSpecEx.{WavSpecEx}
-use Rattle.hound_sample.specs.{ReadRefusal, Reads, error_of_read, ReadsItem, error_of_item, ReadsEach, items_of, answer_of}
+use Rattle.hound_sample.specs.{ReadRefusal, Reads, error_of_read, ReadsItem, error_of_sample, ReadsEach, items_of, answer_of}
 use Rattle.hound_walk.specs.{IsSoundSpec, AreTaken}
 use Rattle.hound_spec.specs.{greatest_u32}
 use Rattle.std.specs.declared.io.Error.{Error as IoFault}
-use Rattle.hound_sample.specs.declared.item.ItemError.{ItemError}
-use Rattle.hound_sample.specs.declared.item.ItemError.TheVariants.{Failed}
+use Rattle.hound_sample.specs.declared.item.SampleError.{SampleError}
+use Rattle.hound_sample.specs.declared.item.SampleError.TheVariants.{Failed}
 use Rattle.std.proofs.Props.{props}
 use Rattle.std.specs.Coded.{Unit-prop}
 
@@ -115,7 +115,7 @@ GivesItems {R} left refusal meaning (item ∷ items) old new = (mid : ReaderStat
 
 -- a sample of a spec is read as `read_item` of a type does it
 abbrev pub AnswersRead : {A : Type 0} → (SampleFormat → ℕ → ℕ → Option ReadRefusal)
-    → (SampleFormat → ℕ → ℕ → List ℕ → A) → WavSpecEx → Option (List ℕ) → Option (List ℕ) → Result A ItemError
+    → (SampleFormat → ℕ → ℕ → List ℕ → A) → WavSpecEx → Option (List ℕ) → Option (List ℕ) → Result A SampleError
     → Type 0
 AnswersRead refusal meaning s old new answer =
     ReadsItem (refusal_at refusal s) (meaning_at meaning s) s.bytes_per_sample old new answer
@@ -123,16 +123,16 @@ AnswersRead refusal meaning s old new answer =
 -- the next item is given, whichever the fault of one without a sample is
 abbrev pub AnswersNext : {R A : Type 0} → (R → Option (List ℕ))
     → (SampleFormat → ℕ → ℕ → Option ReadRefusal) → (SampleFormat → ℕ → ℕ → List ℕ → A)
-    → Option (Result A ItemError) → ReaderState R → ReaderState R → Type 0
+    → Option (Result A SampleError) → ReaderState R → ReaderState R → Type 0
 AnswersNext left refusal meaning None old new = IsNext left refusal meaning None old new
 AnswersNext left refusal meaning (Some (Ok value)) old new =
     IsNext left refusal meaning (Some (Ok value)) old new
 AnswersNext left refusal meaning (Some (Err no_sample)) old new = (fault : IoFault)
-    → IsNext left refusal meaning (Some (Err (error_of_item no_sample fault))) old new
+    → IsNext left refusal meaning (Some (Err (error_of_sample no_sample fault))) old new
 
 -- how many bytes an item without a sample took, of those given for it: what was given of a
 -- container of this width if a fault or the end cut it, and none at an error of the type
-abbrev pub taken_without : ItemError → ℕ → ℕ → ℕ
+abbrev pub taken_without : SampleError → ℕ → ℕ → ℕ
 taken_without Failed given width = min given width
 taken_without _ given width = 0
 
@@ -176,7 +176,7 @@ pub record ReadsBlock {R A : Type 0} (left : R → Option (List ℕ))
 -- samples of a spec are read as `read` of a type does it, whichever the fault is
 abbrev pub AnswersReadMany : {A : Type 0} → (SampleFormat → ℕ → ℕ → Option ReadRefusal)
     → (SampleFormat → ℕ → ℕ → List ℕ → A) → WavSpecEx → Option (List ℕ) → Option (List ℕ) → List A
-    → Result (Unit {0}) ItemError → Type 0
+    → Result (Unit {0}) SampleError → Type 0
 AnswersReadMany refusal meaning s old new values answer = (fault : IoFault)
     → ReadsEach (refusal_at refusal s) (meaning_at meaning s) s.bytes_per_sample
     (items_of values (answer_of answer fault)) old new

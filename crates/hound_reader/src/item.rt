@@ -1,46 +1,25 @@
 // Items: a reader that saves its last fault, and one that counts the bytes that it gives.
-ghost use Rattle.std.specs.Prelude.{◌≡◌, ◌<◌, ◌≤◌, List, Option, Result, ℕ, None, IsSome, length, take};
-ghost use Rattle.hound_sample.specs.{FillsFront, error_of_item};
-ghost use Rattle.hound_sample.specs.declared.item.ItemError.{ItemError};
+ghost use Rattle.std.specs.Prelude.{◌≡◌, ◌<◌, ◌≤◌, List, Option, Result, ℕ, None, IsSome, IfSome, length, take};
+ghost use Rattle.hound_sample.specs.{FillsFront};
+ghost use Rattle.hound_sample.specs.declared.item.SampleError.{SampleError};
 ghost use Rattle.hound_reader.specs.Reader.{AnswersReadMany, refusal_at, AnswersRead, taken_without, HasGiven, HasGiven-prop};
 ghost use Rattle.std.specs.Borrow.{GName};
 ghost use Rattle.std.specs.Io.KnownBytes.{Consumes, IsAtEnd, Keeps};
 ghost use Rattle.hound_spec.specs.declared.spec.WavSpecEx.{WavSpecEx};
 
 use hound_number::early_end;
-use hound_sample::{ContainerReader, ItemError, Sample, reason_of};
-use hound_spec::{Error, WavSpecEx};
+use hound_sample::{ContainerReader, Sample, SampleError, reason_of};
+use hound_spec::WavSpecEx;
 use std::marker::{Brand, PhantomData};
 use std::{io, result};
 
-/// The error of an item, with this saved fault.
-///
-/// It begins as the fault and is changed in its place: so the one copy that is made of the fault
-/// goes to where the caller needs the item.
-#[inline(always)]
-pub(crate) fn error_of_item(no_sample: ItemError, fault: &io::Error) -> Error
-    ensures { result ≡ error_of_item no_sample fault.now }
-{
-    let mut error = Error::IoError(*fault);
-    if let ItemError::OtherFormat = no_sample {
-        error = Error::InvalidSampleFormat;
-    }
-    if let ItemError::TooWide = no_sample {
-        error = Error::TooWide;
-    }
-    if let ItemError::Unsupported = no_sample {
-        error = Error::Unsupported;
-    }
-    error
-}
-
 /// How many bytes an item without a sample took, of those given for it.
 #[inline(always)]
-pub(crate) fn taken_without(no_sample: ItemError, given: u64, width: u16) -> u64
+pub(crate) fn taken_without(no_sample: SampleError, given: u64, width: u16) -> u64
     ensures { result ≡ taken_without no_sample given width }
 {
     match no_sample {
-        ItemError::Failed => given.min(width as u64),
+        SampleError::Failed => given.min(width as u64),
         _ => 0,
     }
 }
@@ -63,25 +42,23 @@ pub(crate) struct SavingReader<R> {
 }
 
 impl<R: io::Read> SavingReader<R> {
-    /// How many bytes a read gives, or more than the buffer has if it fails. The fault is saved,
-    /// and so is the end.
+    /// How many bytes a read gives, if it doesn't fail. The fault is saved, and so is the end.
     #[inline]
-    pub(crate) fn read_or_save_error(&mut self, buf: &mut [u8]) -> usize
-        ensures bytes { result ≤ length buf.new →
-            Consumes (R.remaining self.old.reader) (R.remaining self.new.reader) (take result buf.new) }
-        ensures end { result ≡ 0 → 0 < length buf.new → IsAtEnd (R.remaining self.new.reader) }
-        ensures failed { length buf.new < result →
-            Keeps (R.remaining self.old.reader) (R.remaining self.new.reader) }
+    pub(crate) fn read_or_save_error(&mut self, buf: &mut [u8]) -> Option<usize>
+        ensures within { IfSome result (λ n. n ≤ length buf.new) }
+        ensures bytes { IfSome result (λ n.
+            Consumes (R.remaining self.old.reader) (R.remaining self.new.reader) (take n buf.new)) }
+        ensures failed { result ≡ None → Keeps (R.remaining self.old.reader) (R.remaining self.new.reader) }
     {
         match self.reader.read(buf) {
             Ok(0) => {
                 keep_end(&mut self.fault);
-                0
+                Some(0)
             }
-            Ok(count) => count,
+            Ok(count) => Some(count),
             Err(fault) => {
                 self.fault = fault;
-                usize::MAX
+                None
             }
         }
     }
@@ -96,11 +73,10 @@ impl<R: io::Read> SavingReader<R> {
     {
         let mut at = 0;
         while at < buf.len() {
-            let count = self.read_or_save_error(&mut buf[at..]);
-            if count == 0 || count > buf.len() - at {
-                return at;
+            match self.read_or_save_error(&mut buf[at..]) {
+                None | Some(0) => return at,
+                Some(count) => at += count,
             }
-            at += count;
         }
         at
     }
@@ -113,14 +89,11 @@ impl<R: io::Read> SavingReader<R> {
         ensures bytes { Consumes (R.remaining self.old.reader) (R.remaining self.new.reader)
             (take result buf.new) }
     {
-        let count = self.read_or_save_error(buf);
-        if count == buf.len() {
-            return count;
+        match self.read_or_save_error(buf) {
+            None | Some(0) => 0,
+            Some(count) if count == buf.len() => count,
+            Some(count) => count + self.fill_rest(&mut buf[count..]),
         }
-        if count == 0 || count > buf.len() {
-            return 0;
-        }
-        count + self.fill_rest(&mut buf[count..])
     }
 }
 
@@ -156,28 +129,53 @@ impl<R: io::Read, B: CountStart> io::Read for CountingReader<'_, R, B> {
 
     #[inline(always)]
     fn read(&mut self, buf: &mut [u8]) -> io::Result<usize> {
-        let count = self.reader.read_or_save_error(buf);
-        if count > 0 && count <= buf.len() {
-            self.given = self.given.saturating_add(count as u64);
-            return Ok(count);
+        match self.reader.read_or_save_error(buf) {
+            Some(count) if count > 0 || buf.is_empty() => {
+                self.given = self.given.saturating_add(count as u64);
+                Ok(count)
+            }
+            _ => Err(self.reader.fault),
         }
-        if count == 0 && buf.is_empty() {
-            return Ok(0);
+    }
+}
+
+impl<R: io::Read, B: CountStart> CountingReader<'_, R, B> {
+    // The next bytes, as many as the array has: a constant number, which needs no call that copies.
+    #[inline(always)]
+    fn next_array<const N: usize>(&mut self) -> Option<[u8; N]>
+        ensures whole { IfSome result (Consumes (R.remaining self.old.reader.now.reader)
+            (R.remaining self.new.reader.now.reader)) }
+        ensures part { result ≡ None → (taken : List ℕ) × (length taken < N)
+            × Consumes (R.remaining self.old.reader.now.reader) (R.remaining self.new.reader.now.reader) taken }
+    {
+        let mut bytes = [0; N];
+        let count = self.reader.fill(&mut bytes);
+        self.given = self.given.saturating_add(count as u64);
+        if count == N {
+            return Some(bytes);
         }
-        Err(self.reader.fault)
+        None
     }
 }
 
 impl<R: io::Read, B: CountStart> ContainerReader for CountingReader<'_, R, B> {
     #[inline(always)]
     fn next_container(&mut self, bytes: u16) -> Option<[u8; 4]> {
-        let mut container = [0; 4];
-        let count = self.reader.fill(&mut container[..bytes as usize]);
-        self.given = self.given.saturating_add(count as u64);
-        if count == bytes as usize {
-            return Some(container);
+        match bytes {
+            1 => {
+                let [a] = self.next_array::<1>()?;
+                Some([a, 0, 0, 0])
+            }
+            2 => {
+                let [a, b] = self.next_array::<2>()?;
+                Some([a, b, 0, 0])
+            }
+            3 => {
+                let [a, b, c] = self.next_array::<3>()?;
+                Some([a, b, c, 0])
+            }
+            _ => self.next_array::<4>(),
         }
-        None
     }
 }
 
@@ -187,7 +185,7 @@ impl<R: io::Read, B: CountStart> ContainerReader for CountingReader<'_, R, B> {
 pub(crate) fn read_item_since<'a, R: io::Read, S: Sample, B: CountStart>(
     reader: &'a mut SavingReader<R>,
     spec_ex: WavSpecEx,
-    answer: &mut result::Result<S, ItemError>,
+    answer: &mut result::Result<S, SampleError>,
 ) -> (&'a mut SavingReader<R>, u64)
     requires left { B.left ≡ R.remaining reader.now.reader }
     requires lender { B.lender ≡ reader.ghost_name }
@@ -221,7 +219,7 @@ fn read_many<R: io::Read, S: Sample>(
     reader: &mut R,
     spec_ex: WavSpecEx,
     samples: &mut [S],
-) -> (usize, result::Result<(), ItemError>)
+) -> (usize, result::Result<(), SampleError>)
     ensures answers { AnswersReadMany S.refusal S.meaning spec_ex (R.remaining reader.old)
         (R.remaining reader.new) (take result.0 samples.new) result.1 }
     ensures front { FillsFront result.0 result.1 samples.old samples.new }
@@ -248,7 +246,7 @@ pub(crate) fn read_many_since<'a, R: io::Read, S: Sample, B: CountStart>(
     reader: &'a mut SavingReader<R>,
     spec_ex: WavSpecEx,
     samples: &mut [S],
-    answer: &mut (usize, result::Result<(), ItemError>),
+    answer: &mut (usize, result::Result<(), SampleError>),
 ) -> (&'a mut SavingReader<R>, u64)
     requires left { B.left ≡ R.remaining reader.now.reader }
     requires lender { B.lender ≡ reader.ghost_name }

@@ -10,10 +10,10 @@ ghost use Rattle.hound_reader.specs.Reader.{AnswersNext, HasWholeFrames, samples
 ghost use Rattle.hound_reader.specs.Seeking.{Recounts, way_to};
 ghost use Rattle.hound_reader.specs.Samples.{lent_reader, lender, taken_reader};
 
-use crate::item::{SavingReader, error_of_item, read_item_since, read_many_since, taken_without};
+use crate::item::{SavingReader, read_item_since, read_many_since, taken_without};
 use crate::samples::{WavIntoSamples, WavSamples};
 use hound_medium::{Placed, Source};
-use hound_sample::{ItemError, Sample};
+use hound_sample::{Sample, SampleError, error_of_sample};
 use hound_spec::{Error, Result, WavSpec, WavSpecEx};
 use hound_walk::{Counted, FileHead, HeadError, error_of, read_until_samples};
 use std::io::ErrorKind;
@@ -209,7 +209,7 @@ impl<R: io::Read + Drop> WavReader<R> {
             samples.new self.old self.new }
     {
         let wanted = samples.len().min(self.samples_left() as usize);
-        let mut answer = (0, Err(ItemError::Failed));
+        let mut answer = (0, Err(SampleError::Failed));
         let (_, given) = read_many_since::<R, S, Brand>(
             &mut self.reader,
             self.spec_ex,
@@ -226,7 +226,7 @@ impl<R: io::Read + Drop> WavReader<R> {
         };
         self.samples_read += 1;
         self.bytes_read += taken_without(no_sample, given.saturating_sub(bytes), width);
-        (count, Err(error_of_item(no_sample, &self.reader.fault)))
+        (count, Err(error_of_sample(no_sample, &self.reader.fault)))
     }
 
     /// Moves the source to the first container of a frame; `time` counts frames from 0.
@@ -274,7 +274,7 @@ impl<R: io::Read + Drop> WavReader<R> {
     pub(crate) fn next_item<S: Sample>(
         &mut self,
         spec_ex: WavSpecEx,
-    ) -> Option<result::Result<S, ItemError>>
+    ) -> Option<result::Result<S, SampleError>>
         requires { spec_ex ≡ self.old.spec_ex }
         ensures answers { AnswersNext R.remaining S.refusal S.meaning result self.old self.new }
         ensures same { self.new.spec_ex ≡ self.old.spec_ex }
@@ -282,7 +282,7 @@ impl<R: io::Read + Drop> WavReader<R> {
         if self.samples_read >= self.num_samples as u64 {
             return None;
         }
-        let mut sample = Err(ItemError::Failed);
+        let mut sample = Err(SampleError::Failed);
         let (_, given) = read_item_since::<R, S, Brand>(&mut self.reader, spec_ex, &mut sample);
         let width = spec_ex.bytes_per_sample;
         self.samples_read += 1;

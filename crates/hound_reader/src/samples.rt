@@ -4,9 +4,8 @@ ghost use Rattle.std.specs.Iterator.{at_most, UpTo};
 ghost use Rattle.std.specs.Iterator.SizeHint.{IsWithinCount};
 ghost use Rattle.hound_reader.specs.Reader.{samples_left};
 
-use crate::item::error_of_item;
 use crate::reader::WavReader;
-use hound_sample::Sample;
+use hound_sample::{Sample, error_of_sample};
 use hound_spec::{Result, WavSpecEx};
 use std::io;
 use std::marker::PhantomData;
@@ -44,7 +43,7 @@ impl<R: io::Read + Drop, S: Sample> Iterator for WavSamples<'_, R, S> {
             Ok(sample) => return Some(Ok(sample)),
             Err(no_sample) => no_sample,
         };
-        Some(Err(error_of_item(no_sample, self.reader.last_fault())))
+        Some(Err(error_of_sample(no_sample, self.reader.last_fault())))
     }
 
     fn size_hint(&self) -> (usize, Option<usize>)
@@ -88,7 +87,7 @@ impl<R: io::Read + Drop, S: Sample> Iterator for WavIntoSamples<R, S> {
             Ok(sample) => return Some(Ok(sample)),
             Err(no_sample) => no_sample,
         };
-        Some(Err(error_of_item(no_sample, self.reader.last_fault())))
+        Some(Err(error_of_sample(no_sample, self.reader.last_fault())))
     }
 
     fn size_hint(&self) -> (usize, Option<usize>)

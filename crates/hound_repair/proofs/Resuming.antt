@@ -1,6 +1,6 @@
 -- What is held while the data length of a repair is written.
 use Rattle.std.proofs.lemmas.Grind.{common_steps}
-use Rattle.std.proofs.Common.{◌≡◌, ℕ, ◌+◌, ◌-◌, ◌*◌, ◌/◌, ◌≤◌, List, length, drop, inl, inr, sym, ap, ◌∙◌, arith, take-append-drop}
+use Rattle.std.proofs.Common.{◌≡◌, ℕ, ◌+◌, ◌*◌, ◌/◌, ◌≤◌, List, inl, inr, sym, ap, ◌∙◌, arith, take-append-drop}
 use Rattle.std.proofs.lemmas.Nat.{div-add-mod', div-mul-add}
 use Rattle.hound_number.specs.{bytes_of, mix, number}
 use Rattle.hound_spec.proofs.FmtLemmas.{number-bytes_of}

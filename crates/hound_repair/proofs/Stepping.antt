@@ -1,6 +1,6 @@
 -- A look at a file, one part after the other.
 use Rattle.std.proofs.lemmas.Grind.{common_steps}
-use Rattle.std.proofs.Common.{◌≡◌, ℕ, ◌+◌, ◌-◌, ◌≤◌, ◌<◌, Bool, true, false, ◌&&◌, ◌||◌, nat_lt, List, [], ◌++◌, length, drop, take, inl, inr, min, ◌^◌, Some, None, Err, Ok, refl, sym, ap, ◌∙◌, arith, length-drop, length-take}
+use Rattle.std.proofs.Common.{◌≡◌, ℕ, ◌+◌, ◌-◌, ◌≤◌, ◌<◌, Bool, true, false, ◌&&◌, ◌||◌, nat_lt, List, [], ◌++◌, length, drop, take, inl, inr, min, ◌^◌, Some, None, Err, refl, sym, ap, ◌∙◌, arith, length-drop, length-take}
 use Rattle.std.proofs.lemmas.Bool.{cases_lt}
 use Rattle.std.proofs.lemmas.List.{take-append-le, take-take, take_all, drop-drop}
 use Rattle.std.specs.Prelude.{bytes_eq, codes, slice_index, if◌then◌else◌}
@@ -354,7 +354,3 @@ pub part_read : (count asked asked_for place place_for size : ℕ) (given after 
 part_read count asked asked_for place place_for size given after contents now long size_is within same is a p =
     take-append-le count given after (omega (arith, long, within))
     ∙ is ∙ (λ i. take ((size_is ∙ a) i) (drop (p i) (same i)))
-
--- a length that was counted up to there
-pub counted : (n : ℕ) (file : List ℕ) → n ≡ min (held 0 file) (2 ^ 33) → IsLengthOf n file
-counted n file is = omega (arith, is, length-drop 0 file)

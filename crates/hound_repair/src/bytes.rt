@@ -7,11 +7,10 @@ ghost use Rattle.hound_repair.specs.Repairing.{IsFoundAt};
 ghost use Rattle.hound_repair.specs.Steps.{unrepaired_for};
 
 use crate::look::{Damage, Rest};
-use crate::read_at::Window;
 use crate::sizes::{Repair, RepairState};
-use crate::steps::{LookError, Refusal, after_head, look_on};
+use crate::steps::{Look, LookStep, Refusal, after_head, take_asked};
 use hound_number::le_u32;
-use hound_walk::FileHead;
+use hound_walk::{FileHead, bytes_at};
 use std::result;
 
 /// Why a file in memory isn't repaired.
@@ -58,11 +57,18 @@ fn measure_bytes(bytes: &[u8], head: FileHead, rest: Rest) -> result::Result<Dam
     ensures fault { IfErr result (IsUnmeasured head bytes.now) }
 {
     let length = bytes.len() as u64;
-    let mut window = Window { bytes };
-    match look_on(&mut window, length, rest, after_head(length, head)) {
-        Ok(damage) => Ok(damage),
-        Err(LookError::Refused(why)) => Err(unrepaired_for(why)),
-        Err(LookError::Failed(_)) => unreachable!(),
+    let mut stage = after_head(length, head);
+    'parts: loop {
+        let look = Look {
+            length,
+            rest,
+            stage,
+        };
+        match take_asked(look, bytes_at(bytes, look.place(), look.count())) {
+            Ok(LookStep::Next(next)) => stage = next,
+            Ok(LookStep::Found(damage)) => return Ok(damage),
+            Err(why) => return Err(unrepaired_for(why)),
+        }
     }
 }
 

@@ -7,7 +7,7 @@ ghost use Rattle.hound_repair.specs.Damages.{AreRightSizes};
 ghost use Rattle.hound_repair.specs.Repairing.{size_fault};
 
 use crate::look::SeenHead;
-use hound_spec::{Error, Result, WavSpecEx, riff_size};
+use hound_spec::{Error, Result, WavSpecEx, riff_size, riff_size_fits};
 use std::fmt;
 
 /// What a file was found as.
@@ -83,12 +83,11 @@ pub(crate) fn right_sizes(head: SeenHead, shown: u64, held: u64) -> Result<Sizes
     };
     let frames = data / frame;
     let right = frames * frame;
-    let riff = riff_size(head.data_start, right);
-    if riff > u32::MAX as u64 {
+    if !riff_size_fits(head.data_start, right) {
         return Err(Error::TooLong);
     }
     Ok(Sizes {
-        riff_size: riff as u32,
+        riff_size: riff_size(head.data_start, right) as u32,
         data_length: right as u32,
         frames: frames as u32,
         left_over: (data % frame) as u32,

@@ -13,7 +13,7 @@ ghost use Rattle.hound_repair.specs.declared.steps.Repairing.TheVariants as stat
 use crate::look::{
     Damage, ID3_LENGTH, ID3_TAG, Rest, SeenHead, content_of, has_known_tag, seen_head,
 };
-use crate::read_at::ReadAt;
+use crate::read_at::{LIMIT, length_of, part_at};
 use crate::sizes::{Repair, RepairState, right_sizes};
 use hound_medium::{Medium, Source, put_all};
 use hound_number::{le_u32, u32_at};
@@ -21,9 +21,6 @@ use hound_spec::{Error, is_pair};
 use hound_walk::{Cause, FileHead, HeadError, HeadWalk, Part, Step, error_of, take_part};
 use hound_writer::{Action, Effect, Report};
 use std::io;
-
-// More than any RIFF size says: bytes are counted up to here.
-const LIMIT: u64 = 8_589_934_592;
 
 /// Why a file isn't repaired, by its bytes.
 #[derive(Clone, Copy, Debug, PartialEq, Eq)]
@@ -579,23 +576,22 @@ pub(crate) enum LookError {
     Refused(Refusal),
 }
 
-/// Looks on at a file of so many bytes, which are read at places, one part after the other.
-pub(crate) fn look_on<R: ReadAt>(
-    source: &mut R,
-    length: u64,
-    rest: Rest,
-    first: Stage,
-) -> Result<Damage, LookError>
-    requires sound { IsSoundStage first }
-    requires length { WhereTells R.tells (IsLengthOf length (R.state source.old).contents) }
-    requires at { WhereTells R.tells
-        (IsAtStage (may_be_chunks rest) (R.state source.old).contents first) }
+/// Looks at a file from its beginning, one part after the other.
+pub(crate) fn look_by_parts<S: Source>(source: &mut S, rest: Rest) -> Result<Damage, LookError>
     ensures sound { IfOk result IsSoundDamage }
-    ensures finds { WhereTells R.tells (MatchResult result
-        (λ damage. FindsDamage (may_be_chunks rest) (R.state source.old) damage (R.state source.new))
-        (λ error. IsNotLookedAt error (R.state source.old) (R.state source.new))) }
+    ensures finds { WhereTells S.tells (MatchResult result
+        (λ damage. FindsDamage (may_be_chunks rest) (S.state source.old) damage (S.state source.new))
+        (λ error. IsNotLookedAt error (S.state source.old) (S.state source.new))) }
 {
-    let mut stage = first;
+    let length = match length_of(source) {
+        Ok(length) => length,
+        Err(error) => return Err(LookError::Failed(error)),
+    };
+    let mut stage = Stage::Head(HeadWalk {
+        found: None,
+        taken: 0,
+        part: Part::Front,
+    });
     'parts: loop {
         let look = Look {
             length,
@@ -604,7 +600,7 @@ pub(crate) fn look_on<R: ReadAt>(
         };
         let mut buf = [0; 40];
         let asked = look.count();
-        let count = match source.part_at(look.place(), &mut buf[..asked]) {
+        let count = match part_at(source, look.place(), &mut buf[..asked]) {
             Ok(count) => count,
             Err(error) => return Err(LookError::Failed(error)),
         };
@@ -614,25 +610,6 @@ pub(crate) fn look_on<R: ReadAt>(
             Err(why) => return Err(LookError::Refused(why)),
         }
     }
-}
-
-/// Looks at a file from its beginning.
-pub(crate) fn look_by_parts<R: ReadAt>(source: &mut R, rest: Rest) -> Result<Damage, LookError>
-    ensures sound { IfOk result IsSoundDamage }
-    ensures finds { WhereTells R.tells (MatchResult result
-        (λ damage. FindsDamage (may_be_chunks rest) (R.state source.old) damage (R.state source.new))
-        (λ error. IsNotLookedAt error (R.state source.old) (R.state source.new))) }
-{
-    let length = match source.held_from(0) {
-        Ok(length) => length,
-        Err(error) => return Err(LookError::Failed(error)),
-    };
-    let walk = HeadWalk {
-        found: None,
-        taken: 0,
-        part: Part::Front,
-    };
-    look_on(source, length, rest, Stage::Head(walk))
 }
 
 /// The error that callers get.

@@ -5,7 +5,8 @@ use Rattle.std.proofs.lemmas.Grind.{flat_map-append, common_steps}
 use Rattle.std.proofs.Math.Bool.{and_assoc}
 use Rattle.std.specs.List.{concat, AllByRecursion}
 use Rattle.hound_spec.specs.declared.error.Error.{Error}
-use Rattle.hound_sample.specs.Container.{Refusal, containers, IsEncoded, error_of, all_containers, and_more, bytes_in, first_error, joined_containers}
+use Rattle.hound_sample.specs.Container.{Refusal, containers, IsEncoded, error_of, all_containers, and_more, bytes_in, joined_containers}
+use Rattle.hound_sample.specs.Reading.{first_reason, reason_of}
 
 -- there is a list if both results are Ok
 and_more-ok : (first : Result (List ℕ) Refusal) (more : Result (List (List ℕ)) Refusal)
@@ -232,10 +233,11 @@ encoded_ok (Err refusal) answer is = ap is_ok is
 -- the first error that `encode` returns is that of all
 pub refused_as : {T : Type 0} (asked : Result (List ℕ) Refusal) (all : Result T Refusal) (e : Error)
     → IsEncoded asked (Err e) → ((refusal : Refusal) → asked ≡ Err refusal → all ≡ Err refusal)
-    → first_error all ≡ Err e
+    → first_reason all ≡ Err (reason_of e)
 refused_as (Ok container) all e is first = cc
 refused_as (Err refusal) all e is first =
-    let same : error_of refusal ≡ e = cc in ap first_error (first refusal refl) ∙ ap Err same
+    let same : error_of refusal ≡ e = cc in
+    ap first_reason (first refusal refl) ∙ ap (λ e. Err (reason_of e)) same
 
 -- a container is what is before the zeros
 pub cut : (width : ℕ) (container array : List ℕ)

@@ -3,9 +3,11 @@ use Rattle.std.proofs.lemmas.Grind.{common_steps}
 use Rattle.std.proofs.Common.{◌≡◌, ℕ, ◌<◌, List, length, refl, sym, arith, drop_at, length-append, Option, Some, None, Result, Ok}
 use Rattle.hound_spec.specs.declared.error.Error.{Error}
 use Rattle.std.specs.Io.KnownBytes.{Consumes}
+use Rattle.std.specs.declared.io.Error.{Error as IoFault}
 use Rattle.hound_number.specs.{WhereKnown}
 use Rattle.hound_number.proofs.KnownSteps.{known_from}
-use Rattle.hound_sample.specs.Reading.{ReadRefusal, Reads, ReadsContainer, TakesContainer, TakesPart, read_error}
+use Rattle.hound_sample.specs.Container.{Refusal, error_of, too_wide, unsupported}
+use Rattle.hound_sample.specs.Reading.{ReadRefusal, Reads, ReadsContainer, TakesContainer, TakesPart, error_of_sample, read_error, reason_of}
 
 pub takes_container : {A : Type 0} (bytes : List ℕ) (old new : Option (List ℕ)) (width : ℕ)
     (meaning : List ℕ → A) (value : A) → Consumes old new bytes → length bytes ≡ width
@@ -29,3 +31,9 @@ pub reads_container : {A : Type 0} (refusal : Option ReadRefusal) (meaning : Lis
     → ReadsContainer meaning width old new result → Reads refusal meaning width old new result
 reads_container None meaning width old new result is reads = reads
 reads_container (Some refusal) meaning width old new result is reads = cc
+
+-- a reason has the error that it is of, whichever fault was saved
+pub same_error : (refusal : Refusal) (fault : IoFault)
+    → error_of_sample (reason_of (error_of refusal)) fault ≡ error_of refusal
+same_error too_wide fault = refl
+same_error unsupported fault = refl

@@ -92,8 +92,3 @@ bytes_in (Err refusal) = []
 -- the containers of values, joined
 abbrev pub joined_containers : {V : Type 0} → (V → Result (List ℕ) Refusal) → List V → List ℕ
 joined_containers container values = flat_map (λ value. bytes_in (container value)) values
-
--- Ok if all values have containers, or the error of the first that has none
-abbrev pub first_error : {T : Type 0} → Result T Refusal → Result (Unit {0}) Error
-first_error (Ok list) = Ok tt
-first_error (Err refusal) = Err (error_of refusal)

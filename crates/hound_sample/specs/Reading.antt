@@ -6,11 +6,11 @@ use Rattle.hound_spec.specs.{is_pair}
 use Rattle.hound_spec.specs.declared.spec.SampleFormat.{SampleFormat}
 use Rattle.hound_spec.specs.declared.spec.SampleFormat.TheVariants.{Int, Float}
 use Rattle.hound_spec.specs.declared.error.Error.{Error}
-use Rattle.hound_spec.specs.declared.error.Error.TheVariants.{IoError, TooWide, Unsupported, InvalidSampleFormat}
+use Rattle.hound_spec.specs.declared.error.Error.TheVariants.{IoError, TooLong, TooWide, Unsupported, InvalidSampleFormat}
 use Rattle.std.specs.declared.io.Error.{Error as IoFault}
 use Rattle.hound_sample.specs.Container.{Refusal, too_wide, unsupported, error_of}
-use Rattle.hound_sample.specs.declared.item.ItemError.{ItemError}
-use Rattle.hound_sample.specs.declared.item.ItemError.TheVariants as items
+use Rattle.hound_sample.specs.declared.item.SampleError.{SampleError}
+use Rattle.hound_sample.specs.declared.item.SampleError.TheVariants as items
 
 -- why a type doesn't read samples: they are of another format, too wide for it, or have bits and bytes
 -- that it doesn't read
@@ -85,28 +85,34 @@ Reads (Some refusal) meaning width old new result = (result ≡ Err (error_of_re
     × (new ≡ old)
 Reads None meaning width old new result = ReadsContainer meaning width old new result
 
--- the reason that an error of `read` gives
-abbrev pub reason_of : Error → ItemError
+-- the reason that an error of a sample gives
+abbrev pub reason_of : Error → SampleError
 reason_of (IoError fault) = items.Failed
 reason_of InvalidSampleFormat = items.OtherFormat
 reason_of TooWide = items.TooWide
 reason_of _ = items.Unsupported
 
+-- Ok if all values have containers, or the reason of the first that has none
+abbrev pub first_reason : {T : Type 0} → Result T Refusal → Result (Unit {0}) SampleError
+first_reason (Ok list) = Ok tt
+first_reason (Err refusal) = Err (reason_of (error_of refusal))
+
 -- the error of that reason, with this saved fault
-abbrev pub error_of_item : ItemError → IoFault → Error
-error_of_item items.Failed fault = IoError fault
-error_of_item items.OtherFormat fault = InvalidSampleFormat
-error_of_item items.TooWide fault = TooWide
-error_of_item items.Unsupported fault = Unsupported
+abbrev pub error_of_sample : SampleError → IoFault → Error
+error_of_sample items.Failed fault = IoError fault
+error_of_sample items.OtherFormat fault = InvalidSampleFormat
+error_of_sample items.TooWide fault = TooWide
+error_of_sample items.Unsupported fault = Unsupported
+error_of_sample items.TooLong fault = TooLong
 
 -- what `read` returns, with this fault
-abbrev pub answer_of : {A : Type 0} → Result A ItemError → IoFault → Result A Error
+abbrev pub answer_of : {A : Type 0} → Result A SampleError → IoFault → Result A Error
 answer_of (Ok value) fault = Ok value
-answer_of (Err no_sample) fault = Err (error_of_item no_sample fault)
+answer_of (Err no_sample) fault = Err (error_of_sample no_sample fault)
 
 -- `read_item`: a sample is read as `read` does it, whichever the fault is
 abbrev pub ReadsItem : {A : Type 0} → Option ReadRefusal → (List ℕ → A) → ℕ → Option (List ℕ)
-    → Option (List ℕ) → Result A ItemError → Type 0
+    → Option (List ℕ) → Result A SampleError → Type 0
 ReadsItem refusal meaning width old new answer = (fault : IoFault)
     → Reads refusal meaning width old new (answer_of answer fault)
 

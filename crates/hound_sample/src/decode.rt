@@ -1,13 +1,14 @@
 // Containers that are read and decoded: one, or many in few reads, which fill pieces of whole
 // containers.
-ghost use Rattle.std.specs.Prelude.{◌≡◌, ◌≤◌, ◌<◌, ◌*◌, ◌⊎◌, ℕ, List, length, map, take, Option, None, IsOk, IsSome, OnErr, OnOk};
+ghost use Rattle.std.specs.Prelude.{◌≡◌, ◌≤◌, ◌<◌, ◌*◌, ℕ, List, length, map, take, Option, None, IsOk, IsSome, OnErr, OnOk};
 ghost use Rattle.std.specs.Io.KnownBytes.{Consumes};
 ghost use Rattle.hound_sample.specs.Container.{containers};
 ghost use Rattle.hound_sample.specs.Reading.{ReadsItem, FillsFront, ReadsEach, items_of, ReadRefusal, Reads, float_refusal, int_refusal, read_error};
+ghost use Rattle.hound_spec.specs.{IsPair};
 ghost use Rattle.hound_spec.specs.declared.spec.SampleFormat.{SampleFormat};
 ghost use Rattle.hound_spec.specs.declared.spec.SampleFormat.TheVariants.{Float, Int};
 
-use crate::item::{ContainerReader, ItemError, reason_of};
+use crate::item::{ContainerReader, SampleError, reason_of};
 use hound_number::{early_end, read_into};
 use hound_spec::{Error, Result, SampleFormat, is_pair};
 use std::{io, result};
@@ -33,12 +34,7 @@ pub trait Decode: Sized + Drop {
     /// errors of [`Sample::read`](crate::Sample::read).
     fn check(fmt: SampleFormat, bytes: u16, bits: u16) -> Result<()>
         ensures check { result ≡ read_error (decode_refusal fmt bytes bits) }
-        ensures some { IsOk result → 1 ≤ bytes }
-        ensures few { IsOk result → bytes ≤ 4 }
-        ensures one_byte { IsOk result → bytes ≡ 1 → bits ≡ 8 }
-        ensures two_bytes { IsOk result → bytes ≡ 2 → bits ≡ 16 }
-        ensures three_bytes { IsOk result → bytes ≡ 3 → bits ≡ 24 }
-        ensures four_bytes { IsOk result → bytes ≡ 4 → (bits ≡ 24) ⊎ (bits ≡ 32) };
+        ensures pair { IsOk result → IsPair fmt bits bytes };
 
     /// The value of a container of this many bytes.
     fn decode(container: &[u8], fmt: SampleFormat, bytes: u16, bits: u16) -> Self
@@ -58,12 +54,7 @@ pub(crate) fn check_type(
 ) -> Result<()>
     ensures int { format ≡ Int → result ≡ read_error (int_refusal most fmt bytes bits) }
     ensures float { format ≡ Float → most ≡ 4 → result ≡ read_error (float_refusal fmt bytes bits) }
-    ensures some { IsOk result → 1 ≤ bytes }
-    ensures few { IsOk result → bytes ≤ 4 }
-    ensures one_byte { IsOk result → bytes ≡ 1 → bits ≡ 8 }
-    ensures two_bytes { IsOk result → bytes ≡ 2 → bits ≡ 16 }
-    ensures three_bytes { IsOk result → bytes ≡ 3 → bits ≡ 24 }
-    ensures four_bytes { IsOk result → bytes ≡ 4 → (bits ≡ 24) ⊎ (bits ≡ 32) }
+    ensures pair { IsOk result → IsPair fmt bits bytes }
 {
     if fmt == format && bytes <= most && is_pair(fmt, bits, bytes) {
         return Ok(());
@@ -98,14 +89,34 @@ pub(crate) fn read_container<S: Decode, R: io::Read>(
     }
 }
 
-/// Takes the next container and decodes it, as [`Sample::read_item`](crate::Sample::read_item) does.
+// Takes the next container and decodes it.
+#[inline(always)]
+fn decode_container<S: Decode, R: ContainerReader>(
+    reader: &mut R,
+    fmt: SampleFormat,
+    bytes: u16,
+    bits: u16,
+) -> result::Result<S, SampleError>
+    requires decodes { S.decode_refusal fmt bytes bits ≡ None }
+    requires some { 1 ≤ bytes }
+    requires few { bytes ≤ 4 }
+    ensures { ReadsItem None (S.value fmt bytes bits) bytes (R.remaining reader.old) (R.remaining reader.new) result }
+{
+    match reader.next_container(bytes) {
+        Some(container) => Ok(S::decode(&container[..bytes as usize], fmt, bytes, bits)),
+        None => Err(SampleError::Failed),
+    }
+}
+
+/// Takes the next container and decodes it, as [`Sample::read_item`](crate::Sample::read_item) does,
+/// with constant widths for each pair.
 #[inline(always)]
 pub(crate) fn decode_next<S: Decode, R: ContainerReader>(
     reader: &mut R,
     fmt: SampleFormat,
     bytes: u16,
     bits: u16,
-) -> result::Result<S, ItemError>
+) -> result::Result<S, SampleError>
     ensures item { ReadsItem (S.decode_refusal fmt bytes bits) (S.value fmt bytes bits) bytes
         (R.remaining reader.old) (R.remaining reader.new) result }
     ensures untouched { IsSome (S.decode_refusal fmt bytes bits) → reader.new ≡ reader.old }
@@ -113,9 +124,12 @@ pub(crate) fn decode_next<S: Decode, R: ContainerReader>(
     if let Err(error) = S::check(fmt, bytes, bits) {
         return Err(reason_of(error));
     }
-    match reader.next_container(bytes) {
-        Some(container) => Ok(S::decode(&container[..bytes as usize], fmt, bytes, bits)),
-        None => Err(ItemError::Failed),
+    match (bytes, bits) {
+        (1, _) => decode_container(reader, fmt, 1, 8),
+        (2, _) => decode_container(reader, fmt, 2, 16),
+        (3, _) => decode_container(reader, fmt, 3, 24),
+        (4, 24) => decode_container(reader, fmt, 4, 24),
+        _ => decode_container(reader, fmt, 4, 32),
     }
 }
 

@@ -10,7 +10,7 @@ ghost use Rattle.hound_spec.specs.declared.spec.SampleFormat.TheVariants.{Float,
 
 use crate::Sample;
 use crate::decode::{Decode, check_type, decode_next, read_container, read_containers};
-use crate::item::{ContainerReader, ItemError};
+use crate::item::{ContainerReader, SampleError};
 use hound_number::{le_u32, u32_at};
 use hound_spec::{Error, Result, SampleFormat};
 use std::num::{f32_from_bits_with_nan, f32_to_bits_with_nan};
@@ -99,7 +99,7 @@ impl Sample for FloatBits {
         fmt: SampleFormat,
         bytes: u16,
         bits: u16,
-    ) -> result::Result<FloatBits, ItemError> {
+    ) -> result::Result<FloatBits, SampleError> {
         decode_next(reader, fmt, bytes, bits)
     }
 

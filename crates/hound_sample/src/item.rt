@@ -1,41 +1,66 @@
-// Items: why one has no sample, and what they are read from.
+// Why a sample isn't read or written, and what items are read from.
 ghost use Rattle.std.specs.Prelude.{◌≡◌, ◌≤◌, ◌<◌, ℕ, List, None, IfSome, length, take};
 ghost use Rattle.std.specs.Io.KnownBytes.{Consumes};
-ghost use Rattle.hound_sample.specs.Reading.{reason_of};
+ghost use Rattle.hound_sample.specs.Reading.{error_of_sample, reason_of};
 
 use hound_spec::Error;
 use std::io;
 
-/// Why an item has no sample.
-///
-/// An `Error` has 96 bytes, which would be filled with zeros and copied for each item; this has
-/// one.
+/// Why a sample isn't read or written: an [`Error`] in one byte, whose fault is saved elsewhere. An
+/// `Error` holds its fault, and so it is large, and would be copied on the path of each sample.
 #[derive(Clone, Copy)]
-pub enum ItemError {
-    /// A read failed or the input ended, by a fault that the reader saved.
+pub enum SampleError {
+    /// A call failed or the input ended, by a fault that was saved.
     Failed,
 
     /// Samples of this format aren't read as the type.
     OtherFormat,
 
-    /// The samples have more bytes than the type.
+    /// The samples have more bytes than the type, or the sample doesn't fit in the file's bits.
     TooWide,
 
-    /// Samples of these bits and bytes aren't read as the type.
+    /// Samples of these bits and bytes aren't read or written as the type.
     Unsupported,
+
+    /// The file has no room for it.
+    TooLong,
 }
 
-/// The reason that an error of `Sample::read` gives; there are no others than these.
+/// The reason that an error of `Sample::read` or `Sample::encode` gives; they have no others than these.
 #[inline(always)]
-pub fn reason_of(error: Error) -> ItemError
+pub fn reason_of(error: Error) -> SampleError
     ensures { result ≡ reason_of error }
 {
     match error {
-        Error::IoError(_) => ItemError::Failed,
-        Error::InvalidSampleFormat => ItemError::OtherFormat,
-        Error::TooWide => ItemError::TooWide,
-        _ => ItemError::Unsupported,
+        Error::IoError(_) => SampleError::Failed,
+        Error::InvalidSampleFormat => SampleError::OtherFormat,
+        Error::TooWide => SampleError::TooWide,
+        _ => SampleError::Unsupported,
     }
+}
+
+/// The error for a reason, with this saved fault.
+///
+/// It begins as the fault and is changed in its place: so the one copy that is made of the fault
+/// goes to where the caller needs the error.
+#[inline(always)]
+pub fn error_of_sample(no_sample: SampleError, fault: &io::Error) -> Error
+    ensures { result ≡ error_of_sample no_sample fault.now }
+{
+    let mut error = Error::IoError(*fault);
+    if let SampleError::OtherFormat = no_sample {
+        error = Error::InvalidSampleFormat;
+    }
+    if let SampleError::TooWide = no_sample {
+        error = Error::TooWide;
+    }
+    if let SampleError::Unsupported = no_sample {
+        error = Error::Unsupported;
+    }
+    if let SampleError::TooLong = no_sample {
+        error = Error::TooLong;
+    }
+    error
 }
 
 /// A reader that takes whole containers, and saves the fault that cut one.

@@ -12,7 +12,7 @@ mod slices;
 
 pub use decode::Decode;
 pub use float::FloatBits;
-pub use item::{ContainerReader, ItemError, reason_of};
+pub use item::{ContainerReader, SampleError, error_of_sample, reason_of};
 pub use laws::{i16s_are_kept, integers_come_back};
 pub use sample::Sample;
 pub use scale::{change_bits, float_to_int, int_to_float};

@@ -7,7 +7,7 @@ ghost use Rattle.hound_spec.specs.declared.spec.SampleFormat.{SampleFormat};
 
 use crate::decode::{decode_next, read_container, read_containers};
 use crate::integer::{Integer, encode_integer, lowest_16_bits};
-use crate::item::{ContainerReader, ItemError, reason_of};
+use crate::item::{ContainerReader, SampleError, reason_of};
 use hound_number::write_bytes;
 use hound_spec::{Result, SampleFormat};
 use std::{io, result};
@@ -90,7 +90,7 @@ pub trait Sample: Sized + Drop {
         fmt: SampleFormat,
         bytes: u16,
         bits: u16,
-    ) -> result::Result<Self, ItemError>
+    ) -> result::Result<Self, SampleError>
         ensures item { ReadsItem (refusal fmt bytes bits) (meaning fmt bytes bits) bytes
             (R.remaining reader.old) (R.remaining reader.new) result }
         ensures untouched { IsSome (refusal fmt bytes bits) → reader.new ≡ reader.old }
@@ -165,7 +165,7 @@ impl<T: Integer> Sample for T {
         fmt: SampleFormat,
         bytes: u16,
         bits: u16,
-    ) -> result::Result<Self, ItemError> {
+    ) -> result::Result<Self, SampleError> {
         decode_next(reader, fmt, bytes, bits)
     }
 

@@ -1,13 +1,16 @@
 // The containers of many samples, one after the other: checked, stored and decoded at once.
 //
 // Each loop is written once and called for each pair of bits and bytes, whose numbers are constants
-// there, so that LLVM makes vectors of it.
+// there, so that LLVM makes vectors of it. A new pair needs an arm in each `match`: by the last arm
+// it is right, but slow, and nothing reports it.
 ghost use Rattle.std.specs.Prelude.{◌≡◌, ◌+◌, ◌*◌, ◌≤◌, ◌++◌, None, IsOk, is_ok, length, map, take};
-ghost use Rattle.hound_sample.specs.Container.{containers, all_containers, first_error, joined_containers};
+ghost use Rattle.hound_sample.specs.Reading.{first_reason};
+ghost use Rattle.hound_sample.specs.Container.{containers, all_containers, joined_containers};
 
 use crate::Sample;
 use crate::decode::{Decode, decode_each};
-use hound_spec::{Result, SampleFormat};
+use crate::item::{SampleError, reason_of};
+use hound_spec::SampleFormat;
 
 // Whether all samples have containers. It looks at each of them, whatever came before.
 #[inline(always)]
@@ -36,15 +39,19 @@ pub fn have_containers<S: Sample + Copy>(samples: &[S], bits: u16, width: u16) -
     }
 }
 
-/// The error of the first sample that has no container, if there is one.
+/// Why the first sample that has no container has none, if there is one.
 #[cold]
 #[inline(never)]
-pub fn check_containers<S: Sample + Copy>(samples: &[S], bits: u16, width: u16) -> Result<()>
-    ensures { result ≡ first_error (all_containers (λ s. S.container s bits width) samples.now) }
+pub fn check_containers<S: Sample + Copy>(
+    samples: &[S],
+    bits: u16,
+    width: u16,
+) -> Result<(), SampleError>
+    ensures { result ≡ first_reason (all_containers (λ s. S.container s bits width) samples.now) }
 {
     for sample in samples {
         if let Err(error) = sample.encode(bits, width) {
-            return Err(error);
+            return Err(reason_of(error));
         }
     }
     Ok(())

@@ -50,7 +50,7 @@ pub fn find_file_damage(file: &[u8]) -> Result<HoundRepair, Fault>
         Ok(repair) => Ok(repair_for_c(repair, head, file.len() as u64)),
         Err(Unrepaired::Unsupported) => Err(Fault::NotWritable),
         Err(Unrepaired::TooLong) => Err(Fault::TooLong),
-        Err(Unrepaired::NoRoom) => unreachable!(),
+        Err(Unrepaired::NoRoom) => Err(Fault::NoRoom),
     }
 }
 

@@ -7,8 +7,8 @@ ghost use Rattle.hound_slices.specs.Writing.{Encodes, GivesHeader, GivesSizes, I
 use crate::fault::Fault;
 use crate::spec::{HoundSpec, spec_from_c};
 use hound_number::le_u32;
-use hound_sample::{Sample, check_containers, have_containers, store_containers};
-use hound_spec::{Error, SampleFormat, WavSpecEx, header_length, header_of, is_pair};
+use hound_sample::{Sample, SampleError, check_containers, have_containers, store_containers};
+use hound_spec::{SampleFormat, WavSpecEx, header_length, header_of, is_pair, riff_size_fits};
 
 /// Checks that all samples have containers.
 pub(crate) fn check_samples<S: Sample + Copy>(
@@ -23,7 +23,7 @@ pub(crate) fn check_samples<S: Sample + Copy>(
     }
     match check_containers(samples, bits, width) {
         Ok(()) => Ok(()),
-        Err(Error::TooWide) => Err(Fault::TooWide),
+        Err(SampleError::TooWide) => Err(Fault::TooWide),
         Err(_) => Err(Fault::NotWritable),
     }
 }
@@ -87,7 +87,7 @@ pub(crate) fn sizes_of(
     }
     let data_length = count as u64 * spec_ex.bytes_per_sample as u64;
     let end = data_start as u64 + data_length + data_length % 2;
-    if end - 8 > u32::MAX as u64 {
+    if !riff_size_fits(data_start as u64, data_length) {
         return Err(Fault::TooLong);
     }
     Ok((data_length as u32, end as usize))

@@ -1,8 +1,8 @@
 // The bytes before the data.
-ghost use Rattle.std.specs.Prelude.{◌≡◌, ◌+◌, ◌-◌, ◌*◌, ◌^◌, ◌≤◌, ◌++◌, [], List, ℕ, length, take, min};
+ghost use Rattle.std.specs.Prelude.{◌≡◌, ◌+◌, ◌-◌, ◌*◌, ◌^◌, ◌≤◌, ◌++◌, ◌↔◌, [], IsTrue, List, ℕ, length, take, min};
 ghost use Rattle.hound_spec.specs.Header.{IsWritable, is_short, data_start, fields, header, riff_size, mask, short_fmt, long_fmt, sized_fmt};
 ghost use Rattle.hound_number.specs.{bytes_of};
-ghost use Rattle.hound_spec.specs.FmtChunk.{fmt_bytes, subformat};
+ghost use Rattle.hound_spec.specs.FmtChunk.{fmt_bytes, greatest_u32, subformat};
 
 use crate::{Error, Result, SampleFormat, WavSpec, WavSpecEx};
 use hound_number::{le_u16, le_u32};
@@ -130,6 +130,18 @@ pub fn riff_size(data_start: u64, data_length: u64) -> u64
     ensures { result ≡ riff_size data_start data_length }
 {
     data_start - 8 + data_length + data_length % 2
+}
+
+/// Whether the RIFF size of such a file fits 32 bits.
+#[inline(always)]
+pub fn riff_size_fits(data_start: u64, data_length: u64) -> bool
+    requires { 8 ≤ data_start }
+    ensures { IsTrue result ↔ riff_size data_start data_length ≤ greatest_u32 }
+{
+    let greatest = u32::MAX as u64;
+    data_start <= greatest + 8
+        && data_length <= greatest
+        && riff_size(data_start, data_length) <= greatest
 }
 
 // The fields of a WAVEFORMAT, and the bits after them.

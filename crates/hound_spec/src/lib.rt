@@ -11,6 +11,7 @@ pub use header::{
     EXTENSION_LENGTH, Header, KSDATAFORMAT_SUBTYPE_IEEE_FLOAT, KSDATAFORMAT_SUBTYPE_PCM,
     PCMWAVEFORMAT_LENGTH, WAVE_FORMAT_EXTENSIBLE, WAVE_FORMAT_IEEE_FLOAT, WAVE_FORMAT_PCM,
     WAVEFORMATEX_LENGTH, WAVEFORMATEXTENSIBLE_LENGTH, header_length, header_of, riff_size,
+    riff_size_fits,
 };
 pub use laws::{extensions_come_back, fields_come_back};
 pub use spec::{SampleFormat, WavSpec, WavSpecEx, is_pair};

@@ -18,4 +18,4 @@ pub use chunks::{FileHead, find_data, read_until_data};
 pub use head::{read_until_samples, read_wave_header};
 pub use input::Counted;
 pub use laws::{one_answer, written_is_head};
-pub use parts::{HeadWalk, Part, Step, count_samples, find_by_parts, take_part};
+pub use parts::{HeadWalk, Part, Step, bytes_at, count_samples, find_by_parts, take_part};

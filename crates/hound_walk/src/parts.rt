@@ -209,9 +209,9 @@ pub fn count_samples(head: FileHead) -> Result<u32, Cause>
     Ok(num_samples)
 }
 
-// The bytes of a file from a place on, at most so many.
+/// The bytes of a file from a place on, at most so many.
 #[inline(always)]
-fn bytes_at(file: &[u8], place: u64, count: usize) -> &[u8]
+pub fn bytes_at(file: &[u8], place: u64, count: usize) -> &[u8]
     ensures { result.now ≡ take count (drop place file.now) }
 {
     if place >= file.len() as u64 {

@@ -6,18 +6,18 @@ use Rattle.std.proofs.Math.Nat.{mul-div_cancel_left, mul-le-mul_right, mul-mod_r
 use Rattle.std.specs.List.{concat}
 use Rattle.std.specs.declared.io.Error.{Error as IoFault}
 use Rattle.hound_medium.specs.{overlay, WhereKeeps, WhereTells}
-use Rattle.hound_sample.specs.{Refusal, too_wide, unsupported, containers}
+use Rattle.hound_sample.specs.{Refusal, answer_of, containers, first_reason}
+use Rattle.hound_sample.specs.declared.item.SampleError.{SampleError}
 use Rattle.hound_spec.specs.declared.error.Error.{Error}
 use Rattle.hound_spec.specs.declared.error.Error.TheVariants.{TooLong}
 use Rattle.hound_spec.specs.declared.spec.WavSpecEx.{WavSpecEx}
 use Rattle.hound_spec.specs.{greatest_u32}
-use Rattle.hound_writer.specs.Accepting.{AcceptsBytes, whole_containers, Accepts, containers_in, outcome_of, sample_bytes}
-use Rattle.hound_writer.specs.Parts.{result_of, IsConsistent}
+use Rattle.hound_writer.specs.Accepting.{AcceptsBytes, whole_containers, Accepts, containers_in, sample_bytes}
+use Rattle.hound_writer.specs.Parts.{IsConsistent}
 use Rattle.hound_writer.specs.Writer.{Ghosts, WriterState, HasRoom, IsCounted, IsWhole}
-use Rattle.hound_writer.specs.declared.outcome.Outcome.{Outcome}
-use Rattle.hound_writer.specs.declared.outcome.Outcome.TheVariants.{Accepted}
 use Rattle.hound_writer.proofs.Accepting.{type_refuses}
 use Rattle.hound_sample.proofs.Joined.{joined, joined_size}
+use Rattle.hound_sample.proofs.Reading.{same_error}
 use Rattle.hound_writer.proofs.Samples.{valid_of}
 use Rattle.hound_writer.proofs.Writing.{bytes_too_long}
 
@@ -85,19 +85,16 @@ module _ {V : Type 0} (container : V → ℕ → ℕ → Result (List ℕ) Refus
       counts = (valid_of kind moved limit w known).counts
 
       -- one of them has no container
-      pub many_refused : (outcome : Outcome) (fault : IoFault)
-          → outcome ≡ outcome_of (containers_in container w.spec_ex values)
-          → (outcome ≡ Accepted → ⊥)
-          → Accepts kind (containers_in container w.spec_ex values)
-          (result_of outcome fault) w w
-      many_refused outcome fault is other = go (containers_in container w.spec_ex values) is
+      pub many_refused : (told : Result (Unit {0}) SampleError) (fault : IoFault)
+          → told ≡ first_reason (containers_in container w.spec_ex values)
+          → (IsOk (containers_in container w.spec_ex values) → ⊥)
+          → Accepts kind (containers_in container w.spec_ex values) (answer_of told fault) w w
+      many_refused told fault is none = rw is (go (containers_in container w.spec_ex values) none)
         where
-          go : (asked : Result (List (List ℕ)) Refusal) → outcome ≡ outcome_of asked
-              → Accepts kind asked (result_of outcome fault) w w
-          go (Ok list) is = absurd (other is)
-          go (Err too_wide) is = rw is (type_refuses kind w too_wide counts replays)
-          go (Err unsupported) is =
-              rw is (type_refuses kind w unsupported counts replays)
+          go : (asked : Result (List (List ℕ)) Refusal) → (IsOk asked → ⊥)
+              → Accepts kind asked (answer_of (first_reason asked) fault) w w
+          go (Ok list) none = absurd (none refl)
+          go (Err refusal) none = rw (same_error refusal fault) (type_refuses kind w refusal counts replays)
 
       -- the file has no room for all of them
       pub many_too_long : IsOk (containers_in container w.spec_ex values)
@@ -124,9 +121,3 @@ module _ {V : Type 0} (container : V → ℕ → ℕ → Result (List ℕ) Refus
           let wide : 1 * length values ≤ w.spec_ex.bytes_per_sample * length values =
           mul-le-mul_right (length values) known.sound.width in
           many_too_long have (λ room. omega (arith, many, room, wide))
-
--- the outcome of samples whose containers were checked
-pub looked_at : {T : Type 0} (asked : Result T Refusal) → Accepted ≡ outcome_of asked → IsOk asked
-looked_at (Ok list) is = refl
-looked_at (Err too_wide) is = cc
-looked_at (Err unsupported) is = cc

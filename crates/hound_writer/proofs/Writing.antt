@@ -4,9 +4,11 @@ use Rattle.std.proofs.Common.{◌≡◌, ℕ, ◌+◌, ◌/◌, ◌%◌, nat_le,
 use Rattle.std.specs.List.{concat}
 use Rattle.hound_medium.specs.{overlay, WhereTells, WhereKeeps}
 use Rattle.hound_spec.specs.declared.error.Error.{Error}
-use Rattle.hound_spec.specs.declared.error.Error.TheVariants.{TooLong, TooWide, Unsupported}
+use Rattle.hound_spec.specs.declared.error.Error.TheVariants.{TooLong}
 use Rattle.hound_spec.specs.{riff_size, greatest_u32}
-use Rattle.hound_sample.specs.{Refusal, error_of, too_wide, unsupported, containers, IsEncoded}
+use Rattle.std.specs.declared.io.Error.{Error as IoFault}
+use Rattle.hound_sample.proofs.Reading.{same_error}
+use Rattle.hound_sample.specs.{Refusal, error_of, error_of_sample, containers, IsEncoded, reason_of}
 use Rattle.hound_writer.specs.Accepting.{AcceptsBytes, Accepts, one}
 use Rattle.hound_writer.specs.Parts.{IsConsistent}
 use Rattle.hound_writer.specs.Writer.{Ghosts, WriterState, HasRoom, IsCounted, IsWhole, data_length}
@@ -33,25 +35,18 @@ bytes_too_long kind w bytes counts replays whole none =
     (rw (no_room w (length (concat list))
     (λ room. none (omega (arith, room, ap length (joined_bytes width bytes whole))))) refl)
 
--- an error of the type that isn't `TooWide`
-pub else_unsupported : (asked : Result (List ℕ) Refusal) (e : Error) → IsEncoded asked (Err e)
-    → (e ≡ TooWide → ⊥) → e ≡ Unsupported
-else_unsupported (Ok c) e is other = cc
-else_unsupported (Err too_wide) e is other = let same : e ≡ TooWide = cc in absurd (other same)
-else_unsupported (Err unsupported) e is other = cc
-
 -- a sample, and what a writer keeps true
 module _ {W : Type 0} (kind : Ghosts W) (moved : Bool) (limit : ℕ)
     (w : WriterState W) (known : IsConsistent kind w moved limit) where
   -- its type has no container for it
-  pub sample_refused : (asked : Result (List ℕ) Refusal) (e : Error) → IsEncoded asked (Err e)
-      → WhereKeeps kind.tells kind.keeps
+  pub sample_refused : (asked : Result (List ℕ) Refusal) (e : Error) (fault : IoFault)
+      → IsEncoded asked (Err e) → WhereKeeps kind.tells kind.keeps
       ((kind.state w.medium).contents ≡ overlay (kind.state w.medium).start (kind.state w.medium).past)
-      → Accepts kind (one asked) (Err e) w w
-  sample_refused (Ok c) e is replays = cc
-  sample_refused (Err refusal) e is replays =
+      → Accepts kind (one asked) (Err (error_of_sample (reason_of e) fault)) w w
+  sample_refused (Ok c) e fault is replays = cc
+  sample_refused (Err refusal) e fault is replays =
       let same : e ≡ error_of refusal = cc in
-      rw same
+      rw (same, same_error refusal fault)
       (type_refuses kind w refusal (valid_of kind moved limit w known).counts replays)
 
   -- the call was for its container

@@ -4,13 +4,11 @@ use Rattle.std.specs.List.{concat, flat_map}
 use Rattle.hound_spec.specs.declared.error.Error.{Error}
 use Rattle.hound_spec.specs.declared.error.Error.TheVariants.{IoError, UnfinishedSample, TooLong}
 use Rattle.hound_spec.specs.{riff_size, greatest_u32}
-use Rattle.hound_sample.specs.{Refusal, containers, error_of, int_container, too_wide, unsupported, all_containers, joined_containers}
+use Rattle.hound_sample.specs.{Refusal, containers, error_of, int_container, all_containers, joined_containers}
 use Rattle.hound_medium.specs.{one_more, moment, MediumState, WhereTells, WhereKeeps, Span}
 use Rattle.hound_writer.specs.Writer.{Ghosts, WriterState, AreFrames, data_length, Counts, IsWhole, IsCounted, accepted_samples, data_end}
 use Rattle.hound_number.specs.{signed_bytes_of}
 use Rattle.hound_spec.specs.declared.spec.WavSpecEx.{WavSpecEx}
-use Rattle.hound_writer.specs.declared.outcome.Outcome.{Outcome}
-use Rattle.hound_writer.specs.declared.outcome.Outcome.TheVariants as outcomes
 
 -- the medium failed
 abbrev pub IsIoError : Error → Type 0
@@ -161,12 +159,6 @@ abbrev pub AcceptsBytes : {W : Type 0} → Ghosts W → List ℕ →
     Result (Unit {0}) Error → WriterState W → WriterState W → Type 0
 AcceptsBytes kind bytes answer old new =
     Accepts kind (whole_containers old.spec_ex bytes) answer old new
-
--- the outcome of samples by their containers only
-abbrev pub outcome_of : {T : Type 0} → Result T Refusal → Outcome
-outcome_of (Ok list) = outcomes.Accepted
-outcome_of (Err too_wide) = outcomes.TooWide
-outcome_of (Err unsupported) = outcomes.Unsupported
 
 -- the container of a sample in a file of this spec, by its type's table, or the error
 abbrev pub container_in : {V : Type 0} → (V → ℕ → ℕ → Result (List ℕ) Refusal) → WavSpecEx → V →

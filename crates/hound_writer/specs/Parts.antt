@@ -4,7 +4,7 @@ use Rattle.std.specs.Prelude.{◌≡◌, ℕ, ◌+◌, ◌-◌, ◌≤◌, List,
 use Rattle.hound_number.specs.{AreBytes, mix}
 use Rattle.std.specs.declared.io.Error.{Error as IoFault}
 use Rattle.hound_spec.specs.declared.error.Error.{Error}
-use Rattle.hound_spec.specs.declared.error.Error.TheVariants.{IoError, UnfinishedSample, TooLong, TooWide, Unsupported}
+use Rattle.hound_spec.specs.declared.error.Error.TheVariants.{IoError, UnfinishedSample}
 use Rattle.hound_spec.specs.declared.spec.WavSpecEx.{WavSpecEx}
 use Rattle.hound_medium.specs.{placed, overlay, MediumState, faults_after, Span, WhereTells, WhereKeeps}
 use Rattle.hound_walk.specs.{Head}
@@ -12,8 +12,6 @@ use Rattle.hound_writer.specs.Publishing.{PutsLast, PutsFrom}
 use Rattle.hound_writer.specs.Writer.{Ghosts, SameButSizes, block_length, field, with_sizes, WriterState, IsSound, IsWhole, IsCounted, accepted_samples, data_length}
 use Rattle.hound_spec.specs.{riff_size, greatest_u32}
 use Rattle.hound_writer.specs.Accepting.{AddsAtEach, i16_bytes}
-use Rattle.hound_writer.specs.declared.outcome.Outcome.{Outcome}
-use Rattle.hound_writer.specs.declared.outcome.Outcome.TheVariants as outcomes
 
 -- these bytes were written at a place, or at an Err a beginning of them
 pub record PutsAt {T E : Type 0} (keeps : Bool) (at : ℕ) (bytes : List ℕ) (result : Result T E)
@@ -80,14 +78,6 @@ all_out false = Err tt
 abbrev pub or_fault : Bool → IoFault → Result (Unit {0}) Error
 or_fault true fault = Ok tt
 or_fault false fault = Err (IoError fault)
-
--- the result for a sample with this outcome, with this saved fault
-abbrev pub result_of : Outcome → IoFault → Result (Unit {0}) Error
-result_of outcomes.Accepted fault = Ok tt
-result_of outcomes.TooWide fault = Err TooWide
-result_of outcomes.Unsupported fault = Err Unsupported
-result_of outcomes.TooLong fault = Err TooLong
-result_of outcomes.Failed fault = Err (IoError fault)
 
 -- a writer over this medium once the buffered samples are written, or else as it was
 abbrev pub after_out : {W : Type 0} → Bool → W → WriterState W → WriterState W

@@ -7,7 +7,7 @@ ghost use Rattle.hound_writer.specs.{Recorded, appended, IsWhole, accepted_sampl
 use crate::WavWriter;
 use crate::output::Output;
 use hound_medium::{Medium, Source};
-use hound_spec::{Error, Result, is_pair, riff_size};
+use hound_spec::{Error, Result, is_pair, riff_size_fits};
 use hound_walk::{Cause, FileHead, HeadError, Reason, error_of, find_data};
 use std::result;
 
@@ -29,7 +29,7 @@ fn check_head(head: FileHead) -> Result<()>
     if head.data_length / width as u32 % spec.channels as u32 != 0 {
         return Err(error_of(HeadError::Refused(Cause::Format(Reason::FrameLength))));
     }
-    if riff_size(head.data_start, head.data_length as u64) > u32::MAX as u64 {
+    if !riff_size_fits(head.data_start, head.data_length as u64) {
         return Err(Error::TooLong);
     }
     Ok(())

@@ -11,7 +11,6 @@ mod file;
 mod laws;
 mod machine;
 mod memory;
-mod outcome;
 mod output;
 mod patch;
 mod recorder;

@@ -5,13 +5,12 @@ ghost use Rattle.hound_writer.specs.Parts.{IsLimit, IsPublishResult};
 
 use crate::block::{BLOCK_LENGTH, Block};
 use crate::end::{put_at_end, put_samples_at_end};
-use crate::outcome::{Outcome, first_outcome};
 use crate::patch::patch;
 use hound_medium::Medium;
-use hound_sample::{Sample, have_containers};
-use hound_spec::{Error, Result, WavSpecEx, riff_size};
-use std::io;
+use hound_sample::{Sample, SampleError, check_containers, have_containers, reason_of};
+use hound_spec::{Error, Result, WavSpecEx, riff_size, riff_size_fits};
 use std::marker::Model;
+use std::{io, result};
 
 /// A file that is being written: what a writer has, except for the saved fault.
 #[derive(Drop)]
@@ -62,8 +61,7 @@ fn fast_path_limit_of(data_start: u64, data_bytes_written: u32) -> usize
     requires small { data_start ≤ 2 ^ 33 }
     ensures room { IsLimit data_start data_bytes_written result }
 {
-    let size = riff_size(data_start, data_bytes_written as u64 + BLOCK_LENGTH as u64);
-    if size <= u32::MAX as u64 {
+    if riff_size_fits(data_start, data_bytes_written as u64 + BLOCK_LENGTH as u64) {
         BLOCK_LENGTH - 3
     } else {
         0
@@ -85,8 +83,9 @@ impl<W: Medium> Output<W> {
     ghost use Rattle.std.specs.Prelude.{◌≡◌, ◌+◌, ◌*◌, ◌-◌, ◌/◌, ◌%◌, ◌≤◌, ◌^◌, ◌↔◌, [], IsTrue, IsOk, Ok, OnOk, length, take};
     ghost use Rattle.hound_spec.specs.{riff_size};
     ghost use Rattle.hound_medium.specs.{WhereTells, WhereKeeps};
+    ghost use Rattle.hound_sample.specs.{answer_of};
     ghost use Rattle.hound_writer.specs.Accepting.{Accepts, AcceptsBytes, container_in, containers_in, sample_bytes};
-    ghost use Rattle.hound_writer.specs.Parts.{GoesOut, result_of, or_fault, of_fields, CountsAtMost, Patches, PatchesAtEach};
+    ghost use Rattle.hound_writer.specs.Parts.{GoesOut, or_fault, of_fields, CountsAtMost, Patches, PatchesAtEach};
     ghost use Rattle.hound_writer.specs.Publishing.{PublishesTo, place_after};
     ghost use Rattle.hound_writer.specs.Writer.{AreFrames, HasRoom, block_length, IsPadded, IsSound, IsValid, data_end, data_length, padded_end, sample_count};
 
@@ -122,7 +121,7 @@ impl<W: Medium> Output<W> {
         ensures room { IsTrue result ↔ HasRoom self.now more }
         ensures valid { IsValid W.Placed self.now }
     {
-        riff_size(self.data_start, self.data_length() as u64 + more) <= u32::MAX as u64
+        riff_size_fits(self.data_start, self.data_length() as u64 + more)
     }
 
     // How many bytes the accepted samples have.
@@ -189,44 +188,49 @@ impl<W: Medium> Output<W> {
     // first if it has none. A fault is saved, and the container isn't accepted.
     #[cold]
     #[inline(never)]
-    fn accept_slowly(&mut self, container: [u8; 4], fault: &mut io::Error) -> Outcome
+    fn accept_slowly(
+        &mut self,
+        container: [u8; 4],
+        fault: &mut io::Error,
+    ) -> result::Result<(), SampleError>
         ensures { AcceptsBytes W.Placed
-            (take self.old.spec_ex.bytes_per_sample container) (result_of result fault.new) self.old self.new }
+            (take self.old.spec_ex.bytes_per_sample container) (answer_of result fault.new) self.old self.new }
     {
         let width = self.spec_ex.bytes_per_sample as usize;
         if !self.has_room(width as u64) {
-            return Outcome::TooLong;
+            return Err(SampleError::TooLong);
         }
         if width <= BLOCK_LENGTH - self.block.len() {
             self.accept_in_block(&container[..width]);
-            return Outcome::Accepted;
+            return Ok(());
         }
         if !self.put_block(fault) {
-            return Outcome::Failed;
+            return Err(SampleError::Failed);
         }
         self.accept_in_block(&container[..width]);
-        Outcome::Accepted
+        Ok(())
     }
 
     /// Accepts a sample, or returns why it doesn't, and saves a fault.
     #[inline(always)]
-    pub(crate) fn accept_sample<S: Sample>(&mut self, sample: S, fault: &mut io::Error) -> Outcome
+    pub(crate) fn accept_sample<S: Sample>(
+        &mut self,
+        sample: S,
+        fault: &mut io::Error,
+    ) -> result::Result<(), SampleError>
         ensures { Accepts W.Placed
-            (container_in S.container self.old.spec_ex sample) (result_of result fault.new) self.old self.new }
+            (container_in S.container self.old.spec_ex sample) (answer_of result fault.new) self.old self.new }
     {
         let width = self.spec_ex.bytes_per_sample;
         match sample.encode(self.spec_ex.spec.bits_per_sample, width) {
             Ok(container) => {
                 if self.block.len() < self.fast_path_limit {
                     self.block.push(container, width as usize);
-                    return Outcome::Accepted;
+                    return Ok(());
                 }
                 self.accept_slowly(container, fault)
             }
-            Err(refusal) => match refusal {
-                Error::TooWide => Outcome::TooWide,
-                _ => Outcome::Unsupported,
-            },
+            Err(refusal) => Err(reason_of(refusal)),
         }
     }
 
@@ -307,32 +311,32 @@ impl<W: Medium> Output<W> {
         &mut self,
         samples: &[S],
         fault: &mut io::Error,
-    ) -> Outcome
+    ) -> result::Result<(), SampleError>
         ensures { Accepts W.Placed
-            (containers_in S.container self.old.spec_ex samples.now) (result_of result fault.new) self.old self.new }
+            (containers_in S.container self.old.spec_ex samples.now) (answer_of result fault.new) self.old self.new }
     {
         let bits = self.spec_ex.spec.bits_per_sample;
         let width = self.spec_ex.bytes_per_sample;
         if !have_containers(samples, bits, width) {
-            return first_outcome(samples, bits, width);
+            return check_containers(samples, bits, width);
         }
         // Few samples need no more than this, as one does.
         if samples.len() < BLOCK_LENGTH
             && self.block.len() + samples.len() * (width as usize) < self.fast_path_limit
         {
             self.accept_samples_in_block(samples);
-            return Outcome::Accepted;
+            return Ok(());
         }
         if samples.len() > u32::MAX as usize {
-            return Outcome::TooLong;
+            return Err(SampleError::TooLong);
         }
         if !self.has_room(samples.len() as u64 * width as u64) {
-            return Outcome::TooLong;
+            return Err(SampleError::TooLong);
         }
         if !self.accept_encoded(samples, fault) {
-            return Outcome::Failed;
+            return Err(SampleError::Failed);
         }
-        Outcome::Accepted
+        Ok(())
     }
 
     // Whether the accepted samples are whole frames.

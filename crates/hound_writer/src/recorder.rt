@@ -4,7 +4,7 @@ ghost use Rattle.hound_writer.specs.Effects.{nth};
 ghost use Rattle.hound_writer.specs.Recorder.{AppendsRecorder, BeginsRecorder, HasData, HasNoData, NextEffect, Places, Reports, effects_of, length_with, recorder_of};
 
 use crate::effects::{Effect, checkpoint_effect};
-use hound_spec::{WavSpecEx, header_length, is_pair, riff_size};
+use hound_spec::{WavSpecEx, header_length, is_pair, riff_size_fits};
 
 /// Why a recorder doesn't do what a call is for.
 #[derive(Clone, Copy, Debug, PartialEq, Eq)]
@@ -127,11 +127,7 @@ impl Recorder {
         if self.data_start < 20 || self.bytes_per_sample == 0 {
             return Err(RecorderError::NotWritable);
         }
-        let greatest = u32::MAX as u64;
-        if self.data_start > greatest + 8
-            || length > greatest
-            || riff_size(self.data_start, length) > greatest
-        {
+        if !riff_size_fits(self.data_start, length) {
             return Err(RecorderError::TooLong);
         }
         Ok(length as u32)

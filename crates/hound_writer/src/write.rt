@@ -5,10 +5,9 @@ ghost use Rattle.hound_writer.specs.Beginning.{Begins, IsNotBegun};
 ghost use Rattle.hound_writer.specs.Calls.{Recorded, new_file};
 ghost use Rattle.hound_writer.specs.Parts.{CountsAtMost, of_fields};
 
-use crate::outcome::{Outcome, error_of_outcome};
 use crate::output::Output;
 use hound_medium::{Medium, put_all};
-use hound_sample::Sample;
+use hound_sample::{Sample, error_of_sample};
 use hound_spec::{Error, Result, WavSpec, WavSpecEx, header_of};
 use std::marker::Model;
 use std::{io, result};
@@ -163,11 +162,10 @@ impl<W: Medium> WavWriter<W> {
         ensures marked { Extends W.Placed
             (λ s. marked (write (container_in S.container s sample)) (mark_of result)) self.old self.new }
     {
-        let outcome = self.output.accept_sample(sample, &mut self.fault);
-        if let Outcome::Accepted = outcome {
+        let Err(no_sample) = self.output.accept_sample(sample, &mut self.fault) else {
             return Ok(());
-        }
-        Err(error_of_outcome(outcome, &self.fault))
+        };
+        Err(error_of_sample(no_sample, &self.fault))
     }
 
     /// Writes samples, all of them or none; the channels of a frame follow one another, and a frame
@@ -190,11 +188,10 @@ impl<W: Medium> WavWriter<W> {
         ensures marked { Extends W.Placed
             (λ s. marked (write (containers_in S.container s samples.now)) (mark_of result)) self.old self.new }
     {
-        let outcome = self.output.accept_samples(samples, &mut self.fault);
-        if let Outcome::Accepted = outcome {
+        let Err(no_sample) = self.output.accept_samples(samples, &mut self.fault) else {
             return Ok(());
-        }
-        Err(error_of_outcome(outcome, &self.fault))
+        };
+        Err(error_of_sample(no_sample, &self.fault))
     }
 
     /// Publishes the accepted samples: writes the buffered ones, the pad byte after an odd number

@@ -6,10 +6,11 @@ pub returns-in-Err : goal.returns-in-Err
 returns-in-Err g c =
     let a = c.args in
     let container = λ (s : g.row.S.Denot). g.S.Sample.container s a.bits a.width in
-    sym (refused_as _ _ c.in-Err.error c.in-Err.ensures
+    rw c.reason_of.ensures
+    (sym (refused_as _ _ c.in-Err.error c.in-Err.ensures
     (λ refusal. first_refused container a.samples.now c.loop-sample.sample-index
     c.sample-item.result refusal c.loop-sample-test.true c.sample-item.is
-    c.loop-sample.invariant))
+    c.loop-sample.invariant)))
 
 pub loop-sample-preserved : goal.loop-sample-preserved
 loop-sample-preserved g c =

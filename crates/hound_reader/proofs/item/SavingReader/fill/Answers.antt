@@ -3,5 +3,5 @@ use Rattle.std.proofs.Common.{arith}
 use Rattle.hound_number.proofs.Pieces.{taken_behind}
 use Rattle.hound_reader.proofs.item.SavingReader.fill.Goals as goal
 
-pub returns-clause-bytes : goal.returns-clause-bytes
-returns-clause-bytes g c = grind (arith, common_steps, taken_behind)
+pub returns-in-Some-2-clause-bytes : goal.returns-in-Some-2-clause-bytes
+returns-in-Some-2-clause-bytes g c = grind (arith, common_steps, taken_behind)

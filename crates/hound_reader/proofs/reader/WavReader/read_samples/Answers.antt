@@ -1,6 +1,6 @@
 use Rattle.std.proofs.lemmas.Grind.{common_steps}
 use Rattle.std.proofs.Common.{◌≡◌, ◌+◌, ◌*◌, ◌-◌, ◌++◌, ◌∙◌, drop, ap, subst, arith, Ok, Err, length-take, refl}
-use Rattle.hound_sample.specs.{error_of_item}
+use Rattle.hound_sample.specs.{error_of_sample}
 use Rattle.hound_reader.specs.Reader.{ReadsBlock, ReaderState, samples_left, taken_without}
 use Rattle.std.proofs.Math.Nat.{le-mul_of_pos_right}
 use Rattle.hound_reader.specs.declared.item.SavingReader.{SavingReader}
@@ -54,8 +54,8 @@ returns g c =
     } in
     let torn : c.taken_without.result ≡ taken_without reason (read.result.1 - k * width) width =
     c.taken_without.ensures ∙ ap (λ n. taken_without reason n width) c.saturating_sub.ensures in
-    rw c.error_of_item.ensures (subst (λ begin. ReadsBlock g.R.Read.remaining g.S.Sample.refusal
-    g.S.Sample.meaning k (Err (error_of_item reason fault)) xs (read.new.samples ++ drop wanted xs) begin new)
+    rw c.error_of_sample.ensures (subst (λ begin. ReadsBlock g.R.Read.remaining g.S.Sample.refusal
+    g.S.Sample.meaning k (Err (error_of_sample reason fault)) xs (read.new.samples ++ drop wanted xs) begin new)
     c.self.view_is
     (is_block g.R.Read.remaining g.S.Sample.refusal g.S.Sample.meaning k wanted read.result.1
     read.new.answer.1 (Err reason) fault xs read.new.samples _ new c.in-Err.is

@@ -2,22 +2,14 @@ use Rattle.std.proofs.Common.{Ok, arith, take}
 use Rattle.hound_sample.proofs.Joined.{encoded_bytes}
 use Rattle.hound_writer.proofs.Blocks.{accepts_buffered}
 use Rattle.hound_writer.proofs.Containers.{one_whole}
-use Rattle.hound_writer.proofs.Writing.{else_unsupported, sample_refused, sample_accepts}
+use Rattle.hound_writer.proofs.Writing.{sample_refused, sample_accepts}
 use Rattle.hound_writer.proofs.output.Output.accept_sample.Goals as goal
-use Rattle.hound_writer.proofs.output.Output.accept_sample.Goals.{in-TooWide, in_default}
 
-pub returns-after-refusal : goal.returns-after-refusal
-returns-after-refusal g c =
-    let W = g.W.Placed in
-    let refused = sample_refused W _ _ _ c.self.invariant _ c.in-Err.refusal
-    c.in-Err.ensures (g.met.W.Medium.replays _) in
-    rw (← c.self.view_is)
-    (elim c.match-refusal.branch [
-      | in-TooWide b ↦ rw b.result-is (rw b.in-TooWide.is at refused)
-      | in_default b ↦
-          rw b.result-is
-          (rw (else_unsupported _ _ c.in-Err.ensures b.in_default.not-TooWide) at refused)
-    ])
+pub returns-in-Err : goal.returns-in-Err
+returns-in-Err g c =
+    rw (← c.self.view_is, c.reason_of.ensures)
+    (sample_refused g.W.Placed _ _ _ c.self.invariant _ c.in-Err.refusal c.args.fault.now c.in-Err.ensures
+    (g.met.W.Medium.replays _))
 
 pub returns-then-len-self : goal.returns-then-len-self
 returns-then-len-self g c =

@@ -2,20 +2,17 @@ use Rattle.std.proofs.lemmas.Grind.{common_steps}
 use Rattle.std.proofs.Common.{◌∙◌, Ok, Err, sym, arith}
 use Rattle.std.proofs.lemmas.Bool.{false≢true}
 use Rattle.hound_spec.specs.declared.error.Error.TheVariants.{IoError}
-use Rattle.hound_writer.proofs.AcceptingMany.{looked_at, many_asked, many_refused, many_too_long, too_many}
+use Rattle.hound_writer.proofs.AcceptingMany.{many_asked, many_refused, many_too_long, too_many}
 use Rattle.hound_writer.proofs.output.Output.accept_samples.Goals as goal
 
 pub returns-then-not-have_containers :
     goal.returns-then-not-have_containers
 returns-then-not-have_containers g c =
     let W = g.W.Placed in
-    let outcome = c.first_outcome in
     rw (← c.self.view_is)
     (many_refused g.S.Sample.container g.met.S.Sample.in_width c.args.samples.now W _ _ _ c.self.invariant
-    (g.met.W.Medium.replays _) outcome.result
-    c.args.fault.now outcome.ensures
-    (λ is. false≢true (sym c.if-not-have_containers.true ∙ c.have_containers.ensures
-    ∙ looked_at _ (sym is ∙ outcome.ensures))))
+    (g.met.W.Medium.replays _) _ c.args.fault.now c.check_containers.ensures
+    (λ have. false≢true (sym c.if-not-have_containers.true ∙ c.have_containers.ensures ∙ have)))
 
 pub returns-then-len-samples : goal.returns-then-len-samples
 returns-then-len-samples g c =

@@ -1,5 +1,5 @@
 use Rattle.hound_reader.proofs.CountingLemmas.{given_read}
-use Rattle.hound_reader.proofs.item.CountingReaderContainerReader.next_container.Goals as goal
+use Rattle.hound_reader.proofs.item.CountingReader.next_array.Goals as goal
 
 pub invariant_of-self-clause-counts : goal.invariant_of-self-clause-counts
 invariant_of-self-clause-counts g c =
