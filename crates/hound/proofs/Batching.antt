@@ -8,7 +8,7 @@ use Rattle.std.proofs.lemmas.List.Folds.{flat_map-map}
 use Rattle.std.specs.List.{AllByRecursion, concat, flat_map}
 use Rattle.hound_sample.proofs.Joined.{containers-concat, length-concat}
 use Rattle.hound_number.specs.{signed_bytes_of}
-use Rattle.hound_sample.specs.{Refusal, containers, int_bytes, int_container, contained}
+use Rattle.hound_sample.specs.{Rejection, containers, int_bytes, int_container, contained}
 use Rattle.hound_writer.specs.{Ghosts, Accepts, AcceptAnswer, if_marked, one, AcceptsEach, i16_bytes, IsSameFile, write, WriterState, IsWhole, data_length, accepted_samples}
 use Rattle.hound_writer.proofs.Recording.{same_but_memory}
 use Rattle.hound.proofs.Calling.{Went, call_went, went_still, went_then}
@@ -32,29 +32,29 @@ i16_container v bits width c sixteen is =
     same ∙ ap (int_bytes v 16) two
 
 -- what an Ok accepts of one value
-one_taken : {M : Type 0} (w : WriterState M) (container : Result (List ℕ) Refusal) (bytes : List ℕ)
+one_taken : {M : Type 0} (w : WriterState M) (container : Result (List ℕ) Rejection) (bytes : List ℕ)
     → ((c : List ℕ) → container ≡ Ok c → c ≡ bytes)
     → AcceptAnswer (one container) w (Ok (tt {0}))
     → if_marked true (one container) ≡ bytes ∷ []
 one_taken w (Ok c) bytes same answers = ap (λ (x : List ℕ). x ∷ []) (same c refl)
-one_taken w (Err refusal) bytes same answers = cc
+one_taken w (Err rejection) bytes same answers = cc
 
-module _ {M : Type 0} (kind : Ghosts M) (told : IsTrue kind.tells) where
+module _ {M : Type 0} (kind : Ghosts M) (modelled : IsTrue kind.tells) where
   -- values that were all Ok one by one
   each_went : (values : List ℤ) (old new : WriterState M) → old.spec_ex.spec.bits_per_sample ≡ 16
       → AcceptsEach kind int_container values old new
-      → Went kind told (map (signed_bytes_of 2) values) old new
+      → Went kind modelled (map (signed_bytes_of 2) values) old new
   each_went [] old new sixteen same =
-      subst (Went kind told [] old) (sym same)
-      (went_still kind told old old.batch_memory)
+      subst (Went kind modelled [] old) (sym same)
+      (went_still kind modelled old old.batch_memory)
   each_went (v ∷ values) old new sixteen (mid, accepts, each) =
       let s = old.spec_ex in
       let container = int_container v s.spec.bits_per_sample s.bytes_per_sample in
-      let first = call_went kind told (Ok tt) old.batch_memory old mid (write (one container))
+      let first = call_went kind modelled (Ok tt) old.batch_memory old mid (write (one container))
       accepts in
       let bytes = signed_bytes_of 2 v in
-      went_then kind told (bytes ∷ []) (map (signed_bytes_of 2) values) old mid new
-      (subst (λ l. Went kind told l old mid)
+      went_then kind modelled (bytes ∷ []) (map (signed_bytes_of 2) values) old mid new
+      (subst (λ l. Went kind modelled l old mid)
       (one_taken old container bytes
       (λ c. i16_container v s.spec.bits_per_sample s.bytes_per_sample c sixteen)
       accepts.adds.answers) first)
@@ -82,10 +82,10 @@ module _ {M : Type 0} (kind : Ghosts M) (told : IsTrue kind.tells) where
       (λ i. containers (width i) (length bytes / width i) bytes)
       ∙ (λ i. containers 2 (count i) ((joined values ∙ sym (append-nil (concat each_two))) i))
       ∙ containers-concat 2 each_two [] (wide values) in
-      let t = went_then kind told [] list first a b
-      (subst (Went kind told [] first) (same_but_memory first a stays)
-      (went_still kind told first a.batch_memory))
-      (call_went kind told (Ok tt) a.batch_memory a b (write (Ok list))
+      let t = went_then kind modelled [] list first a b
+      (subst (Went kind modelled [] first) (same_but_memory first a stays)
+      (went_still kind modelled first a.batch_memory))
+      (call_went kind modelled (Ok tt) a.batch_memory a b (write (Ok list))
       batch) in
       let l = each_went values first c sixteen each in (
         t.accepted whole ∙ ap (λ x. accepted_samples kind.state first ++ x) same

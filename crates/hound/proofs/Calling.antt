@@ -8,14 +8,14 @@ use Rattle.hound_spec.specs.declared.error.Error.{Error}
 use Rattle.hound_spec.specs.{data_start}
 use Rattle.hound_medium.specs.{moment, overlay, Span}
 use Rattle.hound_medium.proofs.Spans.{moment_last}
-use Rattle.hound_writer.specs.{Ghosts, UnlessFailed, faults_told, mark_of, IsStored, StaysStored, Asked, Call, Does, Lead, publish, write, with_memory, Counts, ChangesSizesOnly, WriterState, HasHeader, IsBegun, IsCounted, IsWhole, accepted_samples, data_length, padded_end}
+use Rattle.hound_writer.specs.{Ghosts, UnlessFailed, faults_reported, mark_of, IsStored, StaysStored, Asked, Call, Does, Lead, publish, write, with_memory, Counts, ChangesSizesOnly, WriterState, HasHeader, IsBegun, IsCounted, IsWhole, accepted_samples, data_length, padded_end}
 use Rattle.hound_writer.proofs.Answers.{unless_failed, unless_then, where_marked}
 use Rattle.hound_writer.proofs.Fresh.{begun_front}
 use Rattle.hound_writer.proofs.Sizes.{sizes_front, sizes_then, take_front}
 use Rattle.hound_writer.proofs.Storing.{stored_fewer, stored_join}
 use Rattle.hound.specs.Headline.{BeginInOrder, CountedAtEach, FlushedByFlushes, NoFault, StoredAtEach, accepted_by_all, accepted_of, begins_at}
 use Rattle.hound_repair.proofs.Joining.{concat-append}
-use Rattle.hound.proofs.Later.{FaultsGrow, grow_then, grows_told, no_fault_parts, Later, later_still, later_then, longer, same_moment, span_later}
+use Rattle.hound.proofs.Later.{FaultsGrow, grow_then, grows_reported, no_fault_parts, Later, later_still, later_then, longer, same_moment, span_later}
 
 pub length-concat-append : (xs ys : List (List ℕ))
     → length (concat (xs ++ ys)) ≡ length (concat xs) + length (concat ys)
@@ -56,7 +56,7 @@ module _ {W : Type 0} (kind : Ghosts W) where
   lead_begins [] b c (memory, is) = ap (λ (w : WriterState W). length (kind.state w.medium).past) is
   lead_begins (call ∷ later) b c (memory, mid, at, does, rest) = at
 
-module _ {W : Type 0} (kind : Ghosts W) (told : IsTrue kind.tells) where
+module _ {W : Type 0} (kind : Ghosts W) (modelled : IsTrue kind.tells) where
   -- what calls that accepted these led to
   pub record Went (list : List (List ℕ)) (old new : WriterState W) : Type 0 where
     pub spec_ex : new.spec_ex ≡ old.spec_ex
@@ -93,11 +93,11 @@ module _ {W : Type 0} (kind : Ghosts W) (told : IsTrue kind.tells) where
     spec_ex = then.spec_ex ∙ first.spec_ex;
     data_start = then.data_start ∙ first.data_start;
     size = omega (arith, first.size, then.size, length-concat-append l m);
-    front = λ behind.
+    front = λ beyond.
         sizes_then a.data_start (kind.state a.medium).contents (kind.state b.medium).contents
-        (kind.state c.medium).contents (first.front behind)
+        (kind.state c.medium).contents (first.front beyond)
         (subst (λ n. ChangesSizesOnly n (kind.state b.medium).contents (kind.state c.medium).contents)
-        first.data_start (then.front (omega (arith, behind, first.data_start))));
+        first.data_start (then.front (omega (arith, beyond, first.data_start))));
     begun = λ begun. then.begun (first.begun begun);
     whole = λ whole. then.whole (first.whole whole);
     accepted = λ whole. then.accepted (first.whole whole)
@@ -111,7 +111,7 @@ module _ {W : Type 0} (kind : Ghosts W) (told : IsTrue kind.tells) where
         omega (arith, first.reach parts.0, then.reach parts.1, then.data_start, then.size);
     later = λ kept whole. later_then (kind.state a.medium) (kind.state b.medium) (kind.state c.medium)
         (first.later kept whole) (then.later kept (first.whole whole));
-    sizes = λ kept replays behind whole k from to.
+    sizes = λ kept replays beyond whole k from to.
         let h = a.data_start in
         let base = (kind.state a.medium).contents in
         let there = first.whole whole in
@@ -121,11 +121,11 @@ module _ {W : Type 0} (kind : Ghosts W) (told : IsTrue kind.tells) where
           | inr within ↦
               subst (ChangesSizesOnly h base)
               (same_moment (kind.state b.medium) end k (then.later kept there) within)
-              (first.sizes kept replays behind whole k from within)
+              (first.sizes kept replays beyond whole k from within)
           | inl after ↦
-              sizes_then h base (kind.state b.medium).contents now (first.front behind)
+              sizes_then h base (kind.state b.medium).contents now (first.front beyond)
               (subst (λ n. ChangesSizesOnly n (kind.state b.medium).contents now) first.data_start
-              (then.sizes kept replays (omega (arith, behind, first.data_start)) there k
+              (then.sizes kept replays (omega (arith, beyond, first.data_start)) there k
               (omega (arith, after)) to))
         ];
     stored = λ kept whole.
@@ -149,21 +149,21 @@ module _ {W : Type 0} (kind : Ghosts W) (told : IsTrue kind.tells) where
 
     -- its faults are counted
     pub call_faults : (asked : Asked) → Did asked
-        → (kind.state new.medium).faults ≡ faults_told answer (kind.state old.medium).faults
-    call_faults (write containers) a = (a.file told).faults
-    call_faults publish c = (c.publishes told).faults
+        → (kind.state new.medium).faults ≡ faults_reported answer (kind.state old.medium).faults
+    call_faults (write containers) a = (a.file modelled).faults
+    call_faults publish c = (c.publishes modelled).faults
 
     -- and unless it met one, the contents end no later than before, or at the end of the data
     pub call_reach : (asked : Asked) → Did asked
         → UnlessFailed answer (length (kind.state new.medium).contents
         ≤ max (length (kind.state old.medium).contents) (padded_end new))
     call_reach (write containers) a =
-        unless_then answer (λ le. omega (arith, le)) (a.file told).reach
+        unless_then answer (λ le. omega (arith, le)) (a.file modelled).reach
     call_reach publish c =
         unless_failed answer
         (omega (
           arith,
-          (c.publishes told).reach,
+          (c.publishes modelled).reach,
           c.samples.data_start,
           c.samples.data_length,
           ap (λ n. n % 2) c.samples.data_length,
@@ -178,8 +178,8 @@ module _ {W : Type 0} (kind : Ghosts W) (told : IsTrue kind.tells) where
     pub call_span : IsTrue kind.keeps → (asked : Asked) → Did asked → IsWhole kind.state old
         → Span (λ _. Counts old.spec_ex old.data_start (accepted_samples kind.state old)) 0
         (kind.state old.medium) (kind.state new.medium)
-    call_span kept (write containers) a whole = (a.moments told kept).counts whole
-    call_span kept publish c whole = (c.moments told kept).counts whole
+    call_span kept (write containers) a whole = (a.moments modelled kept).counts whole
+    call_span kept publish c whole = (c.moments modelled kept).counts whole
 
     call_later : (asked : Asked) → Did asked → IsTrue kind.keeps → IsWhole kind.state old
         → Later (kind.state old.medium) (kind.state new.medium)
@@ -191,46 +191,46 @@ module _ {W : Type 0} (kind : Ghosts W) (told : IsTrue kind.tells) where
       spec_ex = a.adds.spec_ex;
       data_start = a.adds.data_start;
       size = a.adds.data_length;
-      front = λ behind. sizes_front old.data_start (kind.state old.medium).contents
-          (kind.state new.medium).contents behind (a.file told).front;
-      begun = begun_front kind.state old new a.adds.spec_ex a.adds.data_start (a.file told).front;
-      whole = (a.file told).whole;
-      accepted = (a.file told).accepted;
-      counts = λ whole _. (a.file told).counts whole;
-      faults = grows_told answer (kind.state old.medium) (kind.state new.medium) (a.file told).faults;
+      front = λ beyond. sizes_front old.data_start (kind.state old.medium).contents
+          (kind.state new.medium).contents beyond (a.file modelled).front;
+      begun = begun_front kind.state old new a.adds.spec_ex a.adds.data_start (a.file modelled).front;
+      whole = (a.file modelled).whole;
+      accepted = (a.file modelled).accepted;
+      counts = λ whole _. (a.file modelled).counts whole;
+      faults = grows_reported answer (kind.state old.medium) (kind.state new.medium) (a.file modelled).faults;
       reach = call_reached (write containers) a;
       later = call_later (write containers) a;
-      sizes = λ kept replays behind whole k from to.
+      sizes = λ kept replays beyond whole k from to.
           let c = moment (kind.state new.medium).start (kind.state new.medium).past k in
-          sizes_front old.data_start (kind.state old.medium).contents c behind
+          sizes_front old.data_start (kind.state old.medium).contents c beyond
           (take_front old.data_start (old.data_start + old.bytes_written) (kind.state old.medium).contents c
-          (omega arith) (((a.moments told kept).front whole).each k from to));
-      stored = λ kept whole. (a.moments told kept).stored whole;
+          (omega arith) (((a.moments modelled kept).front whole).each k from to));
+      stored = λ kept whole. (a.moments modelled kept).stored whole;
     }
     call_went publish c = record {
       spec_ex = c.samples.spec_ex;
       data_start = c.samples.data_start;
       size = omega (arith, c.samples.data_length);
-      front = λ _. (c.publishes told).front;
+      front = λ _. (c.publishes modelled).front;
       begun = λ (header, at). (
         subst (λ s. HasHeader s (kind.state new.medium).contents) (sym c.samples.spec_ex)
-            ((c.publishes told).begun (header, at)),
+            ((c.publishes modelled).begun (header, at)),
         c.samples.data_start ∙ at ∙ ap data_start (sym c.samples.spec_ex),
       );
-      whole = c.whole told;
-      accepted = λ whole. c.accepted told whole ∙ sym (append-nil (accepted_samples kind.state old));
+      whole = c.whole modelled;
+      accepted = λ whole. c.accepted modelled whole ∙ sym (append-nil (accepted_samples kind.state old));
       counts = λ whole _. subst (λ (x : _ × (ℕ × List (List ℕ))).
           Counts x.0 x.1.0 x.1.1 (kind.state new.medium).contents)
           (λ i. (
             sym c.samples.spec_ex i,
-            (sym c.samples.data_start i, sym (c.accepted told whole) i),
-          )) ((c.publishes told).counts whole);
-      faults = grows_told answer (kind.state old.medium) (kind.state new.medium) (c.publishes told).faults;
+            (sym c.samples.data_start i, sym (c.accepted modelled whole) i),
+          )) ((c.publishes modelled).counts whole);
+      faults = grows_reported answer (kind.state old.medium) (kind.state new.medium) (c.publishes modelled).faults;
       reach = call_reached publish c;
       later = call_later publish c;
-      sizes = λ kept replays behind whole k from to.
-          ((c.moments told kept).half.each k from to).front;
-      stored = λ kept whole. (c.moments told kept).stored whole;
+      sizes = λ kept replays beyond whole k from to.
+          ((c.moments modelled kept).half.each k from to).front;
+      stored = λ kept whole. (c.moments modelled kept).stored whole;
     }
 
   pub went : (calls : List Call) (old new : WriterState W) → Lead kind calls old new
@@ -294,7 +294,7 @@ module _ {W : Type 0} (kind : Ghosts W) (told : IsTrue kind.tells) where
           → (asked ≡ publish → ⊥)
           → take old.data_start (kind.state mid.medium).contents
           ≡ take old.data_start (kind.state old.medium).contents
-      by (write list) does writes = (does.file told).front
+      by (write list) does writes = (does.file modelled).front
       by publish does writes = absurd (writes refl)
 
   pub begin : (calls : List Call) (old new : WriterState W) → Lead kind calls old new
@@ -365,7 +365,7 @@ module _ {W : Type 0} (kind : Ghosts W) (told : IsTrue kind.tells) where
           let m = made calls before after flush old new same lead in
           let does = subst (λ a. Does kind a flush.answer (with_memory m.mid m.memory)
           m.next) has_all.0 m.does in
-          let flushed = where_marked flush.answer has_all.1 (does.publishes told).flushed in
+          let flushed = where_marked flush.answer has_all.1 (does.publishes modelled).flushed in
           let then = later after m.next new m.rest (m.here.whole (m.earlier.whole whole)) in
           let ends = begin after m.next new m.rest in
           elim then.flushed [

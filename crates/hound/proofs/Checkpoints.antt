@@ -8,7 +8,7 @@ use Rattle.hound_spec.specs.declared.spec.WavSpecEx.{WavSpecEx}
 use Rattle.hound_medium.specs.{moment, MediumState}
 use Rattle.hound_walk.specs.{data_fault}
 use Rattle.hound_sample.proofs.Joined.{length-concat}
-use Rattle.hound_writer.specs.{AreKnown, Begun, Call, Counts, Known, ReadsAs, answered, field, found_in, mark_of, publish, start_of}
+use Rattle.hound_writer.specs.{AreKnown, Begun, Call, Counts, Known, ReadsAs, returned, field, found_in, mark_of, publish, start_of}
 use Rattle.hound_repair.proofs.Joining.{AreWide, wide_front}
 use Rattle.hound.specs.Headline.{BeginInOrder, CountedAtEach, HasPublished, HoldsAtEnd, Keeps, SaysFrames, accepted_by_all, begins_at}
 use Rattle.hound.proofs.Knowing.{among, publish_none}
@@ -105,13 +105,13 @@ holds_at_each s file calls m keeps before later after flush k is published none 
 -- an Ok flush among the calls: those before it, which left whole frames, and those after it
 ok_among : (s : WavSpecEx) (file : Begun) (before after : List Known) (calls : List Call)
     (m : MediumState) → HoldsAtEnd s file calls m
-    → AreKnown (before ++ (answered publish (Ok tt) ∷ after)) calls
+    → AreKnown (before ++ (returned publish (Ok tt) ∷ after)) calls
     → (first last : List Call) × (flush : Call) × (calls ≡ first ++ (flush ∷ last)) × HasPublished flush
     × AreKnown before first × AreKnown after last
     × (length (found_in file ++ accepted_by_all first) % s.spec.channels ≡ 0)
 ok_among s file before after calls m end are =
     let (first, last, flush, parts, before_are, is, after_are) =
-    among before after (answered publish (Ok tt)) calls are in (
+    among before after (returned publish (Ok tt)) calls are in (
       first,
       last,
       flush,
@@ -126,7 +126,7 @@ ok_among s file before after calls m end are =
 -- what an Ok flush has published is read, if only samples were written since
 pub ok_holds : (s : WavSpecEx) (file : Begun) (before after : List Known) (calls : List Call)
     (m : MediumState) → HoldsAtEnd s file calls m
-    → AreKnown (before ++ (answered publish (Ok tt) ∷ after)) calls
+    → AreKnown (before ++ (returned publish (Ok tt) ∷ after)) calls
     → AllByRecursion (λ (one : Known). one.asked ≡ publish → ⊥) after
     → (first : List Call) × AreKnown before first
     × ReadsAs s (start_of s file) (found_in file ++ accepted_by_all first) m.contents
@@ -142,13 +142,13 @@ ok_holds s file before after calls m end are none =
 -- So it is in each state since the flush returned, if the calls after it began there and publish nothing.
 pub ok_holds_at_each : (s : WavSpecEx) (file : Begun) (known : List Known) (calls later : List Call)
     (m : MediumState) → Keeps s file (calls ++ later) m
-    → AreKnown (known ++ answered publish (Ok tt) ∷ []) calls
+    → AreKnown (known ++ returned publish (Ok tt) ∷ []) calls
     → AllByRecursion (λ (call : Call). call.asked ≡ publish → ⊥) later
     → (before : List Call) × AreKnown known before
     × ((k : ℕ) → begins_at later m.past ≤ k → k ≤ length m.past →
     ReadsAs s (start_of s file) (found_in file ++ accepted_by_all before) (moment m.start m.past k))
 ok_holds_at_each s file known calls later m keeps are none =
-    let (first, last, flush, parts, before_are, is, after_are) = among known [] (answered publish (Ok tt)) calls are in
+    let (first, last, flush, parts, before_are, is, after_are) = among known [] (returned publish (Ok tt)) calls are in
     let all : calls ++ later ≡ first ++ (flush ∷ later) =
     ap (λ l. l ++ later) (parts ∙ ap (λ l. first ++ (flush ∷ l)) (none_known last after_are))
     ∙ append_assoc first (flush ∷ []) later in

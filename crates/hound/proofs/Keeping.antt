@@ -90,11 +90,11 @@ module _ {W : Type 0} (kind : Ghosts W) where
         );
         spec = b.spec;
         start = b.start;
-        whole = λ told. (begins.file told).whole;
-        found = λ told. none;
-        counts = λ told. (begins.file told).counts;
-        head = λ told.
-            let c = (begins.file told).counts in
+        whole = λ modelled. (begins.file modelled).whole;
+        found = λ modelled. none;
+        counts = λ modelled. (begins.file modelled).counts;
+        head = λ modelled.
+            let c = (begins.file modelled).counts in
             let w = first.spec_ex.bytes_per_sample in
             let n = first.spec_ex.spec.channels in
             let says : field (first.data_start - 4) (kind.state first.medium).contents ≡ 0 =
@@ -109,9 +109,9 @@ module _ {W : Type 0} (kind : Ghosts W) where
             (ap (λ m. m % n) (zero_div w) ∙ none_whole n) (ap length none ∙ sym (zero_div w)) says
             c).readable in
             (read.len, read.head);
-        begun = λ told. ((begins.file told).header, b.start ∙ ap data_start (sym b.spec));
-        faults = λ told. (begins.file told).faults;
-        reach = λ told. (begins.file told).reach;
+        begun = λ modelled. ((begins.file modelled).header, b.start ∙ ap data_start (sym b.spec));
+        faults = λ modelled. (begins.file modelled).faults;
+        reach = λ modelled. (begins.file modelled).reach;
       }
   first_of s (appended old start found) first opens =
       let a = opens.appends in
@@ -123,33 +123,33 @@ module _ {W : Type 0} (kind : Ghosts W) where
         start = opens.start_is;
         whole = opens.whole;
         found = opens.found_is;
-        counts = λ told. (a.file told).counts (opens.whole told);
-        head = λ told. let f = a.file told in (
+        counts = λ modelled. (a.file modelled).counts (opens.whole modelled);
+        head = λ modelled. let f = a.file modelled in (
           data_length first,
           subst (λ c. Head c first.spec_ex (data_length first) first.data_start)
               (sym f.puts.stays.contents) f.head,
         );
-        begun = λ told at header. (
+        begun = λ modelled at header. (
           subst (λ (x : WavSpecEx × List ℕ). HasHeader x.0 x.1)
-              (λ i. (sym opens.spec_is i, sym (a.file told).puts.stays.contents i)) header,
+              (λ i. (sym opens.spec_is i, sym (a.file modelled).puts.stays.contents i)) header,
           opens.start_is ∙ at ∙ ap data_start (sym opens.spec_is),
         );
-        faults = λ told. (a.file told).faults;
-        reach = λ told. omega (arith, ap length (a.file told).puts.stays.contents);
+        faults = λ modelled. (a.file modelled).faults;
+        reach = λ modelled. omega (arith, ap length (a.file modelled).puts.stays.contents);
       }
 
   -- what calls leave that were made from a first writer on
   module _ (s : WavSpecEx) (file : Begun) (calls : List Call) (first last : WriterState W)
       (is_first : First kind s file first)
-      (lead : Lead kind calls first last) (told : IsTrue kind.tells) where
+      (lead : Lead kind calls first last) (modelled : IsTrue kind.tells) where
     abbrev whole : IsWhole kind.state first
-    whole = is_first.whole told
+    whole = is_first.whole modelled
 
-    behind : 4 ≤ first.data_start
-    behind = omega (arith, is_first.sound.after_head)
+    beyond : 4 ≤ first.data_start
+    beyond = omega (arith, is_first.sound.after_head)
 
-    abbrev l : Went kind told (accepted_by_all calls) first last
-    l = went kind told calls first last lead
+    abbrev l : Went kind modelled (accepted_by_all calls) first last
+    l = went kind modelled calls first last lead
 
     -- the accepted samples all have the width of the spec
     pub all_wide : AllByRecursion (λ c. length c ≡ first.spec_ex.bytes_per_sample)
@@ -171,14 +171,14 @@ module _ {W : Type 0} (kind : Ghosts W) where
         → CanonicalAtEnd first.spec_ex first.data_start (accepted_samples kind.state first) calls
         (kind.state last.medium)
     canonical_at_end begun before end same has_all =
-        let m = made kind told calls before [] end first last same lead in
+        let m = made kind modelled calls before [] end first last same lead in
         let w = m.earlier in
         let does : Does kind publish end.answer (with_memory m.mid m.memory) m.next =
         subst (λ a. Does kind a end.answer (with_memory m.mid m.memory) m.next)
         has_all.0 m.does in
         let file : StartsWith (kind.state m.next.medium).contents
         (canonical m.mid.spec_ex (accepted_samples kind.state m.mid)) =
-        where_marked end.answer has_all.1 ((does.publishes told).canonical (w.whole whole) (w.begun begun)) in
+        where_marked end.answer has_all.1 ((does.publishes modelled).canonical (w.whole whole) (w.begun begun)) in
         subst (λ (x : List ℕ × (WavSpecEx × List (List ℕ))). StartsWith x.0 (canonical x.1.0 x.1.1))
         (λ i. (
           ap (λ (l : WriterState W). (kind.state l.medium).contents) (sym m.rest.1) i,
@@ -189,17 +189,17 @@ module _ {W : Type 0} (kind : Ghosts W) where
     lasts_to_end : LastsToEnd first.spec_ex first.data_start (accepted_samples kind.state first) calls
         (kind.state last.medium)
     lasts_to_end before later flush same has_all only =
-        let m = made kind told calls before later flush first last same lead in
+        let m = made kind modelled calls before later flush first last same lead in
         let does = subst (λ a. Does kind a flush.answer (with_memory m.mid m.memory)
         m.next) has_all.0 m.does in
         let n = m.next.data_start in
         let start : n ≡ first.data_start = m.here.data_start ∙ m.earlier.data_start in
         ap (λ k. field (k - 4) (kind.state last.medium).contents) (sym start)
         ∙ ap number (front_part n (n - 4) 4 (kind.state last.medium).contents (kind.state m.next.medium).contents
-        (omega (arith, start, behind))
-        (front_stays kind told later m.next last m.rest only))
+        (omega (arith, start, beyond))
+        (front_stays kind modelled later m.next last m.rest only))
         ∙ ap (λ k. field (k - 4) (kind.state m.next.medium).contents) m.here.data_start
-        ∙ where_marked flush.answer has_all.1 (does.publishes told).length_says
+        ∙ where_marked flush.answer has_all.1 (does.publishes modelled).length_says
         ∙ omega (
           arith,
           m.earlier.size,
@@ -211,7 +211,7 @@ module _ {W : Type 0} (kind : Ghosts W) where
     said_by_flushes : SaidByFlushes first.spec_ex first.data_start (accepted_samples kind.state first) calls
         (kind.state last.medium)
     said_by_flushes before after flush same asked =
-        let m = made kind told calls before after flush first last same lead in
+        let m = made kind modelled calls before after flush first last same lead in
         let w = m.earlier in
         let does = subst (λ a. Does kind a flush.answer (with_memory m.mid m.memory) m.next) asked m.does in
         let count = length-containers m.mid.spec_ex.bytes_per_sample (sample_count m.mid)
@@ -229,7 +229,7 @@ module _ {W : Type 0} (kind : Ghosts W) where
         × (length (kind.state last.medium).contents
         ≤ max (length (handed_in file).contents) (length list))
     exact_at_end begun none before end same asked =
-        let m = made kind told calls before [] end first last same lead in
+        let m = made kind modelled calls before [] end first last same lead in
         let w = m.earlier in
         let does : Does kind publish end.answer (with_memory m.mid m.memory) m.next =
         subst (λ a. Does kind a end.answer (with_memory m.mid m.memory) m.next) asked
@@ -238,13 +238,13 @@ module _ {W : Type 0} (kind : Ghosts W) where
         w.faults m.here.faults
         (subst (λ (x : WriterState W). NoFault (kind.state first.medium) (kind.state x.medium)) m.rest.1 none) in
         let marked = all_marked end.answer (with_memory m.mid m.memory) (kind.state m.mid.medium).faults parts.1.1
-        (sym (does.publishes told).faults ∙ parts.1.0) does.answers in
+        (sym (does.publishes modelled).faults ∙ parts.1.0) does.answers in
         let found = accepted_samples kind.state first in (
           canonical_at_end begun before end same (asked, marked),
           omega (
             arith,
             l.reach none,
-            is_first.reach told,
+            is_first.reach modelled,
             l.data_start,
             begun.1,
             ap data_length m.rest.1,
@@ -263,7 +263,7 @@ module _ {W : Type 0} (kind : Ghosts W) where
         subst (λ (x : WavSpecEx × (ℕ × List (List ℕ))).
         Counts x.0 x.1.0 x.1.1 (kind.state last.medium).contents)
         (λ i. (l.spec_ex i, (l.data_start i, l.accepted whole i)))
-        (l.counts whole (is_first.counts told))
+        (l.counts whole (is_first.counts modelled))
 
     module _ (kept : IsTrue kind.keeps)
         (replays : (m : W) → (kind.state m).contents ≡ overlay (kind.state m).start (kind.state m).past) where
@@ -277,13 +277,13 @@ module _ {W : Type 0} (kind : Ghosts W) where
           × (first.data_start ≤ length (moment end.start end.past k))
       fronts k from to =
           let base = kind.state first.medium in
-          let begins = begin kind told calls first last lead in
+          let begins = begin kind modelled calls first last lead in
           let since : length base.past ≤ k = omega (arith, from, begins) in
           let same : moment end.start end.past (length base.past) ≡ base.contents =
           sym (same_moment base end (length base.past) (l.later kept whole) (omega arith))
           ∙ moment_last base (replays first.medium) in
-          let head = is_first.head told in (
-            l.sizes kept replays behind whole k since to,
+          let head = is_first.head modelled in (
+            l.sizes kept replays beyond whole k since to,
             omega (
               arith,
               head_inside base.contents first.spec_ex head.0 first.data_start head.1,
@@ -297,7 +297,7 @@ module _ {W : Type 0} (kind : Ghosts W) where
           end
       head_at_each k from to =
           let f = fronts k from to in
-          let head = is_first.head told in
+          let head = is_first.head modelled in
           head_with (kind.state first.medium).contents first.spec_ex head.0 first.data_start head.1
           (moment end.start end.past k) f.1 f.0.front f.0.middle
 
@@ -307,14 +307,14 @@ module _ {W : Type 0} (kind : Ghosts W) where
           let list = accepted_samples kind.state first in
           let size : length (concat list) ≡ data_length first =
           sized kind.state first is_first.sound is_first.none_buffered whole in
-          let head = is_first.head told in
+          let head = is_first.head modelled in
           let tall = head_inside (kind.state first.medium).contents first.spec_ex head.0 h head.1 in
-          let counts = counted kind told kept calls first last lead whole in
-          let at_most = stored kind told kept calls first last lead whole in
-          let order = in_order kind told kept calls first last lead whole in
-          let never = never_less kind told kept replays calls first last lead behind
+          let counts = counted kind modelled kept calls first last lead whole in
+          let at_most = stored kind modelled kept calls first last lead whole in
+          let order = in_order kind modelled kept calls first last lead whole in
+          let never = never_less kind modelled kept replays calls first last lead beyond
           whole size in
-          let flushes = stays_flushed kind told kept calls first last lead
+          let flushes = stays_flushed kind modelled kept calls first last lead
           whole in
           let losses = after_losses first.spec_ex h head.0 list calls end
           (kind.state first.medium).contents is_first.sound.width counts at_most order
@@ -327,11 +327,11 @@ module _ {W : Type 0} (kind : Ghosts W) where
                 let a = (fronts k from (omega (arith, along, to))).0 in
                 let b = (fronts m (omega (arith, from, along)) to).0 in
                 record { front = b.front ∙ sym a.front; middle = b.middle ∙ sym a.middle };
-            front_in_writes = front_in_writes kind told kept replays calls first last
-                lead behind whole size;
-            mixed = mixed kind told kept replays calls first last lead behind whole size;
-            old_or_new = old_or_new kind told kept replays calls first last lead behind whole size;
-            published = published kind told kept replays calls first last lead behind whole size;
+            front_in_writes = front_in_writes kind modelled kept replays calls first last
+                lead beyond whole size;
+            mixed = mixed kind modelled kept replays calls first last lead beyond whole size;
+            old_or_new = old_or_new kind modelled kept replays calls first last lead beyond whole size;
+            published = published kind modelled kept replays calls first last lead beyond whole size;
             never_less = never;
             flushed = flushes;
             stored = at_most;
@@ -357,16 +357,16 @@ module _ {W : Type 0} (kind : Ghosts W) where
               m.contents) counts_at_end;
           lasts = of_file (λ s start found. LastsToEnd s start found calls m) lasts_to_end;
           says = of_file (λ s start found. SaidByFlushes s start found calls m) said_by_flushes;
-          exact = if_begun_then s file (is_first.begun told) (λ begun (none, small) before end same
+          exact = if_begun_then s file (is_first.begun modelled) (λ begun (none, small) before end same
               asked.
-              let faults = is_first.faults told in
+              let faults = is_first.faults modelled in
               of_file (λ s start found.
               let list = canonical s (found ++ accepted_by_all before) in
               StartsWith m.contents list
               × (length m.contents ≤ max (length (handed_in file).contents) (length list)))
               (exact_at_end begun (none ∙ sym faults, omega (arith, faults, small)) before end same
               asked));
-          canonical = if_begun_then s file (is_first.begun told) (λ begun.
+          canonical = if_begun_then s file (is_first.begun modelled) (λ begun.
               of_file (λ s start found. CanonicalAtEnd s start found calls m)
               (canonical_at_end begun));
         }
@@ -381,12 +381,12 @@ module _ {W : Type 0} (kind : Ghosts W) where
       → Left kind s file known medium
       → WhereTells kind.tells (Holds kind s file known medium)
   unfolding Left
-  left_holds s file known medium left told =
+  left_holds s file known medium left modelled =
       let r = left.recorded in
       record {
         left = left;
         at_end = subst (λ m. HoldsAtEnd s file r.calls (kind.state m))
-            (sym left.is) (holds_at_end s file r.calls r.first left.last (first_of s file r.first r.opens) r.lead told);
+            (sym left.is) (holds_at_end s file r.calls r.first left.last (first_of s file r.first r.opens) r.lead modelled);
       }
 
   pub left_so_far : (s : WavSpecEx) (file : Begun) (known : List Known) (w : WriterState W)
@@ -402,15 +402,15 @@ module _ {W : Type 0} (kind : Ghosts W) where
       × (accepted_samples kind.state w ≡ found_in file ++ accepted_by_all calls)
       × (sample_count w ≡ length (found_in file ++ accepted_by_all calls)))
   unfolding Recorded
-  holds_calls told s file known w r =
+  holds_calls modelled s file known w r =
       let first = first_of s file r.first r.opens in
-      let went = went kind told r.calls r.first w r.lead in
-      let here = went.accepted (first.whole told)
-      ∙ ap (λ l. l ++ accepted_by_all r.calls) (first.found told) in
+      let went = went kind modelled r.calls r.first w r.lead in
+      let here = went.accepted (first.whole modelled)
+      ∙ ap (λ l. l ++ accepted_by_all r.calls) (first.found modelled) in
       let count = length-containers w.spec_ex.bytes_per_sample (sample_count w) (accepted_bytes kind.state w) in (
         went.spec_ex ∙ first.spec,
         went.data_start ∙ first.start,
-        went.whole (first.whole told),
+        went.whole (first.whole modelled),
         (r.calls, r.are_known, here, sym count ∙ ap length here),
       )
 
@@ -420,16 +420,16 @@ module _ {W : Type 0} (kind : Ghosts W) where
       → Left kind s file known medium
       → WhereKeeps kind.tells kind.keeps (Kept kind s file known medium)
   unfolding Left
-  left_kept replays s file known medium left told kept =
+  left_kept replays s file known medium left modelled kept =
       let r = left.recorded in
       let first = first_of s file r.first r.opens in
       record {
         left = left;
         promised = subst (λ m. Keeps s file r.calls (kind.state m)) (sym left.is)
             (record {
-              at_end = holds_at_end s file r.calls r.first left.last first r.lead told;
-              promises = keeps_promises s file r.calls r.first left.last first r.lead told kept
-                  (λ m. replays m told kept);
+              at_end = holds_at_end s file r.calls r.first left.last first r.lead modelled;
+              promises = keeps_promises s file r.calls r.first left.last first r.lead modelled kept
+                  (λ m. replays m modelled kept);
             });
       }
 
@@ -441,14 +441,14 @@ module _ {W : Type 0} (kind : Ghosts W) where
       → WhereKeeps kind.tells kind.keeps ((calls : List Call) × AreKnown known calls
       × Keeps s file (calls ++ later) (kind.state w.medium))
   unfolding Recorded
-  kept_on replays s file known mid w later r lead told kept =
+  kept_on replays s file known mid w later r lead modelled kept =
       let first = first_of s file r.first r.opens in
       let all = lead_join kind r.calls later r.first mid w r.lead lead in (
         r.calls,
         r.are_known,
         record {
-          at_end = holds_at_end s file (r.calls ++ later) r.first w first all told;
-          promises = keeps_promises s file (r.calls ++ later) r.first w first all told kept (λ m. replays m told kept);
+          at_end = holds_at_end s file (r.calls ++ later) r.first w first all modelled;
+          promises = keeps_promises s file (r.calls ++ later) r.first w first all modelled kept (λ m. replays m modelled kept);
         },
       )
 
@@ -458,15 +458,15 @@ module _ {W : Type 0} (kind : Ghosts W) where
       → Left kind s (appended old start found) known medium
       → ChangesSizesOnly start old.contents (kind.state medium).contents
   unfolding Left
-  front_left told s old start found known medium left =
+  front_left modelled s old start found known medium left =
       let r = left.recorded in
       let a = r.opens.appends in
       subst (λ (x : ℕ × (List ℕ × List ℕ)). ChangesSizesOnly x.0 x.1.0 x.1.1)
       (λ i. (
         r.opens.start_is i,
-        ((a.file told).puts.stays.contents i, ap (λ m. (kind.state m).contents) (sym left.is) i),
+        ((a.file modelled).puts.stays.contents i, ap (λ m. (kind.state m).contents) (sym left.is) i),
       ))
-      ((went kind told r.calls r.first left.last r.lead).front
+      ((went kind modelled r.calls r.first left.last r.lead).front
       (omega (arith, a.sound.after_head)))
 
 -- What survives in a medium of this past that was flushed up to f, no earlier than the flushes of

@@ -6,7 +6,7 @@ use Rattle.std.proofs.lemmas.Bool.{false≢true}
 use Rattle.hound_spec.specs.declared.error.Error.{Error}
 use Rattle.hound_spec.specs.declared.error.Error.TheVariants.{UnfinishedSample}
 use Rattle.hound_medium.specs.{MediumState}
-use Rattle.hound_sample.specs.{Refusal, too_wide, unsupported}
+use Rattle.hound_sample.specs.{Rejection, too_wide, unsupported}
 use Rattle.hound_writer.specs.{AcceptAnswer, AreKnown, Asked, Begun, Call, FitAnswer, IsKnown, Known, WriterState, asked_by_all, field, found_in, made, mark_of, marked, publish, start_of}
 use Rattle.hound_spec.specs.declared.spec.WavSpecEx.{WavSpecEx}
 use Rattle.hound.specs.Headline.{HasPublished, HoldsAtEnd, accepted_as_seen, accepted_by_all, accepted_of, seen}
@@ -77,7 +77,7 @@ lasts s file before after calls m holds are none =
     ∙ ap (λ l. length (concat (found_in file ++ l))) (accepted before first before_are)
 
 -- the mark of a call for samples is its being Ok
-pub mark_is_ok : {W : Type 0} (asked : Result (List (List ℕ)) Refusal) (w : WriterState W)
+pub mark_is_ok : {W : Type 0} (asked : Result (List (List ℕ)) Rejection) (w : WriterState W)
     (answer : Result (Unit {0}) Error) → AcceptAnswer asked w answer → mark_of answer ≡ is_ok answer
 mark_is_ok asked w (Ok x) is = refl
 mark_is_ok (Err too_wide) w (Err UnfinishedSample) is = cc

@@ -7,7 +7,7 @@ use Rattle.hound_spec.specs.declared.error.Error.{Error}
 use Rattle.hound_spec.specs.declared.error.Error.TheVariants.{IoError}
 use Rattle.hound_medium.specs.{moment, MediumState, Span}
 use Rattle.hound_medium.proofs.Spans.{join}
-use Rattle.hound_writer.specs.{faults_told}
+use Rattle.hound_writer.specs.{faults_reported}
 use Rattle.hound.specs.Headline.{NoFault}
 
 -- from one state of a medium to a later one bytes were appended to the past
@@ -51,11 +51,11 @@ FaultsGrow old new =
     old.faults ≤ 18446744073709551615 → (old.faults ≤ new.faults)
     × (new.faults ≤ 18446744073709551615)
 
-pub grows_told : (answer : Result (Unit {0}) Error) (old new : MediumState)
-    → new.faults ≡ faults_told answer old.faults → FaultsGrow old new
-grows_told (Err (IoError e)) old new is small = (omega (arith, is, small), omega (arith, is, small))
-grows_told (Ok x) old new is small = (omega (arith, is), omega (arith, is, small))
-grows_told (Err e) old new is small = (omega (arith, is), omega (arith, is, small))
+pub grows_reported : (answer : Result (Unit {0}) Error) (old new : MediumState)
+    → new.faults ≡ faults_reported answer old.faults → FaultsGrow old new
+grows_reported (Err (IoError e)) old new is small = (omega (arith, is, small), omega (arith, is, small))
+grows_reported (Ok x) old new is small = (omega (arith, is), omega (arith, is, small))
+grows_reported (Err e) old new is small = (omega (arith, is), omega (arith, is, small))
 
 pub grow_then : (a b c : MediumState) → FaultsGrow a b → FaultsGrow b c → FaultsGrow a c
 grow_then a b c first then small = grind (arith, common_steps)

@@ -25,7 +25,7 @@ outside_within : (p hi : ℕ) (a b end : MediumState) (k : ℕ) → Later b end 
     → IsOutside p a b k
 outside_within p hi a b end k later ends each i since to at before = grind (arith, common_steps)
 
-module _ {W : Type 0} (kind : Ghosts W) (told : IsTrue kind.tells) (kept : IsTrue kind.keeps)
+module _ {W : Type 0} (kind : Ghosts W) (modelled : IsTrue kind.tells) (kept : IsTrue kind.keeps)
     (replays : (m : W) → (kind.state m).contents ≡ overlay (kind.state m).start (kind.state m).past)
     (p : ℕ) (P : ℕ → Type 0) where
   -- a call that writes leaves the field at p, and one that publishes and cuts no write of it gives it
@@ -38,19 +38,19 @@ module _ {W : Type 0} (kind : Ghosts W) (told : IsTrue kind.tells) (kept : IsTru
       → (asked ≡ publish → ⊥)
       ⊎ (P (data_length old) × IsOutside p (kind.state old.medium) (kind.state new.medium) k)
       → P (field p (moment (kind.state new.medium).start (kind.state new.medium).past k))
-  call_field (write list) answer memory old new does at behind whole has_it k from to fine =
+  call_field (write list) answer memory old new does at beyond whole has_it k from to fine =
       subst P
       (ap number (sym (front_part (old.data_start + old.bytes_written) p 4
       (moment (kind.state new.medium).start (kind.state new.medium).past k) (kind.state old.medium).contents
-      (omega (arith, at, behind)) (((does.moments told kept).front whole).each k from to)))) has_it
-  call_field publish answer memory old new does at behind whole has_it k from to (inl none) =
+      (omega (arith, at, beyond)) (((does.moments modelled kept).front whole).each k from to)))) has_it
+  call_field publish answer memory old new does at beyond whole has_it k from to (inl none) =
       absurd (none refl)
-  call_field publish answer memory old new does at behind whole has_it k from to
+  call_field publish answer memory old new does at beyond whole has_it k from to
       (inr (all, outside)) =
       let or_new : IsOldOrNew p (field p (kind.state old.medium).contents) (data_length old)
       (kind.state old.medium) (kind.state new.medium) =
       subst (λ n. IsOldOrNew n (field n (kind.state old.medium).contents) (data_length old)
-      (kind.state old.medium) (kind.state new.medium)) (sym at) (does.moments told kept).old_or_new in
+      (kind.state old.medium) (kind.state new.medium)) (sym at) (does.moments modelled kept).old_or_new in
       elim (or_new k from to outside) [
         | inl is ↦ subst P (sym is) has_it
         | inr is ↦ subst P (sym is) all
@@ -65,7 +65,7 @@ module _ {W : Type 0} (kind : Ghosts W) (told : IsTrue kind.tells) (kept : IsTru
       → AllByRecursion (λ (call : Call). call.asked ≡ publish → ⊥) calls
       ⊎ (((n : ℕ) → data_length old ≤ n → P n) × IsUncut p calls (kind.state new.medium).past k)
       → P (field p (moment (kind.state new.medium).start (kind.state new.medium).past k))
-  stays [] old new (memory, same) at behind whole has_it k from to fine =
+  stays [] old new (memory, same) at beyond whole has_it k from to fine =
       let last = kind.state new.medium in
       let e : k ≡ length last.past =
       omega (arith, from, to, ap (λ (w : WriterState W). length (kind.state w.medium).past) same) in
@@ -73,16 +73,16 @@ module _ {W : Type 0} (kind : Ghosts W) (told : IsTrue kind.tells) (kept : IsTru
       ap (moment last.start last.past) e ∙ moment_last last (replays new.medium)
       ∙ ap (λ (w : WriterState W). (kind.state w.medium).contents) same in
       subst (λ c. P (field p c)) (sym here) has_it
-  stays (call ∷ calls) old new (memory, mid, begins, does, rest) at behind whole has_it k from to fine =
-      let t = call_went kind told call.answer memory old mid call.asked does in
+  stays (call ∷ calls) old new (memory, mid, begins, does, rest) at beyond whole has_it k from to fine =
+      let t = call_went kind modelled call.answer memory old mid call.asked does in
       let end = kind.state new.medium in
-      let then = later kind told kept calls mid new rest (t.whole whole) in
-      let ends = begin kind told calls mid new rest in
+      let then = later kind modelled kept calls mid new rest (t.whole whole) in
+      let ends = begin kind modelled calls mid new rest in
       let last = length (kind.state mid.medium).past in
       let up = longer (kind.state old.medium) (kind.state mid.medium)
       (t.later kept whole) in
       let j = min k last in
-      let here = call_field call.asked call.answer memory old mid does at behind whole has_it j
+      let here = call_field call.asked call.answer memory old mid does at beyond whole has_it j
       (omega (arith, from, up)) (omega arith) (elim fine [
         | inl writes ↦ inl writes.0
         | inr (grows, uncut) ↦
@@ -105,7 +105,7 @@ module _ {W : Type 0} (kind : Ghosts W) (told : IsTrue kind.tells) (kept : IsTru
         | inl after ↦
             let e : j ≡ last = omega (arith, after) in
             stays calls mid new rest (at ∙ ap (λ n. n - 4) (sym t.data_start))
-            (omega (arith, behind, t.data_start)) (t.whole whole)
+            (omega (arith, beyond, t.data_start)) (t.whole whole)
             (subst (λ c. P (field p c))
             (ap (moment (kind.state mid.medium).start (kind.state mid.medium).past) e
             ∙ moment_last (kind.state mid.medium) (replays mid.medium)) here) k (omega (arith, after)) to
@@ -121,10 +121,10 @@ module _ {W : Type 0} (kind : Ghosts W) (told : IsTrue kind.tells) (kept : IsTru
             ])
       ]
 
-module _ {W : Type 0} (kind : Ghosts W) (told : IsTrue kind.tells) (kept : IsTrue kind.keeps)
+module _ {W : Type 0} (kind : Ghosts W) (modelled : IsTrue kind.tells) (kept : IsTrue kind.keeps)
     (replays : (m : W) → (kind.state m).contents ≡ overlay (kind.state m).start (kind.state m).past)
     (calls : List Call) (old new : WriterState W) (lead : Lead kind calls old new)
-    (behind : 4 ≤ old.data_start) (all_there : IsWhole kind.state old)
+    (beyond : 4 ≤ old.data_start) (all_there : IsWhole kind.state old)
     (size : length (concat (accepted_samples kind.state old)) ≡ data_length old) where
   abbrev at : ℕ
   at = old.data_start - 4
@@ -154,12 +154,12 @@ module _ {W : Type 0} (kind : Ghosts W) (told : IsTrue kind.tells) (kept : IsTru
   call_of : (before after : List Call) (call : Call) → calls ≡ before ++ (call ∷ after)
       → CallOf before after call
   call_of before after call same =
-      let m = made kind told calls before after call old new same lead in
+      let m = made kind modelled calls before after call old new same lead in
       let w = m.earlier in
       let whole = w.whole all_there in
       let here = m.here.later kept whole in
-      let then = later kind told kept after m.next new m.rest (m.here.whole whole) in
-      let ended = begin kind told after m.next new m.rest in
+      let then = later kind modelled kept after m.next new m.rest (m.here.whole whole) in
+      let ended = begin kind modelled after m.next new m.rest in
       record {
         memory = m.memory;
         mid = m.mid;
@@ -196,7 +196,7 @@ module _ {W : Type 0} (kind : Ghosts W) (told : IsTrue kind.tells) (kept : IsTru
   front_of (write list) answer memory a b does writes whole k from to =
       take_front a.data_start (a.data_start + a.bytes_written) (kind.state a.medium).contents
       (moment (kind.state b.medium).start (kind.state b.medium).past k) (omega arith)
-      (((does.moments told kept).front whole).each k from to)
+      (((does.moments modelled kept).front whole).each k from to)
   front_of publish answer memory a b does writes whole k from to = absurd (writes refl)
 
   pub front_in_writes : FrontInWrites old.spec_ex old.data_start (accepted_samples kind.state old) calls
@@ -213,7 +213,7 @@ module _ {W : Type 0} (kind : Ghosts W) (told : IsTrue kind.tells) (kept : IsTru
       let c = call_of before after patch same in
       let does = subst (λ a. Does kind a patch.answer (with_memory c.mid c.memory)
       c.next) asked c.does in
-      let p = does.moments told kept in (
+      let p = does.moments modelled kept in (
         λ k. min 4 (k - p.split),
         omega (arith, c.began, p.puts.later),
         λ k m le. (omega (arith, le), omega arith),
@@ -233,7 +233,7 @@ module _ {W : Type 0} (kind : Ghosts W) (told : IsTrue kind.tells) (kept : IsTru
                   omega (
                     arith,
                     p.there c.whole p.split k p.puts.later last
-                        (omega (arith, p.puts.first last, c.start, behind)) (omega (arith, split))
+                        (omega (arith, p.puts.first last, c.start, beyond)) (omega (arith, split))
                         until,
                     ap length (c.still k to),
                     c.start,
@@ -251,7 +251,7 @@ module _ {W : Type 0} (kind : Ghosts W) (told : IsTrue kind.tells) (kept : IsTru
       subst (λ (x : (ℕ × ℕ) × (List ℕ × List ℕ)). (field x.0.0 x.1.0 ≡ field x.0.0 x.1.1)
       ⊎ (field x.0.0 x.1.0 ≡ x.0.1))
       (λ i. ((c.start i - 4, c.all i), (c.still k to i, sym c.first i)))
-      ((does.moments told kept).old_or_new k (omega (arith, from, c.began))
+      ((does.moments modelled kept).old_or_new k (omega (arith, from, c.began))
       (omega (arith, to, c.ended))
       (outside_within (c.mid.data_start - 4) (begins_at after end.past) (kind.state c.mid.medium)
       (kind.state c.next.medium) end k c.later c.ended
@@ -270,7 +270,7 @@ module _ {W : Type 0} (kind : Ghosts W) (told : IsTrue kind.tells) (kept : IsTru
       c.next) asked c.does in (
         c,
         ap (λ n. field (n - 4) (kind.state c.next.medium).contents) (sym c.start)
-            ∙ where_marked flush.answer marked (does.publishes told).length_says
+            ∙ where_marked flush.answer marked (does.publishes modelled).length_says
             ∙ sym does.samples.data_length,
         omega (arith, does.samples.data_length, c.all),
       )
@@ -279,25 +279,25 @@ module _ {W : Type 0} (kind : Ghosts W) (told : IsTrue kind.tells) (kept : IsTru
       (kind.state new.medium)
   published before then after flush k same has_all only from to =
       let (f, says, all) = flushed before (then ++ after) flush same has_all in
-      let (far, there, rest) = lead_parts kind told then after f.next new f.rest in
+      let (far, there, rest) = lead_parts kind modelled then after f.next new f.rest in
       let n = length (concat (accepted_samples kind.state old ++ accepted_by_all before)) in
       subst (λ c. field at c ≡ n)
       (same_moment (kind.state far.medium) (kind.state new.medium) k
-      (later kind told kept after far new rest
-      ((went kind told then f.next far there).whole f.next_whole))
-      (omega (arith, to, begin kind told after far new rest)))
-      (stays kind told kept replays at (λ v. v ≡ n) then f.next far there
-      (ap (λ n. n - 4) (sym f.next_start)) (omega (arith, behind, f.next_start)) f.next_whole (says ∙ all) k
-      (omega (arith, from, begin kind told (then ++ after) f.next new f.rest))
-      (omega (arith, to, begin kind told after far new rest)) (inl only))
+      (later kind modelled kept after far new rest
+      ((went kind modelled then f.next far there).whole f.next_whole))
+      (omega (arith, to, begin kind modelled after far new rest)))
+      (stays kind modelled kept replays at (λ v. v ≡ n) then f.next far there
+      (ap (λ n. n - 4) (sym f.next_start)) (omega (arith, beyond, f.next_start)) f.next_whole (says ∙ all) k
+      (omega (arith, from, begin kind modelled (then ++ after) f.next new f.rest))
+      (omega (arith, to, begin kind modelled after far new rest)) (inl only))
 
   pub never_less : NeverLess old.spec_ex old.data_start (accepted_samples kind.state old) calls
       (kind.state new.medium)
   never_less before after flush k same has_all from to uncut =
       let (f, says, all) = flushed before after flush same has_all in
       let n = length (concat (accepted_samples kind.state old ++ accepted_by_all before)) in
-      stays kind told kept replays at (λ v. n ≤ v) after f.next new f.rest
-      (ap (λ n. n - 4) (sym f.next_start)) (omega (arith, behind, f.next_start)) f.next_whole
+      stays kind modelled kept replays at (λ v. n ≤ v) after f.next new f.rest
+      (ap (λ n. n - 4) (sym f.next_start)) (omega (arith, beyond, f.next_start)) f.next_whole
       (omega (arith, says, all)) k
-      (omega (arith, from, begin kind told after f.next new f.rest)) to
+      (omega (arith, from, begin kind modelled after f.next new f.rest)) to
       (inr (λ v le. omega (arith, le, all), uncut))

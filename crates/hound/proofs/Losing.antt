@@ -8,7 +8,7 @@ use Rattle.hound_number.specs.{number}
 use Rattle.hound_spec.specs.declared.spec.WavSpecEx.{WavSpecEx}
 use Rattle.hound_medium.specs.{moment, put_at, overlay}
 use Rattle.hound_medium.proofs.Overlays.{front_part, length-put_at, overlay-append, overlay_more, take_overlay_before}
-use Rattle.hound_medium.proofs.Inside.{drop_behind}
+use Rattle.hound_medium.proofs.Inside.{drop_beyond}
 use Rattle.hound_walk.specs.{Head}
 use Rattle.hound_writer.specs.{ChangesSizesOnly, field, IsStored}
 use Rattle.hound_writer.proofs.Heads.{head_with}
@@ -87,7 +87,7 @@ longer_then n a b le (inl other) = inl other
 longer_then n a b le (inr longer) = inr (omega (arith, longer, le))
 
 -- States from f to k between which bytes went to ascending places, with all that is before the data.
-module _ (h f k : ℕ) (start : List ℕ) (past : List (ℕ × ℕ)) (behind : 20 ≤ h)
+module _ (h f k : ℕ) (start : List ℕ) (past : List (ℕ × ℕ)) (beyond : 20 ≤ h)
     (within : k ≤ length past) (ascends : Ascends past f k)
     (long : (j : ℕ) → f ≤ j → j ≤ k → h ≤ length (moment start past j)) where
   -- What holds of a state since it holds of the next one, where a byte before the data is written,
@@ -119,7 +119,7 @@ module _ (h f k : ℕ) (start : List ℕ) (past : List (ℕ × ℕ)) (behind : 2
             ap (take h) one.1
             ∙ take_overlay_before (one.0 ∷ []) h p (at m) high (long m from (omega (arith, less))) in
             let says : field (h - 4) (at m) ≡ field (h - 4) (at j) =
-            sym (ap number (front_part h (h - 4) 4 (at (suc m)) (at m) (omega (arith, behind)) front))
+            sym (ap number (front_part h (h - 4) 4 (at (suc m)) (at m) (omega (arith, beyond)) front))
             ∙ rest.1 (λ t le before. omega (arith, high, ascends m t from (omega (arith, le)) (omega (arith, before, to)))) in
             (same m from (omega (arith, is)) says, λ _. says)
       ]
@@ -154,7 +154,7 @@ module _ (h f k : ℕ) (start : List ℕ) (past : List (ℕ × ℕ)) (behind : 2
 -- A file whose data begin at h, whose past has bytes at ascending places from f to k: in each of
 -- these states what the data length covers of these bytes is stored, and stays so.
 module _ (h : ℕ) (bytes base start : List ℕ) (past : List (ℕ × ℕ)) (cover : ℕ → ℕ) (f k : ℕ)
-    (behind : 20 ≤ h) (within : k ≤ length past) (ascends : Ascends past f k)
+    (beyond : 20 ≤ h) (within : k ≤ length past) (ascends : Ascends past f k)
     (long : (j : ℕ) → f ≤ j → j ≤ k → h ≤ length (moment start past j))
     (few : (j : ℕ) → f ≤ j → j ≤ k → cover (field (h - 4) (moment start past j)) ≤ length bytes)
     (kept : (j m : ℕ) → f ≤ j → j ≤ m → m ≤ k
@@ -171,12 +171,12 @@ module _ (h : ℕ) (bytes base start : List ℕ) (past : List (ℕ × ℕ)) (cov
   earlier : (j m : ℕ) → f ≤ m → m ≤ j → j ≤ k
       → take (cover (says j)) (drop h (at m)) ≡ take (cover (says j)) bytes
   earlier j m from le to =
-      (back h f k start past behind within ascends long j
+      (back h f k start past beyond within ascends long j
       (λ m. take (cover (says j)) (drop h (at m)) ≡ take (cover (says j)) bytes)
       (λ m from less low rest.
       let one = next start past m (omega (arith, less, within)) in
       ap (take (cover (says j))) (sym (ap (drop h) one.1
-      ∙ drop_behind (at m) (place_of past m) (one.0 ∷ [])
+      ∙ drop_beyond (at m) (place_of past m) (one.0 ∷ [])
       (omega (arith, low, long m from (omega (arith, less)))) h (omega (arith, low)))) ∙ rest)
       (λ m from before same. subst (λ v. take (cover v) (drop h (at m)) ≡ take (cover v) bytes) same
       (kept m m from (omega arith) (omega (arith, before, to)))) (j - m) m from (omega (arith, le)) to).0
@@ -219,8 +219,8 @@ module _ (h : ℕ) (bytes base start : List ℕ) (past : List (ℕ × ℕ)) (cov
         ap number
         (part_survives (h - 4) 4 sector f k (take 4 (drop (h - 4) (at chosen))) start past c
         (length-take-le 4 (drop (h - 4) (at chosen))
-        (omega (arith, there, behind, length-drop (h - 4) (at chosen))))
-        (omega (arith, inside, behind)) lost
+        (omega (arith, there, beyond, length-drop (h - 4) (at chosen))))
+        (omega (arith, inside, beyond)) lost
         (λ i less. ap (λ n. take 4 (drop (h - 4) (at (lost.sectors n).0))) (in_field i less)))
 
     -- what it covers is stored
@@ -241,12 +241,12 @@ module _ (h : ℕ) (bytes base start : List ℕ) (past : List (ℕ × ℕ)) (cov
         let middle = take n (drop 8 base) in
         let front : take 4 c ≡ take 4 base =
         part_survives 0 4 sector f k (take 4 base) start past c
-        (length-take-le 4 base (omega (arith, whole, behind))) (omega (arith, inside, behind)) lost
+        (length-take-le 4 base (omega (arith, whole, beyond))) (omega (arith, inside, beyond)) lost
         (λ i less. let s = lost.sectors ((0 + i) / sector) in (changes s.0 s.1 s.2).front) in
         let rest : take n (drop 8 c) ≡ middle =
         part_survives 8 n sector f k middle start past c
-        (length-take-le n (drop 8 base) (omega (arith, whole, behind, length-drop 8 base)))
-        (omega (arith, inside, behind)) lost
+        (length-take-le n (drop 8 base) (omega (arith, whole, beyond, length-drop 8 base)))
+        (omega (arith, inside, beyond)) lost
         (λ i less. let s = lost.sectors ((8 + i) / sector) in
         between_is (at s.0) 8 (h - 4) ∙ (changes s.0 s.1 s.2).middle
         ∙ sym (between_is base 8 (h - 4))) in

@@ -13,7 +13,7 @@ use Rattle.hound_sample.proofs.Joined.{containers-concat, length-concat}
 use Rattle.hound_writer.specs.{mark_of, Call, Counts, ChangesSizesOnly, field}
 use Rattle.hound_writer.proofs.Containers.{containers_front}
 use Rattle.hound_writer.proofs.Counted.{counts_more, counts_at_most}
-use Rattle.hound_writer.proofs.Heads.{head_behind}
+use Rattle.hound_writer.proofs.Heads.{head_beyond}
 use Rattle.hound.specs.Headline.{BeginInOrder, CountedAfterLoss, CountedAtEach, FlushedByFlushes, KeptAfterLoss, NeverLess, StoredAtEach, accepted_by_all, accepted_of, begins_at}
 use Rattle.hound_repair.proofs.Joining.{AreWide, concat-append, concat_front, wide_front, wide_take}
 use Rattle.hound.proofs.Losing.{left_after, says_chosen}
@@ -178,7 +178,7 @@ module _ (s : WavSpecEx) (h len : ℕ) (found : List (List ℕ)) (calls : List C
       let all = list before in
       let bytes = concat all in
       let wide_all = wide_before before (call ∷ after) same in
-      let behind : 20 ≤ h = head_behind base s len h head in
+      let beyond : 20 ≤ h = head_beyond base s len h head in
       let within : k ≤ length end.past =
       omega (arith, to, (in_order before (call ∷ []) after same).1) in
       let at_call = λ (j : ℕ) (since : f ≤ j) (until : j ≤ k).
@@ -219,7 +219,7 @@ module _ (s : WavSpecEx) (h len : ℕ) (found : List (List ℕ)) (calls : List C
       let changes : (j : ℕ) → f ≤ j → j ≤ k → ChangesSizesOnly h base (at j) =
       λ j since until. sizes j (omega (arith, begun, since)) (omega (arith, until, within)) in
       let (says_is, here, few, head_is) = left_after h bytes base end.start end.past (cover w) f k
-      behind within ascends tall fits kept changes sector sized one c lost s len head whole in
+      beyond within ascends tall fits kept changes sector sized one c lost s len head whole in
       let v = field (h - 4) c in
       let q = (v + (w - 1)) / w in
       let among : q ≤ length all =
@@ -245,13 +245,13 @@ module _ (s : WavSpecEx) (h len : ℕ) (found : List (List ℕ)) (calls : List C
       → KeptAfterLoss s h found calls end
   kept_after_loss never flushed f sector c begun later known ascends sized one lost =
       let k = length end.past in
-      let behind : 20 ≤ h = head_behind base s len h head in
+      let beyond : 20 ≤ h = head_beyond base s len h head in
       let chosen = lost.sectors ((h - 4) / sector) in (
         (
           chosen.0,
           chosen.1,
           chosen.2,
-          says_chosen h [] base end.start end.past (λ _. 0) f k behind (omega arith) ascends
+          says_chosen h [] base end.start end.past (λ _. 0) f k beyond (omega arith) ascends
               (λ j since until. long j (omega (arith, begun, since)) until)
               (λ _ _ _. omega arith) (λ _ _ _ _ _. refl)
               (λ j since until. sizes j (omega (arith, begun, since)) until) sector sized one c lost,

@@ -236,7 +236,7 @@ pub not_synced : {T E : Type 0} (at i : ℕ) (bytes : List ℕ) (result : Result
     → old.flushed ≤ i → i < length old.past → at ≤ place_of old.past i
     → PutsAt true at bytes result old new → length old.past < length new.past
     → Ascends new.past new.flushed (length new.past) → ⊥
-not_synced at i bytes result old new from to behind puts some ascends =
+not_synced at i bytes result old new from to beyond puts some ascends =
     let bs = take puts.count bytes in
     let past = puts.past refl in
     let long = ap length past ∙ length_put old.past at bs in
@@ -244,4 +244,4 @@ not_synced at i bytes result old new from to behind puts some ascends =
     let after = ap (λ l. place_of l (length old.past)) past
     ∙ place_after old.past at bs (length old.past) (omega arith) (omega (arith, some, long)) in
     let up = ascends i (length old.past) (omega (arith, from, puts.flushed)) to some in
-    absurd (omega (arith, up, before, after, behind))
+    absurd (omega (arith, up, before, after, beyond))

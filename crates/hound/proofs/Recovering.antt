@@ -17,7 +17,7 @@ use Rattle.hound_repair.specs.{held, IsNoPad, ReadsFrames, Repairs}
 use Rattle.hound_repair.specs.declared.sizes.Repair.{Repair}
 use Rattle.hound_repair.specs.declared.sizes.RepairState.TheVariants.{HasChunksAfterData}
 use Rattle.hound_writer.specs.{Asked, Call, field, IsStored, publish, write}
-use Rattle.hound_writer.proofs.Heads.{head_behind, head_inside}
+use Rattle.hound_writer.proofs.Heads.{head_beyond, head_inside}
 use Rattle.hound.specs.Headline.{HasPublished, IsLeftAfter, Promises, accepted_by_all, begins_at}
 use Rattle.hound.proofs.Losing.{either_survives, moments_grow, stored_survives}
 use Rattle.hound.proofs.Calling.{last_of, length-concat-append}
@@ -108,8 +108,8 @@ module _ (s : WavSpecEx) (h : ℕ) (found : List (List ℕ)) (calls : List Call)
   abbrev CountsOrHolds : List ℕ → Type 0
   CountsOrHolds c = (field (h - 4) c ≡ length (concat list)) ⊎ (h + length (concat list) < length c)
 
-  behind : 20 ≤ h
-  behind = head_behind (at from) s (field (h - 4) (at from)) h
+  beyond : 20 ≤ h
+  beyond = head_beyond (at from) s (field (h - 4) (at from)) h
       (promises.head from first_began (promises.in_order before (flush ∷ []) after same).1)
 
   -- that stays so in each state of a call: it writes only, or before a length of more is written all
@@ -123,7 +123,7 @@ module _ (s : WavSpecEx) (h : ℕ) (found : List (List ℕ)) (calls : List Call)
   in_call first rest call k parts few (inl says) low high =
       elim (publishes_or call.asked) [
         | inr writes ↦
-            inl (ap number (front_part h (h - 4) 4 (at k) (at call.began) (omega (arith, behind))
+            inl (ap number (front_part h (h - 4) 4 (at k) (at call.began) (omega (arith, beyond))
             (promises.front_in_writes first rest call k parts writes low high)) ∙ says)
         | inl asked ↦
             let new = length (concat (found ++ accepted_by_all first)) in
@@ -218,7 +218,7 @@ module _ (s : WavSpecEx) (h : ℕ) (found : List (List ℕ)) (calls : List Call)
             end.past c (omega arith) lost (λ j low high. (state j low high).stored);
         counts = subst (λ (x : ℕ × ℕ). (x.0 ≡ length (concat list))
             ⊎ (h + length (concat list) < x.1)) (λ i. (sym is i, sym long i))
-            (either_survives h f k end.start end.past behind until ascends
+            (either_survives h f k end.start end.past beyond until ascends
             (λ j low high. head_inside (at j) s (field (h - 4) (at j)) h (state j low high).head)
             (length (concat list)) (λ j low high. (state j low high).counts) j m low high since_m until_m);
       }

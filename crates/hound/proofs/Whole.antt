@@ -29,14 +29,14 @@ pub part_of_header : {M : Type 0} (kind : Ghosts M) (s : WavSpecEx)
     × (length (kind.state back).contents
     ≤ max (length (kind.state old).contents) ((kind.state old).place + count))
     × (IsTrue kind.keeps → length (kind.state back).past ≡ length (kind.state old).past + count)
-part_of_header kind s old back e told (inl (not, is, same)) = (
+part_of_header kind s old back e modelled (inl (not, is, same)) = (
   0,
   omega (arith, data_start_least s),
   omega (arith, ap (λ m. length (kind.state m).contents) same),
   λ kept. omega (arith, ap (λ m. length (kind.state m).past) same),
 )
-part_of_header kind s old back e told (inr (writable, io, failed)) =
-    let p = failed told in
+part_of_header kind s old back e modelled (inr (writable, io, failed)) =
+    let p = failed modelled in
     let place = (kind.state old).place in
     let h = take p.count (header s 0 0) in
     let size = length-take-le p.count (header s 0 0) p.within in (
@@ -75,10 +75,10 @@ module _ {M : Type 0} (kind : Ghosts M) where
   run_spec (New s) old w begins = begins.begun.spec
   run_spec Append old w begins = refl
 
-  run_behind : (begin : Begin) (old : M) (w : WriterState M) → BeginsAs kind begin old w
+  run_beyond : (begin : Begin) (old : M) (w : WriterState M) → BeginsAs kind begin old w
       → 4 ≤ w.data_start
-  run_behind (New s) old w begins = omega (arith, begins.begun.sound.after_head)
-  run_behind Append old w begins = omega (arith, begins.sound.after_head)
+  run_beyond (New s) old w begins = omega (arith, begins.begun.sound.after_head)
+  run_beyond Append old w begins = omega (arith, begins.sound.after_head)
 
   run_opens : (begin : Begin) (old : M) (w : WriterState M) → BeginsAs kind begin old w
       → IsWhole kind.state w
@@ -88,8 +88,8 @@ module _ {M : Type 0} (kind : Ghosts M) where
     appends = begins;
     spec_is = refl;
     start_is = refl;
-    whole = λ told. whole;
-    found_is = λ told. refl;
+    whole = λ modelled. whole;
+    found_is = λ modelled. refl;
   }
 
   -- the calls with that of the end
@@ -114,7 +114,7 @@ module _ {M : Type 0} (kind : Ghosts M) where
       → WhereKeeps kind.tells kind.keeps ((kind.state m).contents ≡ overlay (kind.state m).start (kind.state m).past))
       → Ran kind begin steps marks end old answer medium
   ran begin steps marks end old answer finished medium first last calls begins lead asked marked ends
-      told replays =
+      modelled replays =
       let all = calls ++ (end_call kind.state last finished ∷ []) in
       let w = ended kind last medium in
       let leads = all_lead calls first last finished medium lead ends in
@@ -130,15 +130,15 @@ module _ {M : Type 0} (kind : Ghosts M) where
         asked = asked ∙ ap (λ s. map (asked_by s) steps) (run_spec begin old first begins);
         marked = marked;
         ends = ends;
-        told = told;
-        front = λ told. (went kind told all first w leads).front
-            (run_behind begin old first begins);
-        holds = λ told whole. holds_at_end kind s file all first w
+        reported = modelled;
+        front = λ modelled. (went kind modelled all first w leads).front
+            (run_beyond begin old first begins);
+        holds = λ modelled whole. holds_at_end kind s file all first w
             (first_of kind s file first (run_opens begin old first begins whole)) leads
-            told;
-        promises = λ told kept whole. keeps_promises kind s file all first w
+            modelled;
+        promises = λ modelled kept whole. keeps_promises kind s file all first w
             (first_of kind s file first (run_opens begin old first begins whole)) leads
-            told kept (λ m. replays m told kept);
+            modelled kept (λ m. replays m modelled kept);
       }
 
 -- a run over a new file
@@ -152,8 +152,8 @@ module _ {M : Type 0} {kind : Ghosts M} {s : WavSpecEx}
 
   pub new_exact : IsTrue kind.tells → (kind.state old).contents ≡ [] → NoFault (kind.state old) (kind.state medium)
       → (kind.state medium).contents ≡ canonical s (accepted_by_steps s steps marks)
-  new_exact told empty none =
-      let exact = (r.holds told (r.begins.file told).whole).exact none r.calls
+  new_exact modelled empty none =
+      let exact = (r.holds modelled (r.begins.file modelled).whole).exact none r.calls
       (end_call kind.state r.last r.finished) refl refl in
       let c = canonical s (accepted_by_steps s steps marks) in
       let starts : take (length c) (kind.state medium).contents ≡ c =
@@ -169,15 +169,15 @@ module _ {M : Type 0} {kind : Ghosts M} {s : WavSpecEx}
   pub new_canonical : IsTrue kind.tells → end ≡ Finalize
       → OnOk answer
       (StartsWith (kind.state medium).contents (canonical s (accepted_by_steps s steps marks)))
-  new_canonical told is_finalize =
-      go answer (subst (λ e. EndsAs e answer r.finished) is_finalize r.told)
+  new_canonical modelled is_finalize =
+      go answer (subst (λ e. EndsAs e answer r.finished) is_finalize r.reported)
     where
       go : (answer : Result (Unit {0}) Error) → answer ≡ r.finished
           → OnOk answer
           (StartsWith (kind.state medium).contents (canonical s (accepted_by_steps s steps marks)))
       go (Ok x) is =
           subst (λ l. StartsWith (kind.state medium).contents (canonical s l)) steps_accepted
-          ((r.holds told (r.begins.file told).whole).canonical r.calls
+          ((r.holds modelled (r.begins.file modelled).whole).canonical r.calls
           (end_call kind.state r.last r.finished) refl (refl, ap mark_of (sym is)))
       go (Err e) is = tt
 

@@ -16,20 +16,20 @@ use Rattle.hound_medium.proofs.Torn.{number_at_small}
 use Rattle.hound_walk.proofs.Exists.{one_answer}
 use Rattle.hound_walk.proofs.Unique.{heads_agree}
 use Rattle.hound_writer.specs.{Ghosts, IsPublishing, IsIoError, mark_of, Does, Asked, publish, write, WriterState, data_length, HasHeader, IsWhole, IsBegun, accepted_samples, padded_end, field, Appends, IsAppendFault, AppendFault, appendable, faulty, Begins, Finishes, ReadsAs}
-use Rattle.hound_writer.proofs.Answers.{all_marked, where_marked, no_io, publishing_as, refused_of}
+use Rattle.hound_writer.proofs.Answers.{all_marked, where_marked, no_io, publishing_as, rejected_of}
 use Rattle.hound_writer.proofs.Accepting.{length_overlay_max}
 use Rattle.hound_writer.proofs.AppendAnswers.{no_head_fault, one_append_answer}
 use Rattle.hound_writer.proofs.Fresh.{none_accepted}
 use Rattle.hound_writer.proofs.Heads.{head_field, head_inside}
 use Rattle.hound_writer.proofs.Samples.{length_written, samples_out}
 use Rattle.hound.specs.declared.session.Step.{Step}
-use Rattle.hound.specs.Sessions.{AnswersStep, writer_after, AnswersAll, AnswersSession, IsAnswered, RunsFrom, RunsOn, RunsOnce, RunsUntil, StopsAt, StopsEarly, all_steps}
+use Rattle.hound.specs.Sessions.{AnswersStep, writer_after, AnswersAll, AnswersSession, IsReturned, RunsFrom, RunsOn, RunsOnce, RunsUntil, StopsAt, StopsEarly, all_steps}
 use Rattle.hound.specs.Run.{Takes, asked_by, accepted_by, containers_of}
 use Rattle.hound.specs.declared.session.Begin.{Begin}
 use Rattle.hound.specs.declared.session.Begin.TheVariants.{New, Append}
 use Rattle.hound.specs.Headline.{NoFault, accepted_of}
 use Rattle.hound.proofs.Calling.{call_faults, call_reach, call_went, length-concat-append}
-use Rattle.hound.proofs.Later.{grows_told, no_fault_parts}
+use Rattle.hound.proofs.Later.{grows_reported, no_fault_parts}
 
 -- a writer that returns what one of a file of this spec does which has accepted these samples
 pub record IsAfter {W : Type 0} (s : WavSpecEx) (list : List (List ℕ))
@@ -52,7 +52,7 @@ pub step_answers : {M : Type 0} (kind : Ghosts M) (s : WavSpecEx)
 step_answers kind s old new list step answer after takes = grind (arith, common_steps)
 
 -- sessions of a file of this spec, over a medium that began as `start`
-module _ {M : Type 0} (kind : Ghosts M) (told : IsTrue kind.tells)
+module _ {M : Type 0} (kind : Ghosts M) (modelled : IsTrue kind.tells)
     (small : (m : M) → AreBytes (kind.state m).contents) (s : WavSpecEx) (writable : IsWritable s)
     (start : MediumState) where
   abbrev Answer : Type 0
@@ -89,7 +89,7 @@ module _ {M : Type 0} (kind : Ghosts M) (told : IsTrue kind.tells)
       → HoldsFile list (kind.state old).contents (kind.state old).faults → Appends kind (kind.state old) w
       → OnFile list w
   on_append list old w file appends =
-      let follows = appends.file told in
+      let follows = appends.file modelled in
       let c = (kind.state old).contents in
       let h = data_start s in
       let read = file.reads in
@@ -133,7 +133,7 @@ module _ {M : Type 0} (kind : Ghosts M) (told : IsTrue kind.tells)
       ≤ max (length (kind.state old.medium).contents) (padded_end new)
       → OnFile (list ++ accepted_of asked (mark_of answer)) new
   on_call list asked answer old new on does same reach =
-      let t = call_went kind told answer old.batch_memory old new asked does in
+      let t = call_went kind modelled answer old.batch_memory old new asked does in
       let more = accepted_of asked (mark_of answer) in
       let at : new.data_start ≡ data_start s = t.data_start ∙ on.after.start in
       let size : data_length new ≡ length (concat (list ++ more)) =
@@ -157,22 +157,22 @@ module _ {M : Type 0} (kind : Ghosts M) (told : IsTrue kind.tells)
       }
 
   -- a call that is another error changes nothing
-  on_refused : (list : List (List ℕ)) (asked : Asked) (e : Error) (old new : WriterState M)
+  on_rejected : (list : List (List ℕ)) (asked : Asked) (e : Error) (old new : WriterState M)
       → (IsIoError e → ⊥) → OnFile list old → Does kind asked (Err e) old new
       → NoFault (kind.state old.medium) (kind.state new.medium) → OnFile list new
-  on_refused list (write asked) e old new no_io on does none =
-      subst (OnFile list) (sym (refused_of e no_io does.adds.refused)) on
-  on_refused list publish e old new no_io on does none =
+  on_rejected list (write asked) e old new no_io on does none =
+      subst (OnFile list) (sym (rejected_of e no_io does.adds.rejected)) on
+  on_rejected list publish e old new no_io on does none =
       subst (λ l. OnFile l new) (append-nil list)
       (on_call list publish (Err e) old new on does none.0
-      ((call_went kind told (Err e) old.batch_memory old new publish does).reach none))
+      ((call_went kind modelled (Err e) old.batch_memory old new publish does).reach none))
 
   -- an Ok end leaves a file that can be appended to
   holds_file : (list : List (List ℕ)) (w : WriterState M) (medium : M) → OnFile list w
       → Finishes kind w (Ok tt) medium
       → HoldsFile list (kind.state medium).contents (kind.state medium).faults
   holds_file list w medium on ends =
-      let p = ends.publishes told in
+      let p = ends.publishes modelled in
       let c = (kind.state medium).contents in
       let h = data_start s in
       let spec = on.after.spec in
@@ -207,7 +207,7 @@ module _ {M : Type 0} (kind : Ghosts M) (told : IsTrue kind.tells)
       → Finishes kind w answer medium → (IsIoError e → ⊥) → StopsAt s list after e
       → StopsEarly s list after e (kind.state medium).contents
   stop_early list after e w answer medium on (same, few) ends no_fault why =
-      let p = ends.publishes told in
+      let p = ends.publishes modelled in
       let c = (kind.state medium).contents in
       let all = sym (append-nil list) in
       record {
@@ -267,7 +267,7 @@ module _ {M : Type 0} (kind : Ghosts M) (told : IsTrue kind.tells)
       let same : NoFault (kind.state w.medium) (kind.state medium) =
       (clean ∙ sym on.none, omega (arith, on.none, few)) in
       stop_early list rest e w (Err e) medium on same ends
-      (no_io e (kind.state w.medium).faults same.1 (sym (ends.publishes told).faults ∙ same.0))
+      (no_io e (kind.state w.medium).faults same.1 (sym (ends.publishes modelled).faults ∙ same.0))
       (inl (publishing_after s list w (Err e) on.after ends.answers))
 
   -- steps up to the first error
@@ -284,19 +284,19 @@ module _ {M : Type 0} (kind : Ghosts M) (told : IsTrue kind.tells)
       (inl (e, new, dropped, is, takes, ends)) =
       let does = subst (λ x. Does kind (asked_by x step) (Err e) w new) on.after.spec
       takes in
-      let t = call_went kind told (Err e) w.batch_memory w new (asked_by s step) does in
+      let t = call_went kind modelled (Err e) w.batch_memory w new (asked_by s step) does in
       let answers = step_answers kind s w new list step (Err e) on.after takes in
       subst (λ r. Leads list (step ∷ steps) (step ∷ (steps ++ rest)) (kind.state medium) r
       × AnswersSession s list (step ∷ steps) r) (sym is) (
         λ (clean, few).
             let parts = no_fault_parts (kind.state w.medium) (kind.state new.medium) (kind.state medium) t.faults
-            (grows_told dropped (kind.state new.medium) (kind.state medium) (ends.publishes told).faults)
+            (grows_reported dropped (kind.state new.medium) (kind.state medium) (ends.publishes modelled).faults)
             (clean ∙ sym on.none, omega (arith, on.none, few)) in
             let no_fault = no_io e (kind.state w.medium).faults parts.0.1
-            (sym (call_faults kind told (Err e) w.batch_memory w new (asked_by s step) does)
+            (sym (call_faults kind modelled (Err e) w.batch_memory w new (asked_by s step) does)
             ∙ parts.0.0) in
             stop_early list (step ∷ (steps ++ rest)) e new dropped medium
-            (on_refused list (asked_by s step) e w new no_fault on does parts.0) parts.1 ends no_fault
+            (on_rejected list (asked_by s step) e w new no_fault on does parts.0) parts.1 ends no_fault
             (inr (step, steps ++ rest, refl, answers)),
         inl (e, refl, answers),
       )
@@ -306,8 +306,8 @@ module _ {M : Type 0} (kind : Ghosts M) (told : IsTrue kind.tells)
       let more = accepted_by s step true in
       let (led, answers) = until (list ++ more) steps rest new answer medium
       (on_call list (asked_by s step) (Ok tt) w new on does
-      (call_faults kind told (Ok tt) w.batch_memory w new (asked_by s step) does)
-      (call_reach kind told (Ok tt) w.batch_memory w new (asked_by s step) does)) runs in (
+      (call_faults kind modelled (Ok tt) w.batch_memory w new (asked_by s step) does)
+      (call_reach kind modelled (Ok tt) w.batch_memory w new (asked_by s step) does)) runs in (
         leads_later list more (step ∷ []) steps (steps ++ rest) (kind.state medium) answer
             (append-nil more) led,
         inr (step_answers kind s w new list step (Ok tt) on.after takes, answers),
@@ -327,7 +327,7 @@ module _ {M : Type 0} (kind : Ghosts M) (told : IsTrue kind.tells)
   first steps old answer medium same place (inl (e, is, inl (unwritable, named, still))) =
       absurd (unwritable writable)
   first steps old answer medium same place (inl (e, is, inr (can, io, puts))) =
-      inl (e, is, io, (puts told).faults ∙ ap (λ (m : MediumState). one_more m.faults) same)
+      inl (e, is, io, (puts modelled).faults ∙ ap (λ (m : MediumState). one_more m.faults) same)
   first steps old answer medium same place (inr (w, begins, runs)) =
       inr (w, on_new old w same place begins, runs)
 
@@ -336,12 +336,12 @@ module _ {M : Type 0} (kind : Ghosts M) (told : IsTrue kind.tells)
       → HoldsFile list (kind.state old).contents (kind.state old).faults
       → RunsOnce kind Append steps old answer medium → Starts list steps answer medium
   again list steps old answer medium file (inl (e, is, goes)) =
-      inl (IoError e, is, tt, (goes told).faults ∙ ap one_more file.none)
+      inl (IoError e, is, tt, (goes modelled).faults ∙ ap one_more file.none)
   again list steps old answer medium before (inr (mid, goes, runs)) = go runs
     where
       file : HoldsFile list (kind.state mid).contents (kind.state mid).faults
       file = subst (λ (x : List ℕ × ℕ). HoldsFile list x.0 x.1)
-          (λ i. (sym (goes told).stays.contents i, sym (goes told).faults i)) before
+          (λ i. (sym (goes modelled).stays.contents i, sym (goes modelled).faults i)) before
 
       never : (fault : AppendFault) → IsAppendFault (kind.state mid).contents fault → ⊥
       never fault is =
@@ -358,7 +358,7 @@ module _ {M : Type 0} (kind : Ghosts M) (told : IsTrue kind.tells)
 
       go : RunsFrom kind Append steps mid answer medium
           → Starts list steps answer medium
-      go (inl (e, is, refused)) = elim (refused told).why [
+      go (inl (e, is, rejected)) = elim (rejected modelled).why [
         | inl (fault, here, names, same) ↦ absurd (never fault here)
         | inr (io, faults) ↦ inl (e, is, io, faults ∙ ap one_more file.none)
       ]
@@ -430,13 +430,13 @@ module _ {M : Type 0} (kind : Ghosts M) (s : WavSpecEx) (old medium : M) where
       → 0 < length sessions → RunsOn kind (New s) sessions old answer medium
       → IsWritable s ⊎ ((answer ≡ Err Unsupported) × (medium ≡ old))
   writable_or [] answer some are = absurd (omega (arith, some))
-  writable_or (session ∷ sessions) answer some (inl (e, is, inl (f, told, inl (why, name, same)))) =
-      inr (is ∙ told ∙ ap (λ x. Err x) name, same)
-  writable_or (session ∷ sessions) answer some (inl (e, is, inl (f, told, inr (can, io, puts)))) =
+  writable_or (session ∷ sessions) answer some (inl (e, is, inl (f, modelled, inl (why, name, same)))) =
+      inr (is ∙ modelled ∙ ap (λ x. Err x) name, same)
+  writable_or (session ∷ sessions) answer some (inl (e, is, inl (f, modelled, inr (can, io, puts)))) =
       inl can
   writable_or (session ∷ sessions) answer some (inl (e, is, inr (w, begins, runs))) =
       inl begins.begun.writable
-  writable_or (session ∷ sessions) answer some (inr (mid, inl (f, told, not), rest)) = cc
+  writable_or (session ∷ sessions) answer some (inr (mid, inl (f, modelled, not), rest)) = cc
   writable_or (session ∷ sessions) answer some (inr (mid, inr (w, begins, runs), rest)) =
       inl begins.begun.writable
 
@@ -453,7 +453,7 @@ module _ {M : Type 0} (kind : Ghosts M) (s : WavSpecEx) (old medium : M) where
           IfErr answer (λ e. StopsEarly s [] (all_steps sessions) e (kind.state medium).contents)
       pub first_error : IsWritable s → AnswersAll s [] sessions answer
 
-  module _ (told : IsTrue kind.tells) (small : (m : M) → AreBytes (kind.state m).contents)
+  module _ (modelled : IsTrue kind.tells) (small : (m : M) → AreBytes (kind.state m).contents)
       (place : (kind.state old).place ≡ 0) where
     pub leave : (sessions : List (Bor (List Step))) (answer : Result (Unit {0}) Error)
         → RunsOn kind (New s) sessions old answer medium → Leave sessions answer
@@ -466,9 +466,9 @@ module _ {M : Type 0} (kind : Ghosts M) (s : WavSpecEx) (old medium : M) where
     leave (session ∷ sessions) (Err e) are = record {
       file = λ some. tt;
       faults = tt;
-      stops = λ writable. (all kind told small s writable (kind.state old) (session ∷ sessions) old
+      stops = λ writable. (all kind modelled small s writable (kind.state old) (session ∷ sessions) old
           (Err e) medium refl place (omega arith) are).0;
-      first_error = λ writable. (all kind told small s writable (kind.state old)
+      first_error = λ writable. (all kind modelled small s writable (kind.state old)
           (session ∷ sessions) old (Err e) medium refl place (omega arith) are).1;
     }
     leave (session ∷ sessions) (Ok x) are =
@@ -476,7 +476,7 @@ module _ {M : Type 0} (kind : Ghosts M) (s : WavSpecEx) (old medium : M) where
           | inl can ↦ can
           | inr (is, same) ↦ cc
         ] in
-        let (holds, answers) = all kind told small s writable (kind.state old) (session ∷ sessions)
+        let (holds, answers) = all kind modelled small s writable (kind.state old) (session ∷ sessions)
         old (Ok tt) medium refl place (omega arith) are in
         let file = canonical s (containers_of s (all_steps (session ∷ sessions))) in
         record {
@@ -491,9 +491,9 @@ module _ {M : Type 0} (kind : Ghosts M) (s : WavSpecEx) (old medium : M) where
         }
 
   -- what the result of sessions shows
-  pub sessions_answered : (IsTrue kind.tells → (m : M) → AreBytes (kind.state m).contents)
+  pub sessions_returned : (IsTrue kind.tells → (m : M) → AreBytes (kind.state m).contents)
       → (IsTrue kind.tells → (kind.state old).place ≡ 0) → (sessions : List (Bor (List Step)))
       (answer : Result (Unit {0}) Error)
       → RunsOn kind (New s) sessions old answer medium
-      → IsAnswered kind s sessions old answer medium
-  sessions_answered small place sessions answer are = grind (arith, common_steps, writable_or, leave)
+      → IsReturned kind s sessions old answer medium
+  sessions_returned small place sessions answer are = grind (arith, common_steps, writable_or, leave)

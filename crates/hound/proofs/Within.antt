@@ -18,7 +18,7 @@ shown {M} {g} d = own g.keeps (g.state d.inner) d.faults d.flushed
 abbrev pub durable_kind : {M : Type 0} → (g : Ghosts M) → Ghosts (Durable M g)
 durable_kind g = record { tells = g.tells; keeps = g.keeps; state = λ d. shown d }
 
-module _ {M : Type 0} {g : Ghosts M} (d : Durable M g) (told : IsTrue g.tells)
+module _ {M : Type 0} {g : Ghosts M} (d : Durable M g) (modelled : IsTrue g.tells)
     (kept : IsTrue g.keeps) where
   same_past : (shown d).past ≡ (within d).past
   same_past = cond-true g.keeps (within d).past [] kept
@@ -29,28 +29,28 @@ module _ {M : Type 0} {g : Ghosts M} (d : Durable M g) (told : IsTrue g.tells)
   same_state = grind (arith, common_steps)
 
   flushed_later : (shown d).flushed ≤ (within d).flushed
-  flushed_later = omega (arith, d.marked told kept, cond-true g.keeps d.flushed 0 kept)
+  flushed_later = omega (arith, d.marked modelled kept, cond-true g.keeps d.flushed 0 kept)
 
   flushed_within : (within d).flushed ≤ length (shown d).past
-  flushed_within = omega (arith, d.known told kept, ap length same_past)
+  flushed_within = omega (arith, d.known modelled kept, ap length same_past)
 
   ascends : Ascends (shown d).past (within d).flushed (length (shown d).past)
-  ascends = subst (λ l. Ascends l (within d).flushed (length l)) (sym same_past) (d.ascends told kept)
+  ascends = subst (λ l. Ascends l (within d).flushed (length l)) (sym same_past) (d.ascends modelled kept)
 
 pub left_within : {M : Type 0} {g : Ghosts M}
     → ((m : M) → WhereKeeps g.tells g.keeps
     ((g.state m).contents ≡ overlay (g.state m).start (g.state m).past))
     → IsTrue g.tells → IsTrue g.keeps → LeftWithin (durable_kind g)
-left_within {M} {g} replays told kept s file known d left =
+left_within {M} {g} replays modelled kept s file known d left =
     let shows : (d : Durable M g) → (shown d).contents ≡ overlay (shown d).start (shown d).past =
-    λ d. replays_own g.keeps (g.state d.inner) d.faults d.flushed kept (replays d.inner told kept) in
-    let k = left_kept (durable_kind g) (λ d _ _. shows d) s file known d left told kept in
+    λ d. replays_own g.keeps (g.state d.inner) d.faults d.flushed kept (replays d.inner modelled kept) in
+    let k = left_kept (durable_kind g) (λ d _ _. shows d) s file known d left modelled kept in
     let p = k.promised.promises in
     record {
       left = k.left;
       promised = k.promised;
       left_after = λ before after flush at has_all sector contents some one lost.
-          let same = same_past d told kept in
+          let same = same_past d modelled kept in
           inr (inr (
             (within d).flushed,
             length (shown d).past,
@@ -58,21 +58,21 @@ left_within {M} {g} replays told kept s file known d left =
             omega (
               arith,
               p.flushed before after flush at has_all,
-              flushed_later d told kept,
+              flushed_later d modelled kept,
             ),
-            flushed_within d told kept,
+            flushed_within d modelled kept,
             omega arith,
-            ascends d told kept,
+            ascends d modelled kept,
             some,
             one,
             subst (λ l. SurvivesLoss sector (within d).start l (within d).flushed (length l) contents)
                 (sym same) lost,
           ));
       survives = subst (SurvivesAtEnd s (start_of s file) (found_in file) k.left.recorded.calls)
-          (same_state d told kept)
+          (same_state d modelled kept)
           (survives_counted s (start_of s file) (found_in file) k.left.recorded.calls (shown d)
           (within d).flushed (within d).faults p
-          (flushed_later d told kept) (flushed_within d told kept) (ascends d told kept)
-          (counted_after_loss (durable_kind g) told kept shows s file known d k
-          (within d).flushed (flushed_within d told kept) (ascends d told kept)));
+          (flushed_later d modelled kept) (flushed_within d modelled kept) (ascends d modelled kept)
+          (counted_after_loss (durable_kind g) modelled kept shows s file known d k
+          (within d).flushed (flushed_within d modelled kept) (ascends d modelled kept)));
     }

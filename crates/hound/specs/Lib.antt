@@ -9,19 +9,19 @@ pub use Rattle.hound_spec.specs.declared.error.Error.{Error}
 pub use Rattle.hound_spec.specs.declared.spec.SampleFormat.{SampleFormat}
 pub use Rattle.hound_spec.specs.declared.spec.WavSpec.{WavSpec}
 pub use Rattle.hound_spec.specs.declared.spec.WavSpecEx.{WavSpecEx}
-pub use Rattle.hound_sample.specs.{IsEncoded, Refusal, WritesContainer, all_containers, and_more, bytes_in, containers, error_of, fits, if_fits, int_bytes, joined_containers, offset_byte, too_wide, unsupported, contained, int_container-in_width, pattern_container-in_width, FillsFront, ReadRefusal, Reads, ReadsContainer, ReadsEach, ReadsItem, TakesContainer, TakesPart, answer_of, error_of_read, error_of_sample, first_reason, float_refusal, int_meaning, int_refusal, items_of, low_i16, misfit, other_format, pattern, read_error, reason_of, clipped, float_of_int, full_scale, scaled, with_bits}
+pub use Rattle.hound_sample.specs.{IsEncoded, Rejection, WritesContainer, all_containers, and_more, bytes_in, containers, error_of, fits, if_fits, int_bytes, joined_containers, offset_byte, too_wide, unsupported, contained, int_container-in_width, pattern_container-in_width, FillsFront, ReadRejection, Reads, ReadsContainer, ReadsEach, ReadsItem, TakesContainer, TakesPart, answer_of, error_of_read, error_of_sample, first_reason, float_rejection, int_meaning, int_rejection, items_of, low_i16, misfit, other_format, pattern, read_error, reason_of, clipped, float_of_int, full_scale, scaled, with_bits}
 unfoldable pub use Rattle.hound_sample.specs.{int_container, pattern_container}
 pub use Rattle.hound_sample.specs.declared.item.SampleError.{SampleError}
 pub use Rattle.hound_medium.specs.{FlushedSince, Flushes, Gets, Goes, IsMoved, MediumState, Puts, PutsAll, PutsFirst, Shifts, Span, Stays, WhereKeeps, WhereTells, count_of, faults_after, moment, one_more, overlay, place_reached, placed, put_at, unknown, FailsAt, IsNumbered, SameRequests, calls, greatest_count}
 pub use Rattle.hound_durable.specs.{Ascends, IsBelow, IsItsFault, IsLastBefore, LeadsBack, OnlySyncs, SurvivesLoss, byte_at, left_of, left_own, own, place_of, replays_own, Around, synced, within}
-pub use Rattle.hound_walk.specs.{IsSoundSpec, by_subformat, fmt_len, fmt_of, spec_of, width_of, with_format, with_valid_bits, Answer, Answers, AnswersFile, Chunk, Chunks, HasOneAnswer, HasOneFileAnswer, Head, IsChunk, IsDataPlace, Readable, Refused, Unreadable, Walk, chunk_bytes, cut_fault, data_fault, fault_of, first_fault, fmt_fault, joined, last_spec, ok_of, readable, unreadable, AreTaken, CountsFailed, Gives, IsSoundChunk, IsSoundOption, ReadsChunk, ReadsContent, ReadsFormat, RefusedAfter, Refuses, RefusesFront, ReportsFront, SaysContent, TakesAll, TakesFor, TakesFront, TakesLess, UnreadableAfter, Walked, Walks, chunk_taken, content_taken, content_takes, front_taken, FailsAs, IsRefusal, Names, OpensAs, ReportsError, reason_text, AnswersBytes, FindsData, Untouched, account_of, faults_after_walk, unread, IsAfter, IsAhead, IsAt, IsAtPart, IsNearer, IsSoundStep, LeadsTo, Reaches, part_bytes, part_length, part_start, parts_left}
+pub use Rattle.hound_walk.specs.{IsSoundSpec, by_subformat, fmt_len, fmt_of, spec_of, width_of, with_format, with_valid_bits, Answer, Answers, AnswersFile, Chunk, Chunks, HasOneAnswer, HasOneFileAnswer, Head, IsChunk, IsDataPlace, Readable, Rejected, Unreadable, Walk, chunk_bytes, cut_fault, data_fault, fault_of, first_fault, fmt_fault, joined, last_spec, ok_of, readable, unreadable, AreTaken, CountsFailed, Gives, IsSoundChunk, IsSoundOption, ReadsChunk, ReadsContent, ReadsFormat, RejectedAfter, Rejects, RejectsFront, ReportsFront, SaysContent, TakesAll, TakesFor, TakesFront, TakesLess, UnreadableAfter, Walked, Walks, chunk_taken, content_taken, content_takes, front_taken, FailsAs, IsRejection, Names, OpensAs, ReportsError, reason_text, AnswersBytes, FindsData, Untouched, account_of, faults_after_walk, unread, IsAfter, IsAhead, IsAt, IsAtPart, IsNearer, IsSoundStep, LeadsTo, Reaches, part_bytes, part_length, part_start, parts_left}
 unfoldable pub use Rattle.hound_walk.specs.{by_tag, fmt_said, wave_format, wave_format_extensible, wave_format_ieee_float, wave_format_pcm, chunk_fault, content_fault, front_fault, spec_after}
 pub use Rattle.hound_walk.specs.declared.cause.Cause.{Cause}
 pub use Rattle.hound_walk.specs.declared.cause.HeadError.{HeadError}
 pub use Rattle.hound_walk.specs.declared.cause.Reason.{Reason}
 pub use Rattle.hound_walk.specs.declared.chunks.FileHead.{FileHead}
-pub use Rattle.hound_reader.specs.{AnswersNext, AnswersRead, AnswersReadMany, AreContainers, AreItems, CountsTaken, GivesItem, GivesItems, GivesItemsOfBytes, HasGiven, HasGiven-prop, HasSoundCounts, HasWholeFrames, IsNext, ReaderState, ReadsBlock, TookBytes, meaning_at, over_bytes, refusal_at, requested, samples_left, taken_without, AnswersSamples, FindsSamples, IsNotOpened, OpensSource, LendsNext, TakesNext, lender, lent_reader, taken_reader, Follows, HasSought, IsAtCount, IsMeaningOf, IsWhereCounted, PassesItem, ReadsInPlace, Recounts, Seeks, bytes_before, container_at, count_after, samples_before, way_to}
-pub use Rattle.hound_writer.specs.{AcceptAnswer, Accepts, AcceptsBytes, AcceptsEach, Adds, AddsAtEach, AddsToFile, AreI16, FitAnswer, IsIoError, IsPublishing, IsStored, OnPublished, OnRefused, StaysStored, StaysTrue, UnlessFailed, container_in, containers_in, faults_told, i16_bytes, if_marked, mark_of, one, sample_bytes, whole_containers, AnswersAppend, AppendAnswer, AppendFault, Appends, FailsCheck, FollowsData, HasOneAppendAnswer, IsAppendFault, IsFileError, IsMediumError, IsNotAppended, NamesFault, PutsNothing, appendable, by_bytes, faulty, too_long, IsSameFile, WritesToBatch, batch_bytes, batch_lender, batch_writer, remaining, Begins, BeginsFile, HasBegun, IsNotBegun, PutsHeader, CountsAtMost, GoesAtEach, GoesOut, GoesToFile, HasSize, IsConsistent, IsLimit, IsPatched, IsPublishResult, Patches, PatchesAtEach, PutsAt, StaysAround, after_out, all_out, memory_bytes, of_fields, or_fault, AreKnown, Asked, Begun, Call, Does, Ends, Extends, HadData, HasSameCalls, IsKnown, IsSeen, Known, Lead, LeftBy, Opens, RecordedBy, Seen, answered, appended, asked_by_all, found_in, handed_in, made, mark_seen, marked, new_file, publish, result_seen, start_of, unseen, with_memory, write, AreFrames, ChangesSizesOnly, Counts, Ghosts, HasHeader, HasRoom, HasSameSamples, IsBegun, IsCounted, IsPadded, IsSixteen, IsSound, IsValid, IsWhole, ReadsFirst, SameButSizes, WriterState, accepted_bytes, accepted_samples, block_length, data_end, data_length, field, padded_end, sample_count, Checkpoints, Finishes, IsHalfPublished, IsOldOrNew, IsOutside, LeavesWriter, OncePutBefore, Publishes, PublishesAtEach, PublishesTo, PutsFrom, PutsLast, ReadsAs, place_after, Log, Performed, Performs, checkpoint, log_kind, nth, pad_effects, size_effects, AppendsRecorder, BeginsRecorder, HasData, HasFailed, HasNoData, NextEffect, Places, Reports, advanced, effects_of, length_with, recorder_of, ContinuesAfter, Resumes, ResumesAfter, ends_whole, found_frame, kept_as, kept_length, rest_follows, resumed_recorder, Abandons, Advances, AsksForBlock, AsksForCheckpoint, EffectEnds, EndsEffect, GivesUp, GoesOn, HasEnded, IsClear, IsSaved, SavesFirst, Settles, TakesBlock, ThenGoesOn, end_of, saved_of, AgreeTo, Directed, InStep, IsCutOff, IsIdle, IsOrdered, IsRecorderOf, IsSynced, Opened, Resumed, block_known, cut_known, resumed_file, writer_of, IsSaid, Repeats, written_first}
+pub use Rattle.hound_reader.specs.{AnswersNext, AnswersRead, AnswersReadMany, AreContainers, AreItems, CountsTaken, GivesItem, GivesItems, GivesItemsOfBytes, HasGiven, HasGiven-prop, HasSoundCounts, HasWholeFrames, IsNext, ReaderState, ReadsBlock, TookBytes, meaning_at, over_bytes, rejection_at, requested, samples_left, taken_without, AnswersSamples, FindsSamples, IsNotOpened, OpensSource, LendsNext, TakesNext, lender, lent_reader, taken_reader, Follows, HasSought, IsAtCount, IsMeaningOf, IsWhereCounted, PassesItem, ReadsInPlace, Recounts, Seeks, bytes_before, container_at, count_after, samples_before, way_to}
+pub use Rattle.hound_writer.specs.{AcceptAnswer, Accepts, AcceptsBytes, AcceptsEach, Adds, AddsAtEach, AddsToFile, AreI16, FitAnswer, IsIoError, IsPublishing, IsStored, OnPublished, OnRejected, StaysStored, StaysTrue, UnlessFailed, container_in, containers_in, faults_reported, i16_bytes, if_marked, mark_of, one, sample_bytes, whole_containers, AnswersAppend, AppendAnswer, AppendFault, Appends, FailsCheck, FollowsData, HasOneAppendAnswer, IsAppendFault, IsFileError, IsMediumError, IsNotAppended, NamesFault, PutsNothing, appendable, by_bytes, faulty, too_long, IsSameFile, WritesToBatch, batch_bytes, batch_lender, batch_writer, remaining, Begins, BeginsFile, HasBegun, IsNotBegun, PutsHeader, CountsAtMost, GoesAtEach, GoesOut, GoesToFile, HasSize, IsConsistent, IsLimit, IsPatched, IsPublishResult, Patches, PatchesAtEach, PutsAt, StaysAround, after_out, all_out, memory_bytes, of_fields, or_fault, AreKnown, Asked, Begun, Call, Does, Ends, Extends, HadData, HasSameCalls, IsKnown, IsSeen, Known, Lead, LeftBy, Opens, RecordedBy, Seen, appended, asked_by_all, found_in, handed_in, made, mark_seen, marked, new_file, publish, result_seen, returned, start_of, unseen, with_memory, write, AreFrames, ChangesSizesOnly, Counts, Ghosts, HasHeader, HasRoom, HasSameSamples, IsBegun, IsCounted, IsPadded, IsSixteen, IsSound, IsValid, IsWhole, ReadsFirst, SameButSizes, WriterState, accepted_bytes, accepted_samples, block_length, data_end, data_length, field, padded_end, sample_count, Checkpoints, Finishes, IsHalfPublished, IsOldOrNew, IsOutside, LeavesWriter, OncePutBefore, Publishes, PublishesAtEach, PublishesTo, PutsFrom, PutsLast, ReadsAs, place_after, Log, Performed, Performs, checkpoint, log_kind, nth, pad_effects, size_effects, AppendsRecorder, BeginsRecorder, HasData, HasFailed, HasNoData, NextEffect, Places, Reports, advanced, effects_of, length_with, recorder_of, ContinuesAfter, Resumes, ResumesAfter, ends_whole, found_frame, kept_as, kept_length, rest_follows, resumed_recorder, Abandons, Advances, AsksForBlock, AsksForCheckpoint, EffectEnds, EndsEffect, GivesUp, GoesOn, HasEnded, IsClear, IsSaved, SavesFirst, Settles, TakesBlock, ThenGoesOn, end_of, saved_of, AgreeTo, Directed, InStep, IsCutOff, IsIdle, IsOrdered, IsRecorderOf, IsSynced, Opened, Resumed, block_known, cut_known, resumed_file, writer_of, IsSaid, Repeats, written_first}
 unfoldable pub use Rattle.hound_writer.specs.{head_fault, Left, Recorded, with_sizes}
 pub use Rattle.hound_writer.specs.declared.effects.Action.{Action}
 pub use Rattle.hound_writer.specs.declared.effects.Effect.{Effect}
@@ -30,13 +30,13 @@ pub use Rattle.hound_writer.specs.declared.recorder.Recorder.{Recorder}
 pub use Rattle.hound_writer.specs.declared.recorder.RecorderError.{RecorderError}
 pub use Rattle.hound_writer.specs.declared.resuming.FileState.{FileState}
 pub use Rattle.hound_writer.specs.declared.resuming.FoundFile.{FoundFile}
-pub use Rattle.hound_repair.specs.{are_right, begins_chunk, broadcast_tags, frame_length, frames_held, has_tag, held, if_some, is_printable, known_tags, mended, metadata_tags, missing_pad, program_tags, riff_tags, right_length, said_length, shown_length, torn_bytes, update_tags, Finds, HasRightSizes, HasUnfitHead, IsFoundAt, IsNoPad, IsNotFound, IsRepairFault, LeavesFor, Looks, ReadsFrames, Repairs, UnlessFollowed, found_length, frames_found, state_of, torn_found, whole_frames, AreRightSizes, FindsDamage, IsSame, IsSoundDamage, IsUnmeasured, IsUnrepaired, LacksRoom, RepairsBytes, as_medium, bytes_fault, may_be_chunks, repair_of, seen_head, shown_of, AsksAfter, AsksEffect, AsksMore, AsksNext, AsksOfLook, AsksPart, IsAsked, IsAtChunk, IsAtEnd, IsAtStage, IsFoundAs, IsLengthOf, IsLookedAt, IsMeasured, IsNotLookedAt, IsNotRepaired, IsNotWhole, IsShown, IsSoundHead, IsSoundLook, IsSoundRepairStep, IsSoundRepairing, IsSoundStage, LeavesPartly, LooksTo, MeasuresTo, Mends, MendsAtEach, MendsMedium, PartlyMended, PerformedOn, PerformsOn, Remeasures, RepairsMedium, StageNearer, StaysAt, Tells, asked_count, asked_place, asks_for, effects_for, effects_of_task, else_followed, failure_of, followed, has_right, looks_for_chunks, mending, mending_effects, mending_end, mending_rest, pads, refused_for, stage_place, steps_left, tagged, unrepaired_for}
+pub use Rattle.hound_repair.specs.{are_right, begins_chunk, broadcast_tags, frame_length, frames_held, has_tag, held, if_some, is_printable, known_tags, mended, metadata_tags, missing_pad, program_tags, riff_tags, right_length, said_length, shown_length, torn_bytes, update_tags, Finds, HasRightSizes, HasUnfitHead, IsFoundAt, IsNoPad, IsNotFound, IsRepairFault, LeavesFor, Looks, ReadsFrames, Repairs, UnlessFollowed, found_length, frames_found, state_of, torn_found, whole_frames, AreRightSizes, FindsDamage, IsSame, IsSoundDamage, IsUnmeasured, IsUnrepaired, LacksRoom, RepairsBytes, as_medium, bytes_fault, may_be_chunks, repair_of, seen_head, shown_of, AsksAfter, AsksEffect, AsksMore, AsksNext, AsksOfLook, AsksPart, IsAsked, IsAtChunk, IsAtEnd, IsAtStage, IsFoundAs, IsLengthOf, IsLookedAt, IsMeasured, IsNotLookedAt, IsNotRepaired, IsNotWhole, IsShown, IsSoundHead, IsSoundLook, IsSoundRepairStep, IsSoundRepairing, IsSoundStage, LeavesPartly, LooksTo, MeasuresTo, Mends, MendsAtEach, MendsMedium, PartlyMended, PerformedOn, PerformsOn, Remeasures, RepairsMedium, StageNearer, StaysAt, Tells, asked_count, asked_place, asks_for, effects_for, effects_of_task, else_followed, failure_of, followed, has_right, looks_for_chunks, mending, mending_effects, mending_end, mending_rest, pads, rejected_for, stage_place, steps_left, tagged, unrepaired_for}
 unfoldable pub use Rattle.hound_repair.specs.{are_at_most, are_chunks, chunk_content, data_held, ends_with_id3, ends_with_pad, has_known_tag, is_followed, uncounted, repair_fault, size_fault}
 pub use Rattle.hound_repair.specs.declared.bytes.Unrepaired.{Unrepaired}
 pub use Rattle.hound_repair.specs.declared.look.Damage.{Damage}
 pub use Rattle.hound_repair.specs.declared.sizes.Repair.{Repair}
 pub use Rattle.hound_repair.specs.declared.sizes.RepairState.{RepairState}
-pub use Rattle.hound.specs.Sessions.{AnswersAll, AnswersCall, AnswersSession, AnswersStep, IsAnswered, RunsFrom, RunsOn, RunsOnce, RunsUntil, StopsAt, StopsEarly, all_steps, writer_after}
+pub use Rattle.hound.specs.Sessions.{AnswersAll, AnswersCall, AnswersSession, AnswersStep, IsReturned, RunsFrom, RunsOn, RunsOnce, RunsUntil, StopsAt, StopsEarly, all_steps, writer_after}
 pub use Rattle.hound.specs.Headline.{BeginInOrder, CanonicalAtEnd, CountedAfterLoss, CountedAtEach, FlushedByFlushes, FrontAtEach, FrontInWrites, HasPublished, HasWholeLength, HeadAtEach, Holds, HoldsAtEnd, IfBegun, IsLeftAfter, IsUncut, Keeps, Kept, KeptAfterLoss, KeptWithin, LastsToEnd, LeftWithin, LosesNothing, MixedInPatches, NeverLess, NoFault, OldOrNewInPatches, Promises, PublishedByFlushes, SaidByFlushes, SaysFrames, StoredAtEach, SurvivesAtEnd, accepted, accepted_as_seen, accepted_by_all, accepted_of, begins_at, contents_at, seen}
 pub use Rattle.hound.specs.Run.{BeginsAs, EndsAs, IsNotBegunAs, IsSession, Ran, Takes, accepted_by, accepted_by_steps, asked_by, batch_containers, begun_spec, containers_of, end_call, file_of, is_int, is_sixteen}
 pub mod Sessions

@@ -6,7 +6,7 @@ use Rattle.hound_spec.specs.declared.spec.SampleFormat.{SampleFormat}
 use Rattle.hound_spec.specs.declared.spec.SampleFormat.TheVariants.{Int, Float}
 use Rattle.hound_spec.specs.declared.spec.WavSpec.{WavSpec}
 use Rattle.hound_spec.specs.declared.spec.WavSpecEx.{WavSpecEx}
-use Rattle.hound_sample.specs.{Refusal, unsupported, int_container, pattern_container}
+use Rattle.hound_sample.specs.{Rejection, unsupported, int_container, pattern_container}
 use Rattle.hound_medium.specs.{MediumState, WhereTells, WhereKeeps}
 use Rattle.hound_writer.specs.{Ghosts, container_in, containers_in, mark_of, Asked, Does, publish, write, Begun, Call, Lead, appended, asked_by_all, found_in, new_file, start_of, WriterState, ChangesSizesOnly, IsWhole, accepted_samples, Appends, IsNotAppended, Begins, IsNotBegun, Finishes}
 use Rattle.hound.specs.Headline.{accepted_of, HoldsAtEnd, Promises}
@@ -27,7 +27,7 @@ abbrev pub is_sixteen : WavSpec → Bool
 is_sixteen spec = is_int spec.sample_format && spec.bits_per_sample == 16
 
 -- the containers of a batch, those of its values by their table, or why it has none
-abbrev pub batch_containers : WavSpecEx → List ℤ → Result (List (List ℕ)) Refusal
+abbrev pub batch_containers : WavSpecEx → List ℤ → Result (List (List ℕ)) Rejection
 batch_containers s values =
     if is_sixteen s.spec then containers_in int_container s values else Err unsupported
 
@@ -105,7 +105,7 @@ pub record Ran {M : Type 0} (kind : Ghosts M) (begin : Begin)
   pub asked : asked_by_all calls ≡ map (asked_by (begun_spec begin first)) steps
   pub marked : marks ≡ map (λ (call : Call). mark_of call.answer) calls
   pub ends : Finishes kind last finished medium
-  pub told : EndsAs end answer finished
+  pub reported : EndsAs end answer finished
   pub front : WhereTells kind.tells (ChangesSizesOnly first.data_start (kind.state first.medium).contents
       (kind.state medium).contents)
   pub holds : WhereTells kind.tells (IsWhole kind.state first →

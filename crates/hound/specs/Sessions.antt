@@ -56,7 +56,7 @@ AnswersAll s list (session ∷ sessions) answer =
 
 -- What the result of sessions shows: over every medium, that the spec can't be written; else the
 -- first error; and at an Ok, that no call of the medium failed.
-pub record IsAnswered {M : Type 0} (kind : Ghosts M) (s : WavSpecEx)
+pub record IsReturned {M : Type 0} (kind : Ghosts M) (s : WavSpecEx)
     (sessions : List (Bor (List Step))) (old : M) (answer : Result (Unit {0}) Error)
     (medium : M) : Type 0 where
   pub unwritable : 0 < length sessions → (IsWritable s → ⊥) →

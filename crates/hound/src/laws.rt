@@ -7,8 +7,8 @@ ghost use Rattle.hound_spec.specs.declared.spec.WavSpecEx.{WavSpecEx};
 ghost use Rattle.hound_spec.specs.{canonical, data_start, riff_size};
 ghost use Rattle.hound_medium.specs.{MediumState, WhereKeeps, WhereTells, moment};
 ghost use Rattle.hound_durable.specs.{Ascends, SurvivesLoss, place_of};
-ghost use Rattle.hound_sample.specs.{Refusal, int_container};
-ghost use Rattle.hound_writer.specs.{mark_of, AcceptAnswer, AcceptsBytes, ChangesSizesOnly, appended, AcceptsEach, i16_bytes, AreKnown, Asked, Begun, Call, IsKnown, Known, Lead, Left, Recorded, answered, sample_count, asked_by_all, found_in, made, marked, new_file, publish, start_of, IsSameFile, Finishes, WriterState, IsWhole, accepted_samples, data_length, IsSound, CountsAtMost, LeavesWriter, PutsAt, ReadsAs, field, Log, Performed, handed_in, log_kind, Directed, IsSynced, AgreeTo, Counts, end_of};
+ghost use Rattle.hound_sample.specs.{Rejection, int_container};
+ghost use Rattle.hound_writer.specs.{mark_of, AcceptAnswer, AcceptsBytes, ChangesSizesOnly, appended, AcceptsEach, i16_bytes, AreKnown, Asked, Begun, Call, IsKnown, Known, Lead, Left, Recorded, returned, sample_count, asked_by_all, found_in, made, marked, new_file, publish, start_of, IsSameFile, Finishes, WriterState, IsWhole, accepted_samples, data_length, IsSound, CountsAtMost, LeavesWriter, PutsAt, ReadsAs, field, Log, Performed, handed_in, log_kind, Directed, IsSynced, AgreeTo, Counts, end_of};
 ghost use Rattle.hound_writer.specs.declared.recorder.Recorder.{Recorder};
 ghost use Rattle.hound_writer.specs.declared.effects.Effect.TheVariants.{Size, Sync};
 ghost use Rattle.hound_repair.specs.{ReadsFrames, Repairs};
@@ -157,20 +157,20 @@ pub fn a_checkpoint_holds()
 /// byte written, from the return of the `flush` on (`at_each`). So it is of what an Ok end has left (`at_end`).
 pub fn an_ok_flush_is_kept<M: Medium>()
     ensures now { WhereTells M.tells ((s : WavSpecEx) (file : Begun) (before after : List Known)
-        (w : WriterState M) → Recorded M.Placed s file (before ++ (answered publish (Ok tt) ∷ after)) w
+        (w : WriterState M) → Recorded M.Placed s file (before ++ (returned publish (Ok tt) ∷ after)) w
         → AllByRecursion (λ (one : Known). one.asked ≡ publish → ⊥) after
         → (calls : List Call) × AreKnown before calls
         × ReadsAs s (start_of s file) (found_in file ++ accepted_by_all calls) (M.state w.medium).contents) }
     ensures at_each { WhereKeeps M.tells M.keeps ((s : WavSpecEx) (file : Begun) (known : List Known)
         (mid w : WriterState M) (later : List Call)
-        → Recorded M.Placed s file (known ++ answered publish (Ok tt) ∷ []) mid
+        → Recorded M.Placed s file (known ++ returned publish (Ok tt) ∷ []) mid
         → Lead M.Placed later mid w
         → AllByRecursion (λ (call : Call). call.asked ≡ publish → ⊥) later
         → let m = M.state w.medium in (calls : List Call) × AreKnown known calls
         × ((k : ℕ) → length (M.state mid.medium).past ≤ k → k ≤ length m.past →
         ReadsAs s (start_of s file) (found_in file ++ accepted_by_all calls) (moment m.start m.past k))) }
     ensures at_end { WhereTells M.tells ((s : WavSpecEx) (file : Begun) (known : List Known) (medium : M)
-        → Left M.Placed s file (known ++ answered publish (Ok tt) ∷ []) medium
+        → Left M.Placed s file (known ++ returned publish (Ok tt) ∷ []) medium
         → (calls : List Call) × AreKnown known calls
         × ReadsAs s (start_of s file) (found_in file ++ accepted_by_all calls) (M.state medium).contents) }
 {}
@@ -189,7 +189,7 @@ pub fn a_writer_holds_its_calls<M: Medium>()
 /// The mark of a call for samples is its being Ok: by its answer it is never `UnfinishedSample`, whose
 /// mark at a `flush` is that of an Ok.
 pub fn a_write_is_marked_by_its_ok<M: Medium>()
-    ensures { (asked : Result (List (List ℕ)) Refusal) (w : WriterState M) (answer : Result Unit Error)
+    ensures { (asked : Result (List (List ℕ)) Rejection) (w : WriterState M) (answer : Result Unit Error)
         → AcceptAnswer asked w answer → mark_of answer ≡ is_ok answer }
 {}
 

@@ -37,7 +37,7 @@ pub(crate) fn begin_writer<M: Source + Medium>(
 ) -> result::Result<WavWriter<M>, (M, Error)>
     requires { WhereTells M.tells ((M.state medium).place ≡ 0) }
     ensures { MatchResult result (BeginsAs M.Placed begin medium)
-        (λ refused. IsNotBegunAs M.Placed begin medium refused.0 refused.1) }
+        (λ rejected. IsNotBegunAs M.Placed begin medium rejected.0 rejected.1) }
 {
     match begin {
         Begin::New(spec_ex) => WavWriter::try_new(medium, spec_ex),

@@ -6,7 +6,7 @@ ghost use Rattle.hound_spec.specs.{canonical, IsWritable};
 ghost use Rattle.hound_medium.specs.{WhereTells};
 ghost use Rattle.hound_writer.specs.{Finishes};
 ghost use Rattle.hound.specs.declared.session.Begin.TheVariants.{Append, New};
-ghost use Rattle.hound.specs.Sessions.{IsAnswered, RunsFrom, RunsOn, RunsOnce, RunsUntil, StopsEarly, all_steps};
+ghost use Rattle.hound.specs.Sessions.{IsReturned, RunsFrom, RunsOn, RunsOnce, RunsUntil, StopsEarly, all_steps};
 ghost use Rattle.hound.specs.Headline.{NoFault};
 ghost use Rattle.hound.specs.Run.{containers_of};
 
@@ -100,7 +100,7 @@ pub fn run_sessions<'a, M: Source + Medium>(
     ensures sessions { RunsOn M.Placed (New spec_ex) sessions.now medium result.1 result.0 }
 
     // An error is that of the first step or end that isn't Ok, by the spec and the steps.
-    ensures answered { IsAnswered M.Placed spec_ex sessions.now medium result.1 result.0 }
+    ensures returned { IsReturned M.Placed spec_ex sessions.now medium result.1 result.0 }
 
     // The bytes of one session over all containers.
     ensures canonical { WhereTells M.tells (0 < length sessions.now →

@@ -11,19 +11,19 @@ ghost use Rattle.std.specs.Option.{option_len, option_map_or};
 ghost use Rattle.std.specs.Result.{result_ok, result_unwrap_or};
 ghost use Rattle.hound_number.specs.{bytes_of};
 ghost use Rattle.hound_walk.specs.{Readable, Unreadable};
-ghost use Rattle.hound_sample.specs.{int_container, pattern_container, float_refusal, int_meaning, int_refusal, pattern};
+ghost use Rattle.hound_sample.specs.{int_container, pattern_container, float_rejection, int_meaning, int_rejection, pattern};
 ghost use Rattle.hound_spec.specs.declared.spec.SampleFormat.TheVariants.{Float, Int};
 ghost use Rattle.hound_walk.specs.declared.cause.Cause.{Cause};
 ghost use Rattle.hound_writer.specs.{Advances, AsksForBlock, AsksForCheckpoint, BeginsRecorder, Resumes};
-ghost use Rattle.hound_slices.specs.{AppendsInPlace, BeginsRepairer, CountsWhole, Decodes, Encodes, FindsInFile, GivesHeader, GivesSizes, GuessesData, IsDamageFault, IsExplicit, ReadsInto, Records, RepairsFile, Returns, ScalesToFloats, ScalesToIntegers, Sizes, StepsRepairer, TakesPart, WritesFile, effect_of, fault_code, found_file, mends, overwrites, recorder_for_c, report_of, spec_from_c};
-ghost use Rattle.hound_slices.specs.declared.fault.Fault.{Fault as AnyFault};
-ghost use Rattle.hound_slices.specs.declared.fault.Fault.TheVariants.{Head};
+ghost use Rattle.hound_slices.specs.{AppendsInPlace, BeginsRepairer, CountsWhole, Decodes, Encodes, FindsInFile, GivesHeader, GivesSizes, GuessesData, IsDamageError, IsExplicit, ReadsInto, Records, RepairsFile, Returns, ScalesToFloats, ScalesToIntegers, Sizes, StepsRepairer, TakesPart, WritesFile, effect_of, error_code, found_file, mends, overwrites, recorder_for_c, report_of, spec_from_c};
+ghost use Rattle.hound_slices.specs.declared.error.CallError.{CallError as AnyError};
+ghost use Rattle.hound_slices.specs.declared.error.CallError.TheVariants.{Head};
 
 use hound_repair::Rest;
 use hound_sample::FloatBits;
 use hound_slices::{
-    Fault, HoundInfo, HoundRecorder, HoundRepair, HoundRepairer, HoundSpec, HoundWalk,
-    append_block, begin_repairer, code_of, code_of_fault, decode_block, effect_for_c, encode_block,
+    CallError, HoundInfo, HoundRecorder, HoundRepair, HoundRepairer, HoundSpec, HoundWalk,
+    append_block, begin_repairer, code_of, code_of_error, decode_block, effect_for_c, encode_block,
     file_size, find_file_damage, find_samples, found_file, guess_data, info_for_c, mends,
     overwrites, read_block, recorder_for_c, repair_file, report_of, scale_to_floats,
     scale_to_integers, spec_from_c, step_repairer, step_walk, value_of_8, value_of_16, value_of_24,
@@ -37,15 +37,15 @@ use hound_writer::Recorder;
 pub extern "C" fn hound_info(file: &[u8], info: &mut HoundInfo) -> i32
     ensures found { result ≡ pos 0 → Readable file.now (spec_from_c info.new.spec) info.new.samples info.new.data_start }
     ensures explicit { result ≡ pos 0 → IsExplicit info.new.spec }
-    ensures refused { (result ≡ pos 0 → ⊥) → (info.new ≡ info.old)
-        × ((cause : Cause) × (result ≡ fault_code (Head cause)) × Unreadable file.now cause) }
+    ensures rejected { (result ≡ pos 0 → ⊥) → (info.new ≡ info.old)
+        × ((cause : Cause) × (result ≡ error_code (Head cause)) × Unreadable file.now cause) }
 {
     match find_samples(file) {
         Ok((head, samples)) => {
             *info = info_for_c(head, samples);
             0
         }
-        Err(fault) => code_of_fault(fault),
+        Err(error) => code_of_error(error),
     }
 }
 
@@ -69,7 +69,7 @@ pub extern "C" fn hound_walk_to_end(walk: &mut HoundWalk, info: &mut HoundInfo) 
 /// Reads integers into sixteen bits.
 #[unsafe(no_mangle)]
 pub extern "C" fn hound_read_i16(file: &[u8], first: u64, out: &mut [i16]) -> i64
-    ensures { Returns result (ReadsInto (int_refusal 2) (λ _. int_meaning) file.now first out.old out.new) }
+    ensures { Returns result (ReadsInto (int_rejection 2) (λ _. int_meaning) file.now first out.old out.new) }
 {
     code_of(read_block::<i16>(file, first, out))
 }
@@ -77,7 +77,7 @@ pub extern "C" fn hound_read_i16(file: &[u8], first: u64, out: &mut [i16]) -> i6
 /// Reads integers.
 #[unsafe(no_mangle)]
 pub extern "C" fn hound_read_i32(file: &[u8], first: u64, out: &mut [i32]) -> i64
-    ensures { Returns result (ReadsInto (int_refusal 4) (λ _. int_meaning) file.now first out.old out.new) }
+    ensures { Returns result (ReadsInto (int_rejection 4) (λ _. int_meaning) file.now first out.old out.new) }
 {
     code_of(read_block::<i32>(file, first, out))
 }
@@ -86,7 +86,7 @@ pub extern "C" fn hound_read_i32(file: &[u8], first: u64, out: &mut [i32]) -> i6
 #[unsafe(no_mangle)]
 pub extern "C" fn hound_read_f32(file: &[u8], first: u64, out: &mut [FloatBits]) -> i64
     ensures { Returns result
-        (ReadsInto float_refusal (λ _ _ _ c. record { 0 = pattern c }) file.now first out.old out.new) }
+        (ReadsInto float_rejection (λ _ _ _ c. record { 0 = pattern c }) file.now first out.old out.new) }
 {
     code_of(read_block::<FloatBits>(file, first, out))
 }
@@ -174,15 +174,15 @@ pub extern "C" fn hound_append_f32(file: &mut [u8], used: usize, samples: &[Floa
 #[unsafe(no_mangle)]
 pub extern "C" fn hound_find_damage(file: &[u8], found: &mut HoundRepair) -> i32
     ensures found { result ≡ pos 0 → FindsInFile file.now found.new }
-    ensures refused { (result ≡ pos 0 → ⊥) → (found.new ≡ found.old)
-        × ((fault : AnyFault) × (result ≡ fault_code fault) × IsDamageFault file.now fault) }
+    ensures rejected { (result ≡ pos 0 → ⊥) → (found.new ≡ found.old)
+        × ((error : AnyError) × (result ≡ error_code error) × IsDamageError file.now error) }
 {
     match find_file_damage(file) {
         Ok(repair) => {
             *found = repair;
             0
         }
-        Err(fault) => code_of_fault(fault),
+        Err(error) => code_of_error(error),
     }
 }
 
@@ -217,7 +217,7 @@ pub extern "C" fn hound_repairer_next(repairer: &mut HoundRepairer, found: &mut 
 {
     match step_repairer(repairer, found) {
         Ok(asks) => asks as i32,
-        Err(fault) => code_of_fault(fault),
+        Err(error) => code_of_error(error),
     }
 }
 
@@ -240,7 +240,7 @@ pub extern "C" fn hound_guess_data(file: &[u8]) -> i64
 /// Decodes samples of a spec, of eight bits.
 #[unsafe(no_mangle)]
 pub extern "C" fn hound_decode_i8(spec: &HoundSpec, bytes: &[u8], out: &mut [i8]) -> i64
-    ensures { Returns result (Decodes (int_refusal 1) (λ _. int_meaning) (spec_from_c spec.now) bytes.now out.old out.new) }
+    ensures { Returns result (Decodes (int_rejection 1) (λ _. int_meaning) (spec_from_c spec.now) bytes.now out.old out.new) }
 {
     code_of(decode_block::<i8>(*spec, bytes, out))
 }
@@ -256,7 +256,7 @@ pub extern "C" fn hound_encode_i8(spec: &HoundSpec, samples: &[i8], out: &mut [u
 /// Decodes samples of a spec.
 #[unsafe(no_mangle)]
 pub extern "C" fn hound_decode_i16(spec: &HoundSpec, bytes: &[u8], out: &mut [i16]) -> i64
-    ensures { Returns result (Decodes (int_refusal 2) (λ _. int_meaning) (spec_from_c spec.now) bytes.now out.old out.new) }
+    ensures { Returns result (Decodes (int_rejection 2) (λ _. int_meaning) (spec_from_c spec.now) bytes.now out.old out.new) }
 {
     code_of(decode_block::<i16>(*spec, bytes, out))
 }
@@ -272,7 +272,7 @@ pub extern "C" fn hound_encode_i16(spec: &HoundSpec, samples: &[i16], out: &mut 
 /// Decodes samples of a spec.
 #[unsafe(no_mangle)]
 pub extern "C" fn hound_decode_i32(spec: &HoundSpec, bytes: &[u8], out: &mut [i32]) -> i64
-    ensures { Returns result (Decodes (int_refusal 4) (λ _. int_meaning) (spec_from_c spec.now) bytes.now out.old out.new) }
+    ensures { Returns result (Decodes (int_rejection 4) (λ _. int_meaning) (spec_from_c spec.now) bytes.now out.old out.new) }
 {
     code_of(decode_block::<i32>(*spec, bytes, out))
 }
@@ -288,7 +288,7 @@ pub extern "C" fn hound_encode_i32(spec: &HoundSpec, samples: &[i32], out: &mut 
 /// Decodes samples of a spec.
 #[unsafe(no_mangle)]
 pub extern "C" fn hound_decode_f32(spec: &HoundSpec, bytes: &[u8], out: &mut [FloatBits]) -> i64
-    ensures { Returns result (Decodes float_refusal (λ _ _ _ c. record { 0 = pattern c })
+    ensures { Returns result (Decodes float_rejection (λ _ _ _ c. record { 0 = pattern c })
         (spec_from_c spec.now) bytes.now out.old out.new) }
 {
     code_of(decode_block::<FloatBits>(*spec, bytes, out))
@@ -368,7 +368,7 @@ pub extern "C" fn hound_recorder_begin(spec: &HoundSpec, recorder: &mut HoundRec
             *recorder = recorder_for_c(begun);
             0
         }
-        Err(error) => code_of_fault(Fault::Recorder(error)),
+        Err(error) => code_of_error(CallError::Recorder(error)),
     }
 }
 
@@ -388,7 +388,7 @@ pub extern "C" fn hound_recorder_resume(
             *recorder = recorder_for_c(begun);
             0
         }
-        Err(error) => code_of_fault(Fault::Recorder(error)),
+        Err(error) => code_of_error(CallError::Recorder(error)),
     }
 }
 
@@ -403,7 +403,7 @@ pub extern "C" fn hound_recorder_write(recorder: &mut HoundRecorder, samples: u6
     recorder.effect = effect_for_c(None);
     match recorder.recorder.write(report, samples) {
         Ok(()) => 0,
-        Err(error) => code_of_fault(Fault::Recorder(error)),
+        Err(error) => code_of_error(CallError::Recorder(error)),
     }
 }
 
@@ -433,7 +433,7 @@ pub extern "C" fn hound_recorder_next(recorder: &mut HoundRecorder) -> i32
         }
         Err(error) => {
             recorder.effect = effect_for_c(None);
-            code_of_fault(Fault::Recorder(error))
+            code_of_error(CallError::Recorder(error))
         }
     }
 }

@@ -215,7 +215,7 @@ const ROWS: &[Row] = &[
         is_left: true,
     },
     Row {
-        name: "a file that ends early is refused and stays",
+        name: "a file that ends early is rejected and stays",
         deeds: &[
             (Deed::Put(&BEGUN), "done"),
             (Deed::Append(&[]), "IoError"),
@@ -224,7 +224,7 @@ const ROWS: &[Row] = &[
         is_left: true,
     },
     Row {
-        name: "a file of half a frame is refused and stays",
+        name: "a file of half a frame is rejected and stays",
         deeds: &[
             (Deed::Put(&HALF_A_FRAME), "done"),
             (Deed::Append(&[]), "invalid data chunk length"),
@@ -243,7 +243,7 @@ const ROWS: &[Row] = &[
         is_left: true,
     },
     Row {
-        name: "a bad number is refused before the file is opened",
+        name: "a bad number is rejected before the file is opened",
         deeds: &[
             (Deed::Put(THREE_SAMPLES), "done"),
             (Deed::AppendText(b"19 x", 1, b"bad number\n"), "done"),

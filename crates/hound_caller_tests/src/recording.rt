@@ -195,8 +195,8 @@ fn resumes(alloc: Global, file: &[u8], blocks: &[&[u8]]) -> hound::Result<bool> 
     }
     let cut = &file[..file.len().saturating_sub(1)];
     let mut journal = Journal::new(alloc, cut.to_vec(alloc)?)?;
-    let refused = append_by_effects(&mut journal, cut, blocks, &[]).is_err();
-    Ok(last == 3 && refused && journal.taken() == 0)
+    let rejected = append_by_effects(&mut journal, cut, blocks, &[]).is_err();
+    Ok(last == 3 && rejected && journal.taken() == 0)
 }
 
 // A recording of four samples of 16 bits that was cut off within the fifth, whose header counts none.

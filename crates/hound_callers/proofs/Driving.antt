@@ -12,9 +12,9 @@ use Rattle.hound.proofs.Recorders.{one_place, same_next}
 use Rattle.hound_callers.specs.Recorder.{DoesAction, IsAsked, asked_as, once_done, report_for}
 
 -- what a call for what was requested is marked with, if it is over
-abbrev pub told_as : Result (Unit {0}) RecorderError → Option Bool
-told_as (Ok x) = None
-told_as (Err error) = Some false
+abbrev pub reported_as : Result (Unit {0}) RecorderError → Option Bool
+reported_as (Ok x) = None
+reported_as (Err error) = Some false
 
 -- where the loop is: what was requested isn't over, or it has failed, and the rest is to be cut off
 abbrev pub IsWithin : Recorder → Report → Recorder → Option Bool → Type 0
@@ -44,10 +44,10 @@ IsSettled asked mid over = IsWithin asked Pending mid over
     ⊎ ((asked.task ≡ 2) × (mid ≡ once_done asked) × (over ≡ Some true))
 
 -- where the loop is doesn't hang on the report, once one is made
-pub settles_as : (b : Bool) (old new : Recorder) (told : Result (Unit {0}) RecorderError)
-    → Settles (report_for b) old new told → HasEnded b old new told
-settles_as true old new told is = is
-settles_as false old new told is = is
+pub settles_as : (b : Bool) (old new : Recorder) (outcome : Result (Unit {0}) RecorderError)
+    → Settles (report_for b) old new outcome → HasEnded b old new outcome
+settles_as true old new outcome is = is
+settles_as false old new outcome is = is
 
 one_step : (b : Bool) (report : Report) → report ≡ report_for b → step_of report ≡ 1
 one_step true report is = ap step_of is
@@ -67,14 +67,14 @@ not_pending false is = cc
 pub record Laws (asked : Recorder) (report : Report) (before after : Option Bool → Recorder → Type 0)
     (does : Action → Type 0) : Type 0 where
   pub same : report ≡ Pending → (over : Option Bool) (r : Recorder) → before over r → after over r
-  pub performed : (r mid : Recorder) (effect : Effect) (told : Result (Unit {0}) RecorderError) → asked.task ≡ 1
+  pub performed : (r mid : Recorder) (effect : Effect) (outcome : Result (Unit {0}) RecorderError) → asked.task ≡ 1
       → before None r → GoesOn r r (Ok (Some (Perform effect))) → does (Perform effect)
-      → Settles report r mid told → after (told_as told) mid
-  pub wrote : (b : Bool) (r mid : Recorder) (at len : ℕ) (told : Result (Unit {0}) RecorderError)
+      → Settles report r mid outcome → after (reported_as outcome) mid
+  pub wrote : (b : Bool) (r mid : Recorder) (at len : ℕ) (outcome : Result (Unit {0}) RecorderError)
       → asked.task ≡ 2 → report ≡ report_for b → before None r → r ≡ record asked { task = 3 } → at ≡ r.data_start + r.data_length
-      → does (WriteBlock at len) → HasEnded b r mid told → after (Some b) mid
-  pub cut : (b : Bool) (r mid : Recorder) (at : ℕ) (told : Result (Unit {0}) RecorderError)
-      → before (Some false) r → 0 < r.has_rest → does (Cut at) → HasEnded b r mid told → after (Some false) mid
+      → does (WriteBlock at len) → HasEnded b r mid outcome → after (Some b) mid
+  pub cut : (b : Bool) (r mid : Recorder) (at : ℕ) (outcome : Result (Unit {0}) RecorderError)
+      → before (Some false) r → 0 < r.has_rest → does (Cut at) → HasEnded b r mid outcome → after (Some false) mid
   pub handed : (mid r : Recorder) (at len : ℕ) → mid.number ≡ 0 → after None mid
       → GoesOn mid r (Ok (Some (WriteBlock at len))) → after None r
   pub saved : (mid r : Recorder) → asked.task ≡ 1 → mid.task ≡ 1 → after None mid → GoesOn mid r (Ok None)
@@ -97,23 +97,23 @@ abbrev pub Shape : Result (Unit {0}) RecorderError → Recorder → Recorder →
 Shape (Ok x) r mid = mid ≡ record r { number = r.number + 1 }
 Shape (Err error) r mid = mid.number ≡ 0
 
-shape_by : (b : Bool) (r after mid : Recorder) (effect : Effect) (told : Result (Unit {0}) RecorderError)
-    → NextEffect true r after (Ok (Some effect)) → EffectEnds b r after (Ok (Some effect)) mid told → Shape told r mid
-shape_by true r after mid effect told next (ok, is) = rw ok (is ∙ next.4)
-shape_by false r after mid effect told next (last, error, failed, err, is) =
+shape_by : (b : Bool) (r after mid : Recorder) (effect : Effect) (outcome : Result (Unit {0}) RecorderError)
+    → NextEffect true r after (Ok (Some effect)) → EffectEnds b r after (Ok (Some effect)) mid outcome → Shape outcome r mid
+shape_by true r after mid effect outcome next (ok, is) = rw ok (is ∙ next.4)
+shape_by false r after mid effect outcome next (last, error, failed, err, is) =
     let has : HasData after after.data_length = rw next.4 next.2 in
     rw err (ap (λ (x : Recorder). x.number) is ∙ fails after last error 0 has failed)
 
-pub shape : (b : Bool) (r mid : Recorder) (effect : Effect) (told : Result (Unit {0}) RecorderError)
-    → r.task ≡ 1 → r.has_rest ≡ 0 → GoesOn r r (Ok (Some (Perform effect))) → HasEnded b r mid told → Shape told r mid
-shape b r mid effect told one rest goes (inl (idle, _, _)) = absurd (omega (arith, one, idle))
-shape b r mid effect told one rest goes (inr (inl (_, cuts, _, _, _))) = absurd (omega (arith, rest, cuts))
-shape b r mid effect told one rest goes (inr (inr (inl (_, cuts, _, _)))) = absurd (omega (arith, rest, cuts))
-shape b r mid effect told one rest goes (inr (inr (inr (inl (three, _, _, _, _))))) = absurd (omega (arith, one, three))
-shape b r mid effect told one rest (some, few, _, _, _, after, next) (inr (inr (inr (inr (_, _, _, (a, step, stepped, ends)))))) =
+pub shape : (b : Bool) (r mid : Recorder) (effect : Effect) (outcome : Result (Unit {0}) RecorderError)
+    → r.task ≡ 1 → r.has_rest ≡ 0 → GoesOn r r (Ok (Some (Perform effect))) → HasEnded b r mid outcome → Shape outcome r mid
+shape b r mid effect outcome one rest goes (inl (idle, _, _)) = absurd (omega (arith, one, idle))
+shape b r mid effect outcome one rest goes (inr (inl (_, cuts, _, _, _))) = absurd (omega (arith, rest, cuts))
+shape b r mid effect outcome one rest goes (inr (inr (inl (_, cuts, _, _)))) = absurd (omega (arith, rest, cuts))
+shape b r mid effect outcome one rest goes (inr (inr (inr (inl (three, _, _, _, _))))) = absurd (omega (arith, one, three))
+shape b r mid effect outcome one rest (some, few, _, _, _, after, next) (inr (inr (inr (inr (_, _, _, (a, step, stepped, ends)))))) =
     let (is, same) = same_next r after a (Some effect) step next stepped in
-    shape_by b r after mid effect told next
-    (subst (λ (x : Recorder × Result (Option Effect) RecorderError). EffectEnds b r x.0 x.1 mid told)
+    shape_by b r after mid effect outcome next
+    (subst (λ (x : Recorder × Result (Option Effect) RecorderError). EffectEnds b r x.0 x.1 mid outcome)
     (λ i. (same i, is i)) ends)
 
 few_effects : (r : Recorder) (effect : Effect) → Some effect ≡ nth (effects_of r) r.number → r.number ≤ 5
@@ -172,22 +172,22 @@ module _ (asked : Recorder) (n : ℕ) (is_asked : IsAsked asked n) where
       })
   wrote_shape false r x mid two is counts ended = rw (ended, counts, is) refl
 
-  block_ended : (b : Bool) (r mid : Recorder) (at len : ℕ) (told : Result (Unit {0}) RecorderError)
+  block_ended : (b : Bool) (r mid : Recorder) (at len : ℕ) (outcome : Result (Unit {0}) RecorderError)
       → asked.task ≡ 2 → r ≡ record asked { task = 3 } → GoesOn r r (Ok (Some (WriteBlock at len)))
-      → HasEnded b r mid told → (told ≡ Ok tt) × Wrote b mid × (at ≡ r.data_start + r.data_length)
-  block_ended b r mid at len told two is (some, rest, saved, how, places, long, same) ended = by how ended
+      → HasEnded b r mid outcome → (outcome ≡ Ok tt) × Wrote b mid × (at ≡ r.data_start + r.data_length)
+  block_ended b r mid at len outcome two is (some, rest, saved, how, places, long, same) ended = by how ended
     where
       three : r.task ≡ 3
       three = ap (λ (x : Recorder). x.task) is
 
-      told_ok : (x : Recorder) (told : Result (Unit {0}) RecorderError) → Places r r.samples (Ok at)
-          → Reports r.samples b r x told → (told ≡ Ok tt)
+      reported_ok : (x : Recorder) (outcome : Result (Unit {0}) RecorderError) → Places r r.samples (Ok at)
+          → Reports r.samples b r x outcome → (outcome ≡ Ok tt)
           × (x ≡ (if b then record r { data_length = length_with r r.samples } else record r { condition = 1 }))
-      told_ok x (Ok y) there (_, counts) = (refl, counts)
-      told_ok x (Err error) there (refused, _) = absurd (one_place r r.samples at error there refused)
+      reported_ok x (Ok y) there (_, counts) = (refl, counts)
+      reported_ok x (Err error) there (rejected, _) = absurd (one_place r r.samples at error there rejected)
 
-      by : IsSaved r saved → HasEnded b r mid told
-          → (told ≡ Ok tt) × Wrote b mid × (at ≡ r.data_start + r.data_length)
+      by : IsSaved r saved → HasEnded b r mid outcome
+          → (outcome ≡ Ok tt) × Wrote b mid × (at ≡ r.data_start + r.data_length)
       by how (inl (idle, _, _)) = absurd (omega (arith, three, idle))
       by how (inr (inl (_, cuts, _, _, _))) = absurd (omega (arith, rest, cuts))
       by how (inr (inr (inl (_, cuts, _, _)))) = absurd (omega (arith, rest, cuts))
@@ -195,7 +195,7 @@ module _ (asked : Recorder) (n : ℕ) (is_asked : IsAsked asked n) where
       by (inr (two, _)) (inr (inr (inr (inl _)))) = absurd (omega (arith, three, two))
       by (inl (clear, one)) (inr (inr (inr (inl (_, _, x, reports, ends))))) =
           let there : Places r r.samples (Ok at) = subst (λ x. Places x r.samples (Ok at)) one places in
-          let (ok, counts) = told_ok x told there reports in
+          let (ok, counts) = reported_ok x outcome there reports in
           (ok, wrote_shape b r x mid two is counts ends, there.3)
 
   pub settled_low : (mid : Recorder) (over : Option Bool) → IsSettled asked mid over → mid.condition ≤ 1
@@ -237,8 +237,8 @@ module _ (asked : Recorder) (n : ℕ) (is_asked : IsAsked asked n) where
         × ((mid.task ≡ 0) ⊎ (come r + step_of report ≤ come mid))
     After r (Err error) mid = (mid.number ≡ 0) × after (Some false) mid
 
-    effect_over : (told : Result (Unit {0}) RecorderError) (r mid : Recorder) → step_of report ≡ 1 → asked.task ≡ 1
-        → r ≡ record asked { number = r.number } → Shape told r mid → after (told_as told) mid → After r told mid
+    effect_over : (outcome : Result (Unit {0}) RecorderError) (r mid : Recorder) → step_of report ≡ 1 → asked.task ≡ 1
+        → r ≡ record asked { number = r.number } → Shape outcome r mid → after (reported_as outcome) mid → After r outcome mid
     effect_over (Ok x) r mid step one is shaped known =
         let number : mid.number ≡ r.number + 1 = ap (λ (x : Recorder). x.number) shaped in
         let task : mid.task ≡ r.task = ap (λ (x : Recorder). x.task) shaped in (
@@ -249,12 +249,12 @@ module _ (asked : Recorder) (n : ℕ) (is_asked : IsAsked asked n) where
         )
     effect_over (Err error) r mid step one is shaped known = (shaped, known)
 
-    block_over : (b : Bool) (told : Result (Unit {0}) RecorderError) (r mid : Recorder) → step_of report ≡ 1
+    block_over : (b : Bool) (outcome : Result (Unit {0}) RecorderError) (r mid : Recorder) → step_of report ≡ 1
         → asked.task ≡ 2 → r ≡ record asked { task = 3 }
-        → told ≡ Ok tt → Wrote b mid → after (Some b) mid → After r told mid
-    block_over true told r mid step two at ok is known =
+        → outcome ≡ Ok tt → Wrote b mid → after (Some b) mid → After r outcome mid
+    block_over true outcome r mid step two at ok is known =
         rw ok (Some true, inr (two, is, refl), known, inl (ap (λ (x : Recorder). x.task) is))
-    block_over false told r mid step two at ok is known =
+    block_over false outcome r mid step two at ok is known =
         let number = ap (λ (x : Recorder). x.number) is in
         let task = ap (λ (x : Recorder). x.task) is in
         let before_number = ap (λ (x : Recorder). x.number) at in
@@ -266,55 +266,55 @@ module _ (asked : Recorder) (n : ℕ) (is_asked : IsAsked asked n) where
           inr (omega (arith, step, number, task, before_number, before_task)),
         )
 
-    cut_over : (b : Bool) (r mid : Recorder) (told : Result (Unit {0}) RecorderError) → r.task ≡ 4
-        → 0 < r.has_rest → r.number ≡ 0 → HasEnded b r mid told → after (Some false) mid → After r told mid
-    cut_over b r mid told four rest none (inl (idle, _, _)) known = absurd (omega (arith, four, idle))
-    cut_over b r mid told four rest none (inr (inl (_, _, other, _, _))) known = absurd (other four)
-    cut_over b r mid told four rest none (inr (inr (inl (_, _, is, err)))) known =
+    cut_over : (b : Bool) (r mid : Recorder) (outcome : Result (Unit {0}) RecorderError) → r.task ≡ 4
+        → 0 < r.has_rest → r.number ≡ 0 → HasEnded b r mid outcome → after (Some false) mid → After r outcome mid
+    cut_over b r mid outcome four rest none (inl (idle, _, _)) known = absurd (omega (arith, four, idle))
+    cut_over b r mid outcome four rest none (inr (inl (_, _, other, _, _))) known = absurd (other four)
+    cut_over b r mid outcome four rest none (inr (inr (inl (_, _, is, err)))) known =
         rw err (ap (λ (x : Recorder). x.number) is ∙ none, known)
-    cut_over b r mid told four rest none (inr (inr (inr (inl (three, _, _, _, _))))) known = absurd (omega (arith, four, three))
-    cut_over b r mid told four rest none (inr (inr (inr (inr (_, _, clear, _))))) known = absurd (omega (arith, rest, clear))
+    cut_over b r mid outcome four rest none (inr (inr (inr (inl (three, _, _, _, _))))) known = absurd (omega (arith, four, three))
+    cut_over b r mid outcome four rest none (inr (inr (inr (inr (_, _, clear, _))))) known = absurd (omega (arith, rest, clear))
 
     -- an action was reported
     over_by : (b : Bool) → report ≡ report_for b → (r mid : Recorder) (over : Option Bool)
-        (told : Result (Unit {0}) RecorderError) (action : Action) → IsWithin asked report r over → before over r
-        → GoesOn r r (Ok (Some action)) → does action → HasEnded b r mid told → Settles report r mid told → After r told mid
-    over_by b reported r mid over told (Perform effect) (inl (one, is, none)) known goes did ended settles =
-        effect_over told r mid (one_step b report reported) one is
-        (shape b r mid effect told (rw is one) (rw is is_asked.2) goes ended)
-        (laws.performed r mid effect told one (subst (λ o. before o r) none known) goes did settles)
-    over_by b reported r mid over told (WriteBlock at len) (inl (one, is, none)) known goes did ended settles =
+        (outcome : Result (Unit {0}) RecorderError) (action : Action) → IsWithin asked report r over → before over r
+        → GoesOn r r (Ok (Some action)) → does action → HasEnded b r mid outcome → Settles report r mid outcome → After r outcome mid
+    over_by b reported r mid over outcome (Perform effect) (inl (one, is, none)) known goes did ended settles =
+        effect_over outcome r mid (one_step b report reported) one is
+        (shape b r mid effect outcome (rw is one) (rw is is_asked.2) goes ended)
+        (laws.performed r mid effect outcome one (subst (λ o. before o r) none known) goes did settles)
+    over_by b reported r mid over outcome (WriteBlock at len) (inl (one, is, none)) known goes did ended settles =
         absurd (let task = ap (λ (x : Recorder). x.task) is in omega (arith, goes.0, task, one))
-    over_by b reported r mid over told (Cut at) (inl (one, is, none)) known goes did ended settles =
+    over_by b reported r mid over outcome (Cut at) (inl (one, is, none)) known goes did ended settles =
         absurd (let rest = ap (λ (x : Recorder). x.has_rest) is in omega (arith, goes.1, rest, is_asked.2))
-    over_by b reported r mid over told (Read at len) within known goes did ended settles = absurd goes
-    over_by b reported r mid over told action (inr (inl (two, pending, is, none))) known goes did ended settles =
+    over_by b reported r mid over outcome (Read at len) within known goes did ended settles = absurd goes
+    over_by b reported r mid over outcome action (inr (inl (two, pending, is, none))) known goes did ended settles =
         absurd (not_pending b (sym reported ∙ pending))
-    over_by b reported r mid over told (WriteBlock at len) (inr (inr (inl (two, is, none)))) known goes did ended settles =
-        let (ok, wrote, place) = block_ended b r mid at len told two is goes ended in
-        block_over b told r mid (one_step b report reported) two is ok wrote
-        (laws.wrote b r mid at len told two reported (subst (λ o. before o r) none known) is place did ended)
-    over_by b reported r mid over told (Perform effect) (inr (inr (inl (two, is, none)))) known goes did ended settles =
+    over_by b reported r mid over outcome (WriteBlock at len) (inr (inr (inl (two, is, none)))) known goes did ended settles =
+        let (ok, wrote, place) = block_ended b r mid at len outcome two is goes ended in
+        block_over b outcome r mid (one_step b report reported) two is ok wrote
+        (laws.wrote b r mid at len outcome two reported (subst (λ o. before o r) none known) is place did ended)
+    over_by b reported r mid over outcome (Perform effect) (inr (inr (inl (two, is, none)))) known goes did ended settles =
         absurd (let task = ap (λ (x : Recorder). x.task) is in omega (arith, goes.1, task))
-    over_by b reported r mid over told (Cut at) (inr (inr (inl (two, is, none)))) known goes did ended settles =
+    over_by b reported r mid over outcome (Cut at) (inr (inr (inl (two, is, none)))) known goes did ended settles =
         absurd (let rest = ap (λ (x : Recorder). x.has_rest) is in omega (arith, goes.1, rest, is_asked.2))
-    over_by b reported r mid over told (Cut at) (inr (inr (inr (two, is, lost)))) known goes did ended settles =
-        cut_over b r mid told (ap (λ (x : Recorder). x.task) is) goes.1
+    over_by b reported r mid over outcome (Cut at) (inr (inr (inr (two, is, lost)))) known goes did ended settles =
+        cut_over b r mid outcome (ap (λ (x : Recorder). x.task) is) goes.1
         (ap (λ (x : Recorder). x.number) is ∙ is_asked.0) ended
-        (laws.cut b r mid at told (subst (λ o. before o r) lost known) goes.1 did ended)
-    over_by b reported r mid over told (Perform effect) (inr (inr (inr (two, is, lost)))) known goes did ended settles =
+        (laws.cut b r mid at outcome (subst (λ o. before o r) lost known) goes.1 did ended)
+    over_by b reported r mid over outcome (Perform effect) (inr (inr (inr (two, is, lost)))) known goes did ended settles =
         absurd (let rest = ap (λ (x : Recorder). x.has_rest) is in omega (arith, goes.2, rest))
-    over_by b reported r mid over told (WriteBlock at len) (inr (inr (inr (two, is, lost)))) known goes did ended settles =
+    over_by b reported r mid over outcome (WriteBlock at len) (inr (inr (inr (two, is, lost)))) known goes did ended settles =
         absurd (let rest = ap (λ (x : Recorder). x.has_rest) is in omega (arith, goes.1, rest))
 
     -- what was reported is taken in
-    pub settled : (r mid : Recorder) (over : Option Bool) (told : Result (Unit {0}) RecorderError)
-        → IsWithin asked report r over → before over r → HasAction report does r → Settles report r mid told → After r told mid
-    settled r mid over told within known (inr (b, reported, action, goes, did)) settles =
-        over_by b reported r mid over told action within known goes did
-        (settles_as b r mid told (subst (λ x. Settles x r mid told) reported settles)) settles
-    settled r mid over told within known (inl pending) settles =
-        let (same, ok) = subst (λ x. Settles x r mid told) pending settles in
+    pub settled : (r mid : Recorder) (over : Option Bool) (outcome : Result (Unit {0}) RecorderError)
+        → IsWithin asked report r over → before over r → HasAction report does r → Settles report r mid outcome → After r outcome mid
+    settled r mid over outcome within known (inr (b, reported, action, goes, did)) settles =
+        over_by b reported r mid over outcome action within known goes did
+        (settles_as b r mid outcome (subst (λ x. Settles x r mid outcome) reported settles)) settles
+    settled r mid over outcome within known (inl pending) settles =
+        let (same, ok) = subst (λ x. Settles x r mid outcome) pending settles in
         rw (ok, same) (
           over,
           inl (subst (λ x. IsWithin asked x r over) pending within),
@@ -452,10 +452,10 @@ module _ (asked : Recorder) (n : ℕ) (is_asked : IsAsked asked n) where
         → before over r → HasAction report does r → Advances report r new (Ok (Some action))
         → (over : Option Bool) × ((next : Report) → IsWithin asked next new over) × after over new
         × GoesOn new new (Ok (Some action)) × (come r + step_of report ≤ come new) × (come new ≤ 10)
-    next_some r new over action within known has (mid, told, settles, on) =
-        by told (settled r mid over told within known has settles) on
+    next_some r new over action within known has (mid, outcome, settles, on) =
+        by outcome (settled r mid over outcome within known has settles) on
       where
-        by : (told : Result (Unit {0}) RecorderError) → After r told mid → ThenGoesOn told mid new (Ok (Some action))
+        by : (outcome : Result (Unit {0}) RecorderError) → After r outcome mid → ThenGoesOn outcome mid new (Ok (Some action))
             → (over : Option Bool) × ((next : Report) → IsWithin asked next new over) × after over new
             × GoesOn new new (Ok (Some action)) × (come r + step_of report ≤ come new) × (come new ≤ 10)
         by (Ok x) (o, where_is, known, inl idle) on = absurd (let some = busy mid new action on in omega (arith, some, idle))
@@ -467,10 +467,10 @@ module _ (asked : Recorder) (n : ℕ) (is_asked : IsAsked asked n) where
     pub next_none : (r new : Recorder) (over : Option Bool) → IsWithin asked report r over → before over r
         → HasAction report does r → Advances report r new (Ok None)
         → (new ≡ once_done asked) × after (Some true) new
-    next_none r new over within known has (mid, told, settles, on) =
-        by told (settled r mid over told within known has settles) on
+    next_none r new over within known has (mid, outcome, settles, on) =
+        by outcome (settled r mid over outcome within known has settles) on
       where
-        by : (told : Result (Unit {0}) RecorderError) → After r told mid → ThenGoesOn told mid new (Ok None)
+        by : (outcome : Result (Unit {0}) RecorderError) → After r outcome mid → ThenGoesOn outcome mid new (Ok None)
             → (new ≡ once_done asked) × after (Some true) new
         by (Ok x) (o, where_is, known, grows) on = finished mid new o where_is known on
         by (Err error) k (never, _) = cc
@@ -479,10 +479,10 @@ module _ (asked : Recorder) (n : ℕ) (is_asked : IsAsked asked n) where
         → ((over : Option Bool) (mid : Recorder) → after over mid → mid.condition ≤ 1 → GoesOn mid new (Err error) → ⊥)
         → IsWithin asked report r over → before over r → HasAction report does r → Advances report r new (Err error)
         → (new.number ≡ 0) × after (Some false) new
-    next_err r new over error failed within known has (mid, told, settles, on) =
-        by told (settled r mid over told within known has settles) on
+    next_err r new over error failed within known has (mid, outcome, settles, on) =
+        by outcome (settled r mid over outcome within known has settles) on
       where
-        by : (told : Result (Unit {0}) RecorderError) → After r told mid → ThenGoesOn told mid new (Err error)
+        by : (outcome : Result (Unit {0}) RecorderError) → After r outcome mid → ThenGoesOn outcome mid new (Err error)
             → (new.number ≡ 0) × after (Some false) new
         by (Ok x) (o, where_is, known, grows) on = absurd (failed o mid known (settled_low mid o where_is) on)
         by (Err other) (none, known) (is, same) = rw same (none, known)
@@ -525,17 +525,17 @@ module _ (s : WavSpecEx) (file : Begun) (known : List Known) (asked : Recorder) 
 
   -- the clauses of the law, for what was requested
   pub laws_of : ((old mid new : Recorder) (effect : Effect) (result : Result (Unit {0}) IoFault)
-      (told : Result (Unit {0}) RecorderError) → Directed s file known old before
+      (outcome : Result (Unit {0}) RecorderError) → Directed s file known old before
       → GoesOn old mid (Ok (Some (Perform effect))) → Performs effect result before end.state
-      → HasEnded (is_ok result) mid new told → Directed s file (known ++ cut_known told) new end.state)
-      → ((old new : Recorder) (result : Result (Unit {0}) IoFault) (told : Result (Unit {0}) RecorderError)
+      → HasEnded (is_ok result) mid new outcome → Directed s file (known ++ cut_known outcome) new end.state)
+      → ((old new : Recorder) (result : Result (Unit {0}) IoFault) (outcome : Result (Unit {0}) RecorderError)
       → Directed s file known old before → old.task ≡ 3 → old.has_rest ≡ 0
       → length block ≡ old.samples * old.bytes_per_sample
       → PutsAt true (old.data_start + old.data_length) block result before end.state
-      → HasEnded (is_ok result) old new told
+      → HasEnded (is_ok result) old new outcome
       → Directed s file (known ++ block_known block (is_ok result) s ∷ []) new end.state)
-      → ((known : List Known) (old new : Recorder) (ok : Bool) (told : Result (Unit {0}) RecorderError)
-      → Directed s file known old before → 0 < old.has_rest → HasEnded ok old new told
+      → ((known : List Known) (old new : Recorder) (ok : Bool) (outcome : Result (Unit {0}) RecorderError)
+      → Directed s file known old before → 0 < old.has_rest → HasEnded ok old new outcome
       → Directed s file known new before)
       → ((old new : Recorder) (place len : ℕ) → Directed s file known old end.state
       → GoesOn old new (Ok (Some (WriteBlock place len))) → (place ≡ new.data_start + new.data_length)
@@ -547,21 +547,21 @@ module _ (s : WavSpecEx) (file : Begun) (known : List Known) (asked : Recorder) 
       → Laws asked report Before Now Did
   laws_of performed wrote cut handed saved still = record {
     same = λ pending over r d. subst (λ m. KnownAt s file known asked block m over r) (sym (still pending)) d;
-    performed = λ r mid effect told one d goes (result, is, did) settles.
-        effect_known told mid one (performed r r mid effect result told d goes did
-        (settles_as (is_ok result) r mid told (subst (λ x. Settles x r mid told) is settles)));
-    wrote = λ b r mid at len told two reported d is place (result, told_is, did) ended.
-        let same : is_ok result ≡ b = one_report (is_ok result) b (sym told_is ∙ reported) in
+    performed = λ r mid effect outcome one d goes (result, is, did) settles.
+        effect_known outcome mid one (performed r r mid effect result outcome d goes did
+        (settles_as (is_ok result) r mid outcome (subst (λ x. Settles x r mid outcome) is settles)));
+    wrote = λ b r mid at len outcome two reported d is place (result, reported_is, did) ended.
+        let same : is_ok result ≡ b = one_report (is_ok result) b (sym reported_is ∙ reported) in
         let as_block : Asked = write (whole_containers s block) in
         let asks : as_block ≡ asked_as s asked block = rw two refl in
         subst (λ (x : Asked × Bool). Directed s file (known ++ marked x.0 x.1 ∷ []) mid end.state)
         (λ i. (asks i, same i))
-        (wrote r mid result told d (ap (λ (x : Recorder). x.task) is)
+        (wrote r mid result outcome d (ap (λ (x : Recorder). x.task) is)
         (ap (λ (x : Recorder). x.has_rest) is ∙ is_asked.2)
-        (rw is (long two)) (rw place at did) (subst (λ b. HasEnded b r mid told) (sym same) ended));
-    cut = λ b r mid at told d rest same ended.
+        (rw is (long two)) (rw place at did) (subst (λ b. HasEnded b r mid outcome) (sym same) ended));
+    cut = λ b r mid at outcome d rest same ended.
         subst (λ m. Directed s file (known ++ marked (asked_as s asked block) false ∷ []) mid m) (sym same)
-        (cut (known ++ marked (asked_as s asked block) false ∷ []) r mid b told d rest ended);
+        (cut (known ++ marked (asked_as s asked block) false ∷ []) r mid b outcome d rest ended);
     handed = λ mid r at len none d goes. only mid r none (handed mid r at len d goes).1;
     saved = λ mid r one task d goes. subst (λ x. Directed s file (known ++ marked x true ∷ []) r end.state)
         (publishes one) (saved mid r d task goes);
@@ -570,8 +570,8 @@ module _ (s : WavSpecEx) (file : Begun) (known : List Known) (asked : Recorder) 
       publishes : asked.task ≡ 1 → publish ≡ asked_as s asked block
       publishes one = rw one refl
 
-      effect_known : (told : Result (Unit {0}) RecorderError) (mid : Recorder) → asked.task ≡ 1
-          → Directed s file (known ++ cut_known told) mid end.state → Now (told_as told) mid
+      effect_known : (outcome : Result (Unit {0}) RecorderError) (mid : Recorder) → asked.task ≡ 1
+          → Directed s file (known ++ cut_known outcome) mid end.state → Now (reported_as outcome) mid
       effect_known (Ok x) mid one d = rw append-nil at d
       effect_known (Err error) mid one d =
           subst (λ x. Directed s file (known ++ marked x false ∷ []) mid end.state) (publishes one) d

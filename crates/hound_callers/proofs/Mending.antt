@@ -11,7 +11,7 @@ use Rattle.hound.specs.declared.Effect.TheVariants.{Pad, Size, Sync}
 use Rattle.hound.specs.declared.Report.TheVariants.{Pending}
 use Rattle.hound.proofs.Recorders.{performed_all, performed_more, same_next}
 use Rattle.hound_callers.specs.Recorder.{DoesAction, IsFound, once_mended}
-use Rattle.hound_callers.proofs.Driving.{IsWithin, Laws, settles_as, shape, told_as}
+use Rattle.hound_callers.proofs.Driving.{IsWithin, Laws, settles_as, shape, reported_as}
 use Rattle.hound_callers.proofs.Repeating.{IsUnderWayBy}
 
 -- the effects of a checkpoint that were performed, by whether it is over
@@ -22,18 +22,18 @@ PerformedAt asked start m (Some ok) r = (r.task ≡ 0) × (log : Log) × (log.st
     × ((result : Result (Unit {0}) IoFault) × (is_ok result ≡ ok) × Performed (effects_of asked) result start log)
 
 -- its end is an error exactly where the effect failed
-ended_as : (b : Bool) (r mid : Recorder) (effect : Effect) (told : Result (Unit {0}) RecorderError) → r.task ≡ 1
-    → r.has_rest ≡ 0 → GoesOn r r (Ok (Some (Perform effect))) → HasEnded b r mid told → is_ok told ≡ b
-ended_as b r mid effect told one rest goes (inl (idle, _, _)) = absurd (omega (arith, one, idle))
-ended_as b r mid effect told one rest goes (inr (inl (_, cuts, _, _, _))) = absurd (omega (arith, rest, cuts))
-ended_as b r mid effect told one rest goes (inr (inr (inl (_, cuts, _, _)))) = absurd (omega (arith, rest, cuts))
-ended_as b r mid effect told one rest goes (inr (inr (inr (inl (three, _, _, _, _))))) = absurd (omega (arith, one, three))
-ended_as b r mid effect told one rest (some, few, _, _, _, after, next) (inr (inr (inr (inr (_, _, _, (a, step, stepped, ends)))))) =
+ended_as : (b : Bool) (r mid : Recorder) (effect : Effect) (outcome : Result (Unit {0}) RecorderError) → r.task ≡ 1
+    → r.has_rest ≡ 0 → GoesOn r r (Ok (Some (Perform effect))) → HasEnded b r mid outcome → is_ok outcome ≡ b
+ended_as b r mid effect outcome one rest goes (inl (idle, _, _)) = absurd (omega (arith, one, idle))
+ended_as b r mid effect outcome one rest goes (inr (inl (_, cuts, _, _, _))) = absurd (omega (arith, rest, cuts))
+ended_as b r mid effect outcome one rest goes (inr (inr (inl (_, cuts, _, _)))) = absurd (omega (arith, rest, cuts))
+ended_as b r mid effect outcome one rest goes (inr (inr (inr (inl (three, _, _, _, _))))) = absurd (omega (arith, one, three))
+ended_as b r mid effect outcome one rest (some, few, _, _, _, after, next) (inr (inr (inr (inr (_, _, _, (a, step, stepped, ends)))))) =
     let (is, same) = same_next r after a (Some effect) step next stepped in
-    by b (subst (λ (x : Recorder × Result (Option Effect) RecorderError). EffectEnds b r x.0 x.1 mid told)
+    by b (subst (λ (x : Recorder × Result (Option Effect) RecorderError). EffectEnds b r x.0 x.1 mid outcome)
     (λ i. (same i, is i)) ends)
   where
-    by : (b : Bool) → EffectEnds b r after (Ok (Some effect)) mid told → is_ok told ≡ b
+    by : (b : Bool) → EffectEnds b r after (Ok (Some effect)) mid outcome → is_ok outcome ≡ b
     by true (ok, is) = ap is_ok ok
     by false (last, error, failed, err, is) = ap is_ok err
 
@@ -54,12 +54,12 @@ ended_task b r mid effect error one rest (some, few, _, _, _, after, next) (inr 
     by false (last, other, failed, err, is) = ap (λ (x : Recorder). x.task) is
 
 -- a report of nothing changes nothing
-stays_idle : (b : Bool) (r mid : Recorder) (told : Result (Unit {0}) RecorderError) → r.task ≡ 0 → HasEnded b r mid told → mid ≡ r
-stays_idle b r mid told idle (inl (_, same, _)) = same
-stays_idle b r mid told idle (inr (inl (busy, _, _, _, _))) = absurd (omega (arith, idle, busy))
-stays_idle b r mid told idle (inr (inr (inl (four, _, _, _)))) = absurd (omega (arith, idle, four))
-stays_idle b r mid told idle (inr (inr (inr (inl (three, _, _, _, _))))) = absurd (omega (arith, idle, three))
-stays_idle b r mid told idle (inr (inr (inr (inr (busy, _, _, _))))) = absurd (omega (arith, idle, busy))
+stays_idle : (b : Bool) (r mid : Recorder) (outcome : Result (Unit {0}) RecorderError) → r.task ≡ 0 → HasEnded b r mid outcome → mid ≡ r
+stays_idle b r mid outcome idle (inl (_, same, _)) = same
+stays_idle b r mid outcome idle (inr (inl (busy, _, _, _, _))) = absurd (omega (arith, idle, busy))
+stays_idle b r mid outcome idle (inr (inr (inl (four, _, _, _)))) = absurd (omega (arith, idle, four))
+stays_idle b r mid outcome idle (inr (inr (inr (inl (three, _, _, _, _))))) = absurd (omega (arith, idle, three))
+stays_idle b r mid outcome idle (inr (inr (inr (inr (busy, _, _, _))))) = absurd (omega (arith, idle, busy))
 
 ok_is : (result : Result (Unit {0}) IoFault) → is_ok result ≡ true → result ≡ Ok tt
 ok_is (Ok x) is = refl
@@ -68,9 +68,9 @@ ok_is (Err e) is = absurd (false≢true is)
 module _ (asked : Recorder) (start : Log) (one : asked.task ≡ 1) (block : List ℕ) (report : Report) (before : MediumState)
     (end : Log) where
   -- an effect more
-  more : (told : Result (Unit {0}) RecorderError) (r mid : Recorder) (effect : Effect) (result : Result (Unit {0}) IoFault)
+  more : (outcome : Result (Unit {0}) RecorderError) (r mid : Recorder) (effect : Effect) (result : Result (Unit {0}) IoFault)
       → PerformedAt asked start before None r → GoesOn r r (Ok (Some (Perform effect))) → Performs effect result before end.state
-      → HasEnded (is_ok result) r mid told → PerformedAt asked start end.state (told_as told) mid
+      → HasEnded (is_ok result) r mid outcome → PerformedAt asked start end.state (reported_as outcome) mid
   more (Ok x) r mid effect result (task, has, same, (log, here, done)) (some, few, rest, is, saves, after, next) did ended =
       let goes : GoesOn r r (Ok (Some (Perform effect))) = (some, few, rest, is, saves, after, next) in
       let fine : is_ok result ≡ true = sym (ended_as (is_ok result) r mid effect (Ok x) task rest goes ended) in
@@ -109,13 +109,13 @@ module _ (asked : Recorder) (start : Log) (one : asked.task ≡ 1) (block : List
       (λ o r. PerformedAt asked start end.state o r) (λ action. DoesAction action block report before end.state)
   effect_laws still = record {
     same = λ pending over r known. subst (λ m. PerformedAt asked start m over r) (sym (still pending)) known;
-    performed = λ r mid effect told one known goes (result, is, did) settles.
-        more told r mid effect result known goes did
-        (settles_as (is_ok result) r mid told (subst (λ x. Settles x r mid told) is settles));
-    wrote = λ b r mid at len told two reported known is place did ended. absurd (omega (arith, one, two));
-    cut = λ b r mid at told known rest same ended.
+    performed = λ r mid effect outcome one known goes (result, is, did) settles.
+        more outcome r mid effect result known goes did
+        (settles_as (is_ok result) r mid outcome (subst (λ x. Settles x r mid outcome) is settles));
+    wrote = λ b r mid at len outcome two reported known is place did ended. absurd (omega (arith, one, two));
+    cut = λ b r mid at outcome known rest same ended.
         let (idle, log, here, done) = known in
-        (ap (λ (x : Recorder). x.task) (stays_idle b r mid told idle ended) ∙ idle, log, here ∙ sym same, done);
+        (ap (λ (x : Recorder). x.task) (stays_idle b r mid outcome idle ended) ∙ idle, log, here ∙ sym same, done);
     handed = λ mid r at len none known goes. absurd (let task = known.0 in omega (arith, goes.0, task));
     saved = λ mid r one task known goes. all_saved mid r known goes;
   }

@@ -11,7 +11,7 @@ use Rattle.hound.proofs.Knowing.{accepted as accepted_of_known, lasts, length-co
 use Rattle.hound.specs.{Abandons, AreBytes, AsksForBlock, Asked, Begun, Directed, KeptWithin, Known, Log, MediumState, PutsAll, placed, GivesUp, TakesBlock, Recorder, RecorderError, WavSpecEx, accepted_as_seen, accepted_by_all, field, found_in, if_marked, Repeats, length_with, log_kind, marked, overlay, publish, seen, start_of}
 use Rattle.hound.specs.declared.Report.TheVariants.{Pending}
 use Rattle.hound.specs.declared.RecorderError.TheVariants.{NotWritable, UnfinishedFrame, TooLong, Truncated, CutOff, HasChunksAfterData, NeedsCheckpoint, SyncFailed}
-use Rattle.hound_callers.specs.Recorder.{IsDirected, IsReady, IsRefused, ReadsBlocks, Saves, Stops, StopsAt, StopsIn, samples_of}
+use Rattle.hound_callers.specs.Recorder.{IsDirected, IsReady, IsRejected, ReadsBlocks, Saves, Stops, StopsAt, StopsIn, samples_of}
 use Rattle.hound_callers.specs.Recording.{published_calls}
 use Rattle.hound_callers.proofs.Publishing.{accepted, last_call}
 
@@ -29,7 +29,7 @@ whole_samples n width whole = omega (arith, div-add-mod' n width, whole)
 
 -- what was under way was given up, and nothing was
 pub given_up : (old end : Recorder) → Abandons Pending old end → GivesUp old end
-given_up old end (mid, told, (same, ok), gives) = subst (λ m. GivesUp m end) same gives
+given_up old end (mid, modelled, (same, ok), gives) = subst (λ m. GivesUp m end) same gives
 
 nothing_given : (old end : Recorder) → old.task ≡ 0 → Abandons Pending old end → end ≡ old
 nothing_given old end idle gives =
@@ -43,13 +43,13 @@ nothing_given old end idle gives =
 pub not_taken : (r new : Recorder) (block : Bor (List ℕ)) (error : RecorderError)
     → length block.now % r.bytes_per_sample ≡ 0 → IsReady r
     → AsksForBlock Pending (length block.now / r.bytes_per_sample) r new (Err error)
-    → (new ≡ r) × IsRefused r block
+    → (new ≡ r) × IsRejected r block
 not_taken r new block error whole ready (end, gives, takes) =
     by error (subst (λ x. TakesBlock (length block.now / r.bytes_per_sample) x new (Err error))
     (nothing_given r end ready.2 gives) takes)
   where
     by : (error : RecorderError) → TakesBlock (length block.now / r.bytes_per_sample) r new (Err error)
-        → (new ≡ r) × IsRefused r block
+        → (new ≡ r) × IsRejected r block
     by SyncFailed (same, high) = absurd (omega (arith, high, ready.1))
     by UnfinishedFrame (same, inl none) = absurd (let some = ready.5 in omega (arith, some, none))
     by UnfinishedFrame (same, inr torn) = (same, inr (inl torn))
@@ -75,10 +75,10 @@ on_err (Err e) here = here refl
 
 -- a block of which nothing was written
 pub stopped_before : (s : WavSpecEx) (file : Begun) (known : List Known) (r : Recorder) (block : Bor (List ℕ))
-    (m : MediumState) → IsRefused r block → IsReady r → IsDirected s file known r m
+    (m : MediumState) → IsRejected r block → IsReady r → IsDirected s file known r m
     → Stops s file known block r m
-stopped_before s file known r block m refused ready directed =
-    ([], inl (refused, refl), ready.0, rw append-nil directed)
+stopped_before s file known r block m rejected ready directed =
+    ([], inl (rejected, refl), ready.0, rw append-nil directed)
 
 pub at_err : {T E P : Type 0} (r : Result T E) → is_ok r ≡ false → OnErr r P → P
 at_err (Ok x) err here = absurd (false≢true (sym err))
@@ -99,7 +99,7 @@ stopped_none : (s : WavSpecEx) (r : Recorder) (blocks : List (Bor (List ℕ))) (
     → StopsAt s r blocks more → AllByRecursion (λ (one : Known). one.asked ≡ publish → ⊥) (seen more)
     → accepted_as_seen more ≡ []
 stopped_none s r [] more is none = ap accepted_as_seen is
-stopped_none s r (block ∷ blocks) more (inl (refused, is)) none = ap accepted_as_seen is
+stopped_none s r (block ∷ blocks) more (inl (rejected, is)) none = ap accepted_as_seen is
 stopped_none s r (block ∷ blocks) more (inr (inl is)) none = ap accepted_as_seen is
 stopped_none s r (block ∷ blocks) more (inr (inr is)) none = absurd ((rw is at none).1.0 refl)
 

@@ -3,11 +3,11 @@ use Rattle.std.proofs.Common.{◌≡◌, ℕ, ◌+◌, ◌<◌, Bool, true, List
 use Rattle.std.proofs.lemmas.Grind.{flat_map-append, common_steps}
 use Rattle.std.proofs.lemmas.List.{append-nil, map-append}
 use Rattle.std.specs.List.{All, flat_map}
-use Rattle.hound.specs.{if_marked, AreKnown, Asked, Call, Known, marked, publish, seen, write, Refusal, HasPublished, accepted_as_seen, accepted_by_all}
+use Rattle.hound.specs.{if_marked, AreKnown, Asked, Call, Known, marked, publish, seen, write, Rejection, HasPublished, accepted_as_seen, accepted_by_all}
 use Rattle.hound.proofs.Calling.{last_of}
 use Rattle.hound_callers.specs.Recording.{HaveContainers, published_calls}
 
-module _ {V : Type 0} (f : V → Result (List (List ℕ)) Refusal) where
+module _ {V : Type 0} (f : V → Result (List (List ℕ)) Rejection) where
   -- the two calls of a block more are known after those of the blocks before it
   pub seen_more : (blocks : List V) (i : ℕ) (d : V) → i < length blocks
       → seen (published_calls f (take (i + 1) blocks))

@@ -143,8 +143,8 @@ module _ (laws : Again) (block : List ℕ) where
   -- without a report it continues from where it was
   unreported : (report : Report) (r new : Recorder) (next : Result (Option Action) RecorderError) → report ≡ Pending
       → Advances report r new next → GoesOn r new next
-  unreported report r new next pending (mid, told, settles, on) =
-      let (same, ok) = subst (λ x. Settles x r mid told) pending settles in
+  unreported report r new next pending (mid, modelled, settles, on) =
+      let (same, ok) = subst (λ x. Settles x r mid modelled) pending settles in
       subst (λ x. GoesOn x new next) same (subst (λ x. ThenGoesOn x mid new next) ok on)
 
   pub is_tried : (report : Report) (r new : Recorder) (action : Action) (m now : MediumState)

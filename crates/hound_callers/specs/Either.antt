@@ -1,18 +1,18 @@
 -- The tables of a sample type that reads either format.
 use Rattle.std.specs.Prelude.{◌≡◌, ℕ, ℤ, pos, ◌≤◌, ⊤, List, length, Option, Result, Ok}
-use Rattle.hound.specs.{Refusal, int_container, pattern_container, ReadRefusal, float_refusal, int_meaning, int_refusal, low_i16, pattern, int_container-in_width, pattern_container-in_width, SampleFormat}
+use Rattle.hound.specs.{Rejection, int_container, pattern_container, ReadRejection, float_rejection, int_meaning, int_rejection, low_i16, pattern, int_container-in_width, pattern_container-in_width, SampleFormat}
 use Rattle.hound.specs.declared.SampleFormat.TheVariants.{Int, Float}
 use Rattle.hound_callers.specs.declared.either.EitherSample.{EitherSample}
 use Rattle.hound_callers.specs.declared.either.EitherSample.TheVariants.{Whole, Bits}
 
-abbrev pub either_container : EitherSample → ℕ → ℕ → Result (List ℕ) Refusal
+abbrev pub either_container : EitherSample → ℕ → ℕ → Result (List ℕ) Rejection
 either_container (Whole value) bits width = int_container value bits width
 either_container (Bits value) bits width = pattern_container value bits width
 
 -- an integer file is read as `i32` reads it, a float file as `FloatBits` does
-abbrev pub either_refusal : SampleFormat → ℕ → ℕ → Option ReadRefusal
-either_refusal Int width bits = int_refusal 4 Int width bits
-either_refusal Float width bits = float_refusal Float width bits
+abbrev pub either_rejection : SampleFormat → ℕ → ℕ → Option ReadRejection
+either_rejection Int width bits = int_rejection 4 Int width bits
+either_rejection Float width bits = float_rejection Float width bits
 
 -- what a container means in a file of this format
 abbrev pub either_meaning : SampleFormat → ℕ → ℕ → List ℕ → EitherSample

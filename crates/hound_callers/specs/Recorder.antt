@@ -3,7 +3,7 @@ use Rattle.std.specs.Prelude.{◌≡◌, ◌⊎◌, ℕ, ◌+◌, ◌*◌, ◌/�
 use Rattle.std.specs.declared.io.Error.{Error as IoFault}
 use Rattle.std.specs.Borrow.{Bor}
 use Rattle.std.specs.List.{AllByRecursion, flat_map}
-use Rattle.hound.specs.{Action, AppendsRecorder, FoundFile, HasData, Head, IsSoundSpec, LeavesWriter, Resumes, mark_of, resumed_file, writer_of, Asked, Begun, Directed, Error, Flushes, IsRefusal, IsSaid, KeptWithin, Known, Log, MediumState, Performed, Performs, Places, PutsAt, ReadsAs, Readable, Repeats, Recorder, RecorderError, Refusal, Report, Unreadable, WavSpecEx, bytes_of, effects_of, found_in, greatest_u32, if_marked, length_with, log_kind, padded, publish, riff_size, seen, start_of, whole_containers, write}
+use Rattle.hound.specs.{Action, AppendsRecorder, FoundFile, HasData, Head, IsSoundSpec, LeavesWriter, Resumes, mark_of, resumed_file, writer_of, Asked, Begun, Directed, Error, Flushes, IsRejection, IsSaid, KeptWithin, Known, Log, MediumState, Performed, Performs, Places, PutsAt, ReadsAs, Readable, Repeats, Recorder, RecorderError, Rejection, Report, Unreadable, WavSpecEx, bytes_of, effects_of, found_in, greatest_u32, if_marked, length_with, log_kind, padded, publish, riff_size, seen, start_of, whole_containers, write}
 use Rattle.hound.specs.declared.Action.TheVariants.{Cut, Perform, Read, WriteBlock}
 use Rattle.hound.specs.declared.Effect.TheVariants.{Pad, Size, Sync}
 use Rattle.hound.specs.declared.RecorderError.TheVariants.{Truncated, HasChunksAfterData, UnfinishedFrame}
@@ -81,7 +81,7 @@ PerformsAll r start result m = (end : Log) × (performed : Result (Unit {0}) IoF
     × (is_ok performed ≡ is_ok result) × Performed (effects_of r) performed start end × Repeats end.state m
 
 -- the samples of a block
-abbrev pub samples_of : WavSpecEx → Bor (List ℕ) → Result (List (List ℕ)) Refusal
+abbrev pub samples_of : WavSpecEx → Bor (List ℕ) → Result (List (List ℕ)) Rejection
 samples_of s block = whole_containers s block.now
 
 -- what was requested, with a block of these bytes
@@ -89,14 +89,14 @@ abbrev pub asked_as : WavSpecEx → Recorder → List ℕ → Asked
 asked_as s r bytes = if r.task == 1 then publish else write (whole_containers s bytes)
 
 -- a recorder can't take this block: it is no whole frames, or the sizes would pass 32 bits
-abbrev pub IsRefused : Recorder → Bor (List ℕ) → Type 0
-IsRefused r block = (length block.now % r.bytes_per_sample ≡ 0 → ⊥)
+abbrev pub IsRejected : Recorder → Bor (List ℕ) → Type 0
+IsRejected r block = (length block.now % r.bytes_per_sample ≡ 0 → ⊥)
     ⊎ (length block.now / r.bytes_per_sample % r.channels ≡ 0 → ⊥)
     ⊎ (greatest_u32 < riff_size r.data_start (r.data_length + length block.now))
 
 -- the calls of a block that wasn't saved, and their marks: none, a write that failed, or a checkpoint that did
 abbrev pub StopsIn : WavSpecEx → Recorder → Bor (List ℕ) → List (Asked × Bool) → Type 0
-StopsIn s r block calls = (IsRefused r block × (calls ≡ []))
+StopsIn s r block calls = (IsRejected r block × (calls ≡ []))
     ⊎ (calls ≡ (write (samples_of s block), false) ∷ [])
     ⊎ (calls ≡ (write (samples_of s block), true) ∷ (publish, false) ∷ [])
 
@@ -124,7 +124,7 @@ IsErrorOf _ e = e ≡ Unsupported
 -- Why a file with these contents isn't recorded further: they can't be read, no recorder begins with
 -- them, they lack data that the header counts, or more than a pad byte follows.
 abbrev pub IsNotResumed : List ℕ → Error → Type 0
-IsNotResumed contents e = IsRefusal e (Unreadable contents)
+IsNotResumed contents e = IsRejection e (Unreadable contents)
     ⊎ ((s : WavSpecEx) × (samples start : ℕ) × Readable contents s samples start
     × (((error : RecorderError) × AppendsRecorder s start (samples * s.bytes_per_sample) (Err error) × (e ≡ Unsupported))
     ⊎ ((length contents < start + samples * s.bytes_per_sample) × SaysFormat (codes "the data are cut off") e)

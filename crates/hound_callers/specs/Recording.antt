@@ -2,52 +2,52 @@
 use Rattle.std.specs.Prelude.{◌≡◌, ◌⊎◌, ℕ, suc, ◌*◌, ◌%◌, ◌==◌, Bool, true, false, List, [], ◌∷◌, ◌++◌, Option, None, Some, Result, Ok, Err, IsOk, ◌<◌, ◌≤◌, drop, length, take}
 use Rattle.std.specs.Borrow.{Bor}
 use Rattle.std.specs.List.{All, flat_map}
-use Rattle.hound.specs.{Ghosts, Accepts, AreKnown, Asked, Begun, Call, Checkpoints, Error, HasPublished, HasRoom, IsWhole, KeptWithin, Known, MediumState, ReadsAs, Refusal, WavSpecEx, WriterState, accepted_samples, containers_in, accepted_by_all, found_in, if_marked, made, marked, moment, publish, seen, start_of, write}
+use Rattle.hound.specs.{Ghosts, Accepts, AreKnown, Asked, Begun, Call, Checkpoints, Error, HasPublished, HasRoom, IsWhole, KeptWithin, Known, MediumState, ReadsAs, Rejection, WavSpecEx, WriterState, accepted_samples, containers_in, accepted_by_all, found_in, if_marked, made, marked, moment, publish, seen, start_of, write}
 use Rattle.hound.specs.declared.Error.TheVariants.{OutOfMemory, TooLong}
 
 -- a block is written, and if it is to be published a flush follows
-abbrev pub block_asks : Result (List (List ℕ)) Refusal → Bool → List Known
+abbrev pub block_asks : Result (List (List ℕ)) Rejection → Bool → List Known
 block_asks containers false = made (write containers) ∷ []
 block_asks containers true = made (write containers) ∷ made publish ∷ []
 
 -- blocks are written in their order, with a flush after every fourth; so many were written before
-abbrev pub recorder_asks : {V : Type 0} → (V → Result (List (List ℕ)) Refusal) → ℕ → List V →
+abbrev pub recorder_asks : {V : Type 0} → (V → Result (List (List ℕ)) Rejection) → ℕ → List V →
     List Known
 recorder_asks containers i [] = []
 recorder_asks containers i (block ∷ blocks) =
     block_asks (containers block) (i % 4 == 3) ++ recorder_asks containers (suc i) blocks
 
 -- the containers of a block of samples
-abbrev pub containers_by : {V : Type 0} → (V → ℕ → ℕ → Result (List ℕ) Refusal) → WavSpecEx →
-    Bor (List V) → Result (List (List ℕ)) Refusal
+abbrev pub containers_by : {V : Type 0} → (V → ℕ → ℕ → Result (List ℕ) Rejection) → WavSpecEx →
+    Bor (List V) → Result (List (List ℕ)) Rejection
 containers_by container s block = containers_in container s block.now
 
 -- all that a recorder of blocks asks, with the end
-abbrev pub all_asked : {V : Type 0} → (V → ℕ → ℕ → Result (List ℕ) Refusal) → WavSpecEx →
+abbrev pub all_asked : {V : Type 0} → (V → ℕ → ℕ → Result (List ℕ) Rejection) → WavSpecEx →
     List (Bor (List V)) → List Known
 all_asked container s blocks = recorder_asks (containers_by container s) 0 blocks ++ made publish ∷ []
 
 -- the marks of the calls of blocks that were published: a write and a flush of each
-abbrev pub published_calls : {V : Type 0} → (V → Result (List (List ℕ)) Refusal) → List V →
+abbrev pub published_calls : {V : Type 0} → (V → Result (List (List ℕ)) Rejection) → List V →
     List (Asked × Bool)
 published_calls containers blocks =
     flat_map (λ block. (write (containers block), true) ∷ (publish, true) ∷ []) blocks
 
 -- The calls of a block at which a recorder stops: a write that accepted nothing, or a write that
 -- accepted the block and a flush that didn't publish it.
-abbrev pub IsStopped : Result (List (List ℕ)) Refusal → List Known → Type 0
+abbrev pub IsStopped : Result (List (List ℕ)) Rejection → List Known → Type 0
 IsStopped containers calls = (calls ≡ marked (write containers) false ∷ [])
     ⊎ (calls ≡ marked (write containers) true ∷ marked publish false ∷ [])
 
 -- the calls with which a recorder stops where these blocks are left: none if there are no blocks, or
 -- else those of the next one
-abbrev pub StopsAt : {V : Type 0} → (V → Result (List (List ℕ)) Refusal) → List V → List Known →
+abbrev pub StopsAt : {V : Type 0} → (V → Result (List (List ℕ)) Rejection) → List V → List Known →
     Type 0
 StopsAt containers [] calls = calls ≡ []
 StopsAt containers (block ∷ blocks) calls = IsStopped (containers block) calls
 
 -- each of these blocks has containers, and these are all of them
-abbrev pub HaveContainers : {V : Type 0} → (V → Result (List (List ℕ)) Refusal) → List V →
+abbrev pub HaveContainers : {V : Type 0} → (V → Result (List (List ℕ)) Rejection) → List V →
     List (List ℕ) → Type 0
 HaveContainers containers blocks list =
     All (λ block. IsOk (containers block)) blocks
@@ -56,7 +56,7 @@ HaveContainers containers blocks list =
 -- So many of these blocks were published over a durable medium, each by a write and a flush; and then
 -- the calls stopped at the next block, if there is one, and ended. A flush has published exactly the samples
 -- of these blocks, if there are some; and all is kept that the calls promise, through a loss of power too.
-abbrev pub PublishesBlocks : {V W : Type 0} → Ghosts W → (V → Result (List (List ℕ)) Refusal) →
+abbrev pub PublishesBlocks : {V W : Type 0} → Ghosts W → (V → Result (List (List ℕ)) Rejection) →
     WavSpecEx → Begun → List V → ℕ → W → MediumState → Type 0
 PublishesBlocks kind containers s file blocks n durable medium = (more : List Known)
     × StopsAt containers (drop n blocks) more
@@ -68,7 +68,7 @@ PublishesBlocks kind containers s file blocks n durable medium = (more : List Kn
 
 -- a call for samples that failed, or one that was Ok and a flush with this result
 abbrev pub WritesAndFlushes : {M : Type 0} → Ghosts M →
-    Result (List (List ℕ)) Refusal → Result (Unit {0}) Error → WriterState M → WriterState M → Type 0
+    Result (List (List ℕ)) Rejection → Result (Unit {0}) Error → WriterState M → WriterState M → Type 0
 WritesAndFlushes {M} kind asked answer old new =
     ((e : Error) × (answer ≡ Err e) × Accepts kind asked (Err e) old new)
     ⊎ ((mid : WriterState M) × Accepts kind asked (Ok tt) old mid
@@ -81,7 +81,7 @@ IsNoBatch w count e = ((e ≡ TooLong) × (HasRoom w (2 * count) → ⊥))
     ⊎ ((e ≡ OutOfMemory) × (length w.batch_memory < 2 * count))
 
 -- the samples of a call follow those that were accepted before, and the file is read as all of these
-abbrev pub IsPublished : {M : Type 0} → (M → MediumState) → Result (List (List ℕ)) Refusal →
+abbrev pub IsPublished : {M : Type 0} → (M → MediumState) → Result (List (List ℕ)) Rejection →
     WriterState M → WriterState M → Type 0
 IsPublished state asked old new = (list : List (List ℕ)) × (asked ≡ Ok list)
     × ReadsAs old.spec_ex old.data_start (accepted_samples state old ++ list)

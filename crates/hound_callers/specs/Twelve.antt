@@ -2,7 +2,7 @@
 use Rattle.std.proofs.Common.{◌≡◌, ℕ, ℤ, pos, ◌%◌, ◌≤◌, ◌-ℤ◌, Bool, true, false, cond, ◌&&◌, eqb, List, length, Option, None, Some, Result, Ok, Err, refl, ap, arith}
 use Rattle.std.specs.Prelude.{◌==◌, nat_lt, if◌then◌else◌}
 use Rattle.std.proofs.lemmas.Bool.{and_parts, eqb-true}
-use Rattle.hound.specs.{twos_complement, signed_bytes_of, Refusal, too_wide, unsupported, fits, ReadRefusal, other_format, misfit, int_meaning, SampleFormat}
+use Rattle.hound.specs.{twos_complement, signed_bytes_of, Rejection, too_wide, unsupported, fits, ReadRejection, other_format, misfit, int_meaning, SampleFormat}
 use Rattle.hound.specs.declared.SampleFormat.TheVariants.{Int, Float}
 
 -- the lowest twelve bits, as a signed number
@@ -11,14 +11,14 @@ low_twelve z =
     if nat_lt (twos_complement 2 z % 4096) 2048 then pos (twos_complement 2 z % 4096) else
     (pos (twos_complement 2 z % 4096) -ℤ pos 4096)
 
-abbrev pub twelve_container : ℤ → ℕ → ℕ → Result (List ℕ) Refusal
+abbrev pub twelve_container : ℤ → ℕ → ℕ → Result (List ℕ) Rejection
 twelve_container v bits width =
     if bits == 16 && width == 2 then
     (if fits 12 v then Ok (signed_bytes_of 2 v) else Err too_wide) else Err unsupported
 
-abbrev pub twelve_refusal : SampleFormat → ℕ → ℕ → Option ReadRefusal
-twelve_refusal Float width bits = Some other_format
-twelve_refusal Int width bits =
+abbrev pub twelve_rejection : SampleFormat → ℕ → ℕ → Option ReadRejection
+twelve_rejection Float width bits = Some other_format
+twelve_rejection Int width bits =
     if nat_lt 2 width then Some (misfit too_wide) else if width == 2 && bits == 16 then None else Some
     (misfit unsupported)
 

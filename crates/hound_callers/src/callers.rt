@@ -1,6 +1,6 @@
 // Functions of a user of the library, whose contracts follow from its public ones.
 ghost use Rattle.std.specs.Prelude.{◌≡◌, ℕ, ◌/◌, ◌<◌, ◌++◌, ◌⊎◌, false, true, List, length, map, ◌∷◌, None, Some, Ok, Err, Result, IfErr, IfOk, IfSome, MatchResult, OnOk};
-ghost use Rattle.hound.specs.{AreKnown, Begun, Call, Checkpoints, Finishes, Known, ReadsAs, Recorded, found_in, start_of, IsSameFile, ReaderState, RepairsMedium, Seeks, containers, AreContainers, canonical, HasPublished, IsLeftAfter, Keeps, accepted_by_all, begins_at, container_in, one_more, samples_left, OpensAs, ReadsFrames, IsIoError, IsNext, IsSixteen, MediumState, WhereTells, Error, IsWritable, IsWhole, sample_count, WavSpecEx, container_at, meaning_at, refusal_at, samples_before, unread};
+ghost use Rattle.hound.specs.{AreKnown, Begun, Call, Checkpoints, Finishes, Known, ReadsAs, Recorded, found_in, start_of, IsSameFile, ReaderState, RepairsMedium, Seeks, containers, AreContainers, canonical, HasPublished, IsLeftAfter, Keeps, accepted_by_all, begins_at, container_in, one_more, samples_left, OpensAs, ReadsFrames, IsIoError, IsNext, IsSixteen, MediumState, WhereTells, Error, IsWritable, IsWhole, sample_count, WavSpecEx, container_at, meaning_at, rejection_at, samples_before, unread};
 ghost use Rattle.hound.specs.declared.Error.TheVariants.{OutOfMemory};
 ghost use Rattle.hound_callers.specs.Recording.{IsNoBatch, IsPublished, WritesAndFlushes, as_item};
 
@@ -104,15 +104,15 @@ pub fn sample_at<S: Sample, R: Source>(
 ) -> hound::Result<Option<S>>
     requires { reader.old.bytes_read ≡ 0 }
     ensures sample { WhereTells R.tells (time < reader.old.num_samples / reader.old.spec_ex.spec.channels
-        → refusal_at S.refusal reader.old.spec_ex ≡ None → MatchResult result (λ sample. sample
+        → rejection_at S.rejection reader.old.spec_ex ≡ None → MatchResult result (λ sample. sample
         ≡ Some (meaning_at S.meaning reader.old.spec_ex (container_at reader.old.spec_ex.bytes_per_sample
         (samples_before time reader.old.spec_ex) (unread (R.state reader.old.reader))))) IsIoError) }
     ensures item { WhereTells R.tells (MatchResult result
         (λ sample. (mid : ReaderState R) × Seeks R.state time reader.old mid
-        × IsNext R.remaining S.refusal S.meaning (as_item sample) mid reader.new)
+        × IsNext R.remaining S.rejection S.meaning (as_item sample) mid reader.new)
         (λ e. (IsIoError e × ((R.state reader.new.reader).faults ≡ one_more (R.state reader.old.reader).faults))
         ⊎ ((mid : ReaderState R) × Seeks R.state time reader.old mid
-        × IsNext R.remaining S.refusal S.meaning (Some (Err e)) mid reader.new))) }
+        × IsNext R.remaining S.rejection S.meaning (Some (Err e)) mid reader.new))) }
 {
     a_seek_leads_to_its_frame::<R, S>();
     reader.seek(time)?;
@@ -126,7 +126,7 @@ pub fn samples_of<S: Sample, R: io::Read + Drop>(
     reader: WavReader<R>,
 ) -> hound::Result<Vec<S>>
     ensures { IfSome (R.remaining reader.reader) (λ bytes.
-        refusal_at S.refusal reader.spec_ex ≡ None → MatchResult result (λ samples. samples.items
+        rejection_at S.rejection reader.spec_ex ≡ None → MatchResult result (λ samples. samples.items
         ≡ map (meaning_at S.meaning reader.spec_ex)
         (containers reader.spec_ex.bytes_per_sample (samples_left reader) bytes))
         (λ e. IsIoError e ⊎ (e ≡ OutOfMemory))) }

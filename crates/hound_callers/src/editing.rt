@@ -23,7 +23,7 @@ pub fn append_blocks<S: Sample + Copy, M: Source + Medium>(
         ChangesSizesOnly w.data_start (M.state medium).contents (M.state left).contents
         × Holds M.Placed w.spec_ex (appended (M.state medium) w.data_start
         (accepted_samples M.state w)) (all_asked S.container w.spec_ex blocks.now) left))
-        (λ refused. WhereTells M.tells (IsNotAppended (M.state medium) (M.state refused.0) refused.1)) }
+        (λ rejected. WhereTells M.tells (IsNotAppended (M.state medium) (M.state rejected.0) rejected.1)) }
 {
     what_is_kept::<M>();
     an_append_keeps_the_front::<M>();

@@ -1,5 +1,5 @@
 // A sample type for files of either format.
-ghost use Rattle.hound_callers.specs.Either.{IsWhole, either_container, either_container-in_width, either_meaning, either_refusal, either_i16};
+ghost use Rattle.hound_callers.specs.Either.{IsWhole, either_container, either_container-in_width, either_meaning, either_rejection, either_i16};
 
 use hound::{FloatBits, Result, Sample, SampleFormat};
 use std::io;
@@ -18,7 +18,7 @@ impl Sample for EitherSample {
 
     ghost in_width = { either_container-in_width };
 
-    ghost refusal = { either_refusal };
+    ghost rejection = { either_rejection };
 
     ghost meaning = { either_meaning };
 

@@ -21,10 +21,10 @@ pub fn read_block<S: Sample, R: io::Read + Drop>(
     ensures all { IfOk result (λ count. count ≡ min (length block.old) (samples_left reader.old)) }
     ensures same { IsSome (R.remaining reader.old.reader) → IfOk result (λ count.
         (others : List S) (other : ReaderState R) → length others ≡ count →
-        GivesItems R.remaining S.refusal S.meaning (map Ok others) reader.old other →
+        GivesItems R.remaining S.rejection S.meaning (map Ok others) reader.old other →
         (take count block.new ≡ others)
         × (over_bytes R.remaining reader.new ≡ over_bytes R.remaining other)) }
-    ensures err { IfErr result (λ e. (count : ℕ) × ReadsBlock R.remaining S.refusal S.meaning count
+    ensures err { IfErr result (λ e. (count : ℕ) × ReadsBlock R.remaining S.rejection S.meaning count
         (Err e) block.old block.new reader.old reader.new) }
 {
     a_block_is_its_items::<R, S>();
@@ -50,7 +50,7 @@ pub fn read_from<S: Sample, R: Source>(
     ensures err { WhereTells R.tells (IfErr result (λ e. (IsIoError e × (last : ReaderState R)
         × ((R.state last.reader).faults ≡ one_more (R.state reader.reader).faults))
         ⊎ ((mid last : ReaderState R) × Seeks R.state time reader mid × (count : ℕ)
-        × ReadsBlock R.remaining S.refusal S.meaning count (Err e) block.old block.new mid last))) }
+        × ReadsBlock R.remaining S.rejection S.meaning count (Err e) block.old block.new mid last))) }
 {
     a_reader_is_where_it_counts::<R, S>();
     let mut reader = reader;
@@ -63,22 +63,22 @@ pub fn read_from<S: Sample, R: Source>(
 /// Opens a file to append to it. The samples accepted so far are those of a canonical file
 /// (`written`), or, of a recording that was cut off, those that its header counts (`begun`). If
 /// these are whole frames and leave room, it is Ok unless the medium fails. At an error nothing was written
-/// (`refused`).
+/// (`rejected`).
 pub fn reopen<M: Source + Medium>(medium: M) -> result::Result<WavWriter<M>, (M, Error)>
     requires { WhereTells M.tells ((M.state medium).place ≡ 0) }
     ensures written { WhereTells M.tells ((s : WavSpecEx) (list : List (List ℕ)) → IsWritable s →
         AreContainers s list → riff_size (data_start s) (length list * s.bytes_per_sample) ≤ greatest_u32 →
         (M.state medium).contents ≡ canonical s list → MatchResult result
         (λ w. (w.spec_ex ≡ s) × IsWhole M.state w × (accepted_samples M.state w ≡ list))
-        (λ refused. IsIoError refused.1 × ((M.state refused.0).faults ≡ one_more (M.state medium).faults))) }
+        (λ rejected. IsIoError rejected.1 × ((M.state rejected.0).faults ≡ one_more (M.state medium).faults))) }
     ensures begun { WhereTells M.tells ((s : WavSpecEx) (size len : ℕ) (rest : List ℕ) → IsWritable s →
         data_fault s len ≡ None → riff_size (data_start s) len ≤ greatest_u32 →
         (M.state medium).contents ≡ header s size len ++ rest → MatchResult result
         (λ w. (w.spec_ex ≡ s) × (len ≤ length rest → IsWhole M.state w)
         × (accepted_samples M.state w ≡ containers s.bytes_per_sample (len / s.bytes_per_sample) rest))
-        (λ refused. IsIoError refused.1 × ((M.state refused.0).faults ≡ one_more (M.state medium).faults))) }
-    ensures refused { IfErr result (λ refused. WhereTells M.tells
-        (IsNotAppended (M.state medium) (M.state refused.0) refused.1)) }
+        (λ rejected. IsIoError rejected.1 × ((M.state rejected.0).faults ≡ one_more (M.state medium).faults))) }
+    ensures rejected { IfErr result (λ rejected. WhereTells M.tells
+        (IsNotAppended (M.state medium) (M.state rejected.0) rejected.1)) }
 {
     written_is_head();
     written_is_read();

@@ -173,7 +173,7 @@ fn save_blocks<M: Medium>(
 /// block doesn't fit, and returns how many blocks were saved. It writes the bytes and performs the
 /// effects itself, as programs in other languages do: of the first effects those reports are lost that
 /// `lost` says, as of a program that was interrupted, and what has no report is performed again. It is an error if the
-/// file isn't begun (`refused`).
+/// file isn't begun (`rejected`).
 ///
 /// The medium must be at 0, and synced: of a new one nothing has been written yet.
 pub fn record_by_effects<M: Medium>(
@@ -184,7 +184,7 @@ pub fn record_by_effects<M: Medium>(
 ) -> hound::Result<usize>
     requires place { WhereTells M.tells ((M.state medium.old).place ≡ 0) }
     requires synced { WhereKeeps M.tells M.keeps (IsSynced (M.state medium.old)) }
-    ensures refused { IfErr result (λ e. IsNotBegun M.Placed spec_ex medium.old medium.new e) }
+    ensures rejected { IfErr result (λ e. IsNotBegun M.Placed spec_ex medium.old medium.new e) }
     ensures within { IfOk result (λ n. n ≤ length blocks.now) }
     ensures saved { IfOk result (λ n. WhereKeeps M.tells M.keeps
         (Saves spec_ex (new_file (M.state medium.old)) blocks.now n (M.state medium.new))) }
@@ -232,7 +232,7 @@ fn mend<M: Medium>(
 
 /// Continues a recording that was cut off, of a file that was found so: by a checkpoint of all whole frames
 /// that it holds, and then as [`record_by_effects`] does. It is an error if a recorder doesn't continue it,
-/// or its header counts more than whole frames, and the file is as it was (`refused`); or the checkpoint fails, which then
+/// or its header counts more than whole frames, and the file is as it was (`rejected`); or the checkpoint fails, which then
 /// has left what a `flush` of these samples leaves that fails.
 ///
 /// What it promises holds if the file is as it was found ([`IsFound`](crate)).
@@ -244,7 +244,7 @@ pub fn continue_by_effects<M: Medium>(
 ) -> result::Result<usize, RecorderError>
     requires synced { WhereKeeps M.tells M.keeps (IsSynced (M.state medium.old)) }
     ensures within { IfOk result (λ n. n ≤ length blocks.now) }
-    ensures refused { IfErr result (λ error. (IsNotContinued found error × (medium.new ≡ medium.old))
+    ensures rejected { IfErr result (λ error. (IsNotContinued found error × (medium.new ≡ medium.old))
         ⊎ WhereKeeps M.tells M.keeps (IsFound found (M.state medium.old) →
         IsNotMended found (M.state medium.old) (M.state medium.new))) }
     ensures saved { IfOk result (λ n. WhereKeeps M.tells M.keeps (IsFound found (M.state medium.old) →
@@ -274,7 +274,7 @@ fn error_of(error: RecorderError) -> Error
 }
 
 /// Appends blocks to a file with these contents, as [`record_by_effects`] records a new one. At an error
-/// the file is as it was (`refused`): the contents can't be read, or aren't appended to, or don't end with
+/// the file is as it was (`rejected`): the contents can't be read, or aren't appended to, or don't end with
 /// the data that the header counts, or the medium failed (`why`).
 pub fn append_by_effects<M: Medium>(
     medium: &mut M,
@@ -284,7 +284,7 @@ pub fn append_by_effects<M: Medium>(
 ) -> hound::Result<usize>
     requires contents { WhereTells M.tells ((M.state medium.old).contents ≡ contents.now) }
     requires synced { WhereKeeps M.tells M.keeps (IsSynced (M.state medium.old)) }
-    ensures refused { IfErr result (λ e. WhereTells M.tells
+    ensures rejected { IfErr result (λ e. WhereTells M.tells
         ((M.state medium.new).contents ≡ (M.state medium.old).contents)) }
     ensures why { IfErr result (λ e. IsNotResumed contents.now e ⊎ (IsIoError e × WhereTells M.tells
         ((M.state medium.new).faults ≡ one_more (M.state medium.old).faults))) }

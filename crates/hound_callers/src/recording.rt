@@ -1,7 +1,7 @@
 // Recorders that make their calls themselves.
 ghost use Rattle.std.specs.Prelude.{◌≡◌, ◌⊎◌, ◌-◌, ◌/◌, ◌<◌, ◌≤◌, ℕ, Bool, false, true, List, ◌∷◌, ◌++◌, [], Err, Ok, Result, MatchResult, is_ok, IsFalse, IsOk, IfOk, IfErr, IsErrAnd, IsTrue, OnErr, OnOk, drop, length, map, replicate, take};
 ghost use Rattle.std.specs.List.{All, concat};
-ghost use Rattle.hound.specs.{Accepts, AcceptsBytes, AreKnown, Asked, Begins, ReadsAs, IsSameFile, Takes, Checkpoints, Error, Finishes, accepted_as_seen, field, found_in, start_of, i16_bytes, whole_containers, IsIoError, IsNotBegun, IsNotRepaired, Stays, MediumState, Repair, Repairs, SurvivesLoss, container_in, Begun, Call, Known, Left, Recorded, answered, made, marked, new_file, publish, seen, write, int_container, Around, within, HasPublished, Kept, KeptWithin, accepted_by_all, canonical, data_start, AcceptsEach, Ascends, WritesToBatch, containers_in, fits, remaining, signed_bytes_of, ReadsFrames, IsSixteen, Ran, asked_by, containers_of, WhereKeeps, WhereTells, WriterState, IsWhole, accepted_samples, data_length, WavSpecEx};
+ghost use Rattle.hound.specs.{Accepts, AcceptsBytes, AreKnown, Asked, Begins, ReadsAs, IsSameFile, Takes, Checkpoints, Error, Finishes, accepted_as_seen, field, found_in, start_of, i16_bytes, whole_containers, IsIoError, IsNotBegun, IsNotRepaired, Stays, MediumState, Repair, Repairs, SurvivesLoss, container_in, Begun, Call, Known, Left, Recorded, returned, made, marked, new_file, publish, seen, write, int_container, Around, within, HasPublished, Kept, KeptWithin, accepted_by_all, canonical, data_start, AcceptsEach, Ascends, WritesToBatch, containers_in, fits, remaining, signed_bytes_of, ReadsFrames, IsSixteen, Ran, asked_by, containers_of, WhereKeeps, WhereTells, WriterState, IsWhole, accepted_samples, data_length, WavSpecEx};
 ghost use Rattle.hound.specs.declared.session.Begin.TheVariants.{New};
 ghost use Rattle.hound.specs.declared.session.End.TheVariants.{Drop, Finalize};
 ghost use Rattle.hound.specs.declared.session.Step.TheVariants.{Whole};
@@ -58,7 +58,7 @@ pub fn record<S: Sample + Copy, M: Source + Medium>(
     ensures { MatchResult result
         (Recorded M.Placed spec_ex (new_file (M.state medium))
         (recorder_asks (containers_by S.container spec_ex) 0 blocks.now))
-        (λ refused. IsNotBegun M.Placed spec_ex medium refused.0 refused.1) }
+        (λ rejected. IsNotBegun M.Placed spec_ex medium rejected.0 rejected.1) }
 {
     let mut recorder = WavWriter::try_new(medium, spec_ex)?;
     record_blocks(&mut recorder, blocks);
@@ -76,7 +76,7 @@ pub fn record_twelve<M: Source + Medium>(
     requires { WhereTells M.tells ((M.state medium).place ≡ 0) }
     ensures left { MatchResult result (λ left. Left M.Placed spec_ex (new_file (M.state medium))
         (all_asked ⟦<Twelve as Sample>⟧.container spec_ex blocks.now) left)
-        (λ refused. IsNotBegun M.Placed spec_ex medium refused.0 refused.1) }
+        (λ rejected. IsNotBegun M.Placed spec_ex medium rejected.0 rejected.1) }
     ensures kept { IfOk result (λ left. WhereKeeps M.tells M.keeps
         (Kept M.Placed spec_ex (new_file (M.state medium))
         (all_asked ⟦<Twelve as Sample>⟧.container spec_ex blocks.now) left)) }
@@ -102,8 +102,8 @@ pub fn record_twelve_through_a_loss<M: Source + Medium>(
         MatchResult result (λ left. WhereKeeps M.tells M.keeps
         (Around (M.state medium) (M.state left) (λ first last. KeptWithin durable spec_ex
         (new_file (durable.state first)) (all_asked ⟦<Twelve as Sample>⟧.container spec_ex blocks.now) last (within last))))
-        (λ refused. Around (M.state medium) (M.state refused.0) (λ first last.
-        IsNotBegun durable spec_ex first last refused.1)) }
+        (λ rejected. Around (M.state medium) (M.state rejected.0) (λ first last.
+        IsNotBegun durable spec_ex first last rejected.1)) }
 {
     let writer = match record(Durable::new(medium), spec_ex, blocks) {
         Ok(writer) => writer,
@@ -177,8 +177,8 @@ pub fn record_checkpoints<M: Source + Medium>(
         × WhereKeeps M.tells M.keeps (Around (M.state medium) (M.state done.0) (λ first last.
         PublishesBlocks durable (containers_by ⟦<Twelve as Sample>⟧.container spec_ex) spec_ex
         (new_file (durable.state first)) blocks.now done.1 last (within last))))
-        (λ refused. Around (M.state medium) (M.state refused.0) (λ first last.
-        IsNotBegun durable spec_ex first last refused.1)) }
+        (λ rejected. Around (M.state medium) (M.state rejected.0) (λ first last.
+        IsNotBegun durable spec_ex first last rejected.1)) }
 {
     what_is_known();
     let mut writer = match WavWriter::try_new(Durable::new(medium), spec_ex) {
@@ -215,8 +215,8 @@ pub fn record_safely<M: Source + Medium>(
         SurvivesLoss sector s.start s.past s.flushed (length s.past) cut.contents)
         → Repairs false cut found mended →
         (found.spec_ex ≡ spec_ex) × ReadsFrames found (data_start spec_ex) list mended.contents)))
-        (λ refused. Around (M.state medium) (M.state refused.0) (λ first last.
-        IsNotBegun (⟦<Durable<M> as Placed>⟧) spec_ex first last refused.1)) }
+        (λ rejected. Around (M.state medium) (M.state rejected.0) (λ first last.
+        IsNotBegun (⟦<Durable<M> as Placed>⟧) spec_ex first last rejected.1)) }
 {
     a_repair_loses_no_published_sample();
     record_checkpoints(medium, spec_ex, blocks)
@@ -244,13 +244,13 @@ pub fn record_twelve_and_repair<M: Source + Medium>(
         → HasPublished flush →
         (done.1.spec_ex ≡ spec_ex)
         × ReadsFrames done.1 (data_start spec_ex) (accepted_by_all before) (M.state done.0).contents))) }
-    ensures err { IfErr result (λ refused.
-        IsNotBegun M.Placed spec_ex medium refused.0 refused.1
+    ensures err { IfErr result (λ rejected.
+        IsNotBegun M.Placed spec_ex medium rejected.0 rejected.1
         ⊎ ((left cut : M) × Left M.Placed spec_ex (new_file (M.state medium))
         (all_asked ⟦<Twelve as Sample>⟧.container spec_ex blocks.now) left
-        × WhereTells M.tells ((IsIoError refused.1 × Stays (M.state left) (M.state refused.0))
+        × WhereTells M.tells ((IsIoError rejected.1 × Stays (M.state left) (M.state rejected.0))
         ⊎ (Stays (M.state left) (M.state cut)
-        × IsNotRepaired false (M.state cut) (M.state refused.0) refused.1)))) }
+        × IsNotRepaired false (M.state cut) (M.state rejected.0) rejected.1)))) }
 {
     what_is_kept::<M>();
     a_repair_loses_no_published_sample();
@@ -275,7 +275,7 @@ pub fn record_steps<M: Source + Medium>(
     requires size { length steps.now ≡ length marks.old }
     ensures run { MatchResult result
         (Ran M.Placed (New spec_ex) steps.now marks.new Drop medium (Ok tt))
-        (λ refused. IsNotBegun M.Placed spec_ex medium refused.0 refused.1
+        (λ rejected. IsNotBegun M.Placed spec_ex medium rejected.0 rejected.1
         × (marks.new ≡ replicate (length steps.now) false)) }
     ensures kept { IfOk result (λ left. WhereKeeps M.tells M.keeps
         (Kept M.Placed spec_ex (new_file (M.state medium))
@@ -303,13 +303,13 @@ pub fn pack_one<M: Source + Medium>(
         (true ∷ []) Finalize medium (Ok tt)) }
     ensures exact { IfOk result (λ left. WhereTells M.tells ((M.state left).contents
         ≡ canonical spec_ex (containers_of spec_ex (Whole value ∷ [])))) }
-    ensures err { IfErr result (λ refused.
-        IsNotBegun M.Placed spec_ex medium refused.0 refused.1
+    ensures err { IfErr result (λ rejected.
+        IsNotBegun M.Placed spec_ex medium rejected.0 rejected.1
         ⊎ ((first last : WriterState M) × Begins M.Placed spec_ex (M.state medium) first
-        × ((Takes M.Placed (Whole value) (Err refused.1) first last
-        × (end : Result Unit Error) × Finishes M.Placed last end refused.0)
+        × ((Takes M.Placed (Whole value) (Err rejected.1) first last
+        × (end : Result Unit Error) × Finishes M.Placed last end rejected.0)
         ⊎ (Takes M.Placed (Whole value) (Ok tt) first last
-        × Finishes M.Placed last (Err refused.1) refused.0)))) }
+        × Finishes M.Placed last (Err rejected.1) rejected.0)))) }
 {
     let steps = [Step::Whole(value)];
     calls_are_a_run::<M>(&steps);
@@ -394,7 +394,7 @@ pub fn record_mixed<M: Source + Medium>(
         ⊎ Kept M.Placed spec_ex file
         ((asked ++ marked (write (whole_containers spec_ex (i16_bytes batch.now)))
         (is_ok done.1) ∷ []) ++ made publish ∷ []) done.0))
-        (λ refused. IsNotBegun M.Placed spec_ex medium refused.0 refused.1) }
+        (λ rejected. IsNotBegun M.Placed spec_ex medium rejected.0 rejected.1) }
 {
     what_is_kept::<M>();
     let mut writer = WavWriter::try_new(medium, spec_ex)?;
@@ -479,7 +479,7 @@ pub fn write_if_short<M: Medium>(batch: &mut SampleWriter16<'_, M>, value: i32) 
 pub fn publish_durably<M: Medium>(writer: &mut WavWriter<Durable<M>>) -> hound::Result<()>
     ensures { let durable = ⟦<Durable<M> as Placed>⟧ in WhereKeeps M.tells M.keeps (
         (s : WavSpecEx) (file : Begun) (known : List Known) → Recorded durable s file known writer.old →
-        KeptWithin durable s file (known ++ answered publish result ∷ []) writer.new.medium
+        KeptWithin durable s file (known ++ returned publish result ∷ []) writer.new.medium
         (within writer.new.medium)) }
 {
     what_is_kept::<Durable<M>>();

@@ -1,6 +1,6 @@
 // A sample type of a user's own.
 ghost use Rattle.std.specs.Prelude.{◌≡◌, ⊤};
-ghost use Rattle.hound_callers.specs.Twelve.{low_twelve, twelve_container, twelve_container-in_width, twelve_meaning, twelve_refusal};
+ghost use Rattle.hound_callers.specs.Twelve.{low_twelve, twelve_container, twelve_container-in_width, twelve_meaning, twelve_rejection};
 
 use hound::{Error, Result, Sample, SampleFormat};
 use std::io;
@@ -26,7 +26,7 @@ impl Sample for Twelve {
 
     ghost in_width = { λ t. twelve_container-in_width t.0 };
 
-    ghost refusal = { twelve_refusal };
+    ghost rejection = { twelve_rejection };
 
     ghost meaning = { λ format width bits container. record { 0 = twelve_meaning container } };
 

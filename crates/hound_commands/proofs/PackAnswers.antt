@@ -3,7 +3,7 @@ use Rattle.std.proofs.Common.{◌≡◌, ℕ, ℤ, ◌+◌, ◌*◌, ◌/◌, �
 use Rattle.std.proofs.Math.Nat.{mul-div_cancel}
 use Rattle.std.specs.List.{AllByRecursion, concat}
 use Rattle.hound_writer.specs.{Ghosts, Accepts, AcceptAnswer, FitAnswer, IsPublishing, Begins, HasBegun, Finishes, WriterState, AreFrames, data_length, sample_count}
-use Rattle.hound_sample.specs.{Refusal, too_wide, unsupported, fits, if_fits, int_bytes, int_container, and_more, int_container-in_width}
+use Rattle.hound_sample.specs.{Rejection, too_wide, unsupported, fits, if_fits, int_bytes, int_container, and_more, int_container-in_width}
 use Rattle.hound_spec.specs.{greatest_u32, data_start, riff_size, IsPair}
 use Rattle.hound_medium.specs.{MediumState}
 use Rattle.hound_spec.specs.declared.error.Error.{Error}
@@ -15,7 +15,7 @@ use Rattle.hound_writer.proofs.Fresh.{fresh_file}
 use Rattle.hound_commands.specs.Commands.{failure_of, HasRoom, IsPackError, IsPackFailure, IsPacked, containers_of}
 
 -- a container and those after it
-pub parts : (first : Result (List ℕ) Refusal) (more : Result (List (List ℕ)) Refusal)
+pub parts : (first : Result (List ℕ) Rejection) (more : Result (List (List ℕ)) Rejection)
     (list : List (List ℕ)) → and_more first more ≡ Ok list
     → (c : List ℕ) × (rest : List (List ℕ)) × (first ≡ Ok c) × (more ≡ Ok rest) × (list ≡ c ∷ rest)
 parts (Ok c) (Ok rest) list is = (c, rest, refl, refl, (let same : c ∷ rest ≡ list = cc in sym same))
@@ -53,9 +53,9 @@ none_unsupported s pair (n ∷ ns) is =
     go (none_unsupported s pair ns) (int_container n s.spec.bits_per_sample s.bytes_per_sample) refl
     (containers_of s ns) refl is
   where
-    go : (containers_of s ns ≡ Err unsupported → ⊥) → (first : Result (List ℕ) Refusal)
+    go : (containers_of s ns ≡ Err unsupported → ⊥) → (first : Result (List ℕ) Rejection)
         → int_container n s.spec.bits_per_sample s.bytes_per_sample ≡ first
-        → (more : Result (List (List ℕ)) Refusal) → containers_of s ns ≡ more
+        → (more : Result (List (List ℕ)) Rejection) → containers_of s ns ≡ more
         → and_more first more ≡ Err unsupported → ⊥
     go later (Err unsupported) here more there is =
         never_unsupported n s.spec.bits_per_sample s.bytes_per_sample pair here
@@ -87,14 +87,14 @@ module _ {W : Type 0} (s : WavSpecEx) (integers : s.spec.sample_format ≡ Int) 
       subst (λ x. IsPackFailure s ns (failure_of x)) (let is : TooLong ≡ e = cc in is) (long refl)
 
   -- an error of the call for samples names its cause
-  pub write_refused : (asked : Result (List (List ℕ)) Refusal) → containers_of s ns ≡ asked
+  pub write_rejected : (asked : Result (List (List ℕ)) Rejection) → containers_of s ns ≡ asked
       → (e : Error) → AcceptAnswer {T = Unit {0}} asked first (Err e)
       → IsPackFailure s ns (failure_of e)
-  write_refused (Err too_wide) is e answer =
+  write_rejected (Err too_wide) is e answer =
       subst (λ x. IsPackFailure s ns (failure_of x)) (let wide : TooWide ≡ e = cc in wide)
       (begun.writable, is)
-  write_refused (Err unsupported) is e answer = absurd (none_unsupported s pair ns is)
-  write_refused (Ok cs) is e answer =
+  write_rejected (Err unsupported) is e answer = absurd (none_unsupported s pair ns is)
+  write_rejected (Ok cs) is e answer =
       fit_error _ e answer
       (λ big. (
         begun.writable,
@@ -108,10 +108,10 @@ module _ {W : Type 0} (s : WavSpecEx) (integers : s.spec.sample_format ≡ Int) 
       ))
 
   -- what an Ok accepts: containers, with room for them
-  pub write_accepted : (asked : Result (List (List ℕ)) Refusal) → containers_of s ns ≡ asked
+  pub write_accepted : (asked : Result (List (List ℕ)) Rejection) → containers_of s ns ≡ asked
       → AcceptAnswer {T = Unit {0}} asked first (Ok tt)
       → (cs : List (List ℕ)) × (containers_of s ns ≡ Ok cs) × HasRoom s cs
-  write_accepted (Err refusal) is answer = cc
+  write_accepted (Err rejection) is answer = cc
   write_accepted (Ok cs) is answer = (cs, is, by_test _ refl answer)
     where
       by_test : (b : Bool)
@@ -141,26 +141,26 @@ module _ {W : Type 0} (s : WavSpecEx) (integers : s.spec.sample_format ≡ Int) 
         torn ((λ i. count_is i % ((spec ∙ begun.spec) i).spec.channels) ∙ frames)
 
     -- the error of an end: the samples are no whole frames
-    pub end_refused : HasRoom s cs → (e : Error) → IsPublishing {T = Unit {0}} (Err e) last
+    pub end_rejected : HasRoom s cs → (e : Error) → IsPublishing {T = Unit {0}} (Err e) last
         → IsPackFailure s ns (failure_of e)
-    end_refused room UnfinishedSample answer = (
+    end_rejected room UnfinishedSample answer = (
       begun.writable,
       record { containers = cs; have = have; room = room; frames = frames_not answer },
     )
-    end_refused room (IoError f) answer = tt
-    end_refused room e answer = absurd answer
+    end_rejected room (IoError f) answer = tt
+    end_rejected room e answer = absurd answer
 
 -- a constructor and one call for the numbers, both Ok; then an end
 module _ {W : Type 0} {kind : Ghosts W} (s : WavSpecEx)
     (integers : s.spec.sample_format ≡ Int) (ns : List ℤ) (old : MediumState)
     (first last : WriterState W) (end : W) (begins : Begins kind s old first)
-    (asked : Result (List (List ℕ)) Refusal) (is : containers_of s ns ≡ asked)
+    (asked : Result (List (List ℕ)) Rejection) (is : containers_of s ns ≡ asked)
     (accepts : Accepts kind asked (Ok tt) first last)
     (answer : Result (Unit {0}) Error) (finishes : Finishes kind last answer end) where
   -- an Ok makes the file of the numbers
   pub file_made : IsTrue kind.tells → old.contents ≡ [] → old.place ≡ 0 → answer ≡ Ok tt
       → IsPacked s ns (kind.state end).contents
-  file_made told empty start ok =
+  file_made modelled empty start ok =
       let b = begins.begun in
       let (cs, have, room) = write_accepted s integers ns first b asked is accepts.adds.answers in
       let accepted =
@@ -173,7 +173,7 @@ module _ {W : Type 0} {kind : Ghosts W} (s : WavSpecEx)
         room = room;
         frames = frames_are s integers ns first b last cs have accepted.adds.spec_ex
             accepted.adds.data_length finished.answers;
-        file_is = fresh_file kind told s old first begins last end cs empty accepted finished;
+        file_is = fresh_file kind modelled s old first begins last end cs empty accepted finished;
       }
 
   -- an error names its cause
@@ -183,6 +183,6 @@ module _ {W : Type 0} {kind : Ghosts W} (s : WavSpecEx)
       let (cs, have, room) = write_accepted s integers ns first b asked is accepts.adds.answers in
       let accepted =
       subst (λ a. Accepts kind a (Ok tt) first last) (sym is ∙ have) accepts in
-      end_refused s integers ns first b last cs have accepted.adds.spec_ex
+      end_rejected s integers ns first b last cs have accepted.adds.spec_ex
       accepted.adds.data_length room e
       (subst (λ a. IsPublishing a last) failed finishes.answers)

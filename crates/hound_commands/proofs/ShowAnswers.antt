@@ -4,9 +4,9 @@ use Rattle.std.proofs.lemmas.Option.{IfSome_then}
 use Rattle.std.specs.Io.KnownBytes.{Appends, Keeps}
 use Rattle.std.proofs.Transfers.{starts_with_of_eq, starts_with_trans}
 use Rattle.hound_number.specs.{WhereKnown}
-use Rattle.hound_sample.specs.{ReadRefusal, other_format, misfit, too_wide, unsupported, int_meaning, items_of, Reads, error_of_read}
-use Rattle.hound_reader.specs.{ReaderState, meaning_at, refusal_at, GivesItems}
-use Rattle.hound_walk.specs.{IsRefusal, Readable, Unreadable}
+use Rattle.hound_sample.specs.{ReadRejection, other_format, misfit, too_wide, unsupported, int_meaning, items_of, Reads, error_of_read}
+use Rattle.hound_reader.specs.{ReaderState, meaning_at, rejection_at, GivesItems}
+use Rattle.hound_walk.specs.{IsRejection, Readable, Unreadable}
 use Rattle.std.specs.List.{flat_map}
 use Rattle.hound_walk.specs.declared.cause.Cause.TheVariants as causes
 use Rattle.hound_spec.specs.declared.error.Error.{Error}
@@ -18,9 +18,9 @@ use Rattle.hound_spec.specs.declared.spec.WavSpecEx.{WavSpecEx}
 use Rattle.hound_text.specs.{integer_line}
 use Rattle.hound_commands.proofs.Outputs.{appends-kept, appends-none, gets-more, gets-none, gets-stopped, gets-then, gets-written}
 use Rattle.hound_commands.specs.Commands.{failure_of}
-use Rattle.hound_commands.specs.Showing.{GetsBeginning, GetsBuffered, AreShowable, Shows, ShowsSamples, ShowsUntil, StopsAt, StopsSamples, spec_line, line_for, sample_line, sample_lines, show_refusal}
+use Rattle.hound_commands.specs.Showing.{GetsBeginning, GetsBuffered, AreShowable, Shows, ShowsSamples, ShowsUntil, StopsAt, StopsSamples, spec_line, line_for, sample_line, sample_lines, show_rejection}
 use Rattle.hound_commands.specs.declared.failure.Failure.{Failure}
-use Rattle.hound_commands.specs.declared.failure.Failure.TheVariants.{BadNumber, InputOrOutput, Refused}
+use Rattle.hound_commands.specs.declared.failure.Failure.TheVariants.{BadNumber, InputOrOutput, Rejected}
 
 -- one sample more
 lines-more : (s : WavSpecEx) (k : ℕ) (xs : List ℕ) → sample_lines s (suc k) xs
@@ -62,13 +62,13 @@ pub none_shown : (s : WavSpecEx) (k : ℕ) (left old : Option (List ℕ)) (first
 none_shown s k left old first none =
     subst (λ n. Shown s n left left old old first first) (sym none) (first, none_read s left first, gets-none old first)
 
-one_read : {A : Type 0} (s : WavSpecEx) (k : ℕ) (refusal : Option ReadRefusal)
+one_read : {A : Type 0} (s : WavSpecEx) (k : ℕ) (rejection : Option ReadRejection)
     (meaning : List ℕ → A) (line : A → List ℕ) (value : A)
-    (left now next : Option (List ℕ)) (first text : List ℕ) → refusal ≡ show_refusal s
+    (left now next : Option (List ℕ)) (first text : List ℕ) → rejection ≡ show_rejection s
     → ((c : List ℕ) → line (meaning c) ≡ sample_line s c) → ReadAs s k left now first text
-    → Reads refusal meaning s.bytes_per_sample now next (Ok value)
+    → Reads rejection meaning s.bytes_per_sample now next (Ok value)
     → ReadAs s (k + 1) left next first (text ++ line value)
-one_read s k (Some refusal) meaning line value left now next first text same as_line so_far read =
+one_read s k (Some rejection) meaning line value left now next first text same as_line so_far read =
     let h = read.0 in absurd (cc h)
 one_read s k None meaning line value None now next first text same as_line so_far read = tt
 one_read s k None meaning line value (Some xs) None next first text same as_line so_far read = absurd so_far
@@ -95,20 +95,20 @@ record IsAt (s : WavSpecEx) (n k : ℕ) (reading : ReaderState (Option (List ℕ
   read_are : reading.samples_read ≡ k
 
 -- A block: values, and then what came after them.
-module _ {A : Type 0} (refusal : SampleFormat → ℕ → ℕ → Option ReadRefusal)
+module _ {A : Type 0} (rejection : SampleFormat → ℕ → ℕ → Option ReadRejection)
     (meaning : SampleFormat → ℕ → ℕ → List ℕ → A) (line : A → List ℕ) (s : WavSpecEx) (n : ℕ)
     (left : Option (List ℕ)) (first : List ℕ)
-    (same : refusal_at refusal s ≡ show_refusal s)
+    (same : rejection_at rejection s ≡ show_rejection s)
     (as_line : (c : List ℕ) → line (meaning_at meaning s c) ≡ sample_line s c) where
   -- this comes after values that were read
   abbrev After : ℕ → List ℕ → List (Result A Error) → ReaderState (Option (List ℕ)) → Type 0
   After k text tail new = (mid : ReaderState (Option (List ℕ))) × IsAt s n k mid × (k ≤ n)
       × ReadAs s k left mid.reader first text
-      × GivesItems (λ (bytes : Option (List ℕ)). bytes) refusal meaning tail mid new
+      × GivesItems (λ (bytes : Option (List ℕ)). bytes) rejection meaning tail mid new
 
   values_read : (values : List A) (tail : List (Result A Error)) (k : ℕ) (text : List ℕ)
       (old new : ReaderState (Option (List ℕ))) → k ≤ n → IsAt s n k old → ReadAs s k left old.reader first text
-      → GivesItems (λ (bytes : Option (List ℕ)). bytes) refusal meaning (map Ok values ++ tail) old new
+      → GivesItems (λ (bytes : Option (List ℕ)). bytes) rejection meaning (map Ok values ++ tail) old new
       → After (k + length values) (text ++ flat_map line values) tail new
   values_read [] tail k text old new within at read gives =
       let none : k ≡ k + 0 = omega arith in (
@@ -121,9 +121,9 @@ module _ {A : Type 0} (refusal : SampleFormat → ℕ → ℕ → Option ReadRef
   values_read (value ∷ values) tail k text old new within at read (mid, item, gives) =
       let more : k + 1 + length values ≡ k + suc (length values) = omega arith in
       let here : ReadAs s (k + 1) left mid.reader first (text ++ line value) =
-      one_read s k (refusal_at refusal s) (meaning_at meaning s) line value left old.reader mid.reader
+      one_read s k (rejection_at rejection s) (meaning_at meaning s) line value left old.reader mid.reader
       first text same as_line read
-      (subst (λ u. Reads (refusal_at refusal u) (meaning_at meaning u) u.bytes_per_sample old.reader mid.reader (Ok value)) at.spec_is item.read) in
+      (subst (λ u. Reads (rejection_at rejection u) (meaning_at meaning u) u.bytes_per_sample old.reader mid.reader (Ok value)) at.spec_is item.read) in
       let (last, is_at, inside, all, rest) = values_read values tail (k + 1) (text ++ line value) mid new
       (omega (arith, item.inside, at.samples_are, at.read_are))
       (record {
@@ -180,7 +180,7 @@ faulted : (s : WavSpecEx) (n : ℕ) (failure : Failure) (bytes first text : List
     → StopsAt s n failure bytes first text → StopsAt s n InputOrOutput bytes first text
 faulted s n BadNumber bytes first text stops = absurd stops
 faulted s n InputOrOutput bytes first text stops = stops
-faulted s n (Refused e) bytes first text (some, refused, text_is) =
+faulted s n (Rejected e) bytes first text (some, rejected, text_is) =
     (0, omega arith, none_showable s bytes, starts_with_of_eq _ text (append-nil first ∙ sym text_is))
 
 -- a fault, whatever was returned before it
@@ -199,21 +199,21 @@ stopped s n (Err failure) left old new first last shown stops =
     (λ bytes (text, here, got). (text, faulted s n failure bytes first text here, got))
 
 -- a read that failed: a fault, or a spec whose samples are not shown
-read_stops : {A : Type 0} (s : WavSpecEx) (k count : ℕ) (refusal : Option ReadRefusal) (meaning : List ℕ → A)
+read_stops : {A : Type 0} (s : WavSpecEx) (k count : ℕ) (rejection : Option ReadRejection) (meaning : List ℕ → A)
     (error : Error) (left now next old new : Option (List ℕ)) (first text lines : List ℕ) → k < count
-    → refusal ≡ show_refusal s → ReadAs s k left now first text → GetsBuffered old new lines text
-    → Reads refusal meaning s.bytes_per_sample now next (Err error)
+    → rejection ≡ show_rejection s → ReadAs s k left now first text → GetsBuffered old new lines text
+    → Reads rejection meaning s.bytes_per_sample now next (Err error)
     → StopsSamples s count (failure_of error) left old new first lines
-read_stops s k count refusal meaning error None now next old new first text lines within same shown got read = tt
-read_stops s k count refusal meaning error (Some xs) None next old new first text lines within same shown got read = absurd shown
-read_stops s (suc k) count (Some refusal) meaning error (Some xs) (Some ys) next old new first text lines within same (left_is, showable, text_is) got read =
+read_stops s k count rejection meaning error None now next old new first text lines within same shown got read = tt
+read_stops s k count rejection meaning error (Some xs) None next old new first text lines within same shown got read = absurd shown
+read_stops s (suc k) count (Some rejection) meaning error (Some xs) (Some ys) next old new first text lines within same (left_is, showable, text_is) got read =
     let none = showable.shown (omega arith) in absurd (cc (same, none))
-read_stops {A} s zero count (Some refusal) meaning error (Some xs) (Some ys) next old new first text lines within same (left_is, showable, text_is) got read =
-    let is : error ≡ error_of_read refusal = let h = read.0 in cc h in
+read_stops {A} s zero count (Some rejection) meaning error (Some xs) (Some ys) next old new first text lines within same (left_is, showable, text_is) got read =
+    let is : error ≡ error_of_read rejection = let h = read.0 in cc h in
     subst (λ e. (text : List ℕ) × StopsAt s count (failure_of e) xs first text × GetsBuffered old new lines text) (sym is)
-    (first, of refusal (sym same), subst (GetsBuffered old new lines) (text_is ∙ append-nil first) got)
+    (first, of rejection (sym same), subst (GetsBuffered old new lines) (text_is ∙ append-nil first) got)
   where
-    of : (r : ReadRefusal) → show_refusal s ≡ Some r → StopsAt s count (failure_of (error_of_read r)) xs first first
+    of : (r : ReadRejection) → show_rejection s ≡ Some r → StopsAt s count (failure_of (error_of_read r)) xs first first
     of other_format shows = (within, (other_format, shows, refl), refl)
     of (misfit too_wide) shows = (within, (misfit too_wide, shows, refl), refl)
     of (misfit unsupported) shows = (within, (misfit unsupported, shows, refl), refl)
@@ -223,15 +223,15 @@ read_stops s k count None meaning _ (Some xs) (Some ys) next old new first text 
 
 -- ---- a block of samples: the lines of what was read are pushed, and then comes the error
 
-module _ {A : Type 0} (refusal : SampleFormat → ℕ → ℕ → Option ReadRefusal)
+module _ {A : Type 0} (rejection : SampleFormat → ℕ → ℕ → Option ReadRejection)
     (meaning : SampleFormat → ℕ → ℕ → List ℕ → A) (line : A → List ℕ) (s : WavSpecEx) (n k : ℕ)
     (left out0 out1 : Option (List ℕ)) (first lines : List ℕ) (values : List A)
     (result : Result (Unit {0}) Error) (old new : ReaderState (Option (List ℕ)))
-    (same : refusal_at refusal s ≡ show_refusal s)
+    (same : rejection_at rejection s ≡ show_rejection s)
     (as_line : (c : List ℕ) → line (meaning_at meaning s c) ≡ sample_line s c)
     (spec_is : old.spec_ex ≡ s) (samples_are : old.num_samples ≡ n) (read_are : old.samples_read ≡ k)
     (within : k ≤ n) (shown : Shown s k left old.reader out0 out1 first lines)
-    (gives : GivesItems (λ (bytes : Option (List ℕ)). bytes) refusal meaning (items_of values result) old new) where
+    (gives : GivesItems (λ (bytes : Option (List ℕ)). bytes) rejection meaning (items_of values result) old new) where
   at_start : IsAt s n k old
   at_start = record { spec_is = spec_is; samples_are = samples_are; read_are = read_are }
 
@@ -244,12 +244,12 @@ module _ {A : Type 0} (refusal : SampleFormat → ℕ → ℕ → Option ReadRef
   items_are (Err error) = refl
 
   -- the values were read
-  after : After refusal meaning line s n left first same as_line (k + length values)
+  after : After rejection meaning line s n left first same as_line (k + length values)
       (shown.0 ++ flat_map line values) (tail_of result) new
   after =
-      values_read refusal meaning line s n left first same as_line values (tail_of result) k shown.0
+      values_read rejection meaning line s n left first same as_line values (tail_of result) k shown.0
       old new within at_start shown.1
-      (subst (λ items. GivesItems (λ (bytes : Option (List ℕ)). bytes) refusal meaning items old new)
+      (subst (λ items. GivesItems (λ (bytes : Option (List ℕ)). bytes) rejection meaning items old new)
       (items_are result) gives)
 
   -- their lines are buffered
@@ -273,12 +273,12 @@ module _ {A : Type 0} (refusal : SampleFormat → ℕ → ℕ → Option ReadRef
       → StopsSamples s n (failure_of error) left out0 out2 first room
   block_fails out2 room error is pushed =
       let (mid, at, inside, read, tail) = after in
-      let (last, item, rest) = subst (λ r. GivesItems (λ (bytes : Option (List ℕ)). bytes) refusal meaning (tail_of r) mid new) is tail in
-      read_stops s (k + length values) n (refusal_at refusal s) (meaning_at meaning s) error left mid.reader last.reader
+      let (last, item, rest) = subst (λ r. GivesItems (λ (bytes : Option (List ℕ)). bytes) rejection meaning (tail_of r) mid new) is tail in
+      read_stops s (k + length values) n (rejection_at rejection s) (meaning_at meaning s) error left mid.reader last.reader
       out0 out2 first (shown.0 ++ flat_map line values) room
       (omega (arith, item.inside, at.samples_are, at.read_are)) same read
       (gets-then out0 out1 out2 (shown.0 ++ flat_map line values) (lines ++ flat_map line values) room buffered pushed)
-      (subst (λ u. Reads (refusal_at refusal u) (meaning_at meaning u) u.bytes_per_sample mid.reader last.reader (Err error)) at.spec_is item.read)
+      (subst (λ u. Reads (rejection_at rejection u) (meaning_at meaning u) u.bytes_per_sample mid.reader last.reader (Err error)) at.spec_is item.read)
 
   -- they are, and that is the block
   pub block_shown : (x : Unit {0}) (out2 : Option (List ℕ)) (room : List ℕ) → result ≡ Ok x
@@ -287,7 +287,7 @@ module _ {A : Type 0} (refusal : SampleFormat → ℕ → ℕ → Option ReadRef
       × (new.spec_ex ≡ s) × (new.num_samples ≡ n) × (new.samples_read ≡ k + length values) × (k + length values ≤ n)
   block_shown x out2 room is pushed =
       let (mid, at, inside, read, tail) = after in
-      let ends : new ≡ mid = subst (λ r. GivesItems (λ (bytes : Option (List ℕ)). bytes) refusal meaning (tail_of r) mid new) is tail in (
+      let ends : new ≡ mid = subst (λ r. GivesItems (λ (bytes : Option (List ℕ)). bytes) rejection meaning (tail_of r) mid new) is tail in (
         (
           shown.0 ++ flat_map line values,
           subst (λ (r : ReaderState (Option (List ℕ))). ReadAs s (k + length values) left r.reader first (shown.0 ++ flat_map line values)) (sym ends) read,
@@ -312,14 +312,14 @@ integers_line s integers c = go s.spec.sample_format integers
 -- ---- a file
 
 -- nothing is written yet where the head is rejected
-pub head_stops : (input out : Option (List ℕ)) (error : Error) → IfSome input (λ xs. IsRefusal error (Unreadable xs))
+pub head_stops : (input out : Option (List ℕ)) (error : Error) → IfSome input (λ xs. IsRejection error (Unreadable xs))
     → ShowsUntil input (failure_of error) out out
-head_stops None out error refused = tt
-head_stops (Some xs) out (errors.IoError e) refused = ([], inl (tt, refl), appends-none out)
+head_stops None out error rejected = tt
+head_stops (Some xs) out (errors.IoError e) rejected = ([], inl (tt, refl), appends-none out)
 head_stops (Some xs) out (errors.FormatError e) (reason, unreadable, words) =
     ([], inl ((causes.Format reason, unreadable, (reason, refl, words)), refl), appends-none out)
-head_stops (Some xs) out errors.Unsupported refused = ([], inl ((causes.Unsupported, refused, refl), refl), appends-none out)
-head_stops (Some xs) out _ refused = absurd refused
+head_stops (Some xs) out errors.Unsupported rejected = ([], inl ((causes.Unsupported, rejected, refl), refl), appends-none out)
+head_stops (Some xs) out _ rejected = absurd rejected
 
 -- the head of a readable file was taken, and the samples are left
 abbrev Opened : Option (List ℕ) → Option (List ℕ) → WavSpecEx → ℕ → Type 0

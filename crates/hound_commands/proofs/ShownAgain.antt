@@ -6,7 +6,7 @@ use Rattle.std.specs.Int.{w32}
 use Rattle.std.specs.List.{AllByRecursion, flat_map}
 use Rattle.hound_reader.specs.{AreContainers}
 use Rattle.hound_walk.specs.{HasOneFileAnswer, readable, Readable}
-use Rattle.hound_sample.specs.{Refusal, containers, int_container, int_meaning}
+use Rattle.hound_sample.specs.{Rejection, containers, int_container, int_meaning}
 use Rattle.hound_spec.specs.{canonical, data_start, IsWritable, with_default_width}
 use Rattle.hound_spec.specs.declared.error.Error.{Error}
 use Rattle.hound_spec.specs.declared.error.Error.TheVariants as errors
@@ -19,7 +19,7 @@ use Rattle.hound_commands.proofs.ShowAnswers.{integers_line}
 use Rattle.hound_commands.specs.Commands.{IsNotPacked, Packs, HasRoom, IsPackFailure, IsPacked, containers_of}
 use Rattle.hound_commands.specs.Showing.{IsShown, Shows, sample_line, sample_lines, spec_line}
 use Rattle.hound_commands.specs.declared.failure.Failure.{Failure}
-use Rattle.hound_commands.specs.declared.failure.Failure.TheVariants.{BadNumber, InputOrOutput, Refused}
+use Rattle.hound_commands.specs.declared.failure.Failure.TheVariants.{BadNumber, InputOrOutput, Rejected}
 
 -- ---- one list of numbers, and one list of containers
 
@@ -96,7 +96,7 @@ shown_again spec input file text written one back say integers (ns, packed_file,
 
 -- ---- one answer for each text
 
-one_list : (r : Result (List (List ℕ)) Refusal) (cs ds : List (List ℕ)) → r ≡ Ok cs → r ≡ Ok ds → cs ≡ ds
+one_list : (r : Result (List (List ℕ)) Rejection) (cs ds : List (List ℕ)) → r ≡ Ok cs → r ≡ Ok ds → cs ≡ ds
 one_list r cs ds here there = cc
 
 pub packed_once : (s : WavSpecEx) (text first second : List ℕ) → Packs s (Some text) (Some []) (Some first)
@@ -105,26 +105,26 @@ packed_once s text first second (ns, file, says, packed, got) (ms, other, too, a
 
 -- an error that needs no cause of the text: a fault, or too little memory
 abbrev pub IsFaultOrMemory : Failure → Type 0
-IsFaultOrMemory failure = (failure ≡ InputOrOutput) ⊎ (failure ≡ Refused errors.OutOfMemory)
+IsFaultOrMemory failure = (failure ≡ InputOrOutput) ⊎ (failure ≡ Rejected errors.OutOfMemory)
 
-not_refused : (s : WavSpecEx) (ns : List ℤ) (file : List ℕ) (e : Error) → IsPacked s ns file
-    → IsPackFailure s ns (Refused e) → e ≡ errors.OutOfMemory
-not_refused s ns file errors.OutOfMemory packed refused = refl
-not_refused s ns file errors.Unsupported packed refused = absurd (refused packed.writable)
-not_refused s ns file errors.TooWide packed (writable, refused) =
+not_rejected : (s : WavSpecEx) (ns : List ℤ) (file : List ℕ) (e : Error) → IsPacked s ns file
+    → IsPackFailure s ns (Rejected e) → e ≡ errors.OutOfMemory
+not_rejected s ns file errors.OutOfMemory packed rejected = refl
+not_rejected s ns file errors.Unsupported packed rejected = absurd (rejected packed.writable)
+not_rejected s ns file errors.TooWide packed (writable, rejected) =
     let have = packed.have in cc
-not_refused s ns file errors.TooLong packed (writable, refused) =
-    absurd (refused.no_room (subst (HasRoom s) (one_list (containers_of s ns) packed.containers refused.containers packed.have refused.have) packed.room))
-not_refused s ns file errors.UnfinishedSample packed (writable, refused) =
-    absurd (refused.frames (subst (λ l. length l % s.spec.channels ≡ 0)
-    (one_list (containers_of s ns) packed.containers refused.containers packed.have refused.have) packed.frames))
-not_refused s ns file _ packed refused = absurd refused.1
+not_rejected s ns file errors.TooLong packed (writable, rejected) =
+    absurd (rejected.no_room (subst (HasRoom s) (one_list (containers_of s ns) packed.containers rejected.containers packed.have rejected.have) packed.room))
+not_rejected s ns file errors.UnfinishedSample packed (writable, rejected) =
+    absurd (rejected.frames (subst (λ l. length l % s.spec.channels ≡ 0)
+    (one_list (containers_of s ns) packed.containers rejected.containers packed.have rejected.have) packed.frames))
+not_rejected s ns file _ packed rejected = absurd rejected.1
 
-pub packed_is_not_refused : (s : WavSpecEx) (text file : List ℕ) (failure : Failure)
+pub packed_is_not_rejected : (s : WavSpecEx) (text file : List ℕ) (failure : Failure)
     → Packs s (Some text) (Some []) (Some file) → IsNotPacked s (Some text) failure → IsFaultOrMemory failure
-packed_is_not_refused s text file BadNumber (ns, made, says, packed, got) refused = absurd (refused ns says)
-packed_is_not_refused s text file InputOrOutput packs refused = inl refl
-packed_is_not_refused s text file (Refused e) (ns, made, says, packed, got) (inl memory) = inr (ap (λ x. Refused x) memory)
-packed_is_not_refused s text file (Refused e) (ns, made, says, packed, got) (inr (ms, too, refused)) =
+packed_is_not_rejected s text file BadNumber (ns, made, says, packed, got) rejected = absurd (rejected ns says)
+packed_is_not_rejected s text file InputOrOutput packs rejected = inl refl
+packed_is_not_rejected s text file (Rejected e) (ns, made, says, packed, got) (inl memory) = inr (ap (λ x. Rejected x) memory)
+packed_is_not_rejected s text file (Rejected e) (ns, made, says, packed, got) (inr (ms, too, rejected)) =
     let numbers : ms ≡ ns = say_one (words text) ms ns too says in
-    inr (ap (λ x. Refused x) (not_refused s ns made e packed (subst (λ l. IsPackFailure s l (Refused e)) numbers refused)))
+    inr (ap (λ x. Rejected x) (not_rejected s ns made e packed (subst (λ l. IsPackFailure s l (Rejected e)) numbers rejected)))

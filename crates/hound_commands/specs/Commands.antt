@@ -2,13 +2,13 @@
 -- which there is none, and which failure an error is.
 use Rattle.hound_spec.specs.declared.error.Error.{Error}
 use Rattle.hound_spec.specs.declared.error.Error.TheVariants.{IoError, OutOfMemory, TooLong, TooWide, UnfinishedSample, Unsupported}
-use Rattle.hound_text.specs.declared.Refusal.{Refusal as TextRefusal}
-use Rattle.hound_text.specs.declared.Refusal.TheVariants.{BadNumber as TextBadNumber, InputOrOutput as TextInputOrOutput, TooLong as TextTooLong, OutOfMemory as TextOutOfMemory}
+use Rattle.hound_text.specs.declared.Rejection.{Rejection as TextRejection}
+use Rattle.hound_text.specs.declared.Rejection.TheVariants.{BadNumber as TextBadNumber, InputOrOutput as TextInputOrOutput, TooLong as TextTooLong, OutOfMemory as TextOutOfMemory}
 use Rattle.hound_commands.specs.declared.failure.Failure.{Failure}
-use Rattle.hound_commands.specs.declared.failure.Failure.TheVariants.{BadNumber, InputOrOutput, Refused}
+use Rattle.hound_commands.specs.declared.failure.Failure.TheVariants.{BadNumber, InputOrOutput, Rejected}
 use Rattle.std.specs.Prelude.{◌≡◌, ℕ, ℤ, ◌%◌, ◌≤◌, ⊤, List, [], ◌∷◌, length, Result, Ok, Err, ◌⊎◌, IfSome, Option, codes}
 use Rattle.std.specs.List.{concat}
-use Rattle.hound_sample.specs.{Refusal, too_wide, int_container}
+use Rattle.hound_sample.specs.{Rejection, too_wide, int_container}
 use Rattle.hound_spec.specs.{greatest_u32, canonical, data_start, riff_size, IsWritable}
 use Rattle.hound_writer.specs.{containers_in}
 use Rattle.hound_spec.specs.declared.spec.WavSpecEx.{WavSpecEx}
@@ -23,17 +23,17 @@ use Rattle.hound_commands.specs.Showing.{GetsBeginning}
 -- the failure of an error of the library: an `IoError` is one of the input or the output
 abbrev pub failure_of : Error → Failure
 failure_of (IoError fault) = InputOrOutput
-failure_of error = Refused error
+failure_of error = Rejected error
 
 -- the failure of a text that is no list of numbers: too long an input is one of the input
-abbrev pub refusal_of : TextRefusal → Failure
-refusal_of TextBadNumber = BadNumber
-refusal_of TextInputOrOutput = InputOrOutput
-refusal_of TextTooLong = InputOrOutput
-refusal_of TextOutOfMemory = Refused OutOfMemory
+abbrev pub rejection_of : TextRejection → Failure
+rejection_of TextBadNumber = BadNumber
+rejection_of TextInputOrOutput = InputOrOutput
+rejection_of TextTooLong = InputOrOutput
+rejection_of TextOutOfMemory = Rejected OutOfMemory
 
 -- the containers of numbers, in their order, or why the first that has none has none
-abbrev pub containers_of : WavSpecEx → List ℤ → Result (List (List ℕ)) Refusal
+abbrev pub containers_of : WavSpecEx → List ℤ → Result (List (List ℕ)) Rejection
 containers_of s numbers = containers_in int_container s numbers
 
 -- the size fields of a file have room for these containers
@@ -64,24 +64,24 @@ pub record IsUnfinished (s : WavSpecEx) (numbers : List ℤ) : Type 0 where
 
 -- why numbers can't be packed in a spec that can be written: one is too wide; all have containers,
 -- but no room; or they are no whole frames
-abbrev pub IsRefused : WavSpecEx → List ℤ → Error → Type 0
-IsRefused s numbers TooWide = containers_of s numbers ≡ Err too_wide
-IsRefused s numbers TooLong = IsTooLong s numbers
-IsRefused s numbers UnfinishedSample = IsUnfinished s numbers
-IsRefused s numbers _ = ⊥
+abbrev pub IsRejected : WavSpecEx → List ℤ → Error → Type 0
+IsRejected s numbers TooWide = containers_of s numbers ≡ Err too_wide
+IsRejected s numbers TooLong = IsTooLong s numbers
+IsRejected s numbers UnfinishedSample = IsUnfinished s numbers
+IsRejected s numbers _ = ⊥
 
 -- why numbers aren't packed: the spec comes first; or there is no memory
 abbrev pub IsPackError : WavSpecEx → List ℤ → Error → Type 0
 IsPackError s numbers Unsupported = IsWritable s → ⊥
 IsPackError s numbers OutOfMemory = ⊤
-IsPackError s numbers e = IsWritable s × IsRefused s numbers e
+IsPackError s numbers e = IsWritable s × IsRejected s numbers e
 
 -- The same of a failure, where the numbers were read; a fault of the input or the output may come
 -- at any time.
 abbrev pub IsPackFailure : WavSpecEx → List ℤ → Failure → Type 0
 IsPackFailure s numbers BadNumber = ⊥
 IsPackFailure s numbers InputOrOutput = ⊤
-IsPackFailure s numbers (Refused e) = IsPackError s numbers e
+IsPackFailure s numbers (Rejected e) = IsPackError s numbers e
 
 -- the text of an input, where it is known, says these numbers
 abbrev pub AreNumbersOf : Option (List ℕ) → List ℤ → Type 0
@@ -97,8 +97,8 @@ Packs s input old new =
 abbrev pub IsNotPacked : WavSpecEx → Option (List ℕ) → Failure → Type 0
 IsNotPacked s input BadNumber = IfSome input SaysNoNumbers
 IsNotPacked s input InputOrOutput = ⊤
-IsNotPacked s input (Refused e) =
-    (e ≡ OutOfMemory) ⊎ ((numbers : List ℤ) × AreNumbersOf input numbers × IsPackFailure s numbers (Refused e))
+IsNotPacked s input (Rejected e) =
+    (e ≡ OutOfMemory) ⊎ ((numbers : List ℤ) × AreNumbersOf input numbers × IsPackFailure s numbers (Rejected e))
 
 module _ {O : Type 0} where
   -- what `pack` leaves at a failure: the output as it was, and the cause; or, at a fault while the

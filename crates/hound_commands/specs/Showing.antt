@@ -6,14 +6,14 @@ use Rattle.std.specs.Io.KnownBytes.{Appends}
 use Rattle.std.specs.List.{flat_map}
 use Rattle.hound_walk.specs.declared.cause.Cause.{Cause}
 use Rattle.hound_walk.specs.{Readable, Unreadable, Names}
-use Rattle.hound_sample.specs.{containers, ReadRefusal, float_refusal, int_meaning, int_refusal, pattern, error_of_read}
+use Rattle.hound_sample.specs.{containers, ReadRejection, float_rejection, int_meaning, int_rejection, pattern, error_of_read}
 use Rattle.hound_spec.specs.declared.error.Error.{Error}
 use Rattle.hound_spec.specs.declared.spec.SampleFormat.{SampleFormat}
 use Rattle.hound_spec.specs.declared.spec.SampleFormat.TheVariants.{Float, Int}
 use Rattle.hound_spec.specs.declared.spec.WavSpec.{WavSpec}
 use Rattle.hound_spec.specs.declared.spec.WavSpecEx.{WavSpecEx}
 use Rattle.hound_commands.specs.declared.failure.Failure.{Failure}
-use Rattle.hound_commands.specs.declared.failure.Failure.TheVariants.{BadNumber, InputOrOutput, Refused}
+use Rattle.hound_commands.specs.declared.failure.Failure.TheVariants.{BadNumber, InputOrOutput, Rejected}
 use Rattle.hound_text.specs.{integer_line, pattern_line}
 
 -- the output got a beginning of a text, and no other byte
@@ -52,18 +52,18 @@ abbrev pub sample_lines : WavSpecEx → ℕ → List ℕ → List ℕ
 sample_lines s count bytes = flat_map (sample_line s) (containers s.bytes_per_sample count bytes)
 
 -- why samples of a format, of so many bytes and used bits, aren't shown, if they aren't
-abbrev pub refusal_for : SampleFormat → ℕ → ℕ → Option ReadRefusal
-refusal_for Int width bits = int_refusal 4 Int width bits
-refusal_for Float width bits = float_refusal Float width bits
+abbrev pub rejection_for : SampleFormat → ℕ → ℕ → Option ReadRejection
+rejection_for Int width bits = int_rejection 4 Int width bits
+rejection_for Float width bits = float_rejection Float width bits
 
 -- why the samples of a spec aren't shown, if they aren't
-abbrev pub show_refusal : WavSpecEx → Option ReadRefusal
-show_refusal s = refusal_for s.spec.sample_format s.bytes_per_sample s.spec.bits_per_sample
+abbrev pub show_rejection : WavSpecEx → Option ReadRejection
+show_rejection s = rejection_for s.spec.sample_format s.bytes_per_sample s.spec.bits_per_sample
 
 -- The first samples of data, so many, are there, and of bytes and bits that are shown.
 pub record AreShowable (s : WavSpecEx) (count : ℕ) (bytes : List ℕ) : Type 0 where
   pub there : count * s.bytes_per_sample ≤ length bytes
-  pub shown : 0 < count → show_refusal s ≡ None
+  pub shown : 0 < count → show_rejection s ≡ None
 
 -- the output and the buffer, which held `first`, got the lines of so many samples of what is left
 abbrev pub ShowsSamples : WavSpecEx → ℕ → Option (List ℕ) → Option (List ℕ) → Option (List ℕ)
@@ -72,9 +72,9 @@ ShowsSamples s count left old new first buffered = IfSome left (λ bytes. AreSho
     × GetsBuffered old new buffered (first ++ sample_lines s count bytes))
 
 -- no sample of the spec is shown, and this is the error for it
-abbrev pub RefusesSamples : WavSpecEx → Error → Type 0
-RefusesSamples s e =
-    (refusal : ReadRefusal) × (show_refusal s ≡ Some refusal) × (e ≡ error_of_read refusal)
+abbrev pub RejectsSamples : WavSpecEx → Error → Type 0
+RejectsSamples s e =
+    (rejection : ReadRejection) × (show_rejection s ≡ Some rejection) × (e ≡ error_of_read rejection)
 
 -- What is written where the samples are not all shown, after the text `first`: at a fault, a
 -- beginning of the lines of samples that are there; at any other error, no line of a sample.
@@ -82,8 +82,8 @@ abbrev pub StopsAt : WavSpecEx → ℕ → Failure → List ℕ → List ℕ →
 StopsAt s count BadNumber bytes first text = ⊥
 StopsAt s count InputOrOutput bytes first text = (shown : ℕ) × (shown ≤ count)
     × AreShowable s shown bytes × StartsWith (first ++ sample_lines s shown bytes) text
-StopsAt s count (Refused e) bytes first text =
-    (0 < count) × RefusesSamples s e × (text ≡ first)
+StopsAt s count (Rejected e) bytes first text =
+    (0 < count) × RejectsSamples s e × (text ≡ first)
 
 -- the same of the output and the buffer, which held `first`
 abbrev pub StopsSamples : WavSpecEx → ℕ → Failure → Option (List ℕ) → Option (List ℕ)
@@ -108,7 +108,7 @@ Shows input old new = IfSome input (λ bytes. (text : List ℕ) × IsShown bytes
 abbrev pub IsHeadFailure : List ℕ → Failure → Type 0
 IsHeadFailure bytes BadNumber = ⊥
 IsHeadFailure bytes InputOrOutput = ⊤
-IsHeadFailure bytes (Refused e) = (cause : Cause) × Unreadable bytes cause × Names e cause
+IsHeadFailure bytes (Rejected e) = (cause : Cause) × Unreadable bytes cause × Names e cause
 
 -- The bytes are a file that is not shown to its end, and this is the text until then.
 pub record IsShownPart (bytes : List ℕ) (failure : Failure) (text : List ℕ) : Type 0 where

@@ -1,10 +1,10 @@
 // Why the program fails.
 ghost use Rattle.std.specs.Prelude.{◌≡◌};
-ghost use Rattle.hound_commands.specs.Commands.{failure_of, refusal_of};
-ghost use Rattle.hound_commands.specs.declared.failure.Failure.TheVariants.{InputOrOutput, Refused};
+ghost use Rattle.hound_commands.specs.Commands.{failure_of, rejection_of};
+ghost use Rattle.hound_commands.specs.declared.failure.Failure.TheVariants.{InputOrOutput, Rejected};
 
 use hound_spec::Error;
-use hound_text::Refusal;
+use hound_text::Rejection;
 use std::io;
 use thiserror::Error as DeriveError;
 
@@ -16,7 +16,7 @@ pub enum Failure {
     #[error("input or output failed")]
     InputOrOutput,
     #[error(transparent)]
-    Refused(Error),
+    Rejected(Error),
 }
 
 impl From<Error> for Failure {
@@ -25,19 +25,19 @@ impl From<Error> for Failure {
     fn from(error: Error) -> Failure {
         match error {
             Error::IoError(_) => Failure::InputOrOutput,
-            refusal => Failure::Refused(refusal),
+            rejection => Failure::Rejected(rejection),
         }
     }
 }
 
-impl From<Refusal> for Failure {
-    ghost from_gives = { λ refusal failure. failure ≡ refusal_of refusal };
+impl From<Rejection> for Failure {
+    ghost from_gives = { λ rejection failure. failure ≡ rejection_of rejection };
 
-    fn from(refusal: Refusal) -> Failure {
-        match refusal {
-            Refusal::BadNumber => Failure::BadNumber,
-            Refusal::InputOrOutput | Refusal::TooLong => Failure::InputOrOutput,
-            Refusal::OutOfMemory => Failure::Refused(Error::OutOfMemory),
+    fn from(rejection: Rejection) -> Failure {
+        match rejection {
+            Rejection::BadNumber => Failure::BadNumber,
+            Rejection::InputOrOutput | Rejection::TooLong => Failure::InputOrOutput,
+            Rejection::OutOfMemory => Failure::Rejected(Error::OutOfMemory),
         }
     }
 }

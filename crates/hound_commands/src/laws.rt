@@ -8,7 +8,7 @@ ghost use Rattle.hound_spec.specs.declared.spec.WavSpecEx.{WavSpecEx};
 ghost use Rattle.hound_commands.specs.Commands.{IsNotPacked, Packs};
 ghost use Rattle.hound_commands.specs.Showing.{Shows, spec_line};
 ghost use Rattle.hound_commands.specs.declared.failure.Failure.{Failure};
-ghost use Rattle.hound_commands.specs.declared.failure.Failure.TheVariants.{InputOrOutput, Refused};
+ghost use Rattle.hound_commands.specs.declared.failure.Failure.TheVariants.{InputOrOutput, Rejected};
 
 use hound_reader::written_is_read;
 use hound_sample::integers_come_back;
@@ -31,7 +31,7 @@ pub fn a_shown_file_is_packed_again()
         → first ≡ second }
     ensures accepted { (s : WavSpecEx) (text file : List ℕ) (failure : Failure)
         → Packs s (Some text) (Some []) (Some file) → IsNotPacked s (Some text) failure →
-        (failure ≡ InputOrOutput) ⊎ (failure ≡ Refused OutOfMemory) }
+        (failure ≡ InputOrOutput) ⊎ (failure ≡ Rejected OutOfMemory) }
 {
     written_is_read();
     one_answer();

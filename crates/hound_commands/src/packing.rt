@@ -16,7 +16,7 @@ pub fn file_of(alloc: Global, spec: WavSpec, numbers: &[i32]) -> Result<Tape, Fa
     requires integers { spec.sample_format ≡ Int }
     ensures made { IfOk result (λ file. IsPacked (with_default_width spec) numbers.now
         (⟦<Tape as Placed>⟧.state file).contents) }
-    ensures refused { IfErr result (IsPackFailure (with_default_width spec) numbers.now) }
+    ensures rejected { IfErr result (IsPackFailure (with_default_width spec) numbers.now) }
 {
     let tape = Tape::new(Vec::new(alloc));
     let mut writer = match WavWriter::try_new(tape, WavSpecEx::from(spec)) {

@@ -1,8 +1,8 @@
 // A file to lines.
 ghost use Rattle.std.specs.Prelude.{◌≡◌, ◌+◌, ◌<◌, ◌≤◌, ◌++◌, ℕ, [], List, IfErr, OnErr, OnOk, length};
 ghost use Rattle.std.specs.List.{flat_map};
-ghost use Rattle.hound_reader.specs.{meaning_at, refusal_at};
-ghost use Rattle.hound_commands.specs.Showing.{GetsBeginning, GetsBuffered, Shows, ShowsSamples, ShowsUntil, StopsSamples, sample_line, show_refusal, spec_line};
+ghost use Rattle.hound_reader.specs.{meaning_at, rejection_at};
+ghost use Rattle.hound_commands.specs.Showing.{GetsBeginning, GetsBuffered, Shows, ShowsSamples, ShowsUntil, StopsSamples, sample_line, show_rejection, spec_line};
 ghost use Rattle.hound_text.specs.{HasLineRoom, integer_line, pattern_line};
 
 use crate::failure::Failure;
@@ -124,7 +124,7 @@ fn show_blocks<S: Line, R: io::Read, O: io::Write>(
 ) -> Result<(), Failure>
     requires fresh { reader.old.samples_read ≡ 0 }
     requires some { 0 < length block.old }
-    requires refusal { refusal_at S.refusal reader.old.spec_ex ≡ show_refusal reader.old.spec_ex }
+    requires rejection { rejection_at S.rejection reader.old.spec_ex ≡ show_rejection reader.old.spec_ex }
     requires line { (c : List ℕ) → S.line (meaning_at S.meaning reader.old.spec_ex c)
         ≡ sample_line reader.old.spec_ex c }
     ensures shown { OnOk result (ShowsSamples reader.old.spec_ex reader.old.num_samples

@@ -21,13 +21,13 @@ pub fn main(rt: HostRuntime) -> hound::Result<ExitCode> {
 
 fn run(rt: &HostRuntime, words: &[String]) -> hound::Result<ExitCode> {
     let [_, from, to, bits] = words else {
-        return refuse(rt, "usage: convert IN OUT BITS", 2);
+        return reject(rt, "usage: convert IN OUT BITS", 2);
     };
     let Ok(bits @ (8 | 16 | 24 | 32)) = bits.parse::<u16>() else {
-        return refuse(rt, "usage: convert IN OUT BITS", 2);
+        return reject(rt, "usage: convert IN OUT BITS", 2);
     };
     if from == to {
-        return refuse(rt, "a file can't be read and written at once", 1);
+        return reject(rt, "a file can't be read and written at once", 1);
     }
     let (from, to) = (Path::new(from.as_str()), Path::new(to.as_str()));
     let (clipped, end) = convert(rt, from, to, bits)?;
@@ -37,7 +37,7 @@ fn run(rt: &HostRuntime, words: &[String]) -> hound::Result<ExitCode> {
 }
 
 // Prints why nothing is done, and returns a status.
-fn refuse(rt: &HostRuntime, why: &str, status: u8) -> hound::Result<ExitCode> {
+fn reject(rt: &HostRuntime, why: &str, status: u8) -> hound::Result<ExitCode> {
     eprintln!(rt; "{why}")?;
     Ok(ExitCode::from(status))
 }

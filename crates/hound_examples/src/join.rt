@@ -15,15 +15,15 @@ pub fn main(rt: HostRuntime) -> hound::Result<ExitCode> {
 
 fn run(rt: &HostRuntime, words: &[String]) -> hound::Result<ExitCode> {
     let [_, to, first, others @ ..] = words else {
-        return refuse(rt, "usage: join OUT IN..", 2);
+        return reject(rt, "usage: join OUT IN..", 2);
     };
     if first == to || others.contains(to) {
-        return refuse(rt, "a file can't be read and written at once", 1);
+        return reject(rt, "a file can't be read and written at once", 1);
     }
     let spec_ex = spec_of(rt, first)?;
     for from in others {
         if spec_of(rt, from)? != spec_ex {
-            return refuse(rt, "the files differ in channels, rate, bits or format", 1);
+            return reject(rt, "the files differ in channels, rate, bits or format", 1);
         }
     }
     join(rt, Path::new(to.as_str()), spec_ex, &words[2..])?;
@@ -31,7 +31,7 @@ fn run(rt: &HostRuntime, words: &[String]) -> hound::Result<ExitCode> {
 }
 
 // Prints why nothing is done, and returns a status.
-fn refuse(rt: &HostRuntime, why: &str, status: u8) -> hound::Result<ExitCode> {
+fn reject(rt: &HostRuntime, why: &str, status: u8) -> hound::Result<ExitCode> {
     eprintln!(rt; "{why}")?;
     Ok(ExitCode::from(status))
 }

@@ -21,26 +21,26 @@ pub fn main(rt: HostRuntime) -> hound::Result<ExitCode> {
 
 fn run(rt: &HostRuntime, words: &[String]) -> hound::Result<ExitCode> {
     let [_, to, _, ..] = words else {
-        return refuse(rt, "usage: merge OUT IN..", 2);
+        return reject(rt, "usage: merge OUT IN..", 2);
     };
     let from = &words[2..];
     let readers = open_all(rt, from)?;
     let Some(merged) = merged_spec(&readers) else {
-        return refuse(
+        return reject(
             rt,
             "the files differ in rate, bits, format or length, or aren't mono",
             1,
         );
     };
     if from.contains(to) {
-        return refuse(rt, "a file can't be read and written at once", 1);
+        return reject(rt, "a file can't be read and written at once", 1);
     }
     merge(rt, readers, Path::new(to.as_str()), merged)?;
     Ok(ExitCode::SUCCESS)
 }
 
 // Prints why nothing is done, and returns a status.
-fn refuse(rt: &HostRuntime, why: &str, status: u8) -> hound::Result<ExitCode> {
+fn reject(rt: &HostRuntime, why: &str, status: u8) -> hound::Result<ExitCode> {
     eprintln!(rt; "{why}")?;
     Ok(ExitCode::from(status))
 }

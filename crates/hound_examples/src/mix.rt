@@ -14,10 +14,10 @@ pub fn main(rt: HostRuntime) -> hound::Result<ExitCode> {
 
 fn run(rt: &HostRuntime, words: &[String]) -> hound::Result<ExitCode> {
     let [_, one, other, to] = words else {
-        return refuse(rt, "usage: mix IN IN OUT", 2);
+        return reject(rt, "usage: mix IN IN OUT", 2);
     };
     if one == to || other == to {
-        return refuse(rt, "a file can't be read and written at once", 1);
+        return reject(rt, "a file can't be read and written at once", 1);
     }
     let (one, other) = (Path::new(one.as_str()), Path::new(other.as_str()));
     let clipped = mix(rt, one, other, Path::new(to.as_str()))?;
@@ -26,7 +26,7 @@ fn run(rt: &HostRuntime, words: &[String]) -> hound::Result<ExitCode> {
 }
 
 // Prints why nothing is done, and returns a status.
-fn refuse(rt: &HostRuntime, why: &str, status: u8) -> hound::Result<ExitCode> {
+fn reject(rt: &HostRuntime, why: &str, status: u8) -> hound::Result<ExitCode> {
     eprintln!(rt; "{why}")?;
     Ok(ExitCode::from(status))
 }

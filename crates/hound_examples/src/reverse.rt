@@ -15,17 +15,17 @@ pub fn main(rt: HostRuntime) -> hound::Result<ExitCode> {
 
 fn run(rt: &HostRuntime, words: &[String]) -> hound::Result<ExitCode> {
     let [_, from, to] = words else {
-        return refuse(rt, "usage: reverse IN OUT", 2);
+        return reject(rt, "usage: reverse IN OUT", 2);
     };
     if from == to {
-        return refuse(rt, "a file can't be read and written at once", 1);
+        return reject(rt, "a file can't be read and written at once", 1);
     }
     reverse(rt, Path::new(from.as_str()), Path::new(to.as_str()))?;
     Ok(ExitCode::SUCCESS)
 }
 
 // Prints why nothing is done, and returns a status.
-fn refuse(rt: &HostRuntime, why: &str, status: u8) -> hound::Result<ExitCode> {
+fn reject(rt: &HostRuntime, why: &str, status: u8) -> hound::Result<ExitCode> {
     eprintln!(rt; "{why}")?;
     Ok(ExitCode::from(status))
 }

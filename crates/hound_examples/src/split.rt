@@ -21,12 +21,12 @@ pub fn main(rt: HostRuntime) -> hound::Result<ExitCode> {
 
 fn run(rt: &HostRuntime, words: &[String]) -> hound::Result<ExitCode> {
     let [_, from, to @ ..] = words else {
-        return refuse(rt, "usage: split IN OUT..", 2);
+        return reject(rt, "usage: split IN OUT..", 2);
     };
     let reader = WavReader::open(rt, rt.alloc(), Path::new(from.as_str()))?;
     let spec_ex = reader.spec_ex();
     if to.len() != usize::from(spec_ex.spec.channels) || to.contains(from) {
-        return refuse(rt, "split needs a file to write for each channel", 2);
+        return reject(rt, "split needs a file to write for each channel", 2);
     }
     let writers = create_all(rt, to, mono_of(spec_ex))?;
     split(rt, reader, writers)?;
@@ -34,7 +34,7 @@ fn run(rt: &HostRuntime, words: &[String]) -> hound::Result<ExitCode> {
 }
 
 // Prints why nothing is done, and returns a status.
-fn refuse(rt: &HostRuntime, why: &str, status: u8) -> hound::Result<ExitCode> {
+fn reject(rt: &HostRuntime, why: &str, status: u8) -> hound::Result<ExitCode> {
     eprintln!(rt; "{why}")?;
     Ok(ExitCode::from(status))
 }

@@ -4,7 +4,7 @@ ghost use Rattle.hound_repair.specs.{is_followed};
 ghost use Rattle.hound_spec.specs.{canonical, header, mask, riff_size};
 ghost use Rattle.hound_sample.specs.{int_container};
 ghost use Rattle.hound_reader.specs.{way_to, container_at};
-ghost use Rattle.hound_walk.specs.{Head, Refused};
+ghost use Rattle.hound_walk.specs.{Head, Rejected};
 ghost use Rattle.hound_layer_tests.specs.Rows.{four_samples, four_containers, padded_containers, long_fact, empty_fact, odd_junk, long_fmt, past_the_limit, odd_at_the_limit, even_at_the_limit, fmt_at_the_limit, mono_16, mono_float, stereo_24, counted, AreRead};
 ghost use Rattle.hound_walk.specs.declared.cause.Cause.TheVariants.{Ended, Format};
 ghost use Rattle.hound_walk.specs.declared.cause.Reason.TheVariants.{NoDataChunk};
@@ -201,15 +201,15 @@ fn the_definition_gives_the_containers()
 // What the definitions make of files and containers that were written elsewhere.
 fn definitions_at_files()
     ensures four_samples { Head four_samples mono_16 8 44 }
-    ensures cut { Refused (take 30 four_samples) Ended }
-    ensures limit { Refused past_the_limit (Format NoDataChunk) }
+    ensures cut { Rejected (take 30 four_samples) Ended }
+    ensures limit { Rejected past_the_limit (Format NoDataChunk) }
     ensures long_fact { Head long_fact mono_16 8 60 }
     ensures empty_fact { Head empty_fact mono_16 8 52 }
     ensures odd_junk { Head odd_junk mono_16 8 56 }
     ensures long_fmt { Head long_fmt mono_float 4 70 }
-    ensures odd_limit { Refused odd_at_the_limit (Format NoDataChunk) }
-    ensures even_limit { Refused even_at_the_limit Ended }
-    ensures fmt_limit { Refused fmt_at_the_limit (Format NoDataChunk) }
+    ensures odd_limit { Rejected odd_at_the_limit (Format NoDataChunk) }
+    ensures even_limit { Rejected even_at_the_limit Ended }
+    ensures fmt_limit { Rejected fmt_at_the_limit (Format NoDataChunk) }
     ensures one_byte { AreRead 1 8 (0x93 ∷ 0x4b ∷ 0xd9 ∷ 0x01 ∷ 0x00 ∷ [])
         (pos 19 ∷ negsuc 52 ∷ pos 89 ∷ negsuc 126 ∷ negsuc 127 ∷ []) }
     ensures two_bytes { AreRead 2 16 four_containers (pos 2 ∷ negsuc 2 ∷ pos 5 ∷ negsuc 6 ∷ []) }
@@ -219,7 +219,7 @@ fn definitions_at_files()
     ensures three_of_four { AreRead 4 24 padded_containers (negsuc 95 ∷ pos 23052 ∷ pos 8388607 ∷ negsuc 8360671 ∷ []) }
     ensures four_bytes { AreRead 4 32
         (0x13 ∷ 0x00 ∷ 0x00 ∷ 0x00 ∷ 0x03 ∷ 0x80 ∷ 0xfc ∷ 0xff ∷ 0xd9 ∷ 0x7f ∷ 0x00 ∷ 0x02 ∷ 0x97 ∷ 0x00 ∷ 0x00 ∷ 0x80 ∷ []) (pos 19 ∷ negsuc 229372 ∷ pos 33587161 ∷ negsuc 2147483496 ∷ []) }
-    ensures after_a_refusal { way_to 1 (counted stereo_24 1 0) ≡ pos 8 }
+    ensures after_a_rejection { way_to 1 (counted stereo_24 1 0) ≡ pos 8 }
     ensures after_a_sample { way_to 1 (counted stereo_24 1 4) ≡ pos 4 }
     ensures after_a_torn_one { way_to 0 (counted mono_16 2 3) ≡ negsuc 2 }
     ensures third { container_at 4 2 padded_containers ≡ 0xff ∷ 0xff ∷ 0x7f ∷ 0x00 ∷ [] }

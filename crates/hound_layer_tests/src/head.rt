@@ -15,12 +15,12 @@ fn a_source_is_handed_back(rt: HostRuntime) -> Result<(), Fail> {
     let (tape, answer) = find_data(tape);
     let head = answer.ok().ok_or("a head")?;
     // The tape is after the header, where no other begins.
-    let is_refused_there = matches!(
+    let is_rejected_there = matches!(
         WavReader::new(tape),
         Err(Error::IoError(_)) | Err(Error::FormatError(_))
     );
     assert_eq!(rt;
-        (head.data_length, head.data_start, is_refused_there),
+        (head.data_length, head.data_start, is_rejected_there),
         (8, 44, true)
     );
     Ok(())

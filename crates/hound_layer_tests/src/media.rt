@@ -72,7 +72,7 @@ fn two_steps<P: Placed>(mut placed: P) -> [bool; 2] {
 }
 
 #[test]
-fn a_medium_of_ones_own_refuses_places_above_all(rt: HostRuntime) {
+fn a_medium_of_ones_own_rejects_places_above_all(rt: HostRuntime) {
     let mut window = Window {
         start: u64::MAX - 1,
         offset: 0,

@@ -16,9 +16,9 @@ module _ (c : List ℕ) (at : ℕ) (bs : List ℕ) (inside : at + length bs ≤ 
   front = length-take-le at c (omega (arith, inside))
 
   -- what was after them stays
-  pub drop_behind : (n : ℕ) → at + length bs ≤ n → drop n (overlay c (placed at bs)) ≡ drop n c
+  pub drop_beyond : (n : ℕ) → at + length bs ≤ n → drop n (overlay c (placed at bs)) ≡ drop n c
   unfolding new
-  drop_behind n h =
+  drop_beyond n h =
       let m = n - (at + length bs) in
       let e : n ≡ at + length bs + m = omega arith in
       let all : new ≡ (take at c ++ bs) ++ drop (at + length bs) c =

@@ -21,10 +21,10 @@ slice_range-put_mid : (a k n : ℕ) (xs ys : List ℕ) → a ≤ length xs → n
 slice_range-put_mid a k n xs ys within fits = grind (arith, common_steps)
 
 -- what a buffer had and what a read appended were taken, one after the other
-pub taken_behind : (old mid new : Option (List ℕ)) (at k n : ℕ) (buf given : List ℕ)
+pub taken_beyond : (old mid new : Option (List ℕ)) (at k n : ℕ) (buf given : List ℕ)
     → at ≤ length buf → n ≤ length given → Consumes old mid (take at buf)
     → Consumes mid new (take n given) → Consumes old new (take (at + n) (put_mid at k buf given))
-taken_behind old mid new at k n buf given within fits before more =
+taken_beyond old mid new at k n buf given within fits before more =
     let part = slice_range-put_mid at k n buf given within fits in
     let joined =
     front_and_part at (at + n) buf (put_mid at k buf given) (omega arith)

@@ -10,8 +10,8 @@ use Rattle.std.specs.Io.KnownBytes.{Appends}
 
 -- a read's own error, or one of kind `Other` for an early end
 abbrev pub ReportsEnding : ReadError → Error → Type 0
-ReportsEnding (Failed e) told = told ≡ e
-ReportsEnding Ended told = error_kind told ≡ Other
+ReportsEnding (Failed e) modelled = modelled ≡ e
+ReportsEnding Ended modelled = error_kind modelled ≡ Other
 
 -- P holds for the bytes that were left and those that are left now; known bytes stay known
 abbrev pub WhereKnown : Option (List ℕ) → Option (List ℕ)

@@ -7,10 +7,10 @@ use Rattle.std.specs.declared.io.Error.{Error as IoFault}
 use Rattle.hound_number.specs.{WhereKnown}
 use Rattle.hound_spec.specs.declared.error.Error.{Error}
 use Rattle.hound_spec.specs.declared.spec.SampleFormat.{SampleFormat}
-use Rattle.hound_sample.specs.{FillsFront, items_of, answer_of, ReadsEach, ReadRefusal, Reads, error_of_read, ReadsItem, reason_of, error_of_sample}
+use Rattle.hound_sample.specs.{FillsFront, items_of, answer_of, ReadsEach, ReadRejection, Reads, error_of_read, ReadsItem, reason_of, error_of_sample}
 use Rattle.std.proofs.lemmas.Nat.{mul-le}
 use Rattle.hound_walk.specs.{AreTaken}
-use Rattle.hound_reader.specs.Reader.{ReadsBlock, requested, GivesItemsOfBytes, over_bytes, HasGiven, taken_without, GivesItems, ReaderState, IsNext, CountsTaken, refusal_at, meaning_at, samples_left}
+use Rattle.hound_reader.specs.Reader.{ReadsBlock, requested, GivesItemsOfBytes, over_bytes, HasGiven, taken_without, GivesItems, ReaderState, IsNext, CountsTaken, rejection_at, meaning_at, samples_left}
 use Rattle.hound_sample.specs.declared.item.SampleError.{SampleError}
 use Rattle.hound_reader.proofs.ItemLemmas.{a_container_is_taken, later}
 
@@ -20,26 +20,26 @@ no_value : {A : Type 0} {P : Type 0} (value : A) (error : Error)
 no_value value error is = cc
 
 -- the error of a type that doesn't read the samples, by its reason
-refusal_by_reason : (refusal : ReadRefusal) (fault : IoFault)
-    → error_of_sample (reason_of (error_of_read refusal)) fault ≡ error_of_read refusal
-refusal_by_reason refusal fault = grind (arith, common_steps)
+rejection_by_reason : (rejection : ReadRejection) (fault : IoFault)
+    → error_of_sample (reason_of (error_of_read rejection)) fault ≡ error_of_read rejection
+rejection_by_reason rejection fault = grind (arith, common_steps)
 
 -- an error that ended samples, by its reason, whichever the fault is
-error_by_reason : {A : Type 0} (refusal : Option ReadRefusal) (meaning : List ℕ → A) (width : ℕ)
+error_by_reason : {A : Type 0} (rejection : Option ReadRejection) (meaning : List ℕ → A) (width : ℕ)
     (old new : Option (List ℕ)) (e : Error) (fault : IoFault)
-    → Reads refusal meaning width old new (Err e)
-    → Reads refusal meaning width old new (Err (error_of_sample (reason_of e) fault))
-error_by_reason refusal meaning width old new e fault read = grind (arith, common_steps, refusal_by_reason)
+    → Reads rejection meaning width old new (Err e)
+    → Reads rejection meaning width old new (Err (error_of_sample (reason_of e) fault))
+error_by_reason rejection meaning width old new e fault read = grind (arith, common_steps, rejection_by_reason)
 
-pub each_by_reason : {A : Type 0} (refusal : Option ReadRefusal) (meaning : List ℕ → A) (width : ℕ)
+pub each_by_reason : {A : Type 0} (rejection : Option ReadRejection) (meaning : List ℕ → A) (width : ℕ)
     (values : List A) (e : Error) (reason : SampleError) (fault : IoFault) (old new : Option (List ℕ))
     → reason ≡ reason_of e
-    → ReadsEach refusal meaning width (map Ok values ++ (Err e ∷ [])) old new
-    → ReadsEach refusal meaning width (map Ok values ++ (Err (error_of_sample reason fault) ∷ [])) old new
-each_by_reason refusal meaning width [] e reason fault old new is (mid, read, same) =
-    let told = error_by_reason refusal meaning width old mid e fault read in (mid, rw is told, same)
-each_by_reason refusal meaning width (value ∷ values) e reason fault old new is (mid, read, rest) =
-    (mid, read, each_by_reason refusal meaning width values e reason fault mid new is rest)
+    → ReadsEach rejection meaning width (map Ok values ++ (Err e ∷ [])) old new
+    → ReadsEach rejection meaning width (map Ok values ++ (Err (error_of_sample reason fault) ∷ [])) old new
+each_by_reason rejection meaning width [] e reason fault old new is (mid, read, same) =
+    let modelled = error_by_reason rejection meaning width old mid e fault read in (mid, rw is modelled, same)
+each_by_reason rejection meaning width (value ∷ values) e reason fault old new is (mid, read, rest) =
+    (mid, read, each_by_reason rejection meaning width values e reason fault mid new is rest)
 
 -- nothing is claimed for unknown bytes
 unknown_read : {A : Type 0} (meaning : List ℕ → A) (width : ℕ) (item : Result A Error)
@@ -53,15 +53,15 @@ unknown_each meaning width [] = refl
 unknown_each meaning width (value ∷ values) = (None, tt, unknown_each meaning width values)
 
 -- samples, and what was returned after them; unknown bytes stay unknown
-pub each_split : {A : Type 0} (refusal : Option ReadRefusal) (meaning : List ℕ → A) (width : ℕ)
+pub each_split : {A : Type 0} (rejection : Option ReadRejection) (meaning : List ℕ → A) (width : ℕ)
     (values : List A) (item : Result A Error) (old new : Option (List ℕ))
-    → ReadsEach refusal meaning width (map Ok values ++ (item ∷ [])) old new
-    → (mid : Option (List ℕ)) × ReadsEach refusal meaning width (map Ok values) old mid
-    × Reads refusal meaning width mid new item × (old ≡ None → mid ≡ None)
-each_split refusal meaning width [] item old new (mid, read, same) =
-    (old, refl, subst (λ m. Reads refusal meaning width old m item) (sym same) read, λ none. none)
-each_split (Some refusal) meaning width (value ∷ values) item old new (mid, read, rest) =
-    no_value value (error_of_read refusal) read.0
+    → ReadsEach rejection meaning width (map Ok values ++ (item ∷ [])) old new
+    → (mid : Option (List ℕ)) × ReadsEach rejection meaning width (map Ok values) old mid
+    × Reads rejection meaning width mid new item × (old ≡ None → mid ≡ None)
+each_split rejection meaning width [] item old new (mid, read, same) =
+    (old, refl, subst (λ m. Reads rejection meaning width old m item) (sym same) read, λ none. none)
+each_split (Some rejection) meaning width (value ∷ values) item old new (mid, read, rest) =
+    no_value value (error_of_read rejection) read.0
 each_split None meaning width (value ∷ values) item None new (mid, read, rest) =
     let (end, before, last, _) = each_split None meaning width values item mid new rest in (
       None,
@@ -74,40 +74,40 @@ each_split None meaning width (value ∷ values) item (Some xs) new (mid, read, 
     (end, (mid, read, before), last, λ none. cc)
 
 -- samples that were read took their containers
-each_takes : {A : Type 0} (refusal : Option ReadRefusal) (meaning : List ℕ → A) (width : ℕ)
+each_takes : {A : Type 0} (rejection : Option ReadRejection) (meaning : List ℕ → A) (width : ℕ)
     (values : List A) (xs : List ℕ) (new : Option (List ℕ))
-    → ReadsEach refusal meaning width (map Ok values) (Some xs) new
+    → ReadsEach rejection meaning width (map Ok values) (Some xs) new
     → (length values * width ≤ length xs) × (new ≡ Some (drop (length values * width) xs))
-each_takes refusal meaning width [] xs new same = grind (arith, common_steps)
-each_takes refusal meaning width (value ∷ values) xs new (mid, read, rest) =
-    let more = each_takes refusal meaning width values in
+each_takes rejection meaning width [] xs new same = grind (arith, common_steps)
+each_takes rejection meaning width (value ∷ values) xs new (mid, read, rest) =
+    let more = each_takes rejection meaning width values in
     grind (arith, common_steps, a_container_is_taken, read, rest, more, length-drop, drop-drop)
 
 -- an item without a sample took as many bytes as were given after the samples
-pub torn_takes : {A : Type 0} (refusal : Option ReadRefusal) (meaning : List ℕ → A) (width : ℕ)
+pub torn_takes : {A : Type 0} (rejection : Option ReadRejection) (meaning : List ℕ → A) (width : ℕ)
     (values : List A) (reason : SampleError) (fault : IoFault) (given : ℕ)
     (old mid new : Option (List ℕ)) → length values * width + width < 2 ^ 64
-    → HasGiven old given new → ReadsEach refusal meaning width (map Ok values) old mid
-    → Reads refusal meaning width mid new (Err (error_of_sample reason fault))
+    → HasGiven old given new → ReadsEach rejection meaning width (map Ok values) old mid
+    → Reads rejection meaning width mid new (Err (error_of_sample reason fault))
     → (old ≡ None → mid ≡ None)
     → WhereKnown mid new (AreTaken (taken_without reason (given - length values * width) width))
-torn_takes refusal meaning width values reason fault given old mid new few has before read same = grind (arith, common_steps, each_takes, length-drop)
+torn_takes rejection meaning width values reason fault given old mid new few has before read same = grind (arith, common_steps, each_takes, length-drop)
 
 pub taken_few : (reason : SampleError) (given width : ℕ) → taken_without reason given width ≤ width
 taken_few reason given width = grind (arith, common_steps)
 
 -- an item without a sample is given, whichever its fault is
 pub no_sample_is_given : {R A : Type 0} (left : R → Option (List ℕ))
-    (refusal : SampleFormat → ℕ → ℕ → Option ReadRefusal) (meaning : SampleFormat → ℕ → ℕ → List ℕ → A)
+    (rejection : SampleFormat → ℕ → ℕ → Option ReadRejection) (meaning : SampleFormat → ℕ → ℕ → List ℕ → A)
     (old new : ReaderState R) (reason : SampleError) (given : ℕ)
     → old.samples_read < old.num_samples → old.spec_ex.bytes_per_sample < 2 ^ 64
     → new ≡ later old 1 (taken_without reason given old.spec_ex.bytes_per_sample) new.reader
-    → ReadsItem (refusal_at refusal old.spec_ex) (meaning_at meaning old.spec_ex)
+    → ReadsItem (rejection_at rejection old.spec_ex) (meaning_at meaning old.spec_ex)
     old.spec_ex.bytes_per_sample (left old.reader) (left new.reader) (Err reason)
-    → (IsSome (refusal_at refusal old.spec_ex) → new.reader ≡ old.reader)
+    → (IsSome (rejection_at rejection old.spec_ex) → new.reader ≡ old.reader)
     → HasGiven (left old.reader) given (left new.reader) → (fault : IoFault)
-    → IsNext left refusal meaning (Some (Err (error_of_sample reason fault))) old new
-no_sample_is_given left refusal meaning old new reason given inside small is read untouched has fault =
+    → IsNext left rejection meaning (Some (Err (error_of_sample reason fault))) old new
+no_sample_is_given left rejection meaning old new reason given inside small is read untouched has fault =
     let width = old.spec_ex.bytes_per_sample in
     let known : WhereKnown (left old.reader) (left new.reader) (AreTaken (taken_without reason given width)) =
     grind (arith, common_steps, read fault, length-drop) in
@@ -121,15 +121,15 @@ block_bytes count width given (Ok done) = count * width
 block_bytes count width given (Err reason) =
     count * width + taken_without reason (given - count * width) width
 
-module _ {A : Type 0} (refusal : SampleFormat → ℕ → ℕ → Option ReadRefusal)
+module _ {A : Type 0} (rejection : SampleFormat → ℕ → ℕ → Option ReadRejection)
     (meaning : SampleFormat → ℕ → ℕ → List ℕ → A) where
   abbrev Gives : List (Result A Error) → ReaderState (Option (List ℕ)) → ReaderState (Option (List ℕ)) → Type 0
-  Gives items old new = GivesItems (λ (bytes : Option (List ℕ)). bytes) refusal meaning items old new
+  Gives items old new = GivesItems (λ (bytes : Option (List ℕ)). bytes) rejection meaning items old new
 
   -- samples that were read are items
   samples_are_items : (values : List A) (old : ReaderState (Option (List ℕ)))
       (new : Option (List ℕ)) → length values ≤ samples_left old
-      → ReadsEach (refusal_at refusal old.spec_ex) (meaning_at meaning old.spec_ex)
+      → ReadsEach (rejection_at rejection old.spec_ex) (meaning_at meaning old.spec_ex)
       old.spec_ex.bytes_per_sample (map Ok values) old.reader new
       → Gives (map Ok values) old
       (later old (length values) (length values * old.spec_ex.bytes_per_sample) new)
@@ -139,7 +139,7 @@ module _ {A : Type 0} (refusal : SampleFormat → ℕ → ℕ → Option ReadRef
       let next = later old 1 width mid in (
         next,
         (let taken : CountsTaken (λ (bytes : Option (List ℕ)). bytes) old next =
-            (width, refl, a_container_is_taken (refusal_at refusal old.spec_ex) _ _ _ _ value read) in
+            (width, refl, a_container_is_taken (rejection_at rejection old.spec_ex) _ _ _ _ value read) in
             grind (arith, common_steps, taken, read)),
         subst (Gives (map Ok values) next)
             (let e : later next (length values) (length values * width) new
@@ -150,10 +150,10 @@ module _ {A : Type 0} (refusal : SampleFormat → ℕ → ℕ → Option ReadRef
   -- items, and then one more
   items_more : (items : List (Result A Error)) (item : Result A Error)
       (old mid new : ReaderState (Option (List ℕ))) → Gives items old mid
-      → IsNext (λ (bytes : Option (List ℕ)). bytes) refusal meaning (Some item) mid new
+      → IsNext (λ (bytes : Option (List ℕ)). bytes) rejection meaning (Some item) mid new
       → Gives (items ++ (item ∷ [])) old new
   items_more [] item old mid new before step =
-      (new, subst (λ s. IsNext (λ (bytes : Option (List ℕ)). bytes) refusal meaning (Some item) s new) before step, refl)
+      (new, subst (λ s. IsNext (λ (bytes : Option (List ℕ)). bytes) rejection meaning (Some item) s new) before step, refl)
   items_more (first ∷ items) item old mid new (next, given, before) step =
       (next, given, items_more items item next mid new before step)
 
@@ -163,7 +163,7 @@ module _ {A : Type 0} (refusal : SampleFormat → ℕ → ℕ → Option ReadRef
       → requested (length values) answer ≤ samples_left old
       → length values * old.spec_ex.bytes_per_sample + old.spec_ex.bytes_per_sample < 2 ^ 64
       → HasGiven old.reader given new
-      → ReadsEach (refusal_at refusal old.spec_ex) (meaning_at meaning old.spec_ex)
+      → ReadsEach (rejection_at rejection old.spec_ex) (meaning_at meaning old.spec_ex)
       old.spec_ex.bytes_per_sample (items_of values (answer_of answer fault)) old.reader new
       → Gives (items_of values (answer_of answer fault)) old
       (later old (requested (length values) answer)
@@ -173,7 +173,7 @@ module _ {A : Type 0} (refusal : SampleFormat → ℕ → ℕ → Option ReadRef
   block_items values (Err reason) fault given old new few small has each =
       let width = old.spec_ex.bytes_per_sample in
       let k = length values in
-      let r = refusal_at refusal old.spec_ex in
+      let r = rejection_at rejection old.spec_ex in
       let m = meaning_at meaning old.spec_ex in
       let (mid, before, read, unknown) = each_split r m width values _ old.reader new each in
       let torn = taken_without reason (given - k * width) width in
@@ -204,23 +204,23 @@ front_filled count wanted xs ys within size few rest =
     )
 
 module _ {R A : Type 0} (left : R → Option (List ℕ))
-    (refusal : SampleFormat → ℕ → ℕ → Option ReadRefusal) (meaning : SampleFormat → ℕ → ℕ → List ℕ → A) where
+    (rejection : SampleFormat → ℕ → ℕ → Option ReadRejection) (meaning : SampleFormat → ℕ → ℕ → List ℕ → A) where
   -- samples that were read into the front of a slice, and the error that ended them, are a block
-  pub is_block : (count wanted given : ℕ) (told answer : Result (Unit {0}) SampleError)
-      (fault : IoFault) (xs ys : List A) (old new : ReaderState R) → told ≡ answer
+  pub is_block : (count wanted given : ℕ) (modelled answer : Result (Unit {0}) SampleError)
+      (fault : IoFault) (xs ys : List A) (old new : ReaderState R) → modelled ≡ answer
       → wanted ≡ min (length xs) (samples_left old) → length ys ≡ length (take wanted xs)
       → old.num_samples < 2 ^ 32 → old.spec_ex.bytes_per_sample ≤ 2 ^ 16
-      → FillsFront count told (take wanted xs) ys
-      → ReadsEach (refusal_at refusal old.spec_ex) (meaning_at meaning old.spec_ex)
-      old.spec_ex.bytes_per_sample (items_of (take count ys) (answer_of told fault)) (left old.reader)
+      → FillsFront count modelled (take wanted xs) ys
+      → ReadsEach (rejection_at rejection old.spec_ex) (meaning_at meaning old.spec_ex)
+      old.spec_ex.bytes_per_sample (items_of (take count ys) (answer_of modelled fault)) (left old.reader)
       (left new.reader)
       → HasGiven (left old.reader) given (left new.reader)
-      → (IsSome (refusal_at refusal old.spec_ex) → new.reader ≡ old.reader)
+      → (IsSome (rejection_at rejection old.spec_ex) → new.reader ≡ old.reader)
       → over_bytes left new
       ≡ later (over_bytes left old) (requested count answer)
       (block_bytes count old.spec_ex.bytes_per_sample given answer) (left new.reader)
-      → ReadsBlock left refusal meaning count (answer_of answer fault) xs (ys ++ drop wanted xs) old new
-  is_block count wanted given told answer fault xs ys old new shown is size small narrow fills each has untouched after =
+      → ReadsBlock left rejection meaning count (answer_of answer fault) xs (ys ++ drop wanted xs) old new
+  is_block count wanted given modelled answer fault xs ys old new shown is size small narrow fills each has untouched after =
       let begin = over_bytes left old in
       let width = old.spec_ex.bytes_per_sample in
       let front = subst (λ a. FillsFront count a (take wanted xs) ys) shown fills in
@@ -237,15 +237,15 @@ module _ {R A : Type 0} (left : R → Option (List ℕ))
         all = grind (arith, common_steps, front, size, wide, is, long);
         part = grind (arith, common_steps, front, size, wide, is, long);
         items = subst (λ (x : List A × ReaderState (Option (List ℕ))).
-            Gives refusal meaning (items_of x.0 (answer_of answer fault)) begin x.1)
+            Gives rejection meaning (items_of x.0 (answer_of answer fault)) begin x.1)
             (λ i. (
               sym taken i,
               (ap (λ n. later begin (requested n answer) (block_bytes n width given answer) (left new.reader)) all
                   ∙ sym after) i,
             ))
-            (block_items refusal meaning (take count ys) answer fault given begin (left new.reader) few
+            (block_items rejection meaning (take count ys) answer fault given begin (left new.reader) few
             (omega (arith, bytes)) has
-            (subst (λ a. ReadsEach (refusal_at refusal old.spec_ex) (meaning_at meaning old.spec_ex) width
+            (subst (λ a. ReadsEach (rejection_at rejection old.spec_ex) (meaning_at meaning old.spec_ex) width
             (items_of (take count ys) (answer_of a fault)) (left old.reader) (left new.reader)) shown each));
         counted = grind (arith, common_steps, ap (λ (s : ReaderState _). samples_left s) after);
         rest = rest;
@@ -254,8 +254,8 @@ module _ {R A : Type 0} (left : R → Option (List ℕ))
 
   -- the items of the iterator are items of the bytes that are left
   pub items_of_bytes : (items : List (Result A Error)) (old new : ReaderState R)
-      → GivesItems left refusal meaning items old new
-      → GivesItemsOfBytes left refusal meaning items old new
+      → GivesItems left rejection meaning items old new
+      → GivesItemsOfBytes left rejection meaning items old new
   items_of_bytes [] old new same = ap (over_bytes left) same
   items_of_bytes (item ∷ items) old new (mid, step, rest) = (
     over_bytes left mid,
@@ -263,11 +263,11 @@ module _ {R A : Type 0} (left : R → Option (List ℕ))
     items_of_bytes items mid new rest,
   )
 
-module _ {A : Type 0} (refusal : SampleFormat → ℕ → ℕ → Option ReadRefusal)
+module _ {A : Type 0} (rejection : SampleFormat → ℕ → ℕ → Option ReadRejection)
     (meaning : SampleFormat → ℕ → ℕ → List ℕ → A) where
   -- a run of items counts what it took, and leaves the spec and the number of samples unchanged
   pub run_takes : (items : List (Result A Error)) (old new : ReaderState (Option (List ℕ)))
-      → Gives refusal meaning items old new → CountsTaken (λ (bytes : Option (List ℕ)). bytes) old new
+      → Gives rejection meaning items old new → CountsTaken (λ (bytes : Option (List ℕ)). bytes) old new
       × (new.spec_ex ≡ old.spec_ex) × (new.num_samples ≡ old.num_samples)
   run_takes [] old new same =
       ((0, grind (arith, common_steps), grind (arith, common_steps)), grind (arith, common_steps), grind (arith, common_steps))
@@ -277,7 +277,7 @@ module _ {A : Type 0} (refusal : SampleFormat → ℕ → ℕ → Option ReadRef
       ((n + more, grind (arith, common_steps), grind (arith, common_steps, length-drop, drop-drop)), grind (arith, common_steps), grind (arith, common_steps))
 
   -- a value that was read of known bytes
-  value_read : (r : Option ReadRefusal) (m : List ℕ → A) (width : ℕ) (xs : List ℕ)
+  value_read : (r : Option ReadRejection) (m : List ℕ → A) (width : ℕ) (xs : List ℕ)
       (new : Option (List ℕ)) (value : A) → Reads r m width (Some xs) new (Ok value)
       → (value ≡ m (take width xs)) × (new ≡ Some (drop width xs))
   value_read r m width xs new value read = grind (arith, common_steps)
@@ -285,12 +285,12 @@ module _ {A : Type 0} (refusal : SampleFormat → ℕ → ℕ → Option ReadRef
   -- the same samples come from the same bytes
   pub same_samples : (samples others : List A) (old block new : ReaderState (Option (List ℕ)))
       (xs : List ℕ) → old.reader ≡ Some xs → length samples ≡ length others
-      → Gives refusal meaning (map Ok samples) old block
-      → Gives refusal meaning (map Ok others) old new → (samples ≡ others) × (block ≡ new)
+      → Gives rejection meaning (map Ok samples) old block
+      → Gives rejection meaning (map Ok others) old new → (samples ≡ others) × (block ≡ new)
   same_samples [] [] old block new xs known size first second = (refl, first ∙ sym second)
   same_samples (sample ∷ samples) (other ∷ others) old block new xs known size (mid, step, first) (mid', step', second) =
       let width = old.spec_ex.bytes_per_sample in
-      let r = refusal_at refusal old.spec_ex in
+      let r = rejection_at rejection old.spec_ex in
       let m = meaning_at meaning old.spec_ex in
       let (is, left) = value_read r m width xs mid.reader sample
       (subst (λ b. Reads r m width b mid.reader (Ok sample)) known step.read) in
@@ -299,7 +299,7 @@ module _ {A : Type 0} (refusal : SampleFormat → ℕ → ℕ → Option ReadRef
       let same : mid' ≡ mid =
       grind (arith, common_steps) in
       let (more, end) = same_samples samples others mid block new (drop width xs) left (omega (arith, size)) first
-      (subst (λ s. Gives refusal meaning (map Ok others) s new) same second) in
+      (subst (λ s. Gives rejection meaning (map Ok others) s new) same second) in
       ((λ i. (is ∙ sym is') i ∷ more i), end)
   same_samples _ _ old block new xs known size first second = absurd (omega (arith, size))
 

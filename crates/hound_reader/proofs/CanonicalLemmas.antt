@@ -22,19 +22,19 @@ canonical_back s list w a =
     let n = length-concat s.bytes_per_sample list a.each in
     let p = pair_facts s.spec.sample_format s.spec.bits_per_sample s.bytes_per_sample w.pair in
     let size = riff_size (data_start s) (length bytes) in
-    let behind = bytes ++ padding (length bytes) in
+    let beyond = bytes ++ padding (length bytes) in
     let div : length bytes / s.bytes_per_sample ≡ length list = ap (λ t. t / s.bytes_per_sample) n
     ∙ mul-div_cancel (length list) p.some in
     let whole : length bytes % s.bytes_per_sample ≡ 0 = ap (λ t. t % s.bytes_per_sample) n
     ∙ mul-mod_left (length list) s.bytes_per_sample in (
       record {
         len = length bytes;
-        head = header_head s size (length bytes) behind w (omega (arith, a.fits, n));
+        head = header_head s size (length bytes) beyond w (omega (arith, a.fits, n));
         frames = grind (arith, common_steps, whole, div, a.frames);
         count = sym div;
       },
       ap (containers s.bytes_per_sample (length list))
-          (drop_at (header s size (length bytes)) behind (data_start s)
+          (drop_at (header s size (length bytes)) beyond (data_start s)
           (length-header s size (length bytes)))
           ∙ containers-concat s.bytes_per_sample list (padding (length bytes)) a.each,
     )

@@ -5,9 +5,9 @@ use Rattle.std.specs.Prelude.{⊤, IfSome}
 use Rattle.hound_spec.specs.declared.spec.WavSpecEx.{WavSpecEx}
 use Rattle.hound_walk.specs.declared.cause.Cause.{Cause}
 use Rattle.hound_walk.specs.declared.cause.HeadError.{HeadError}
-use Rattle.hound_walk.specs.declared.cause.HeadError.TheVariants.{Failed, Refused as Refused'}
+use Rattle.hound_walk.specs.declared.cause.HeadError.TheVariants.{Failed, Rejected as Rejected'}
 use Rattle.hound_spec.specs.declared.error.Error.{Error}
-use Rattle.hound_walk.specs.{Refuses, Readable, Unreadable, Names, ReportsError, IsRefusal, OpensAs, FailsAs}
+use Rattle.hound_walk.specs.{Rejects, Readable, Unreadable, Names, ReportsError, IsRejection, OpensAs, FailsAs}
 use Rattle.hound_number.specs.{WhereKnown}
 use Rattle.hound_walk.proofs.FileLemmas.{readable_one, readable_no_fault, unreadable_one}
 use Rattle.hound_number.proofs.KnownSteps.{known_some}
@@ -15,24 +15,24 @@ use Rattle.hound_number.proofs.KnownSteps.{known_some}
 if_some : (o : Option (List ℕ)) (Q : List ℕ → Type 0) → ((xs : List ℕ) → Q xs) → IfSome o Q
 if_some o Q f = grind (arith, common_steps)
 
-pub refusal_told : (o n : Option (List ℕ)) (stop : HeadError) (e : Error)
+pub rejection_reported : (o n : Option (List ℕ)) (stop : HeadError) (e : Error)
     (P : List ℕ → Cause → Type 0) → ReportsError stop e
-    → Refuses stop (λ c. WhereKnown o n (λ xs ys. P xs c)) → IfSome o (λ xs. IsRefusal e (P xs))
-refusal_told o n stop e P r f = grind (arith, common_steps)
+    → Rejects stop (λ c. WhereKnown o n (λ xs ys. P xs c)) → IfSome o (λ xs. IsRejection e (P xs))
+rejection_reported o n stop e P r f = grind (arith, common_steps)
 
 -- whatever ended the walk, callers get an `IoError` or the error of its cause
-pub is_told : (stop : HeadError) (e : Error) → ReportsError stop e → IsRefusal e (λ _. ⊤)
-is_told stop e r = grind (arith, common_steps)
+pub is_reported : (stop : HeadError) (e : Error) → ReportsError stop e → IsRejection e (λ _. ⊤)
+is_reported stop e r = grind (arith, common_steps)
 
 -- what can be read is opened, unless a read failed
-pub opens_told : {A : Type 0} (o n : Option (List ℕ)) (stop : HeadError) (e : Error)
+pub opens_reported : {A : Type 0} (o n : Option (List ℕ)) (stop : HeadError) (e : Error)
     (P : WavSpecEx → ℕ → A → Type 0) → ReportsError stop e
-    → Refuses stop (λ c. WhereKnown o n (λ xs ys. Unreadable xs c))
+    → Rejects stop (λ c. WhereKnown o n (λ xs ys. Unreadable xs c))
     → IfSome o (λ xs. (spec : WavSpecEx) (samples h : ℕ) → Readable xs spec samples h
     → OpensAs (Err e) (P spec samples))
-opens_told o n (Failed x) e P r f =
+opens_reported o n (Failed x) e P r f =
     if_some o _ (λ xs spec samples h a. subst (λ y. OpensAs (Err y) (P spec samples)) (sym r) tt)
-opens_told o n (Refused' c) e P r f =
+opens_reported o n (Rejected' c) e P r f =
     known_some o n _ _ f
     (λ xs ys u spec samples h a. absurd (readable_no_fault xs spec samples h c a u))
 
@@ -54,10 +54,10 @@ no_fault_ok o n spec samples place k =
     known_some o n _ (λ xs. (c : Cause) → Unreadable xs c → ⊥) k
     (λ xs ys p c u. readable_no_fault xs spec samples place c p.0 u)
 
-pub fails_told : (o n : Option (List ℕ)) (stop : HeadError) (e : Error) → ReportsError stop e
-    → Refuses stop (λ c. WhereKnown o n (λ xs ys. Unreadable xs c))
+pub fails_reported : (o n : Option (List ℕ)) (stop : HeadError) (e : Error) → ReportsError stop e
+    → Rejects stop (λ c. WhereKnown o n (λ xs ys. Unreadable xs c))
     → IfSome o (λ xs. (c : Cause) → Unreadable xs c → FailsAs e c)
-fails_told o n (Failed x) e r f = if_some o _ (λ xs c u. subst (λ y. FailsAs y c) (sym r) tt)
-fails_told o n (Refused' d) e r f =
+fails_reported o n (Failed x) e r f = if_some o _ (λ xs c u. subst (λ y. FailsAs y c) (sym r) tt)
+fails_reported o n (Rejected' d) e r f =
     known_some o n _ _ f
     (λ xs ys v c u. names_fails e c (subst (Names e) (unreadable_one xs d c v u) r))

@@ -6,11 +6,11 @@ use Rattle.std.proofs.lemmas.Int.{ints}
 use Rattle.std.proofs.lemmas.List.{drop-drop}
 use Rattle.hound_spec.specs.declared.error.Error.{Error}
 use Rattle.hound_spec.specs.declared.spec.SampleFormat.{SampleFormat}
-use Rattle.hound_sample.specs.{ReadRefusal}
+use Rattle.hound_sample.specs.{ReadRejection}
 use Rattle.hound_medium.specs.{MediumState, Shifts, IsMoved}
 use Rattle.std.proofs.lemmas.Option.{same_Some}
 use Rattle.hound_spec.specs.declared.spec.WavSpecEx.{WavSpecEx}
-use Rattle.hound_reader.specs.Reader.{ReaderState, IsNext, CountsTaken, refusal_at, meaning_at}
+use Rattle.hound_reader.specs.Reader.{ReaderState, IsNext, CountsTaken, rejection_at, meaning_at}
 use Rattle.hound_reader.specs.Seeking.{HasSought, Seeks, IsWhereCounted, IsAtCount, ReadsInPlace, PassesItem, Follows, IsMeaningOf, container_at, samples_before, bytes_before}
 use Rattle.hound_walk.specs.{unread}
 use Rattle.hound_spec.specs.{greatest_u32}
@@ -71,12 +71,12 @@ module _ {R : Type 0} (state : R → MediumState) (start time : ℕ) (old new : 
       omega (arith, p, l, whole)
 
 module _ {R A : Type 0} (state : R → MediumState) (left : R → Option (List ℕ))
-    (refusal : SampleFormat → ℕ → ℕ → Option ReadRefusal) (meaning : SampleFormat → ℕ → ℕ → List ℕ → A) where
+    (rejection : SampleFormat → ℕ → ℕ → Option ReadRejection) (meaning : SampleFormat → ℕ → ℕ → List ℕ → A) where
   -- the item after a seek
   pub sought_item : (start time : ℕ) (old mid new : ReaderState R) (next : Option (Result A Error))
       → left mid.reader ≡ Some (unread (state mid.reader)) → HasSought state start time old mid
-      → time < old.num_samples / old.spec_ex.spec.channels → refusal_at refusal old.spec_ex ≡ None
-      → IsNext left refusal meaning next mid new
+      → time < old.num_samples / old.spec_ex.spec.channels → rejection_at rejection old.spec_ex ≡ None
+      → IsNext left rejection meaning next mid new
       → IsMeaningOf (meaning_at meaning old.spec_ex)
       (container_at old.spec_ex.bytes_per_sample (samples_before time old.spec_ex)
       (drop start (state old.reader).contents)) next
@@ -89,11 +89,11 @@ module _ {R : Type 0} (left : R → Option (List ℕ)) where
   took_counted bytes old new in_place (n, count, known) = grind (arith, common_steps)
 
   -- an item leaves the rest as counted
-  pub item_counted : {A : Type 0} (refusal : SampleFormat → ℕ → ℕ → Option ReadRefusal)
+  pub item_counted : {A : Type 0} (rejection : SampleFormat → ℕ → ℕ → Option ReadRejection)
       (meaning : SampleFormat → ℕ → ℕ → List ℕ → A) (bytes : List ℕ) (old new : ReaderState R)
       (next : Option (Result A Error)) → IsWhereCounted left bytes old
-      → IsNext left refusal meaning next old new → IsWhereCounted left bytes new
-  item_counted refusal meaning bytes old new next in_place step = grind (arith, common_steps)
+      → IsNext left rejection meaning next old new → IsWhereCounted left bytes new
+  item_counted rejection meaning bytes old new next in_place step = grind (arith, common_steps)
 
 module _ {R : Type 0} (left : R → Option (List ℕ)) (state : R → MediumState) where
   -- and so does an Ok seek that doesn't go back
@@ -102,7 +102,7 @@ module _ {R : Type 0} (left : R → Option (List ℕ)) (state : R → MediumStat
       → left new.reader ≡ Some (unread (state new.reader)) → IsWhereCounted left bytes old
       → Seeks state time old new
       → old.bytes_read ≤ bytes_before time old.spec_ex → IsWhereCounted left bytes new
-  ahead_counted bytes time old new before behind in_place seeks ahead =
+  ahead_counted bytes time old new before beyond in_place seeks ahead =
       let from = old.bytes_read in
       let to = bytes_before time old.spec_ex in
       let p = (state old.reader).place in
@@ -111,19 +111,19 @@ module _ {R : Type 0} (left : R → Option (List ℕ)) (state : R → MediumStat
       let q : (state new.reader).place ≡ p + (to - from) = omega (arith, ints, e, ahead) in
       let here : drop p c ≡ drop from bytes = same_Some _ _ (sym before ∙ in_place) in
       let sum : from + (to - from) ≡ to = omega (arith, ahead) in
-      behind ∙ ap Some (ap (λ n. drop n (state new.reader).contents) q
+      beyond ∙ ap Some (ap (λ n. drop n (state new.reader).contents) q
       ∙ ap (drop (p + (to - from))) seeks.source.stays.contents
       ∙ sym (drop-drop (to - from) p c) ∙ ap (drop (to - from)) here
       ∙ drop-drop (to - from) from bytes ∙ ap (λ i. drop i bytes) (sum ∙ sym seeks.counts.bytes))
 
   -- an item of a type passes
-  pub item_passes : {A : Type 0} (refusal : SampleFormat → ℕ → ℕ → Option ReadRefusal)
+  pub item_passes : {A : Type 0} (rejection : SampleFormat → ℕ → ℕ → Option ReadRejection)
       (meaning : SampleFormat → ℕ → ℕ → List ℕ → A) (old new : ReaderState R) (item : Result A Error)
-      → IsNext left refusal meaning (Some item) old new
+      → IsNext left rejection meaning (Some item) old new
       → ReadsInPlace (state old.reader) (state new.reader) → PassesItem left state old new
-  item_passes refusal meaning old new item step place = grind (arith, common_steps)
+  item_passes rejection meaning old new item step place = grind (arith, common_steps)
 
-  module _ (told : (r : R) → left r ≡ Some (unread (state r))) where
+  module _ (modelled : (r : R) → left r ≡ Some (unread (state r))) where
     -- the source moved by what the item counts
     passed : (start : ℕ) (old new : ReaderState R) → IsAtCount state start old
         → PassesItem left state old new → IsAtCount state start new
@@ -150,16 +150,16 @@ module _ {R : Type 0} (left : R → Option (List ℕ)) (state : R → MediumStat
         )
 
     -- the item after a seek, after any items and seeks since the data began
-    pub item_after : {A : Type 0} (refusal : SampleFormat → ℕ → ℕ → Option ReadRefusal)
+    pub item_after : {A : Type 0} (rejection : SampleFormat → ℕ → ℕ → Option ReadRejection)
         (meaning : SampleFormat → ℕ → ℕ → List ℕ → A) (calls : List (Option ℕ)) (time : ℕ)
         (first old mid new : ReaderState R) (next : Option (Result A Error)) → first.bytes_read ≡ 0
         → Follows left state calls first old
         → Seeks state time old mid → time < first.num_samples / first.spec_ex.spec.channels
-        → refusal_at refusal first.spec_ex ≡ None → IsNext left refusal meaning next mid new
+        → rejection_at rejection first.spec_ex ≡ None → IsNext left rejection meaning next mid new
         → IsMeaningOf (meaning_at meaning first.spec_ex)
         (container_at first.spec_ex.bytes_per_sample (samples_before time first.spec_ex)
         (unread (state first.reader))) next
-    item_after {A} refusal meaning calls time first old mid new next fresh run seeks t taken step =
+    item_after {A} rejection meaning calls time first old mid new next fresh run seeks t taken step =
         let start = (state first.reader).place in
         let p = counted_after start calls first old (omega (arith, fresh)) run in
         let bytes = drop start (state old.reader).contents in
@@ -167,8 +167,8 @@ module _ {R : Type 0} (left : R → Option (List ℕ)) (state : R → MediumStat
         λ s l. IsMeaningOf (meaning_at meaning s)
         (container_at s.bytes_per_sample (samples_before time s) l) next in
         let inside : time < old.num_samples / old.spec_ex.spec.channels = rw (p.2, p.3) t in
-        let takes : refusal_at refusal old.spec_ex ≡ None = rw p.2 taken in
+        let takes : rejection_at rejection old.spec_ex ≡ None = rw p.2 taken in
         let there =
-        sought_item state left refusal meaning start time old mid new next (told mid.reader)
+        sought_item state left rejection meaning start time old mid new next (modelled mid.reader)
         (record { at_count = p.0; seeks = seeks }) inside takes step in
         subst (λ l. P first.spec_ex l) (ap (drop start) p.1) (subst (λ s. P s bytes) p.2 there)

@@ -6,7 +6,7 @@ use Rattle.hound_spec.specs.declared.error.Error.{Error}
 use Rattle.hound_spec.specs.declared.error.Error.TheVariants.{IoError}
 use Rattle.hound_spec.specs.declared.spec.SampleFormat.{SampleFormat}
 use Rattle.hound_spec.specs.declared.spec.WavSpecEx.{WavSpecEx}
-use Rattle.hound_sample.specs.{ReadRefusal, Reads, error_of_read, ReadsItem, error_of_sample, ReadsEach, items_of, answer_of}
+use Rattle.hound_sample.specs.{ReadRejection, Reads, error_of_read, ReadsItem, error_of_sample, ReadsEach, items_of, answer_of}
 use Rattle.hound_walk.specs.{IsSoundSpec, AreTaken}
 use Rattle.hound_spec.specs.{greatest_u32}
 use Rattle.std.specs.declared.io.Error.{Error as IoFault}
@@ -57,21 +57,21 @@ CountsTaken left old new = (n : ℕ) × (new.bytes_read ≡ old.bytes_read + n)
     × WhereKnown (left old.reader) (left new.reader) (AreTaken n)
 
 -- why a type doesn't read, and its meaning, at the format, the width and the bits of a spec
-abbrev pub refusal_at : (SampleFormat → ℕ → ℕ → Option ReadRefusal) → WavSpecEx → Option ReadRefusal
-refusal_at refusal s = refusal s.spec.sample_format s.bytes_per_sample s.spec.bits_per_sample
+abbrev pub rejection_at : (SampleFormat → ℕ → ℕ → Option ReadRejection) → WavSpecEx → Option ReadRejection
+rejection_at rejection s = rejection s.spec.sample_format s.bytes_per_sample s.spec.bits_per_sample
 
 abbrev pub meaning_at : {A : Type 0} → (SampleFormat → ℕ → ℕ → List ℕ → A) → WavSpecEx → List ℕ → A
 meaning_at meaning s = meaning s.spec.sample_format s.bytes_per_sample s.spec.bits_per_sample
 
 -- An item of a type with these tables was given: it is what `read` of the type returns, and it
 -- counts.
-pub record GivesItem {R A : Type 0} (left : R → Option (List ℕ)) (refusal : Option ReadRefusal)
+pub record GivesItem {R A : Type 0} (left : R → Option (List ℕ)) (rejection : Option ReadRejection)
     (meaning : List ℕ → A) (item : Result A Error) (old new : ReaderState R) : Type 0 where
   pub inside : old.samples_read < old.num_samples
   pub counted : new.samples_read ≡ old.samples_read + 1
-  pub read : Reads refusal meaning old.spec_ex.bytes_per_sample (left old.reader) (left new.reader)
+  pub read : Reads rejection meaning old.spec_ex.bytes_per_sample (left old.reader) (left new.reader)
       item
-  pub untouched : IsSome refusal → new.reader ≡ old.reader
+  pub untouched : IsSome rejection → new.reader ≡ old.reader
   pub bytes : TookBytes old.spec_ex.bytes_per_sample item old.bytes_read new.bytes_read
   pub taken : CountsTaken left old new
   pub spec_ex : new.spec_ex ≡ old.spec_ex
@@ -79,10 +79,10 @@ pub record GivesItem {R A : Type 0} (left : R → Option (List ℕ)) (refusal : 
 
 -- `next`: an item while samples are left, then None and nothing changes
 abbrev pub IsNext : {R A : Type 0} → (R → Option (List ℕ))
-    → (SampleFormat → ℕ → ℕ → Option ReadRefusal) → (SampleFormat → ℕ → ℕ → List ℕ → A) → Option (Result A Error)
+    → (SampleFormat → ℕ → ℕ → Option ReadRejection) → (SampleFormat → ℕ → ℕ → List ℕ → A) → Option (Result A Error)
     → ReaderState R → ReaderState R → Type 0
-IsNext left refusal meaning None old new = (old.num_samples ≤ old.samples_read) × (new ≡ old)
-IsNext left refusal meaning (Some item) old new = GivesItem left (refusal_at refusal old.spec_ex)
+IsNext left rejection meaning None old new = (old.num_samples ≤ old.samples_read) × (new ≡ old)
+IsNext left rejection meaning (Some item) old new = GivesItem left (rejection_at rejection old.spec_ex)
     (meaning_at meaning old.spec_ex) item old new
 
 -- containers of the width of a spec, in whole frames, whose bytes 32 bits can count
@@ -94,11 +94,11 @@ pub record AreContainers (s : WavSpecEx) (list : List (List ℕ)) : Type 0 where
 -- The first items of data with containers of this width: each is the error of the type, or each
 -- is the meaning of its own container, which is complete. Nothing is claimed after the first
 -- `IoError`.
-abbrev pub AreItems : {A : Type 0} → Option ReadRefusal → (List ℕ → A) → ℕ → List ℕ
+abbrev pub AreItems : {A : Type 0} → Option ReadRejection → (List ℕ → A) → ℕ → List ℕ
     → List (Result A Error) → Type 0
-AreItems refusal meaning width bytes [] = ⊤
-AreItems (Some refusal) meaning width bytes (item ∷ items) = (item ≡ Err (error_of_read refusal))
-    × AreItems (Some refusal) meaning width bytes items
+AreItems rejection meaning width bytes [] = ⊤
+AreItems (Some rejection) meaning width bytes (item ∷ items) = (item ≡ Err (error_of_read rejection))
+    × AreItems (Some rejection) meaning width bytes items
 AreItems None meaning width bytes (Ok value ∷ items) = (width ≤ length bytes)
     × (value ≡ meaning (take width bytes)) × AreItems None meaning width (drop width bytes) items
 AreItems None meaning width bytes (Err (IoError e) ∷ items) = ⊤
@@ -106,29 +106,29 @@ AreItems None meaning width bytes (Err _ ∷ items) = ⊥
 
 -- these items were given one after the other
 abbrev pub GivesItems : {R A : Type 0} → (R → Option (List ℕ))
-    → (SampleFormat → ℕ → ℕ → Option ReadRefusal) → (SampleFormat → ℕ → ℕ → List ℕ → A) → List (Result A Error)
+    → (SampleFormat → ℕ → ℕ → Option ReadRejection) → (SampleFormat → ℕ → ℕ → List ℕ → A) → List (Result A Error)
     → ReaderState R → ReaderState R → Type 0
-GivesItems left refusal meaning [] old new = new ≡ old
-GivesItems {R} left refusal meaning (item ∷ items) old new = (mid : ReaderState R)
-    × IsNext left refusal meaning (Some item) old mid
-    × GivesItems left refusal meaning items mid new
+GivesItems left rejection meaning [] old new = new ≡ old
+GivesItems {R} left rejection meaning (item ∷ items) old new = (mid : ReaderState R)
+    × IsNext left rejection meaning (Some item) old mid
+    × GivesItems left rejection meaning items mid new
 
 -- a sample of a spec is read as `read_item` of a type does it
-abbrev pub AnswersRead : {A : Type 0} → (SampleFormat → ℕ → ℕ → Option ReadRefusal)
+abbrev pub AnswersRead : {A : Type 0} → (SampleFormat → ℕ → ℕ → Option ReadRejection)
     → (SampleFormat → ℕ → ℕ → List ℕ → A) → WavSpecEx → Option (List ℕ) → Option (List ℕ) → Result A SampleError
     → Type 0
-AnswersRead refusal meaning s old new answer =
-    ReadsItem (refusal_at refusal s) (meaning_at meaning s) s.bytes_per_sample old new answer
+AnswersRead rejection meaning s old new answer =
+    ReadsItem (rejection_at rejection s) (meaning_at meaning s) s.bytes_per_sample old new answer
 
 -- the next item is given, whichever the fault of one without a sample is
 abbrev pub AnswersNext : {R A : Type 0} → (R → Option (List ℕ))
-    → (SampleFormat → ℕ → ℕ → Option ReadRefusal) → (SampleFormat → ℕ → ℕ → List ℕ → A)
+    → (SampleFormat → ℕ → ℕ → Option ReadRejection) → (SampleFormat → ℕ → ℕ → List ℕ → A)
     → Option (Result A SampleError) → ReaderState R → ReaderState R → Type 0
-AnswersNext left refusal meaning None old new = IsNext left refusal meaning None old new
-AnswersNext left refusal meaning (Some (Ok value)) old new =
-    IsNext left refusal meaning (Some (Ok value)) old new
-AnswersNext left refusal meaning (Some (Err no_sample)) old new = (fault : IoFault)
-    → IsNext left refusal meaning (Some (Err (error_of_sample no_sample fault))) old new
+AnswersNext left rejection meaning None old new = IsNext left rejection meaning None old new
+AnswersNext left rejection meaning (Some (Ok value)) old new =
+    IsNext left rejection meaning (Some (Ok value)) old new
+AnswersNext left rejection meaning (Some (Err no_sample)) old new = (fault : IoFault)
+    → IsNext left rejection meaning (Some (Err (error_of_sample no_sample fault))) old new
 
 -- how many bytes an item without a sample took, of those given for it: what was given of a
 -- container of this width if a fault or the end cut it, and none at an error of the type
@@ -149,10 +149,10 @@ over_bytes left reading = record {
 
 -- these items came from the bytes that are left, one after the other
 abbrev pub GivesItemsOfBytes : {R A : Type 0} → (R → Option (List ℕ))
-    → (SampleFormat → ℕ → ℕ → Option ReadRefusal) → (SampleFormat → ℕ → ℕ → List ℕ → A)
+    → (SampleFormat → ℕ → ℕ → Option ReadRejection) → (SampleFormat → ℕ → ℕ → List ℕ → A)
     → List (Result A Error) → ReaderState R → ReaderState R → Type 0
-GivesItemsOfBytes left refusal meaning items old new = GivesItems (λ (bytes : Option (List ℕ)). bytes)
-    refusal meaning items (over_bytes left old) (over_bytes left new)
+GivesItemsOfBytes left rejection meaning items old new = GivesItems (λ (bytes : Option (List ℕ)). bytes)
+    rejection meaning items (over_bytes left old) (over_bytes left new)
 
 -- how many samples a block requested: those that came, and the one in whose place an error came
 abbrev pub requested : {T E : Type 0} → ℕ → Result T E → ℕ
@@ -162,23 +162,23 @@ requested count (Err error) = count + 1
 -- `read_samples`: a block is items. The samples that came are the front of the slice, `count` of them:
 -- all that fit or are left, or fewer if the next item is the error. The rest of the slice stays.
 pub record ReadsBlock {R A : Type 0} (left : R → Option (List ℕ))
-    (refusal : SampleFormat → ℕ → ℕ → Option ReadRefusal)
+    (rejection : SampleFormat → ℕ → ℕ → Option ReadRejection)
     (meaning : SampleFormat → ℕ → ℕ → List ℕ → A) (count : ℕ) (result : Result (Unit {0}) Error)
     (before after : List A) (old new : ReaderState R) : Type 0 where
   pub within : count ≤ min (length after) (samples_left old)
   pub all : OnOk result (count ≡ min (length after) (samples_left old))
   pub part : OnErr result (count < min (length after) (samples_left old))
-  pub items : GivesItemsOfBytes left refusal meaning (items_of (take count after) result) old new
+  pub items : GivesItemsOfBytes left rejection meaning (items_of (take count after) result) old new
   pub counted : samples_left new ≡ samples_left old - requested count result
   pub rest : drop count after ≡ drop count before
-  pub untouched : IsSome (refusal_at refusal old.spec_ex) → new.reader ≡ old.reader
+  pub untouched : IsSome (rejection_at rejection old.spec_ex) → new.reader ≡ old.reader
 
 -- samples of a spec are read as `read` of a type does it, whichever the fault is
-abbrev pub AnswersReadMany : {A : Type 0} → (SampleFormat → ℕ → ℕ → Option ReadRefusal)
+abbrev pub AnswersReadMany : {A : Type 0} → (SampleFormat → ℕ → ℕ → Option ReadRejection)
     → (SampleFormat → ℕ → ℕ → List ℕ → A) → WavSpecEx → Option (List ℕ) → Option (List ℕ) → List A
     → Result (Unit {0}) SampleError → Type 0
-AnswersReadMany refusal meaning s old new values answer = (fault : IoFault)
-    → ReadsEach (refusal_at refusal s) (meaning_at meaning s) s.bytes_per_sample
+AnswersReadMany rejection meaning s old new values answer = (fault : IoFault)
+    → ReadsEach (rejection_at rejection s) (meaning_at meaning s) s.bytes_per_sample
     (items_of values (answer_of answer fault)) old new
 
 -- If the bytes are known, those that were left at first and are not left now have been given, from

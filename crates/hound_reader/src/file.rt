@@ -1,7 +1,7 @@
 // Readers of files on disk.
 ghost use Rattle.std.specs.Prelude.{◌≡◌, ◌⊎◌, ⊤, IfOk, IfErr};
 ghost use Rattle.hound_reader.specs.Reader.{HasWholeFrames};
-ghost use Rattle.hound_walk.specs.{IsRefusal};
+ghost use Rattle.hound_walk.specs.{IsRejection};
 ghost use Rattle.hound_spec.specs.declared.error.Error.TheVariants.{OutOfMemory};
 
 use crate::WavReader;
@@ -30,7 +30,7 @@ impl WavReader<io::BufReader<fs::File>> {
     ) -> Result<WavReader<io::BufReader<fs::File>>>
         ensures fresh { IfOk result (λ r. (r.samples_read ≡ 0) × (r.bytes_read ≡ 0)) }
         ensures sound { IfOk result (λ r. HasWholeFrames r) }
-        ensures told { IfErr result (λ e. (e ≡ OutOfMemory) ⊎ IsRefusal e (λ _. ⊤)) }
+        ensures reported { IfErr result (λ e. (e ≡ OutOfMemory) ⊎ IsRejection e (λ _. ⊤)) }
     {
         let file = fs::open(rt, path)?;
         let Ok(reader) = io::BufReader::new(alloc, file) else {

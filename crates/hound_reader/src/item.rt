@@ -2,7 +2,7 @@
 ghost use Rattle.std.specs.Prelude.{◌≡◌, ◌<◌, ◌≤◌, List, Option, Result, ℕ, None, IsSome, IfSome, length, take};
 ghost use Rattle.hound_sample.specs.{FillsFront};
 ghost use Rattle.hound_sample.specs.declared.item.SampleError.{SampleError};
-ghost use Rattle.hound_reader.specs.Reader.{AnswersReadMany, refusal_at, AnswersRead, taken_without, HasGiven, HasGiven-prop};
+ghost use Rattle.hound_reader.specs.Reader.{AnswersReadMany, rejection_at, AnswersRead, taken_without, HasGiven, HasGiven-prop};
 ghost use Rattle.std.specs.Borrow.{GName};
 ghost use Rattle.std.specs.Io.KnownBytes.{Consumes, IsAtEnd, Keeps};
 ghost use Rattle.hound_spec.specs.declared.spec.WavSpecEx.{WavSpecEx};
@@ -189,9 +189,9 @@ pub(crate) fn read_item_since<'a, R: io::Read, S: Sample, B: CountStart>(
 ) -> (&'a mut SavingReader<R>, u64)
     requires left { B.left ≡ R.remaining reader.now.reader }
     requires lender { B.lender ≡ reader.ghost_name }
-    ensures answers { AnswersRead S.refusal S.meaning spec_ex (R.remaining reader.entry.now.reader)
+    ensures answers { AnswersRead S.rejection S.meaning spec_ex (R.remaining reader.entry.now.reader)
         (R.remaining result.0.now.reader) answer.new }
-    ensures untouched { IsSome (refusal_at S.refusal spec_ex) → result.0.now ≡ reader.entry.now }
+    ensures untouched { IsSome (rejection_at S.rejection spec_ex) → result.0.now ≡ reader.entry.now }
     ensures given { HasGiven (R.remaining reader.entry.now.reader) result.1
         (R.remaining result.0.now.reader) }
     ensures stays { result.0.ghost_name ≡ reader.entry.ghost_name }
@@ -220,10 +220,10 @@ fn read_many<R: io::Read, S: Sample>(
     spec_ex: WavSpecEx,
     samples: &mut [S],
 ) -> (usize, result::Result<(), SampleError>)
-    ensures answers { AnswersReadMany S.refusal S.meaning spec_ex (R.remaining reader.old)
+    ensures answers { AnswersReadMany S.rejection S.meaning spec_ex (R.remaining reader.old)
         (R.remaining reader.new) (take result.0 samples.new) result.1 }
     ensures front { FillsFront result.0 result.1 samples.old samples.new }
-    ensures untouched { IsSome (refusal_at S.refusal spec_ex) → reader.new ≡ reader.old }
+    ensures untouched { IsSome (rejection_at S.rejection spec_ex) → reader.new ≡ reader.old }
 {
     let spec = spec_ex.spec;
     let width = spec_ex.bytes_per_sample;
@@ -250,11 +250,11 @@ pub(crate) fn read_many_since<'a, R: io::Read, S: Sample, B: CountStart>(
 ) -> (&'a mut SavingReader<R>, u64)
     requires left { B.left ≡ R.remaining reader.now.reader }
     requires lender { B.lender ≡ reader.ghost_name }
-    ensures answers { AnswersReadMany S.refusal S.meaning spec_ex
+    ensures answers { AnswersReadMany S.rejection S.meaning spec_ex
         (R.remaining reader.entry.now.reader) (R.remaining result.0.now.reader)
         (take answer.new.0 samples.new) answer.new.1 }
     ensures front { FillsFront answer.new.0 answer.new.1 samples.old samples.new }
-    ensures untouched { IsSome (refusal_at S.refusal spec_ex) → result.0.now ≡ reader.entry.now }
+    ensures untouched { IsSome (rejection_at S.rejection spec_ex) → result.0.now ≡ reader.entry.now }
     ensures given { HasGiven (R.remaining reader.entry.now.reader) result.1
         (R.remaining result.0.now.reader) }
     ensures stays { result.0.ghost_name ≡ reader.entry.ghost_name }

@@ -2,7 +2,7 @@
 ghost use Rattle.std.specs.Prelude.{◌≡◌, ℕ, ◌*◌, ◌/◌, ◌%◌, ⊤, Some, drop, IsTrue, IfOk, IfErr, IfSome, MatchResult};
 ghost use Rattle.hound_number.specs.{WhereKnown};
 ghost use Rattle.hound_spec.specs.declared.spec.WavSpecEx.{WavSpecEx};
-ghost use Rattle.hound_walk.specs.{Readable, Unreadable, IsRefusal, IsSoundSpec, OpensAs, FailsAs, TakesAll, UnreadableAfter, unread};
+ghost use Rattle.hound_walk.specs.{Readable, Unreadable, IsRejection, IsSoundSpec, OpensAs, FailsAs, TakesAll, UnreadableAfter, unread};
 ghost use Rattle.hound_reader.specs.Opening.{FindsSamples, IsNotOpened, OpensSource};
 ghost use Rattle.hound_walk.specs.declared.cause.Cause.{Cause};
 ghost use Rattle.hound_medium.specs.{Shifts, WhereTells};
@@ -15,7 +15,7 @@ use crate::samples::{WavIntoSamples, WavSamples};
 use hound_medium::{Placed, Source};
 use hound_sample::{Sample, SampleError, error_of_sample};
 use hound_spec::{Error, Result, WavSpec, WavSpecEx};
-use hound_walk::{Counted, FileHead, HeadError, error_of, read_until_samples};
+use hound_walk::{FileHead, HeadError, SourceReader, error_of, read_until_samples};
 use std::io::ErrorKind;
 use std::marker::{Brand, Model, PhantomData};
 use std::{io, result};
@@ -78,9 +78,9 @@ impl<R: io::Read + Drop> WavReader<R> {
             (h : ℕ) × Readable xs r.spec_ex r.num_samples h × (ys ≡ drop h xs))) }
         ensures fresh { IfOk result (λ r. (r.samples_read ≡ 0) × (r.bytes_read ≡ 0)) }
         ensures sound { IfOk result (λ r. HasWholeFrames r) }
-        ensures refused { IfErr result (λ e. IfSome (R.remaining reader)
-            (λ xs. IsRefusal e (Unreadable xs))) }
-        ensures told { IfErr result (λ e. IsRefusal e (λ _. ⊤)) }
+        ensures rejected { IfErr result (λ e. IfSome (R.remaining reader)
+            (λ xs. IsRejection e (Unreadable xs))) }
+        ensures reported { IfErr result (λ e. IsRejection e (λ _. ⊤)) }
         ensures readable { IfSome (R.remaining reader)
             (λ xs. (spec_ex : WavSpecEx) (samples h : ℕ) →
             Readable xs spec_ex samples h → OpensAs result (λ r. (r.spec_ex ≡ spec_ex)
@@ -205,7 +205,7 @@ impl<R: io::Read + Drop> WavReader<R> {
     /// result?; // Ok, or why no more samples came.
     /// ```
     pub fn read_samples<S: Sample>(&mut self, samples: &mut [S]) -> (usize, Result<()>)
-        ensures { ReadsBlock R.remaining S.refusal S.meaning result.0 result.1 samples.old
+        ensures { ReadsBlock R.remaining S.rejection S.meaning result.0 result.1 samples.old
             samples.new self.old self.new }
     {
         let wanted = samples.len().min(self.samples_left() as usize);
@@ -276,7 +276,7 @@ impl<R: io::Read + Drop> WavReader<R> {
         spec_ex: WavSpecEx,
     ) -> Option<result::Result<S, SampleError>>
         requires { spec_ex ≡ self.old.spec_ex }
-        ensures answers { AnswersNext R.remaining S.refusal S.meaning result self.old self.new }
+        ensures answers { AnswersNext R.remaining S.rejection S.meaning result self.old self.new }
         ensures same { self.new.spec_ex ≡ self.old.spec_ex }
     {
         if self.samples_read >= self.num_samples as u64 {
@@ -313,7 +313,7 @@ fn find_samples<S: Source>(source: S) -> (S, result::Result<(FileHead, u32), Hea
     ensures taken { WhereTells S.tells (IfErr result.1 (TakesAll UnreadableAfter
         (Some (unread (S.state source))) (Some (unread (S.state result.0))))) }
 {
-    let mut input = Counted { source };
+    let mut input = SourceReader { source };
     let answer = read_until_samples(&mut input);
     (input.source, answer)
 }
@@ -328,9 +328,9 @@ impl<R: Source> WavReader<R> {
     pub fn try_new(source: R) -> result::Result<WavReader<R>, (R, Error)>
         ensures fresh { IfOk result (λ r. (r.samples_read ≡ 0) × (r.bytes_read ≡ 0)) }
         ensures sound { IfOk result (λ r. HasWholeFrames r) }
-        ensures told { IfErr result (λ refused. IsRefusal refused.1 (λ _. ⊤)) }
+        ensures reported { IfErr result (λ rejected. IsRejection rejected.1 (λ _. ⊤)) }
         ensures opens { WhereTells R.tells (MatchResult result (OpensSource (R.state source) R.state)
-            (λ refused. IsNotOpened (R.state source) (R.state refused.0) refused.1)) }
+            (λ rejected. IsNotOpened (R.state source) (R.state rejected.0) rejected.1)) }
     {
         let (source, found) = find_samples(source);
         match found {

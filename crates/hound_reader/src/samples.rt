@@ -33,7 +33,7 @@ impl<R: io::Read + Drop, S: Sample> Iterator for WavSamples<'_, R, S> {
 
     type Item = Result<S>;
 
-    ghost next_gives = { LendsNext R.remaining S.refusal S.meaning };
+    ghost next_gives = { LendsNext R.remaining S.rejection S.meaning };
 
     ghost remaining = { λ s. at_most (samples_left (lent_reader s)) };
 
@@ -77,7 +77,7 @@ impl<R: io::Read + Drop, S: Sample> Iterator for WavIntoSamples<R, S> {
 
     type Item = Result<S>;
 
-    ghost next_gives = { TakesNext R.remaining S.refusal S.meaning };
+    ghost next_gives = { TakesNext R.remaining S.rejection S.meaning };
 
     ghost remaining = { λ s. at_most (samples_left (taken_reader s)) };
 

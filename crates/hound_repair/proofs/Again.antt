@@ -9,7 +9,7 @@ use Rattle.hound_spec.specs.{riff_size}
 use Rattle.hound_medium.specs.{MediumState}
 use Rattle.hound_walk.specs.{Head}
 use Rattle.hound_walk.proofs.Unique.{heads_agree}
-use Rattle.hound_writer.proofs.Heads.{head_behind, head_field, head_inside}
+use Rattle.hound_writer.proofs.Heads.{head_beyond, head_field, head_inside}
 use Rattle.hound_writer.specs.{field}
 use Rattle.hound_repair.specs.Held.{is_followed, are_right, data_held, ends_with_pad, frame_length, frames_held, held, mended, missing_pad, shown_length, uncounted}
 use Rattle.hound_repair.specs.Repairing.{HasRightSizes, IsFoundAt, LeavesFor, Repairs, found_length, state_of}
@@ -64,7 +64,7 @@ right_again s start len riff shown n frames len_is riff_is held_is = grind (arit
 -- how many bytes a mended file holds
 held_mended : (start n : ℕ) (c : List ℕ) → 20 ≤ start → start ≤ length c
     → held start (mended start n c) ≡ held start c + length (missing_pad n (held start c))
-held_mended start n c behind inside = grind (arith, common_steps, same_sizes, length-drop, length-append)
+held_mended start n c beyond inside = grind (arith, common_steps, same_sizes, length-drop, length-append)
 
 -- a pad byte is 0, where one is missing
 pad_cases : (k n : ℕ) → (missing_pad k n ≡ []) ⊎ (missing_pad k n ≡ 0 ∷ [])
@@ -73,7 +73,7 @@ pad_cases k n = grind (arith, common_steps)
 -- the data of a mended file, and a pad byte after them where it was missing
 rest_mended : (start n : ℕ) (c : List ℕ) → 20 ≤ start → start ≤ length c
     → drop start (mended start n c) ≡ drop start c ++ missing_pad n (held start c)
-rest_mended start n c behind inside = grind (arith, common_steps, same_sizes, drop-append-le)
+rest_mended start n c beyond inside = grind (arith, common_steps, same_sizes, drop-append-le)
 
 -- of the same data the same frames are held, whatever the right length is written over
 frames_same_data : (f start len all : ℕ) (c : List ℕ) → 1 ≤ f
@@ -126,7 +126,7 @@ frames_mended looks contents found len start at apart some =
     let s = found.spec_ex in
     let all = found_length found in
     frames_padded looks contents (mended start all contents) found len start at apart some
-    (rest_mended start all contents (head_behind contents s len start at.head) (head_inside contents s len start at.head))
+    (rest_mended start all contents (head_beyond contents s len start at.head) (head_inside contents s len start at.head))
 
 module _ (looks again : Bool) (old mid next new : MediumState) (found other : Repair)
     (first : Repairs looks old found mid)

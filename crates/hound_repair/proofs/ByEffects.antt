@@ -7,16 +7,16 @@ use Rattle.hound_spec.specs.declared.error.Error.{Error}
 use Rattle.hound_spec.specs.declared.error.Error.TheVariants.{IoError}
 use Rattle.hound_medium.specs.{MediumState, moment, one_more, overlay}
 use Rattle.hound_writer.specs.{IsIoError, PutsNothing}
-use Rattle.hound_writer.proofs.Heads.{head_behind, head_inside}
+use Rattle.hound_writer.proofs.Heads.{head_beyond, head_inside}
 use Rattle.hound_repair.specs.Damages.{FindsDamage, IsSoundDamage, repair_of}
 use Rattle.hound_repair.specs.Held.{held}
 use Rattle.hound_repair.specs.Repairing.{IsNotFound, Repairs}
-use Rattle.hound_repair.specs.Steps.{IsNotLookedAt, IsNotRepaired, Mends, MendsAtEach, PartlyMended, PerformedOn, Tells, effects_for, mending, mending_effects, refused_for}
+use Rattle.hound_repair.specs.Steps.{IsNotLookedAt, IsNotRepaired, Mends, MendsAtEach, PartlyMended, PerformedOn, Tells, effects_for, mending, mending_effects, rejected_for}
 use Rattle.hound_repair.specs.declared.look.Damage.{Damage}
 use Rattle.hound_repair.specs.declared.sizes.RepairState.{RepairState}
 use Rattle.hound_repair.specs.declared.sizes.RepairState.TheVariants.{Whole, CutOff, HasChunksAfterData}
 use Rattle.hound_repair.specs.declared.steps.LookError.{LookError}
-use Rattle.hound_repair.specs.declared.steps.LookError.TheVariants.{Failed, Refused}
+use Rattle.hound_repair.specs.declared.steps.LookError.TheVariants.{Failed, Rejected}
 use Rattle.hound_repair.proofs.Mending.{length_is, put_ok, repairs_kept}
 use Rattle.hound_repair.proofs.Performing.{allowed, faults_of, mends, spans}
 use Rattle.hound_repair.proofs.RightSizes.{length_fits}
@@ -25,31 +25,31 @@ is_true : {b : Bool} → IsTrue b → b ≡ true
 is_true {b = b} kept = grind (arith, common_steps)
 
 -- a file that isn't looked at
-pub not_by : (looks : Bool) (error : LookError) (told : Error) (old new : MediumState)
-    → IsNotLookedAt error old new → Tells error told → IsNotRepaired looks old new told
-not_by looks (Failed e) told old new finds tells = record {
+pub not_by : (looks : Bool) (error : LookError) (outcome : Error) (old new : MediumState)
+    → IsNotLookedAt error old new → Tells error outcome → IsNotRepaired looks old new outcome
+not_by looks (Failed e) outcome old new finds tells = record {
   why = inr (subst IsIoError (sym tells) tt, inl finds.puts, finds.faults);
 }
-not_by looks (Refused why) told old new finds tells = record {
-  why = inl (refused_for why, finds.1, tells, finds.0.puts, finds.0.faults);
+not_by looks (Rejected why) outcome old new finds tells = record {
+  why = inl (rejected_for why, finds.1, tells, finds.0.puts, finds.0.faults);
 }
 
 -- nor found
-pub not_found_by : (error : LookError) (told : Error) (old new : MediumState)
-    → IsNotLookedAt error old new → Tells error told → IsNotFound old new told
-not_found_by (Failed e) told old new finds tells = record {
+pub not_found_by : (error : LookError) (outcome : Error) (old new : MediumState)
+    → IsNotLookedAt error old new → Tells error outcome → IsNotFound old new outcome
+not_found_by (Failed e) outcome old new finds tells = record {
   puts = finds.puts;
   why = inr (subst IsIoError (sym tells) tt, finds.faults);
 }
-not_found_by (Refused why) told old new finds tells = record {
+not_found_by (Rejected why) outcome old new finds tells = record {
   puts = finds.0.puts;
-  why = inl (refused_for why, finds.1, tells, finds.0.faults);
+  why = inl (rejected_for why, finds.1, tells, finds.0.faults);
 }
 
 pub not_by_moments : (looks : Bool) (error : LookError) (old new : MediumState)
     → IsNotLookedAt error old new → MendsAtEach looks old new
 not_by_moments looks (Failed e) old new finds = inl finds.puts.stays.past
-not_by_moments looks (Refused why) old new finds = inl finds.0.puts.stays.past
+not_by_moments looks (Rejected why) old new finds = inl finds.0.puts.stays.past
 
 module _ (looks keeps : Bool) (old mid new : MediumState) (d : Damage) (sound : IsSoundDamage d)
     (finds : FindsDamage looks old d mid) (small : AreBytes mid.contents) where
@@ -69,7 +69,7 @@ module _ (looks keeps : Bool) (old mid new : MediumState) (d : Damage) (sound : 
   mends_mid result cut performed =
       let same = finds.puts.stays.contents in
       mends keeps start n mid.contents
-      (head_behind old.contents d.head.spec_ex d.head.data_length start finds.found.head)
+      (head_beyond old.contents d.head.spec_ex d.head.data_length start finds.found.head)
       (omega (arith, ap length same, head_inside old.contents d.head.spec_ex d.head.data_length start finds.found.head))
       small (fits cut) result mid new refl
       (subst (λ h. PerformedOn keeps (mending_effects start n h) result mid new)
@@ -133,7 +133,7 @@ module _ (looks keeps : Bool) (old mid new : MediumState) (d : Damage) (sound : 
       let same = finds.puts.stays.contents in
       let span = spans (PartlyMended start n mid.contents) (mending_effects start n (held start mid.contents)) result mid new
       (allowed true start n mid.contents
-      (head_behind old.contents d.head.spec_ex d.head.data_length start finds.found.head)
+      (head_beyond old.contents d.head.spec_ex d.head.data_length start finds.found.head)
       (omega (arith, ap length same, head_inside old.contents d.head.spec_ex d.head.data_length start finds.found.head))
       small (fits is)) replays
       (subst (λ h. PerformedOn true (mending_effects start n h) result mid new)

@@ -20,20 +20,20 @@ use Rattle.hound_repair.proofs.Mending.{length_is, mended_by, repairs_cut}
 pub two_put : (p riff len : ℕ) (c x y : List ℕ) → 8 ≤ p → p + 4 ≤ length c → x ≡ bytes_of 4 riff
     → y ≡ bytes_of 4 len → put_mid p 4 (put_mid 4 4 c x) y ≡ with_sizes p riff len c
 unfolding with_sizes
-two_put p riff len c x y behind inside x_is y_is =
+two_put p riff len c x y beyond inside x_is y_is =
     let four : length x ≡ 4 = ap length x_is ∙ length-bytes_of 4 riff in
     let front = take 4 c ++ x in
     let long : length front ≡ 8 =
-    omega (arith, four, length-append (take 4 c) x, length-take-le 4 c (omega (arith, inside, behind))) in
+    omega (arith, four, length-append (take 4 c) x, length-take-le 4 c (omega (arith, inside, beyond))) in
     let is : take 4 c ++ (x ++ drop 8 c) ≡ front ++ drop 8 c = sym (append_assoc (take 4 c) x (drop 8 c)) in
-    let count : p ≡ length front + (p - 8) = omega (arith, long, behind) in
-    let eight : p ≡ 8 + (p - 8) = omega (arith, behind) in
+    let count : p ≡ length front + (p - 8) = omega (arith, long, beyond) in
+    let eight : p ≡ 8 + (p - 8) = omega (arith, beyond) in
     let first : take p (take 4 c ++ (x ++ drop 8 c)) ≡ front ++ drop 8 (take p c) =
     ap (take p) is ∙ ap (λ k. take k (front ++ drop 8 c)) count
     ∙ take-append-add front (drop 8 c) (p - 8)
     ∙ ap (λ l. front ++ l) (sym (drop-take 8 (p - 8) c) ∙ ap (λ k. drop 8 (take k c)) (sym eight)) in
     let last : drop (p + 4) (take 4 c ++ (x ++ drop 8 c)) ≡ drop (p + 4) c =
-    ap (drop (p + 4)) is ∙ drop-append-drop 8 c front (p + 4) (omega (arith, behind)) long in
+    ap (drop (p + 4)) is ∙ drop-append-drop 8 c front (p + 4) (omega (arith, beyond)) long in
     ap (λ l. put_mid p 4 (take 4 c ++ (x ++ l)) y) (drop-drop 4 4 c)
     ∙ ap (λ l. take p (take 4 c ++ (x ++ drop 8 c)) ++ (y ++ l)) (drop-drop 4 p (take 4 c ++ (x ++ drop 8 c)))
     ∙ (λ i. first i ++ (y_is i ++ last i))

@@ -12,7 +12,7 @@ use Rattle.hound_walk.specs.{Head, IsSoundSpec}
 use Rattle.hound_walk.proofs.Unique.{head_no_fault, heads_agree}
 use Rattle.hound_sample.proofs.Joined.{length-concat, containers-concat}
 use Rattle.hound_sample.proofs.Containers.{containers_front}
-use Rattle.hound_writer.proofs.Heads.{head_behind, head_inside}
+use Rattle.hound_writer.proofs.Heads.{head_beyond, head_inside}
 use Rattle.hound_writer.specs.{IsStored, IsIoError, AppendFault, NamesFault, PutsNothing}
 use Rattle.hound_repair.specs.Held.{data_held, ends_with_pad, frame_length, held, shown_length}
 use Rattle.hound_spec.specs.declared.error.Error.{Error}
@@ -51,7 +51,7 @@ data_stay : (state : RepairState) (found : Repair) (start m : ℕ) (old new : Me
     → (state ≡ HasChunksAfterData → ⊥) → LeavesFor state found start old new → 20 ≤ start
     → start ≤ length old.contents → m ≤ held start old.contents
     → take m (drop start new.contents) ≡ take m (drop start old.contents)
-data_stay state found start m old new alone leaves behind inside few = grind (arith, common_steps, same_sizes, drop-append-le, take-append-le)
+data_stay state found start m old new alone leaves beyond inside few = grind (arith, common_steps, same_sizes, drop-append-le, take-append-le)
 
 module _ (looks : Bool) (old new : MediumState) (found : Repair)
     (r : Repairs looks old found new) (alone : found.state ≡ HasChunksAfterData → ⊥)
@@ -108,7 +108,7 @@ module _ (looks : Bool) (old new : MediumState) (found : Repair)
   frames = grind (arith, common_steps, frames_kept, frame, bytes, inside, size, long, not_pad, held_frames)
 
   same : take (n * w) (drop r.start new.contents) ≡ take (n * w) (concat list)
-  same = grind (arith, common_steps, data_stay, head_behind, head_inside, inside, size, long, take-take, there)
+  same = grind (arith, common_steps, data_stay, head_beyond, head_inside, inside, size, long, take-take, there)
 
   taken : length (take n list) ≡ n
   taken = length-take-le n list few
@@ -162,8 +162,8 @@ only_io looks old new e s len start head none not = by not.why
         ⊎ (IsIoError e × LeavesPartly looks old new × (new.faults ≡ one_more old.faults))
         → IsIoError e
     by (inr (io, leaves, faults)) = io
-    by (inl (fault, inl (cause, is, refused), names, puts, faults)) =
-        absurd (head_no_fault old.contents s len start cause head refused)
+    by (inl (fault, inl (cause, is, rejected), names, puts, faults)) =
+        absurd (head_no_fault old.contents s len start cause head rejected)
     by (inl (fault, inr (t, m, h, other, some), names, puts, faults)) =
         let agree = heads_agree old.contents t s m len h start other head in
         absurd (let never : ⊥ = cc (agree.0, agree.1, agree.2, none, some) in never)

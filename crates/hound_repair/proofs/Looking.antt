@@ -6,9 +6,9 @@ use lib.Seq.{take-add, take-append-le}
 use Rattle.std.proofs.lemmas.List.{drop-drop}
 
 -- a front of a buffer, and what was written after it
-put_behind : (at k n : ℕ) (buf given : List ℕ) → at ≤ length buf → n ≤ length given
+put_beyond : (at k n : ℕ) (buf given : List ℕ) → at ≤ length buf → n ≤ length given
     → take (at + n) (put_mid at k buf given) ≡ take at buf ++ take n given
-put_behind at k n buf given within fits =
+put_beyond at k n buf given within fits =
     let after = post_of at k buf in
     let front = take-put_mid_below at k buf given at (le_refl at) within in
     take-add at n (put_mid at k buf given)
@@ -22,7 +22,7 @@ pub more_bytes : (place at k n : ℕ) (buf given contents now : List ℕ) (here 
     → take n given ≡ take n (drop here now)
     → take (at + n) (put_mid at k buf given) ≡ take (at + n) (drop place contents)
 more_bytes place at k n buf given contents now here within fits at_place same so_far more =
-    put_behind at k n buf given within fits
+    put_beyond at k n buf given within fits
     ∙ (λ i. so_far i ++ (more ∙ (λ j. take n (drop (at_place j) (same j)))
     ∙ ap (take n) (sym (drop-drop at place contents))) i)
     ∙ sym (take-add at n (drop place contents))

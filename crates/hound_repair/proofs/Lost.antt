@@ -121,10 +121,10 @@ module _ (sector : ℕ) (contents : List ℕ) where
               ∙ sym (overlay_outside p q (take e.0 bs) old.contents (part_in e.0 e.1 inside) (out_of e.0)) in
               elim (cases_lt q p) [
                 | inl low ↦ elsewhere (inl low)
-                | inr behind ↦ elim (cases_lt q (p + length bs)) [
+                | inr beyond ↦ elim (cases_lt q (p + length bs)) [
                   | inl in_it ↦
-                      let at : p + (q - p) ≡ q = omega (arith, behind) in
-                      s.3 q (ap (λ k. k / sector) (sym at) ∙ one (q - p) (omega (arith, in_it, behind))) few
+                      let at : p + (q - p) ≡ q = omega (arith, beyond) in
+                      s.3 q (ap (λ k. k / sector) (sym at) ∙ one (q - p) (omega (arith, in_it, beyond))) few
                       ∙ ap (λ c. get_or c q 0) e.2
                   | inr high ↦ elsewhere (inr high)
                 ]
@@ -222,7 +222,7 @@ module _ (sector : ℕ) (contents : List ℕ) where
   survives P (Pad at ∷ Pad at' ∷ effects) result old new allowed safe replays settled performed lost = absurd safe
 
   -- the effects that mend a file are such
-  module _ (start n : ℕ) (c : List ℕ) (behind : 20 ≤ start) (inside : start ≤ length c)
+  module _ (start n : ℕ) (c : List ℕ) (beyond : 20 ≤ start) (inside : start ≤ length c)
       (one : (i : ℕ) → i < 4 → (start - 4 + i) / sector ≡ (start - 4) / sector)
       (first : (i : ℕ) → i < 4 → (4 + i) / sector ≡ 4 / sector) where
     abbrev p : ℕ
@@ -232,10 +232,10 @@ module _ (sector : ℕ) (contents : List ℕ) where
     x = overlay c (placed p (bytes_of 4 n))
 
     x_long : length x ≡ length c
-    x_long = (same_length p c (omega (arith, behind)) (omega (arith, behind, inside)) (bytes_of 4 n) (omega arith)).long
+    x_long = (same_length p c (omega (arith, beyond)) (omega (arith, beyond, inside)) (bytes_of 4 n) (omega arith)).long
 
     safe_end : (y : List ℕ) → length c ≤ length y → IsSafe (mending_end start n) y
-    safe_end y long = (omega (arith, behind, inside, long), first, tt)
+    safe_end y long = (omega (arith, beyond, inside, long), first, tt)
 
     safe_pads : (pad : List ℕ) → IsSafe (pads (start + held start c) pad ++ mending_end start n) x
     safe_pads [] = safe_end x (omega (arith, x_long))
@@ -247,4 +247,4 @@ module _ (sector : ℕ) (contents : List ℕ) where
         )
 
     pub mending_is_safe : IsSafe (mending_effects start n (held start c)) c
-    mending_is_safe = (omega (arith, behind, inside), one, safe_pads (missing_pad n (held start c)))
+    mending_is_safe = (omega (arith, beyond, inside), one, safe_pads (missing_pad n (held start c)))

@@ -14,9 +14,9 @@ use Rattle.hound_writer.specs.{AppendFault, by_bytes, FailsCheck, NamesFault, to
 use Rattle.hound_repair.specs.Held.{data_held, ends_with_pad, held, shown_length}
 use Rattle.hound_repair.specs.Repairing.{IsRepairFault, repair_fault, size_fault}
 use Rattle.hound_repair.specs.Damages.{IsUnmeasured}
-use Rattle.hound_repair.specs.Steps.{refused_for, unrepaired_for}
-use Rattle.hound_repair.specs.declared.steps.Refusal.{Refusal}
-use Rattle.hound_repair.specs.declared.steps.Refusal.TheVariants as refusals
+use Rattle.hound_repair.specs.Steps.{rejected_for, unrepaired_for}
+use Rattle.hound_repair.specs.declared.steps.Rejection.{Rejection}
+use Rattle.hound_repair.specs.declared.steps.Rejection.TheVariants as rejections
 
 -- where two bytes and more follow the data length all that is held is data
 pub no_pad : (f len n : ℕ) → len + 1 < n → data_held f len n ≡ n
@@ -47,8 +47,8 @@ unfit : (head : FileHead) (file : List ℕ) (fault : AppendFault)
     → Head file head.spec_ex head.data_length head.data_start → IsRepairFault file fault
     → repair_fault head.spec_ex (shown_length head.data_start head.data_length file) head.data_start
     (held head.data_start file) ≡ Some fault
-unfit head file fault is (inl (cause, same, refused)) =
-    absurd (head_no_fault file head.spec_ex head.data_length head.data_start cause is refused)
+unfit head file fault is (inl (cause, same, rejected)) =
+    absurd (head_no_fault file head.spec_ex head.data_length head.data_start cause is rejected)
 unfit head file fault is (inr (s, len, start, other, some)) =
     let agree = heads_agree file s head.spec_ex len head.data_length start head.data_start other is in
     (λ i. repair_fault (sym agree.0 i) (shown_length (sym agree.2 i) (sym agree.1 i) file) (sym agree.2 i) (held (sym agree.2 i) file))
@@ -62,13 +62,13 @@ unfolding repair_fault size_fault
 by_samples s len start n cause is = grind (arith, common_steps)
 
 -- so its fault is one of two
-pub unmeasured : (head : FileHead) (file : List ℕ) (why : Refusal)
-    → Head file head.spec_ex head.data_length head.data_start → IsRepairFault file (refused_for why)
+pub unmeasured : (head : FileHead) (file : List ℕ) (why : Rejection)
+    → Head file head.spec_ex head.data_length head.data_start → IsRepairFault file (rejected_for why)
     → IsUnmeasured head file (unrepaired_for why)
-unmeasured head file refusals.TooLong is fault = (too_long, refl, unfit head file too_long is fault)
-unmeasured head file refusals.Unsupported is fault =
+unmeasured head file rejections.TooLong is fault = (too_long, refl, unfit head file too_long is fault)
+unmeasured head file rejections.Unsupported is fault =
     (by_bytes Unsupported, refl, unfit head file (by_bytes Unsupported) is fault)
-unmeasured head file (refusals.Head cause) is fault = (
+unmeasured head file (rejections.Head cause) is fault = (
   by_bytes Unsupported,
   refl,
   by_samples head.spec_ex (shown_length head.data_start head.data_length file) head.data_start

@@ -23,27 +23,27 @@ use Rattle.hound_repair.specs.Steps.{Mends, PartlyMended, PerformedOn, PerformsO
 pub length_then_riff : (p size n : ℕ) (c : List ℕ) → 8 ≤ p → p + 4 ≤ length c
     → overlay (overlay c (placed p (bytes_of 4 n))) (placed 4 (bytes_of 4 size)) ≡ with_sizes p size n c
 unfolding with_sizes
-length_then_riff p size n c behind inside =
+length_then_riff p size n c beyond inside =
     let bs = bytes_of 4 size in
     let ls = bytes_of 4 n in
     let d = overlay c (placed p ls) in
     let e = overlay d (placed 4 bs) in
-    let first = same_length p c behind inside ls (omega arith) in
+    let first = same_length p c beyond inside ls (omega arith) in
     let long : p + 4 ≤ length d = omega (arith, inside, first.long) in
-    let then = same_riff p d behind long bs (omega arith) in
+    let then = same_riff p d beyond long bs (omega arith) in
     cc (
-      in_parts p e behind,
+      in_parts p e beyond,
       then.front,
       first.front,
       drop_to d 4 bs (omega (arith, long)),
       take_at bs (drop (4 + 4) d) 4 refl,
       then.middle,
       first.middle,
-      drop_overlay_after bs p 4 d (omega (arith, behind)),
+      drop_overlay_after bs p 4 d (omega (arith, beyond)),
       drop_to c p ls (omega (arith, inside)),
       take_at ls (drop (p + 4) c) 4 refl,
-      then.behind,
-      first.behind,
+      then.beyond,
+      first.beyond,
     )
 
 -- bytes inside the front of contents
@@ -113,7 +113,7 @@ spans P (Size at size ∷ effects) result old new (each, rest) replays (mid, Ok 
 spans P (Size at size ∷ effects) result old new (each, rest) replays (mid, Err e, puts, (is, same)) =
     subst (Span (λ _. P) 0 old) (sym same) (write_span P at 0 (bytes_of 4 size) (Err e) old mid puts replays each)
 
-module _ (keeps : Bool) (start n : ℕ) (c : List ℕ) (behind : 20 ≤ start) (inside : start ≤ length c)
+module _ (keeps : Bool) (start n : ℕ) (c : List ℕ) (beyond : 20 ≤ start) (inside : start ≤ length c)
     (small : AreBytes c) (fits : n < 2 ^ 32) where
   abbrev p : ℕ
   p = start - 4
@@ -125,10 +125,10 @@ module _ (keeps : Bool) (start n : ℕ) (c : List ℕ) (behind : 20 ≤ start) (
   m = missing_pad n h
 
   there : p + 4 ≤ length c
-  there = omega (arith, behind, inside)
+  there = omega (arith, beyond, inside)
 
   eight : 8 ≤ p
-  eight = omega (arith, behind)
+  eight = omega (arith, beyond)
 
   -- the contents with the data length
   abbrev x : List ℕ
@@ -146,7 +146,7 @@ module _ (keeps : Bool) (start n : ℕ) (c : List ℕ) (behind : 20 ≤ start) (
     sizes = c;
     j = 0;
     within = omega arith;
-    same = record { front = refl; middle = refl; behind = refl; long = refl };
+    same = record { front = refl; middle = refl; beyond = refl; long = refl };
     length_says = sym (mix_none (field p c) n (number_at_small p c there small));
     pad = [];
     is = sym (append-nil c);

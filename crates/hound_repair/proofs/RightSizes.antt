@@ -9,7 +9,7 @@ use Rattle.hound_spec.specs.{greatest_u32, riff_size}
 use Rattle.hound_medium.specs.{placed, overlay}
 use Rattle.hound_walk.specs.{Head, Readable, data_fault, IsSoundSpec}
 use Rattle.hound_writer.specs.{SameButSizes, field, with_sizes}
-use Rattle.hound_writer.proofs.Heads.{head_behind, head_field, head_inside, head_with}
+use Rattle.hound_writer.proofs.Heads.{head_beyond, head_field, head_inside, head_with}
 use Rattle.hound_writer.proofs.Patching.{data_length_of_sizes, riff_size_of_sizes, sizes_put}
 use Rattle.hound_writer.proofs.Sizes.{same_length, same_riff, same_transitive}
 use Rattle.hound_repair.specs.Held.{frame_length, frames_held, held, mended, missing_pad, right_length, shown_length}
@@ -21,12 +21,12 @@ use Rattle.hound_repair.specs.declared.sizes.RepairState.TheVariants.{HasChunksA
 -- two sizes that were put change nothing else
 pub same_sizes : (p riff n : ℕ) (c : List ℕ) → 8 ≤ p → p + 4 ≤ length c
     → SameButSizes p c (with_sizes p riff n c)
-same_sizes p riff n c behind inside =
-    let first = same_riff p c behind inside (bytes_of 4 riff) (omega arith) in
+same_sizes p riff n c beyond inside =
+    let first = same_riff p c beyond inside (bytes_of 4 riff) (omega arith) in
     let d = overlay c (placed 4 (bytes_of 4 riff)) in
     let within : p + 4 ≤ length d = omega (arith, inside, first.long) in
-    let second = same_length p d behind within (bytes_of 4 n) (omega arith) in
-    subst (SameButSizes p c) (sizes_put p riff n c behind inside)
+    let second = same_length p d beyond within (bytes_of 4 n) (omega arith) in
+    subst (SameButSizes p c) (sizes_put p riff n c beyond inside)
     (same_transitive p c d (overlay d (placed p (bytes_of 4 n))) first second)
 
 -- bytes after the contents change no field in them
@@ -38,26 +38,26 @@ field_before p x pad inside =
 -- the head of contents with these sizes, and bytes after them
 module _ (s : WavSpecEx) (len start : ℕ) (c : List ℕ) (head : Head c s len start)
     (riff n : ℕ) (small : n < 2 ^ 32) (fits : riff < 2 ^ 32) (pad : List ℕ) where
-  behind : 8 ≤ start - 4
-  behind = omega (arith, head_behind c s len start head)
+  beyond : 8 ≤ start - 4
+  beyond = omega (arith, head_beyond c s len start head)
 
   inside : start - 4 + 4 ≤ length c
-  inside = omega (arith, head_behind c s len start head, head_inside c s len start head)
+  inside = omega (arith, head_beyond c s len start head, head_inside c s len start head)
 
   abbrev sizes : List ℕ
   sizes = with_sizes (start - 4) riff n c
 
   long : length sizes ≡ length c
-  long = (same_sizes (start - 4) riff n c behind inside).long
+  long = (same_sizes (start - 4) riff n c beyond inside).long
 
   pub length_put : field (start - 4) (sizes ++ pad) ≡ n
-  length_put = grind (arith, common_steps, field_before, inside, long, data_length_of_sizes, behind)
+  length_put = grind (arith, common_steps, field_before, inside, long, data_length_of_sizes, beyond)
 
   pub riff_put : field 4 (sizes ++ pad) ≡ riff
-  riff_put = grind (arith, common_steps, field_before, behind, inside, long, riff_size_of_sizes)
+  riff_put = grind (arith, common_steps, field_before, beyond, inside, long, riff_size_of_sizes)
 
   pub head_put : Head (sizes ++ pad) s n start
-  head_put = grind (arith, common_steps, same_sizes, behind, inside, length_put, head_with, long, head_inside, length-append, take-append-le)
+  head_put = grind (arith, common_steps, same_sizes, beyond, inside, length_put, head_with, long, head_inside, length-append, take-append-le)
 
 -- whole frames have no fault
 no_fault : (s : WavSpecEx) (n : ℕ) → n % s.bytes_per_sample ≡ 0
@@ -129,7 +129,7 @@ module _ (looks : Bool) (contents : List ℕ) (found : Repair) (len start : ℕ)
   riff_fits = grind (arith, common_steps, length_of, check_fits)
 
   pub length_fits : all < 2 ^ 32
-  length_fits = omega (arith, riff_fits, head_behind contents found.spec_ex len start at.head)
+  length_fits = omega (arith, riff_fits, head_beyond contents found.spec_ex len start at.head)
 
   right_sizes_of : IsSoundSpec found.spec_ex → (new : List ℕ) → Head new found.spec_ex all start
       → field 4 new ≡ riff_size start all → HasRightSizes found start new

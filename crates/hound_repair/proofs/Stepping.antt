@@ -142,8 +142,8 @@ module _ (looks : Bool) (file bytes : List ℕ) (head : SeenHead) (place : ℕ) 
   no_chunks_here are = at.1 ∙ ap (λ b. b || else_followed wide file head) are
 
   pub ends_here : length file ≤ place → IsFoundAs looks file head HasChunksAfterData
-  ends_here behind =
-      chunks_here (none_left (drop place file) (omega (arith, behind, length-drop place file)))
+  ends_here beyond =
+      chunks_here (none_left (drop place file) (omega (arith, beyond, length-drop place file)))
 
   pub known_here : place < length file → has_known_tag bytes ≡ true
       → IsFoundAs looks file head HasChunksAfterData
@@ -200,12 +200,12 @@ only_too_long : (s : WavSpecEx) (len start n : ℕ) (fault : AppendFault)
 unfolding size_fault
 only_too_long s len start n fault is = grind (arith, common_steps)
 
-pub sizes_refused : (T : Type 0) (e : Error) (s : WavSpecEx) (counted len start n m : ℕ)
+pub sizes_rejected : (T : Type 0) (e : Error) (s : WavSpecEx) (counted len start n m : ℕ)
     → FailsCheck {T = T} (Err e) (size_fault s counted start m)
     → size_fault s counted start m ≡ size_fault s len start n
     → is_pair s.spec.sample_format s.spec.bits_per_sample s.bytes_per_sample ≡ true
     → repair_fault s len start n ≡ Some too_long
-sizes_refused T e s counted len start n m fails same pair =
+sizes_rejected T e s counted len start n m fails same pair =
     let check = fails_for T e (size_fault s counted start m) fails in
     written s len start n pair ∙ sym same ∙ only_too_long s counted start m check.0 check.1
 

@@ -8,7 +8,7 @@ use Rattle.hound_spec.specs.declared.spec.WavSpecEx.{WavSpecEx}
 use Rattle.hound_number.specs.{mix}
 use Rattle.hound_walk.specs.{Head}
 use Rattle.hound_walk.proofs.Unique.{heads_agree}
-use Rattle.hound_writer.proofs.Heads.{head_behind, head_field, head_inside, head_with}
+use Rattle.hound_writer.proofs.Heads.{head_beyond, head_field, head_inside, head_with}
 use Rattle.hound_writer.specs.{field}
 use Rattle.hound_repair.specs.Held.{data_held, frame_length, frames_held, held, shown_length, uncounted}
 use Rattle.hound_repair.specs.Repairing.{IsFoundAt, Repairs, found_length, repair_fault, size_fault}
@@ -39,8 +39,8 @@ module _ (looks : Bool) (old : List ℕ) (mid : MediumState) (found : Repair) (l
   abbrev says : ℕ
   says = field (start - 4) mid.contents
 
-  behind : 20 ≤ start
-  behind = head_behind old s len start at.head
+  beyond : 20 ≤ start
+  beyond = head_beyond old s len start at.head
 
   inside : start ≤ length old
   inside = head_inside old s len start at.head
@@ -58,16 +58,16 @@ module _ (looks : Bool) (old : List ℕ) (mid : MediumState) (found : Repair) (l
   says_is : says ≡ field (start - 4) half.sizes
   says_is =
       ap (field (start - 4)) half.is
-      ∙ field_before (start - 4) half.sizes half.pad (omega (arith, behind, inside, long))
+      ∙ field_before (start - 4) half.sizes half.pad (omega (arith, beyond, inside, long))
 
   -- what follows the header
   rest_now : drop start mid.contents ≡ drop start old ++ half.pad
   rest_now =
-      let after : start - 4 + 4 ≡ start = omega (arith, behind) in
+      let after : start - 4 + 4 ≡ start = omega (arith, beyond) in
       ap (drop start) half.is
       ∙ drop-append-le start half.sizes half.pad (omega (arith, inside, long))
       ∙ (λ i. drop (sym after i) half.sizes ++ half.pad)
-      ∙ ap (λ l. l ++ half.pad) half.same.behind ∙ (λ i. drop (after i) old ++ half.pad)
+      ∙ ap (λ l. l ++ half.pad) half.same.beyond ∙ (λ i. drop (after i) old ++ half.pad)
 
   -- before the pad byte
   frames_before : length half.pad ≡ 0

@@ -7,7 +7,7 @@ use Rattle.hound_medium.specs.{MediumState, faults_after, one_more}
 use Rattle.hound_sample.specs.{containers}
 use Rattle.hound_walk.specs.declared.cause.Cause.{Cause}
 use Rattle.hound_walk.specs.declared.cause.Cause.TheVariants.{Unsupported}
-use Rattle.hound_walk.specs.{Head, Readable, Refused}
+use Rattle.hound_walk.specs.{Head, Readable, Rejected}
 use Rattle.hound_writer.specs.{IsIoError, AppendFault, by_bytes, too_long, NamesFault, PutsNothing, field}
 use Rattle.hound_repair.specs.Held.{is_followed, are_right, frame_length, frames_held, held, mended, right_length, shown_length, torn_bytes}
 use Rattle.hound_repair.specs.declared.sizes.Repair.{Repair}
@@ -36,7 +36,7 @@ HasUnfitHead bytes fault = (s : WavSpecEx) × (len : ℕ) × (start : ℕ) × He
 -- the bytes have this fault: they have no head for this cause, or their head fails a check
 abbrev pub IsRepairFault : List ℕ → AppendFault → Type 0
 IsRepairFault bytes fault =
-    ((cause : Cause) × (fault ≡ by_bytes cause) × Refused bytes cause) ⊎ HasUnfitHead bytes fault
+    ((cause : Cause) × (fault ≡ by_bytes cause) × Rejected bytes cause) ⊎ HasUnfitHead bytes fault
 
 -- how a file is found, by whether both sizes are right and whether chunks follow the data
 abbrev pub state_of : Bool → Bool → RepairState

@@ -17,15 +17,15 @@ use Rattle.hound_repair.specs.declared.look.Damage.{Damage}
 use Rattle.hound_repair.specs.declared.sizes.Repair.{Repair}
 use Rattle.hound_repair.specs.declared.sizes.RepairState.{RepairState}
 use Rattle.hound_repair.specs.declared.sizes.RepairState.TheVariants.{CutOff}
-use Rattle.hound_repair.specs.declared.steps.Refusal.{Refusal}
-use Rattle.hound_repair.specs.declared.steps.Refusal.TheVariants as refusals
+use Rattle.hound_repair.specs.declared.steps.Rejection.{Rejection}
+use Rattle.hound_repair.specs.declared.steps.Rejection.TheVariants as rejections
 use Rattle.hound_repair.specs.declared.steps.Stage.{Stage}
 use Rattle.hound_repair.specs.declared.steps.Stage.TheVariants as stages
 use Rattle.hound_repair.specs.declared.steps.Look.{Look}
 use Rattle.hound_spec.specs.declared.error.Error.{Error}
 use Rattle.hound_spec.specs.declared.error.Error.TheVariants.{IoError}
 use Rattle.hound_repair.specs.declared.steps.LookError.{LookError}
-use Rattle.hound_repair.specs.declared.steps.LookError.TheVariants.{Failed, Refused}
+use Rattle.hound_repair.specs.declared.steps.LookError.TheVariants.{Failed, Rejected}
 use Rattle.hound_writer.specs.{nth}
 use Rattle.hound_repair.specs.declared.bytes.Unrepaired.{Unrepaired}
 use Rattle.hound_repair.specs.declared.bytes.Unrepaired.TheVariants as unrepaired
@@ -40,7 +40,7 @@ use Rattle.hound_repair.specs.declared.steps.Failure.TheVariants.{Sync as SyncFa
 use Rattle.hound_repair.specs.declared.steps.Task.{Task}
 use Rattle.hound_repair.specs.declared.steps.Task.TheVariants.{FindDamage, RepairToEnd}
 use Rattle.hound_repair.specs.declared.steps.RepairError.{RepairError}
-use Rattle.hound_repair.specs.declared.steps.RepairError.TheVariants.{Refused as refused, Failed as failed}
+use Rattle.hound_repair.specs.declared.steps.RepairError.TheVariants.{Rejected as rejected, Failed as failed}
 use Rattle.hound_repair.specs.declared.steps.Repairing.{Repairing}
 use Rattle.hound_repair.specs.declared.steps.Repairing.TheVariants.{Looks as Looks_for, Mends as Mends_now, Found as Found_now, Failed as Failed_with}
 use Rattle.hound_repair.specs.declared.steps.LookStep.{LookStep}
@@ -137,15 +137,15 @@ pub record IsMeasured (file : List ℕ) (d : Damage) : Type 0 where
       d.head.data_start (held d.head.data_start file) ≡ None
 
 -- the fault of the bytes for which a file isn't repaired
-abbrev pub refused_for : Refusal → AppendFault
-refused_for (refusals.Head cause) = by_bytes cause
-refused_for refusals.Unsupported = by_bytes causes.Unsupported
-refused_for refusals.TooLong = too_long
+abbrev pub rejected_for : Rejection → AppendFault
+rejected_for (rejections.Head cause) = by_bytes cause
+rejected_for rejections.Unsupported = by_bytes causes.Unsupported
+rejected_for rejections.TooLong = too_long
 
 -- what is measured of a file with a head, or its fault
-abbrev pub MeasuresTo : List ℕ → Result Damage Refusal → Type 0
+abbrev pub MeasuresTo : List ℕ → Result Damage Rejection → Type 0
 MeasuresTo file (Ok d) = IsMeasured file d
-MeasuresTo file (Err why) = IsRepairFault file (refused_for why)
+MeasuresTo file (Err why) = IsRepairFault file (rejected_for why)
 
 -- how a file with this head is found
 abbrev pub IsFoundAs : Bool → List ℕ → SeenHead → RepairState → Type 0
@@ -153,12 +153,12 @@ IsFoundAs looks file head state =
     state ≡ state_of (has_right file head) (looks && followed file head)
 
 -- where one part of the file leads: on, to what is found of the whole file, or to its fault
-abbrev pub LooksTo : Bool → List ℕ → Result LookStep Refusal → Type 0
+abbrev pub LooksTo : Bool → List ℕ → Result LookStep Rejection → Type 0
 LooksTo looks file (Ok (Next stage)) = IsAtStage looks file stage
 LooksTo looks file (Ok (Found d)) =
     IsFoundAt looks file (repair_of d) d.head.data_length d.head.data_start
     × (d.held ≡ held d.head.data_start file) × IsShown file d.head
-LooksTo looks file (Err why) = IsRepairFault file (refused_for why)
+LooksTo looks file (Err why) = IsRepairFault file (rejected_for why)
 
 -- over every file: specs and places are those of a header
 abbrev pub IsSoundHead : SeenHead → Type 0
@@ -258,13 +258,13 @@ pub record IsLookedAt (looks : Bool) (bytes : List ℕ) (d : Damage) : Type 0 wh
 -- a file that isn't looked at, for a fault that its bytes have, or since a read failed
 abbrev pub IsNotLookedAt : LookError → MediumState → MediumState → Type 0
 IsNotLookedAt (Failed error) old new = Looks {T = Unit {0}} (Err error) old new
-IsNotLookedAt (Refused why) old new = Looks {E = IoFault} (Ok (tt {0})) old new
-    × IsRepairFault old.contents (refused_for why)
+IsNotLookedAt (Rejected why) old new = Looks {E = IoFault} (Ok (tt {0})) old new
+    × IsRepairFault old.contents (rejected_for why)
 
 -- the error that callers get
 abbrev pub Tells : LookError → Error → Type 0
-Tells (Failed error) told = told ≡ IoError error
-Tells (Refused why) told = NamesFault told (refused_for why)
+Tells (Failed error) modelled = modelled ≡ IoError error
+Tells (Rejected why) modelled = NamesFault modelled (rejected_for why)
 
 -- what is left where the medium failed: all, or a file that is partly mended
 abbrev pub LeavesPartly : Bool → MediumState → MediumState → Type 0
@@ -284,7 +284,7 @@ abbrev pub RepairsMedium : {M : Type 0} → Bool → (M → MediumState) → M
     → Result (M × Repair) (M × Error) → Type 0
 RepairsMedium looks state old result =
     MatchResult result (λ done. Repairs looks (state old) done.1 (state done.0))
-    (λ refused. IsNotRepaired looks (state old) (state refused.0) refused.1)
+    (λ rejected. IsNotRepaired looks (state old) (state rejected.0) rejected.1)
 
 -- In each intermediate state nothing was written, or the file is partly mended, for the frames that were
 -- found in it.
@@ -299,7 +299,7 @@ abbrev pub MendsMedium : {M : Type 0} → Bool → (M → MediumState) → M
     → Result (M × Repair) (M × Error) → Type 0
 MendsMedium looks state old result =
     MatchResult result (λ done. MendsAtEach looks (state old) (state done.0))
-    (λ refused. MendsAtEach looks (state old) (state refused.0))
+    (λ rejected. MendsAtEach looks (state old) (state rejected.0))
 
 -- a repair, between two calls, over every file
 abbrev pub IsSoundRepairing : Repairing → Type 0
@@ -315,7 +315,7 @@ IsSoundRepairStep (Found_so found) = IsSoundSpec found.spec_ex
 
 -- at a fault of the bytes a repair stays where it is, over every file
 abbrev pub StaysAt : Result RepairStep RepairError → Repairing → Repairing → Type 0
-StaysAt (Err (refused why)) old new = new ≡ old
+StaysAt (Err (rejected why)) old new = new ≡ old
 StaysAt _ old new = ⊤
 
 -- whether chunks after the data are looked for
@@ -366,14 +366,14 @@ AsksPart task file n (Ok ask) old new =
     ⊎ ((d : Damage) × AsksEffect task d 0 ask new
     × IsFoundAt (looks_for_chunks task) file (repair_of d) d.head.data_length d.head.data_start
     × (d.held ≡ held d.head.data_start file) × IsShown file d.head)
-AsksPart task file n (Err (refused why)) old new = IsRepairFault file (refused_for why) × (new ≡ old)
+AsksPart task file n (Err (rejected why)) old new = IsRepairFault file (rejected_for why) × (new ≡ old)
 AsksPart task file n (Err (failed failure)) old new = ⊥
 
 -- what is measured again of a file of which this was found, as it was looked at, and what then holds
 abbrev pub Remeasures : List ℕ → SeenHead → Result RepairStep RepairError → (Damage → Type 0) → Type 0
 Remeasures file head result P =
     ((d : Damage) × IsSoundDamage d × IsMeasured file d × (d.head ≡ head) × P d)
-    ⊎ ((why : Refusal) × (result ≡ Err (refused why)) × IsRepairFault file (refused_for why))
+    ⊎ ((why : Rejection) × (result ≡ Err (rejected why)) × IsRepairFault file (rejected_for why))
 
 -- what comes of a part, by how its read has ended: what is pending is requested again
 abbrev pub AsksOfLook : Task → ℕ → List ℕ → Stage → Repairing → Result RepairStep RepairError → Report → Type 0
@@ -403,6 +403,6 @@ AsksNext task n bytes report (Failed_with failure) new result =
     (result ≡ Err (failed failure)) × (new ≡ Failed_with failure)
 
 -- why a file in memory with a head isn't repaired
-abbrev pub unrepaired_for : Refusal → Unrepaired
-unrepaired_for refusals.TooLong = unrepaired.TooLong
+abbrev pub unrepaired_for : Rejection → Unrepaired
+unrepaired_for rejections.TooLong = unrepaired.TooLong
 unrepaired_for _ = unrepaired.Unsupported

@@ -8,7 +8,7 @@ ghost use Rattle.hound_repair.specs.Steps.{unrepaired_for};
 
 use crate::look::{Damage, Rest};
 use crate::sizes::{Repair, RepairState};
-use crate::steps::{Look, LookStep, Refusal, after_head, take_asked};
+use crate::steps::{Look, LookStep, Rejection, after_head, take_asked};
 use hound_number::le_u32;
 use hound_walk::{FileHead, bytes_at};
 use std::result;
@@ -37,11 +37,11 @@ pub fn set_sizes(bytes: &mut [u8], place: usize, riff_size: u32, data_length: u3
 }
 
 // Why a file with a head isn't repaired.
-fn unrepaired_for(why: Refusal) -> Unrepaired
+fn unrepaired_for(why: Rejection) -> Unrepaired
     ensures { result ≡ unrepaired_for why }
 {
     match why {
-        Refusal::TooLong => Unrepaired::TooLong,
+        Rejection::TooLong => Unrepaired::TooLong,
         _ => Unrepaired::Unsupported,
     }
 }

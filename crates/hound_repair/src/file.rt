@@ -71,7 +71,7 @@ impl Medium for FileInPlace {
 
 // The file within a buffer, unless it is a pipe or a terminal, which have no place.
 fn buffered(alloc: Global, file: fs::File) -> Result<BufReader<fs::File>>
-    ensures told { IfErr result IsFileError }
+    ensures reported { IfErr result IsFileError }
 {
     let mut file = file;
     file.stream_position()?;
@@ -84,7 +84,7 @@ fn open_in_place(
     alloc: Global,
     path: Path<'_>,
 ) -> Result<FileInPlace>
-    ensures told { IfErr result IsFileError }
+    ensures reported { IfErr result IsFileError }
 {
     let file = fs::OpenOptions::new()
         .read(true)
@@ -105,7 +105,7 @@ pub fn repair_file(
     path: Path<'_>,
 ) -> Result<Repair>
     ensures sound { IfOk result (λ found. IsSoundSpec found.spec_ex) }
-    ensures told { IfErr result IsFileError }
+    ensures reported { IfErr result IsFileError }
 {
     let (_, found) = repair(open_in_place(rt, alloc, path)?).map_err(|(_, error)| error)?;
     Ok(found)
@@ -121,7 +121,7 @@ pub fn repair_file_to_end(
     path: Path<'_>,
 ) -> Result<Repair>
     ensures sound { IfOk result (λ found. IsSoundSpec found.spec_ex) }
-    ensures told { IfErr result IsFileError }
+    ensures reported { IfErr result IsFileError }
 {
     let (_, found) = repair_to_end(open_in_place(rt, alloc, path)?).map_err(|(_, error)| error)?;
     Ok(found)
@@ -136,7 +136,7 @@ pub fn find_damage_in_file(
     path: Path<'_>,
 ) -> Result<Repair>
     ensures sound { IfOk result (λ found. IsSoundSpec found.spec_ex) }
-    ensures told { IfErr result IsFileError }
+    ensures reported { IfErr result IsFileError }
 {
     let reader = buffered(alloc, fs::open(rt, path)?)?;
     let (_, found) = find_damage(reader).map_err(|(_, error)| error)?;

@@ -24,5 +24,5 @@ pub use look::{Damage, Rest, SeenHead, find_damage, seen_head};
 pub use mend::{repair, repair_to_end};
 pub use sizes::{Repair, RepairState};
 pub use steps::{
-    Failure, Look, Refusal, RepairError, RepairStep, Repairing, Stage, Task, repair_next,
+    Failure, Look, Rejection, RepairError, RepairStep, Repairing, Stage, Task, repair_next,
 };

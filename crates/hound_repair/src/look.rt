@@ -97,7 +97,7 @@ pub(crate) fn has_known_tag(bytes: &[u8]) -> bool
 
 // How many bytes the content of the chunk takes that begins with these of so many bytes, if its tag
 // is printable and there is room for it.
-pub(crate) fn content_of(header: &[u8], left: u64) -> Option<u64>
+pub(crate) fn chunk_content(header: &[u8], left: u64) -> Option<u64>
     requires { min left 8 ≤ length header.now }
     ensures content { result ≡ (if nat_lt left 8 then None
         else if (has_tag header.now && nat_le (8 + said_length header.now) left)
@@ -178,10 +178,10 @@ impl Damage {
 pub fn find_damage<S: Source>(medium: S) -> result::Result<(S, Repair), (S, Error)>
     requires { WhereTells S.tells ((S.state medium).place ≡ 0) }
     ensures sound { IfOk result (λ found. IsSoundSpec found.1.spec_ex) }
-    ensures told { IfErr result (λ refused. IsMediumError refused.1) }
+    ensures reported { IfErr result (λ rejected. IsMediumError rejected.1) }
     ensures found { WhereTells S.tells (MatchResult result
         (λ found. Finds true (S.state medium) found.1 (S.state found.0))
-        (λ refused. IsNotFound (S.state medium) (S.state refused.0) refused.1)) }
+        (λ rejected. IsNotFound (S.state medium) (S.state rejected.0) rejected.1)) }
 {
     let mut medium = medium;
     match look_by_parts(&mut medium, Rest::MayBeChunks) {

@@ -39,7 +39,7 @@ use std::result;
 pub fn repair<M: Source + Medium>(medium: M) -> result::Result<(M, Repair), (M, Error)>
     requires { WhereTells M.tells ((M.state medium).place ≡ 0) }
     ensures sound { IfOk result (λ done. IsSoundSpec done.1.spec_ex) }
-    ensures told { IfErr result (λ refused. IsMediumError refused.1) }
+    ensures reported { IfErr result (λ rejected. IsMediumError rejected.1) }
     ensures repaired { WhereTells M.tells (RepairsMedium true M.state medium result) }
     ensures moments { WhereKeeps M.tells M.keeps (MendsMedium true M.state medium result) }
 {
@@ -51,7 +51,7 @@ pub fn repair<M: Source + Medium>(medium: M) -> result::Result<(M, Repair), (M, 
 pub fn repair_to_end<M: Source + Medium>(medium: M) -> result::Result<(M, Repair), (M, Error)>
     requires { WhereTells M.tells ((M.state medium).place ≡ 0) }
     ensures sound { IfOk result (λ done. IsSoundSpec done.1.spec_ex) }
-    ensures told { IfErr result (λ refused. IsMediumError refused.1) }
+    ensures reported { IfErr result (λ rejected. IsMediumError rejected.1) }
     ensures repaired { WhereTells M.tells (RepairsMedium false M.state medium result) }
     ensures moments { WhereKeeps M.tells M.keeps (MendsMedium false M.state medium result) }
 {

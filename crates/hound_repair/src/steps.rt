@@ -11,7 +11,7 @@ ghost use Rattle.hound_repair.specs.declared.steps.Stage.TheVariants as stages;
 ghost use Rattle.hound_repair.specs.declared.steps.Repairing.TheVariants as states;
 
 use crate::look::{
-    Damage, ID3_LENGTH, ID3_TAG, Rest, SeenHead, content_of, has_known_tag, seen_head,
+    Damage, ID3_LENGTH, ID3_TAG, Rest, SeenHead, chunk_content, has_known_tag, seen_head,
 };
 use crate::read_at::{LIMIT, length_of, part_at};
 use crate::sizes::{Repair, RepairState, right_sizes};
@@ -24,7 +24,7 @@ use std::io;
 
 /// Why a file isn't repaired, by its bytes.
 #[derive(Clone, Copy, Debug, PartialEq, Eq)]
-pub enum Refusal {
+pub enum Rejection {
     /// It has no head.
     Head(Cause),
 
@@ -116,7 +116,7 @@ impl Look {
 }
 
 // The right sizes of a file of so many bytes with this head.
-fn measured(size: u64, head: SeenHead) -> Result<Damage, Refusal>
+fn measured(size: u64, head: SeenHead) -> Result<Damage, Rejection>
     requires sound { IsSoundHead head }
     ensures measures { (file : List ℕ) → IsLengthOf size file
         → Head file head.spec_ex head.data_length head.data_start → IsShown file head
@@ -129,11 +129,11 @@ fn measured(size: u64, head: SeenHead) -> Result<Damage, Refusal>
     let spec = head.spec_ex.spec;
     let width = head.spec_ex.bytes_per_sample;
     if !is_pair(spec.sample_format, spec.bits_per_sample, width) {
-        return Err(Refusal::Unsupported);
+        return Err(Rejection::Unsupported);
     }
     let size = size.min(LIMIT);
     if head.data_start > size {
-        return Err(Refusal::Head(Cause::Ended));
+        return Err(Rejection::Head(Cause::Ended));
     }
     let held = size - head.data_start;
     match right_sizes(head, head.shown(), held) {
@@ -143,7 +143,7 @@ fn measured(size: u64, head: SeenHead) -> Result<Damage, Refusal>
             sizes,
             state: RepairState::CutOff,
         }),
-        Err(_) => Err(Refusal::TooLong),
+        Err(_) => Err(Rejection::TooLong),
     }
 }
 
@@ -211,7 +211,7 @@ fn after_sizes(damage: Damage) -> LookStep
 }
 
 // Takes the RIFF size.
-fn take_size(rest: Rest, damage: Damage, bytes: &[u8]) -> Result<LookStep, Refusal>
+fn take_size(rest: Rest, damage: Damage, bytes: &[u8]) -> Result<LookStep, Rejection>
     requires sound { IsSoundDamage damage }
     ensures leads { (file : List ℕ) → IsMeasured file damage → (bytes.now ≡ take 4 (drop 4 file))
         → LooksTo (may_be_chunks rest) file result }
@@ -220,7 +220,7 @@ fn take_size(rest: Rest, damage: Damage, bytes: &[u8]) -> Result<LookStep, Refus
         → IfOk result (StageNearer n (steps_left n (stages.Size damage.head))) }
 {
     if bytes.len() < 4 {
-        return Err(Refusal::Head(Cause::Ended));
+        return Err(Rejection::Head(Cause::Ended));
     }
     let sizes = damage.sizes;
     if u32_at(bytes, 0) == sizes.riff_size && damage.head.data_length == sizes.data_length {
@@ -249,7 +249,7 @@ fn take_chunk(damage: Damage, place: u64, padded: bool, bytes: &[u8]) -> LookSte
     if bytes.len() < 8 {
         return at_no_chunk(damage, padded);
     }
-    match content_of(bytes, end - place) {
+    match chunk_content(bytes, end - place) {
         Some(content) => LookStep::Next(Stage::Chunk(damage.head, place + 8 + content, padded)),
         None => at_no_chunk(damage, padded),
     }
@@ -307,7 +307,7 @@ fn take_last(head: FileHead, bytes: &[u8]) -> LookStep
 }
 
 // Takes a part of the header.
-fn take_header(length: u64, walk: HeadWalk, bytes: &[u8]) -> Result<LookStep, Refusal>
+fn take_header(length: u64, walk: HeadWalk, bytes: &[u8]) -> Result<LookStep, Rejection>
     requires sound { IsSoundOption walk.found }
     ensures leads { (looks : Bool) (file : List ℕ) → IsLengthOf length file → IsAt file walk
         → (bytes.now ≡ part_bytes walk file) → LooksTo looks file result }
@@ -317,13 +317,13 @@ fn take_header(length: u64, walk: HeadWalk, bytes: &[u8]) -> Result<LookStep, Re
     match take_part(walk, bytes) {
         Ok(Step::Next(next)) => Ok(LookStep::Next(Stage::Head(next))),
         Ok(Step::Data(head)) => Ok(LookStep::Next(after_head(length, head))),
-        Err(cause) => Err(Refusal::Head(cause)),
+        Err(cause) => Err(Rejection::Head(cause)),
     }
 }
 
 // Takes the bytes that a look asks for, fewer only at the end of the file, and returns where they
 // lead: to another part, or to what `repair` finds. At an error the look has ended.
-fn take_asked(look: Look, bytes: &[u8]) -> Result<LookStep, Refusal>
+fn take_asked(look: Look, bytes: &[u8]) -> Result<LookStep, Rejection>
     requires sound { IsSoundStage look.stage }
     ensures leads { (file : List ℕ) → IsLengthOf look.length file
         → IsAtStage (may_be_chunks look.rest) file look.stage → IsAsked look file bytes.now
@@ -414,7 +414,7 @@ pub enum RepairStep {
 #[derive(Clone, Copy, Debug, PartialEq, Eq)]
 pub enum RepairError {
     /// The bytes decide it, and nothing was written.
-    Refused(Refusal),
+    Rejected(Rejection),
 
     /// An effect failed: another repair, from the beginning, finds the same frames.
     Failed(Failure),
@@ -514,7 +514,7 @@ fn after_part(
             Ok(RepairStep::Asks(Look { stage, ..look }.action()))
         }
         Ok(LookStep::Found(damage)) => Ok(ask_for(state, task, damage, 0)),
-        Err(why) => Err(RepairError::Refused(why)),
+        Err(why) => Err(RepairError::Rejected(why)),
     }
 }
 
@@ -553,7 +553,7 @@ pub fn repair_next(
         }
         Repairing::Mends(head, number) => match measured(length, head) {
             Ok(damage) => after_effect(state, task, damage, number, report),
-            Err(why) => Err(RepairError::Refused(why)),
+            Err(why) => Err(RepairError::Rejected(why)),
         },
         Repairing::Found(head, found) => match measured(length, head) {
             Ok(damage) => Ok(RepairStep::Found(Damage {
@@ -561,7 +561,7 @@ pub fn repair_next(
                 ..damage
             }
             .repair())),
-            Err(why) => Err(RepairError::Refused(why)),
+            Err(why) => Err(RepairError::Rejected(why)),
         },
         Repairing::Failed(failure) => Err(RepairError::Failed(failure)),
     }
@@ -573,7 +573,7 @@ pub(crate) enum LookError {
     /// A read failed.
     Failed(io::Error),
     /// The bytes decide it.
-    Refused(Refusal),
+    Rejected(Rejection),
 }
 
 /// Looks at a file from its beginning, one part after the other.
@@ -607,7 +607,7 @@ pub(crate) fn look_by_parts<S: Source>(source: &mut S, rest: Rest) -> Result<Dam
         match take_asked(look, &buf[..count]) {
             Ok(LookStep::Next(next)) => stage = next,
             Ok(LookStep::Found(damage)) => return Ok(damage),
-            Err(why) => return Err(LookError::Refused(why)),
+            Err(why) => return Err(LookError::Rejected(why)),
         }
     }
 }
@@ -615,13 +615,13 @@ pub(crate) fn look_by_parts<S: Source>(source: &mut S, rest: Rest) -> Result<Dam
 /// The error that callers get.
 pub(crate) fn error_for(error: LookError) -> Error
     ensures names { Tells error result }
-    ensures told { IsMediumError result }
+    ensures reported { IsMediumError result }
 {
     match error {
         LookError::Failed(error) => Error::IoError(error),
-        LookError::Refused(Refusal::Head(cause)) => error_of(HeadError::Refused(cause)),
-        LookError::Refused(Refusal::Unsupported) => Error::Unsupported,
-        LookError::Refused(Refusal::TooLong) => Error::TooLong,
+        LookError::Rejected(Rejection::Head(cause)) => error_of(HeadError::Rejected(cause)),
+        LookError::Rejected(Rejection::Unsupported) => Error::Unsupported,
+        LookError::Rejected(Rejection::TooLong) => Error::TooLong,
     }
 }
 
@@ -717,7 +717,7 @@ pub(crate) fn repair_by_effects<M: Source + Medium>(
     rest: Rest,
 ) -> Result<(M, Repair), (M, Error)>
     ensures sound { IfOk result (λ done. IsSoundSpec done.1.spec_ex) }
-    ensures told { IfErr result (λ refused. IsMediumError refused.1) }
+    ensures reported { IfErr result (λ rejected. IsMediumError rejected.1) }
     ensures repaired { WhereTells M.tells (RepairsMedium (may_be_chunks rest) M.state medium result) }
     ensures moments { WhereKeeps M.tells M.keeps (MendsMedium (may_be_chunks rest) M.state medium result) }
 {

@@ -73,7 +73,7 @@ impl<'a> Cursor<'a> {
         match self.digit(16) {
             Some(low) => Some(high.wrapping_mul(16).wrapping_add(low)),
             None => {
-                row.refuse();
+                row.reject();
                 None
             }
         }
@@ -82,7 +82,7 @@ impl<'a> Cursor<'a> {
     // Takes this byte, which must be the next.
     fn expect(&mut self, byte: u8, row: &mut Row) {
         if !self.takes(byte) {
-            row.refuse();
+            row.reject();
         }
     }
 
@@ -96,7 +96,7 @@ impl<'a> Cursor<'a> {
             self.term(row, bytes);
         }
         if !self.rest.is_empty() {
-            row.refuse();
+            row.reject();
         }
     }
 
@@ -140,13 +140,13 @@ impl<'a> Cursor<'a> {
                     Some(b'n') => row.push(bytes, b'\n'),
                     Some(b't') => row.push(bytes, b'\t'),
                     Some(b'r') => row.push(bytes, b'\r'),
-                    _ => row.refuse(),
+                    _ => row.reject(),
                 },
                 Some(byte) => row.push(bytes, byte),
                 None => break,
             }
         }
-        row.refuse();
+        row.reject();
     }
 
     // `$NAME`
@@ -174,7 +174,7 @@ impl<'a> Cursor<'a> {
             }
         }
         if bytes.len() <= start {
-            row.refuse();
+            row.reject();
         }
     }
 

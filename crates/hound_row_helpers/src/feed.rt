@@ -65,7 +65,7 @@ fn then_of(row: &mut Row, word: &str) -> Then {
         "repeats" => Then::Repeats,
         "boasts" => Then::Boasts,
         _ => {
-            row.refuse();
+            row.reject();
             Then::Ends
         }
     }

@@ -21,7 +21,7 @@ pub struct Row {
 
     /// The result.
     pub line: Line,
-    is_refused: bool,
+    is_rejected: bool,
     names: Vec<Named>,
 }
 
@@ -31,7 +31,7 @@ impl Row {
         Row {
             alloc,
             line: Line::new(alloc),
-            is_refused: false,
+            is_rejected: false,
             names: Vec::new(alloc),
         }
     }
@@ -39,17 +39,17 @@ impl Row {
     /// The next row begins.
     pub fn begin(&mut self) {
         self.line.clear();
-        self.is_refused = false;
+        self.is_rejected = false;
     }
 
     /// Marks the row as an error.
-    pub fn refuse(&mut self) {
-        self.is_refused = true;
+    pub fn reject(&mut self) {
+        self.is_rejected = true;
     }
 
     /// Whether the row is an error.
-    pub fn is_refused(&self) -> bool {
-        self.is_refused
+    pub fn is_rejected(&self) -> bool {
+        self.is_rejected
     }
 
     /// Adds to a list.
@@ -62,7 +62,7 @@ impl Row {
     /// `let NAME BYTES`
     pub fn define(&mut self, words: &[&str]) {
         let [name, bytes] = words else {
-            return self.refuse();
+            return self.reject();
         };
         let bytes = self.bytes(bytes);
         self.line.shown(bytes.len());
@@ -87,7 +87,7 @@ impl Row {
                 return;
             }
         }
-        self.is_refused = true;
+        self.is_rejected = true;
     }
 
     /// A number; `max` is the largest of 64 bits.
@@ -103,7 +103,7 @@ impl Row {
         match digits.parse::<N>() {
             Ok(number) if !word.starts_with('+') => number,
             _ => {
-                self.is_refused = true;
+                self.is_rejected = true;
                 N::default()
             }
         }
@@ -114,7 +114,7 @@ impl Row {
         match u32::from_str_radix(word, 16) {
             Ok(number) if word.len() / 2 == count && word.len() % 2 == 0 => number,
             _ => {
-                self.is_refused = true;
+                self.is_rejected = true;
                 0
             }
         }
@@ -125,7 +125,7 @@ impl Row {
         match word.split_once(at) {
             Some(parts) => parts,
             None => {
-                self.is_refused = true;
+                self.is_rejected = true;
                 ("", "")
             }
         }
@@ -161,7 +161,7 @@ impl Row {
             "OutOfMemory" => ErrorKind::OutOfMemory,
             "InvalidInput" => ErrorKind::InvalidInput,
             _ => {
-                self.is_refused = true;
+                self.is_rejected = true;
                 ErrorKind::Other
             }
         }
@@ -172,7 +172,7 @@ impl Row {
         for option in options {
             let (name, _) = name_and_value(option);
             if !(&*names).contains(&name) {
-                self.is_refused = true;
+                self.is_rejected = true;
             }
         }
     }

@@ -16,7 +16,7 @@ pub fn read_blocks(row: &mut Row, reader: &mut WavReader<impl io::Read + Drop>, 
     let (kind, extent) = row.split(ask, "=");
     match Kind::of(kind) {
         Some(kind) => at_type!(kind, read_as(row, reader, extent)),
-        None => row.refuse(),
+        None => row.reject(),
     }
 }
 

@@ -27,7 +27,7 @@ impl Kept for Tape {
 
     // A tape doesn't record its past.
     fn show_past(&self, row: &mut Row, _from: usize, _is_repaired: bool) {
-        row.refuse();
+        row.reject();
     }
 }
 

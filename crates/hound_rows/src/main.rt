@@ -81,7 +81,7 @@ fn answer_small(row: &mut Row, name: &str, words: &[&str]) {
         }
         // to_float VALUE BITS, to_int PATTERN BITS, change VALUE OLD_BITS NEW_BITS
         "to_float" | "to_int" | "change" => scales::answer(row, name, words),
-        _ => row.refuse(),
+        _ => row.reject(),
     }
 }
 
@@ -105,7 +105,7 @@ fn answer_line(row: &mut Row, text: &str) {
     if let Some((name, words)) = words.as_slice().split_first() {
         answer(row, name, words);
     }
-    if row.is_refused() {
+    if row.is_rejected() {
         row.line.clear();
         row.line.put("not a row");
     }
@@ -120,7 +120,7 @@ fn main(rt: HostRuntime) -> io::Result<ExitCode> {
     for line in text.lines() {
         answer_line(&mut row, line);
         row.line.put("\n");
-        if row.is_refused() {
+        if row.is_rejected() {
             status = ExitCode::FAILURE;
         }
         if row.line.has_failed() {

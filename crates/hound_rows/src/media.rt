@@ -14,7 +14,7 @@ pub fn set_faults(row: &mut Row, journal: &mut Journal, options: &[&str]) {
     if let Some(most) = find(options, "most") {
         let most = row.number(most);
         if most == 0 {
-            return row.refuse();
+            return row.reject();
         }
         journal.most(most);
     }
@@ -46,7 +46,7 @@ fn call<M: Source + Medium>(row: &mut Row, medium: &mut M, name: &str, value: &s
 fn put<M: Medium>(row: &mut Row, medium: &mut M, bytes: &str) {
     let bytes = row.bytes(bytes);
     if bytes.is_empty() {
-        return row.refuse();
+        return row.reject();
     }
     match medium.put(bytes.as_slice()) {
         Ok(count) => {
@@ -62,7 +62,7 @@ fn get<S: Source>(row: &mut Row, source: &mut S, size: &str, is_read: bool) {
     let size: usize = row.number(size);
     let mut bytes = [0; MOST_READ];
     if size > MOST_READ {
-        return row.refuse();
+        return row.reject();
     }
     let answer = if is_read {
         io::Read::read(source, &mut bytes[..size])
@@ -82,7 +82,7 @@ fn get<S: Source>(row: &mut Row, source: &mut S, size: &str, is_read: bool) {
 /// `tape BYTES CALL..`; after the word `lent` calls go to a `&mut` of the tape.
 pub fn tape(row: &mut Row, words: &[&str]) {
     let [bytes, calls @ ..] = words else {
-        return row.refuse();
+        return row.reject();
     };
     let mut tape = Tape::new(row.bytes(bytes));
     let is_lent = calls.first() == Some(&"lent");
@@ -94,7 +94,7 @@ pub fn tape(row: &mut Row, words: &[&str]) {
             call(row, &mut tape, name, value)
         };
         if !is_call && name != "lent" {
-            row.refuse();
+            row.reject();
         }
     }
     row.line.word(":");
@@ -104,7 +104,7 @@ pub fn tape(row: &mut Row, words: &[&str]) {
 /// `journal BYTES CALL..`, likewise.
 pub fn journal(row: &mut Row, words: &[&str]) {
     let [bytes, calls @ ..] = words else {
-        return row.refuse();
+        return row.reject();
     };
     let bytes = row.bytes(bytes);
     let Ok(mut journal) = Journal::new(row.alloc, bytes) else {
@@ -142,7 +142,7 @@ fn call_journal(row: &mut Row, journal: &mut Journal, word: &str) {
             row.line.put_shown(journal.flushed());
         }
         "lent" => {}
-        _ => row.refuse(),
+        _ => row.reject(),
     }
 }
 

@@ -31,13 +31,13 @@ pub fn show_moments(row: &mut Row, journal: &Journal, from: usize, is_repaired: 
 // What a file of these bytes is: `FIELD/COUNT/SUM`, `FIELD/ERR` or `ERR`.
 fn put_moment(line: &mut Line, bytes: Vec<u8>) {
     let mut file = Tape::new(bytes);
-    let refusal = match WavReader::new(&mut file) {
+    let rejection = match WavReader::new(&mut file) {
         Ok(_) => None,
         Err(error) => Some(error),
     };
     let left = left(&mut file);
     let bytes = Tape::bytes(&file);
-    match refusal {
+    match rejection {
         None => {
             put_field(line, bytes, left);
             put_sum(line, bytes);

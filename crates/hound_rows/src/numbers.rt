@@ -12,7 +12,7 @@ use hound_row_helpers::sink::Sink;
 /// `le TYPE VALUE`
 pub fn le(row: &mut Row, words: &[&str]) {
     let [kind, value] = words else {
-        return row.refuse();
+        return row.reject();
     };
     row.line.word("");
     match *kind {
@@ -32,28 +32,28 @@ pub fn le(row: &mut Row, words: &[&str]) {
             let bytes = le_i32(row.number(value));
             row.line.put_hex(&bytes);
         }
-        _ => row.refuse(),
+        _ => row.reject(),
     }
 }
 
 /// `from TYPE HEX`
 pub fn from(row: &mut Row, words: &[&str]) {
     let [kind, hex] = words else {
-        return row.refuse();
+        return row.reject();
     };
     let [a, b, c, d] = row.hex(hex, hex.len() / 2).to_be_bytes();
     match (*kind, hex.len()) {
         ("i16", 4) => row.line.shown(i16_from_le([c, d])),
         ("i24", 6) => row.line.shown(i24_from_le([b, c, d])),
         ("i32", 8) => row.line.shown(i32_from_le([a, b, c, d])),
-        _ => row.refuse(),
+        _ => row.reject(),
     }
 }
 
 /// `at TYPE BYTES AT`
 pub fn at(row: &mut Row, words: &[&str]) {
     let [kind, bytes, at] = words else {
-        return row.refuse();
+        return row.reject();
     };
     let bytes = row.bytes(bytes);
     let at: usize = row.number(at);
@@ -61,14 +61,14 @@ pub fn at(row: &mut Row, words: &[&str]) {
     match *kind {
         "u16" if left >= 2 => row.line.shown(u16_at(bytes.as_slice(), at)),
         "u32" if left >= 4 => row.line.shown(u32_at(bytes.as_slice(), at)),
-        _ => row.refuse(),
+        _ => row.reject(),
     }
 }
 
 /// `signed BYTE` and `unsigned NUMBER`
 pub fn sign(row: &mut Row, name: &str, words: &[&str]) {
     let [number] = words else {
-        return row.refuse();
+        return row.reject();
     };
     if name == "signed" {
         let byte = row.number(number);
@@ -82,7 +82,7 @@ pub fn sign(row: &mut Row, name: &str, words: &[&str]) {
 /// `fill BYTES OPTION..`: four bytes of a reader.
 pub fn fill(row: &mut Row, words: &[&str]) {
     let [bytes, options @ ..] = words else {
-        return row.refuse();
+        return row.reject();
     };
     let mut feed = Feed::of(row, bytes, options);
     let mut four = [0; 4];
@@ -100,7 +100,7 @@ pub fn fill(row: &mut Row, words: &[&str]) {
 /// `write_bytes BYTES SINK`
 pub fn write(row: &mut Row, words: &[&str]) {
     let [bytes, options @ ..] = words else {
-        return row.refuse();
+        return row.reject();
     };
     let bytes = row.bytes(bytes);
     let mut sink = Sink::of(row, options);

@@ -15,7 +15,7 @@ use std::io;
 /// `riff BYTES OPTION..`
 pub fn riff(row: &mut Row, words: &[&str]) {
     let [bytes, options @ ..] = words else {
-        return row.refuse();
+        return row.reject();
     };
     let mut feed = Feed::of(row, bytes, options);
     match read_wave_header(&mut feed) {
@@ -29,7 +29,7 @@ pub fn riff(row: &mut Row, words: &[&str]) {
 pub fn read(row: &mut Row, words: &[&str]) {
     let (words, asks) = parts(words);
     let [bytes, options @ ..] = words else {
-        return row.refuse();
+        return row.reject();
     };
     match find(options, "over") {
         None => {
@@ -151,7 +151,7 @@ fn ask_one<S: Source>(row: &mut Row, reader: &mut WavReader<&mut S>, ask: &str) 
     let (kind, extent) = asked(row, ask);
     match Kind::of(kind) {
         Some(kind) => at_type!(kind, take(row, reader, extent)),
-        None => row.refuse(),
+        None => row.reject(),
     }
 }
 
@@ -224,7 +224,7 @@ fn ask_into(row: &mut Row, reader: WavReader<impl io::Read + Drop>, ask: &str) {
     let (kind, all) = row.split(ask, "*");
     match Kind::of(kind) {
         Some(kind) if all.is_empty() => at_type!(kind, take_into(row, reader)),
-        _ => row.refuse(),
+        _ => row.reject(),
     }
 }
 

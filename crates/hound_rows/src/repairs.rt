@@ -7,7 +7,7 @@ use hound_row_helpers::sweep::Sweep;
 /// the bytes.
 pub fn answer(row: &mut Row, words: &[&str]) {
     let [how, bytes, options @ ..] = words else {
-        return row.refuse();
+        return row.reject();
     };
     row.allow(options, &["cuts"]);
     let bytes = row.bytes(bytes);
@@ -36,7 +36,7 @@ fn repair_one(row: &mut Row, how: &str, bytes: Vec<u8>) -> bool {
         "mend" => repair(tape),
         "to_end" => repair_to_end(tape),
         _ => {
-            row.refuse();
+            row.reject();
             return false;
         }
     };

@@ -9,10 +9,10 @@ use hound_row_helpers::sink::Sink;
 /// WIDTH SINK`, `decode TYPE FORMAT WIDTH BITS BYTES` and `short TYPE VALUE`
 pub fn answer(row: &mut Row, name: &str, words: &[&str]) {
     let [kind, words @ ..] = words else {
-        return row.refuse();
+        return row.reject();
     };
     let Some(kind) = Kind::of(kind) else {
-        return row.refuse();
+        return row.reject();
     };
     match name {
         "encode" => at_type!(kind, encode(row, words)),
@@ -24,7 +24,7 @@ pub fn answer(row: &mut Row, name: &str, words: &[&str]) {
 
 fn encode<T: Value>(row: &mut Row, words: &[&str]) {
     let [value, bits, width] = words else {
-        return row.refuse();
+        return row.reject();
     };
     let value = T::of(row, value);
     let (bits, width) = (row.number(bits), row.number(width));
@@ -37,7 +37,7 @@ fn encode<T: Value>(row: &mut Row, words: &[&str]) {
 // A width is there where the container is padded.
 fn write<T: Value>(row: &mut Row, name: &str, words: &[&str]) {
     let [value, bits, words @ ..] = words else {
-        return row.refuse();
+        return row.reject();
     };
     let value = T::of(row, value);
     let bits = row.number(bits);
@@ -47,7 +47,7 @@ fn write<T: Value>(row: &mut Row, name: &str, words: &[&str]) {
         return row.line.contents(sink.taken());
     }
     let [width, options @ ..] = words else {
-        return row.refuse();
+        return row.reject();
     };
     let width = row.number(width);
     let mut sink = Sink::of(row, options);
@@ -57,12 +57,12 @@ fn write<T: Value>(row: &mut Row, name: &str, words: &[&str]) {
 
 fn decode<T: Value>(row: &mut Row, words: &[&str]) {
     let [format, width, bits, bytes] = words else {
-        return row.refuse();
+        return row.reject();
     };
     let format = match *format {
         "int" => SampleFormat::Int,
         "float" => SampleFormat::Float,
-        _ => return row.refuse(),
+        _ => return row.reject(),
     };
     let (width, bits) = (row.number(width), row.number(bits));
     let bytes = row.bytes(bytes);
@@ -74,7 +74,7 @@ fn decode<T: Value>(row: &mut Row, words: &[&str]) {
 
 fn short(row: &mut Row, kind: Kind, words: &[&str]) {
     let [value] = words else {
-        return row.refuse();
+        return row.reject();
     };
     let short = match kind {
         Kind::Byte => i8::of(row, value).as_i16(),

@@ -8,15 +8,15 @@ use hound_row_helpers::row::Row;
 /// `to_float VALUE BITS`, `to_int PATTERN BITS` and `change VALUE OLD_BITS NEW_BITS`
 pub fn answer(row: &mut Row, name: &str, words: &[&str]) {
     let [value, bits @ ..] = words else {
-        return row.refuse();
+        return row.reject();
     };
     let bits = match bits {
         [bits] => [row.number(bits), 32],
         [old, new] => [row.number(old), row.number(new)],
-        _ => return row.refuse(),
+        _ => return row.reject(),
     };
     let [bits @ 1..=32, new_bits @ 1..=32] = bits else {
-        return row.refuse();
+        return row.reject();
     };
     match name {
         "to_float" => {

@@ -29,7 +29,7 @@ pub fn session(row: &mut Row, words: &[&str]) {
     let (words, others) = parts(words);
     let (steps, end) = parts(others);
     let [spec, options @ ..] = words else {
-        return row.refuse();
+        return row.reject();
     };
     row.allow(
         options,
@@ -234,7 +234,7 @@ fn show_marks(row: &mut Row, marks: &[bool]) {
 pub fn sessions(row: &mut Row, words: &[&str]) {
     let (words, steps) = parts(&*words);
     let [spec, options @ ..] = words else {
-        return row.refuse();
+        return row.reject();
     };
     row.allow(options, &["over", "most", "fail", "tape"]);
     let spec_ex = row.spec(spec);

@@ -8,7 +8,7 @@ use hound_spec::header_of;
 /// `writable SPEC`
 pub fn writable(row: &mut Row, words: &[&str]) {
     let [spec] = words else {
-        return row.refuse();
+        return row.reject();
     };
     let spec_ex = row.spec(spec);
     row.line
@@ -18,7 +18,7 @@ pub fn writable(row: &mut Row, words: &[&str]) {
 /// `header SPEC RIFF_SIZE DATA_LENGTH`
 pub fn header(row: &mut Row, words: &[&str]) {
     let [spec, riff_size, data_length] = words else {
-        return row.refuse();
+        return row.reject();
     };
     let spec_ex = row.spec(spec);
     let (riff_size, data_length) = (row.number(riff_size), row.number(data_length));
@@ -32,7 +32,7 @@ pub fn header(row: &mut Row, words: &[&str]) {
 /// `infinite SPEC`
 pub fn infinite(row: &mut Row, words: &[&str]) {
     let [spec] = words else {
-        return row.refuse();
+        return row.reject();
     };
     let spec = row.spec(spec).spec;
     match spec.into_header_for_infinite_file(row.alloc) {
@@ -44,7 +44,7 @@ pub fn infinite(row: &mut Row, words: &[&str]) {
 /// `width BITS`
 pub fn width(row: &mut Row, words: &[&str]) {
     let [bits] = words else {
-        return row.refuse();
+        return row.reject();
     };
     let spec_ex = WavSpecEx::from(WavSpec {
         channels: 1,
@@ -58,7 +58,7 @@ pub fn width(row: &mut Row, words: &[&str]) {
 /// `text NAME`
 pub fn text(row: &mut Row, words: &[&str]) {
     let [name] = words else {
-        return row.refuse();
+        return row.reject();
     };
     let error = match *name {
         "FormatError" => Error::FormatError("no RIFF tag found"),
@@ -68,7 +68,7 @@ pub fn text(row: &mut Row, words: &[&str]) {
         "InvalidSampleFormat" => Error::InvalidSampleFormat,
         "TooLong" => Error::TooLong,
         "OutOfMemory" => Error::OutOfMemory,
-        _ => return row.refuse(),
+        _ => return row.reject(),
     };
     row.line.shown(error);
 }

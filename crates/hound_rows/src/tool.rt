@@ -52,7 +52,7 @@ fn options_of<'a>(row: &mut Row, options: &[&'a str]) -> Vec<&'a str> {
 pub fn tool(row: &mut Row, words: &[&str]) {
     let (words, given) = parts(words);
     let [bytes, options @ ..] = given else {
-        return row.refuse();
+        return row.reject();
     };
     let mut output = Output {
         taken: Vec::new(row.alloc),

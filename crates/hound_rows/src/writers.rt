@@ -33,7 +33,7 @@ pub fn write(row: &mut Row, words: &[&str]) {
     let (words, others) = parts(words);
     let (acts, end) = parts(others);
     let [constructor, spec, options @ ..] = words else {
-        return row.refuse();
+        return row.reject();
     };
     row.allow(
         options,
@@ -95,7 +95,7 @@ pub fn is_finalized(row: &mut Row, end: &[&str]) -> bool {
         ["finalize"] => true,
         ["drop"] => false,
         _ => {
-            row.refuse();
+            row.reject();
             false
         }
     }
@@ -255,7 +255,7 @@ fn take_other<M: Medium>(
             write_batch(row, writer, count, "", false)
         }
         _ => {
-            row.refuse();
+            row.reject();
             Ok(())
         }
     }

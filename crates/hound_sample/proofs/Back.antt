@@ -9,7 +9,7 @@ use Rattle.hound_spec.proofs.WritableLemmas.{of_pair}
 use Rattle.hound_spec.specs.declared.spec.SampleFormat.TheVariants.{Int}
 use Rattle.hound_sample.specs.Container.{fits, int_bytes, int_container, offset_byte}
 use Rattle.hound_sample.specs.ContainerLaws.{contained}
-use Rattle.hound_sample.specs.Reading.{int_meaning, int_refusal}
+use Rattle.hound_sample.specs.Reading.{int_meaning, int_rejection}
 
 -- a number below half of the range is itself
 signed_of-pos : (k n : ℕ) → 2 * n < 256 ^ k → signed_of k n ≡ pos n
@@ -51,9 +51,9 @@ offset_back (negsuc n) h =
 
 -- samples of the bits and bytes of every container are read as 32 bits
 pub integers_taken : (v : ℤ) (bits width : ℕ) (c : List ℕ) → int_container v bits width ≡ Ok c
-    → int_refusal 4 Int width bits ≡ None
+    → int_rejection 4 Int width bits ≡ None
 integers_taken v bits width c is =
-    of_pair (λ b w. int_refusal 4 Int w b ≡ None) Int bits width
+    of_pair (λ b w. int_rejection 4 Int w b ≡ None) Int bits width
     (refl, (refl, (refl, (refl, (refl, tt))))) (contained v bits width c is).0
 
 -- the number of every container is the one it was made from

@@ -5,38 +5,38 @@ use Rattle.std.proofs.lemmas.Grind.{flat_map-append, common_steps}
 use Rattle.std.proofs.Math.Bool.{and_assoc}
 use Rattle.std.specs.List.{concat, AllByRecursion}
 use Rattle.hound_spec.specs.declared.error.Error.{Error}
-use Rattle.hound_sample.specs.Container.{Refusal, containers, IsEncoded, error_of, all_containers, and_more, bytes_in, joined_containers}
+use Rattle.hound_sample.specs.Container.{Rejection, containers, IsEncoded, error_of, all_containers, and_more, bytes_in, joined_containers}
 use Rattle.hound_sample.specs.Reading.{first_reason, reason_of}
 
 -- there is a list if both results are Ok
-and_more-ok : (first : Result (List ℕ) Refusal) (more : Result (List (List ℕ)) Refusal)
+and_more-ok : (first : Result (List ℕ) Rejection) (more : Result (List (List ℕ)) Rejection)
     → is_ok (and_more first more) ≡ (is_ok first && is_ok more)
-and_more-ok (Err refusal) more = refl
-and_more-ok (Ok container) (Err refusal) = refl
+and_more-ok (Err rejection) more = refl
+and_more-ok (Ok container) (Err rejection) = refl
 and_more-ok (Ok container) (Ok list) = refl
 
 and-true : (b : Bool) → (b && true) ≡ b
 and-true true = refl
 and-true false = refl
 
-pub head_ok : (first : Result (List ℕ) Refusal) (more : Result (List (List ℕ)) Refusal)
+pub head_ok : (first : Result (List ℕ) Rejection) (more : Result (List (List ℕ)) Rejection)
     → IsOk (and_more first more) → IsOk first
-head_ok (Err refusal) more have = cc
+head_ok (Err rejection) more have = cc
 head_ok (Ok container) more have = refl
 
-pub tail_ok : (first : Result (List ℕ) Refusal) (more : Result (List (List ℕ)) Refusal)
+pub tail_ok : (first : Result (List ℕ) Rejection) (more : Result (List (List ℕ)) Rejection)
     → IsOk (and_more first more) → IsOk more
-tail_ok (Err refusal) more have = cc
-tail_ok (Ok container) (Err refusal) have = cc
+tail_ok (Err rejection) more have = cc
+tail_ok (Ok container) (Err rejection) have = cc
 tail_ok (Ok container) (Ok list) have = refl
 
-both_ok : (first : Result (List ℕ) Refusal) (more : Result (List (List ℕ)) Refusal)
+both_ok : (first : Result (List ℕ) Rejection) (more : Result (List (List ℕ)) Rejection)
     → IsOk first → IsOk more → IsOk (and_more first more)
-both_ok (Err refusal) more one rest = cc
-both_ok (Ok container) (Err refusal) one rest = cc
+both_ok (Err rejection) more one rest = cc
+both_ok (Ok container) (Err rejection) one rest = cc
 both_ok (Ok container) (Ok list) one rest = refl
 
-module _ {V : Type 0} (container : V → Result (List ℕ) Refusal) where
+module _ {V : Type 0} (container : V → Result (List ℕ) Rejection) where
   -- whether values have containers, and one after them
   pub ok_append : (values : List V) (value : V)
       → is_ok (all_containers container (values ++ value ∷ []))
@@ -57,32 +57,32 @@ module _ {V : Type 0} (container : V → Result (List ℕ) Refusal) where
   ok_more values i value inside is = grind (arith, common_steps, ok_append)
 
   -- the first error is that of all
-  refused_after : (before after : List V) (value : V) (refusal : Refusal)
-      → IsOk (all_containers container before) → container value ≡ Err refusal
-      → all_containers container (before ++ value ∷ after) ≡ Err refusal
-  refused_after [] after value refusal have is =
+  rejected_after : (before after : List V) (value : V) (rejection : Rejection)
+      → IsOk (all_containers container before) → container value ≡ Err rejection
+      → all_containers container (before ++ value ∷ after) ≡ Err rejection
+  rejected_after [] after value rejection have is =
       ap (λ r. and_more r (all_containers container after)) is
-  refused_after (first ∷ before) after value refusal have is =
+  rejected_after (first ∷ before) after value rejection have is =
       go (container first) (all_containers container before)
       (all_containers container (before ++ value ∷ after)) have
-      (λ rest. refused_after before after value refusal rest is)
+      (λ rest. rejected_after before after value rejection rest is)
     where
-      go : (one : Result (List ℕ) Refusal) (rest all : Result (List (List ℕ)) Refusal)
-          → IsOk (and_more one rest) → (IsOk rest → all ≡ Err refusal)
-          → and_more one all ≡ Err refusal
-      go (Err other) rest all have refused = cc
-      go (Ok c) (Err other) all have refused = cc
-      go (Ok c) (Ok list) all have refused = ap (λ r. and_more (Ok c) r) (refused refl)
+      go : (one : Result (List ℕ) Rejection) (rest all : Result (List (List ℕ)) Rejection)
+          → IsOk (and_more one rest) → (IsOk rest → all ≡ Err rejection)
+          → and_more one all ≡ Err rejection
+      go (Err other) rest all have rejected = cc
+      go (Ok c) (Err other) all have rejected = cc
+      go (Ok c) (Ok list) all have rejected = ap (λ r. and_more (Ok c) r) (rejected refl)
 
-  pub first_refused : (values : List V) (i : ℕ) (value : V) (refusal : Refusal)
+  pub first_rejected : (values : List V) (i : ℕ) (value : V) (rejection : Rejection)
       → i < length values → value ≡ get_or values i value
-      → IsOk (all_containers container (take i values)) → container value ≡ Err refusal
-      → all_containers container values ≡ Err refusal
-  first_refused values i value refusal inside is have refused =
+      → IsOk (all_containers container (take i values)) → container value ≡ Err rejection
+      → all_containers container values ≡ Err rejection
+  first_rejected values i value rejection inside is have rejected =
       ap (all_containers container)
       (parted values i inside
       ∙ (λ j. take i values ++ sym is j ∷ drop (suc i) values))
-      ∙ refused_after (take i values) (drop (suc i) values) value refusal have refused
+      ∙ rejected_after (take i values) (drop (suc i) values) value rejection have rejected
     where
       parted : (values : List V) (i : ℕ) → i < length values
           → values ≡ take i values ++ get_or values i value ∷ drop (suc i) values
@@ -154,12 +154,12 @@ module _ {V : Type 0} (container : V → Result (List ℕ) Refusal) where
         go (container first) refl (all_containers container values)
         (λ others others_are. joined values others others_are) is
       where
-        go : (one : Result (List ℕ) Refusal) → container first ≡ one
-            → (more : Result (List (List ℕ)) Refusal)
+        go : (one : Result (List ℕ) Rejection) → container first ≡ one
+            → (more : Result (List (List ℕ)) Rejection)
             → ((others : List (List ℕ)) → more ≡ Ok others → Joined values others)
             → and_more one more ≡ Ok list → Joined (first ∷ values) list
-        go (Err refusal) first_is more others_are is = cc
-        go (Ok c) first_is (Err refusal) others_are is = cc
+        go (Err rejection) first_is more others_are is = cc
+        go (Ok c) first_is (Err rejection) others_are is = cc
         go (Ok c) first_is (Ok others) others_are is =
             let same : c ∷ others ≡ list = cc in
             let rest = others_are others refl in
@@ -185,10 +185,10 @@ module _ {V : Type 0} (container : V → Result (List ℕ) Refusal) where
         → length (joined_containers container values) ≡ width * length values
     joined_size values have = go (all_containers container values) refl have
       where
-        go : (all : Result (List (List ℕ)) Refusal) → all_containers container values ≡ all
+        go : (all : Result (List (List ℕ)) Rejection) → all_containers container values ≡ all
             → IsOk all → length (joined_containers container values) ≡ width * length values
         go (Ok list) is have = (joined values list is).size
-        go (Err refusal) is have = cc
+        go (Err rejection) is have = cc
 
     -- the bytes of the values from one on
     pub joined_rest : (values : List V) (i : ℕ) → i ≤ length values
@@ -225,19 +225,19 @@ containers-concat w (c ∷ list) rest (one, each) =
     ∙ ap (λ t. c ∷ t) (containers-concat w list rest each)
 
 -- `encode` makes a container of each value that has one
-pub encoded_ok : (asked : Result (List ℕ) Refusal) (answer : Result (List ℕ) Error)
+pub encoded_ok : (asked : Result (List ℕ) Rejection) (answer : Result (List ℕ) Error)
     → IsEncoded asked answer → is_ok answer ≡ is_ok asked
 encoded_ok (Ok container) answer is = ap is_ok is
-encoded_ok (Err refusal) answer is = ap is_ok is
+encoded_ok (Err rejection) answer is = ap is_ok is
 
 -- the first error that `encode` returns is that of all
-pub refused_as : {T : Type 0} (asked : Result (List ℕ) Refusal) (all : Result T Refusal) (e : Error)
-    → IsEncoded asked (Err e) → ((refusal : Refusal) → asked ≡ Err refusal → all ≡ Err refusal)
+pub rejected_as : {T : Type 0} (asked : Result (List ℕ) Rejection) (all : Result T Rejection) (e : Error)
+    → IsEncoded asked (Err e) → ((rejection : Rejection) → asked ≡ Err rejection → all ≡ Err rejection)
     → first_reason all ≡ Err (reason_of e)
-refused_as (Ok container) all e is first = cc
-refused_as (Err refusal) all e is first =
-    let same : error_of refusal ≡ e = cc in
-    ap first_reason (first refusal refl) ∙ ap (λ e. Err (reason_of e)) same
+rejected_as (Ok container) all e is first = cc
+rejected_as (Err rejection) all e is first =
+    let same : error_of rejection ≡ e = cc in
+    ap first_reason (first rejection refl) ∙ ap (λ e. Err (reason_of e)) same
 
 -- a container is what is before the zeros
 pub cut : (width : ℕ) (container array : List ℕ)
@@ -247,10 +247,10 @@ cut width container array padded size =
     ap (take width) padded ∙ take_at container (replicate (4 - length container) 0) width size
 
 -- the first bytes of what `encode` makes are the container
-pub encoded_bytes : (asked : Result (List ℕ) Refusal) (array : List ℕ) (width : ℕ)
+pub encoded_bytes : (asked : Result (List ℕ) Rejection) (array : List ℕ) (width : ℕ)
     → ((c : List ℕ) → asked ≡ Ok c → length c ≡ width) → IsEncoded asked (Ok array)
     → asked ≡ Ok (take width array)
 encoded_bytes (Ok c) array width sized is =
     let padded : array ≡ c ++ replicate (4 - length c) 0 = cc in
     ap Ok (sym (cut width c array padded (sized c refl)))
-encoded_bytes (Err refusal) array width sized is = cc
+encoded_bytes (Err rejection) array width sized is = cc

@@ -9,27 +9,27 @@ use Rattle.std.specs.declared.io.Error.{Error as IoFault}
 use Rattle.hound_spec.specs.declared.error.Error.{Error}
 use Rattle.hound_spec.specs.declared.error.Error.TheVariants.{IoError}
 use Rattle.hound_sample.specs.Container.{containers}
-use Rattle.hound_sample.specs.Reading.{ReadRefusal, ReadsEach, Reads}
+use Rattle.hound_sample.specs.Reading.{ReadRejection, ReadsEach, Reads}
 use Rattle.hound_sample.proofs.Containers.{containers_front, length-containers}
 use Rattle.hound_sample.proofs.Reading.{takes_container, takes_part}
 
 -- samples, and then more of them
-pub each_append : {A : Type 0} (refusal : Option ReadRefusal) (meaning : List ℕ → A) (width : ℕ)
+pub each_append : {A : Type 0} (rejection : Option ReadRejection) (meaning : List ℕ → A) (width : ℕ)
     (few more : List (Result A Error)) (old mid new : Option (List ℕ))
-    → ReadsEach refusal meaning width few old mid → ReadsEach refusal meaning width more mid new
-    → ReadsEach refusal meaning width (few ++ more) old new
-each_append refusal meaning width [] more old mid new before after =
-    subst (λ m. ReadsEach refusal meaning width more m new) before after
-each_append refusal meaning width (item ∷ few) more old mid new (first, read, before) after =
-    (first, read, each_append refusal meaning width few more first mid new before after)
+    → ReadsEach rejection meaning width few old mid → ReadsEach rejection meaning width more mid new
+    → ReadsEach rejection meaning width (few ++ more) old new
+each_append rejection meaning width [] more old mid new before after =
+    subst (λ m. ReadsEach rejection meaning width more m new) before after
+each_append rejection meaning width (item ∷ few) more old mid new (first, read, before) after =
+    (first, read, each_append rejection meaning width few more first mid new before after)
 
 -- samples, and then one more
-pub each_more : {A : Type 0} (refusal : Option ReadRefusal) (meaning : List ℕ → A) (width : ℕ)
+pub each_more : {A : Type 0} (rejection : Option ReadRejection) (meaning : List ℕ → A) (width : ℕ)
     (few : List (Result A Error)) (item : Result A Error) (old mid new : Option (List ℕ))
-    → ReadsEach refusal meaning width few old mid → Reads refusal meaning width mid new item
-    → ReadsEach refusal meaning width (few ++ (item ∷ [])) old new
-each_more refusal meaning width few item old mid new before read =
-    each_append refusal meaning width few (item ∷ []) old mid new before (new, read, refl)
+    → ReadsEach rejection meaning width few old mid → Reads rejection meaning width mid new item
+    → ReadsEach rejection meaning width (few ++ (item ∷ [])) old new
+each_more rejection meaning width few item old mid new before read =
+    each_append rejection meaning width few (item ∷ []) old mid new before (new, read, refl)
 
 -- lists that are the same from a place on are so from a later place on
 pub drop_further : {A : Type 0} (n more : ℕ) (xs ys : List A) → drop n xs ≡ drop n ys
@@ -116,13 +116,13 @@ module _ {A : Type 0} (meaning : List ℕ → A) (width : ℕ) where
   all_of at k count bytes xs values within is = grind (arith, common_steps, length-containers, take-put_mid)
 
   -- samples appended to others were read after them
-  pub each_behind : (at k count : ℕ) (bytes : List ℕ) (xs values : List A)
+  pub each_beyond : (at k count : ℕ) (bytes : List ℕ) (xs values : List A)
       (old mid new : Option (List ℕ)) → at ≤ length xs → 1 ≤ count
       → length bytes ≡ count * width → Consumes mid new bytes
       → values ≡ map meaning (containers width count bytes)
       → ReadsEach None meaning width (map Ok (take at xs)) old mid
       → ReadsEach None meaning width (map Ok (take (at + count) (put_mid at k xs values))) old new
-  each_behind at k count bytes xs values old mid new within some size taken is before =
+  each_beyond at k count bytes xs values old mid new within some size taken is before =
       subst (λ items. ReadsEach None meaning width items old new)
       (sym (all_of at k count bytes xs values within is))
       (each_append None meaning width _ _ old mid new before

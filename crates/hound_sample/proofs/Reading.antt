@@ -6,8 +6,8 @@ use Rattle.std.specs.Io.KnownBytes.{Consumes}
 use Rattle.std.specs.declared.io.Error.{Error as IoFault}
 use Rattle.hound_number.specs.{WhereKnown}
 use Rattle.hound_number.proofs.KnownSteps.{known_from}
-use Rattle.hound_sample.specs.Container.{Refusal, error_of, too_wide, unsupported}
-use Rattle.hound_sample.specs.Reading.{ReadRefusal, Reads, ReadsContainer, TakesContainer, TakesPart, error_of_sample, read_error, reason_of}
+use Rattle.hound_sample.specs.Container.{Rejection, error_of, too_wide, unsupported}
+use Rattle.hound_sample.specs.Reading.{ReadRejection, Reads, ReadsContainer, TakesContainer, TakesPart, error_of_sample, read_error, reason_of}
 
 pub takes_container : {A : Type 0} (bytes : List ℕ) (old new : Option (List ℕ)) (width : ℕ)
     (meaning : List ℕ → A) (value : A) → Consumes old new bytes → length bytes ≡ width
@@ -26,14 +26,14 @@ takes_part bytes old new width taken few =
     ))
 
 -- a type that reads the samples has read a container
-pub reads_container : {A : Type 0} (refusal : Option ReadRefusal) (meaning : List ℕ → A) (width : ℕ)
-    (old new : Option (List ℕ)) (result : Result A Error) → Ok tt ≡ read_error refusal
-    → ReadsContainer meaning width old new result → Reads refusal meaning width old new result
+pub reads_container : {A : Type 0} (rejection : Option ReadRejection) (meaning : List ℕ → A) (width : ℕ)
+    (old new : Option (List ℕ)) (result : Result A Error) → Ok tt ≡ read_error rejection
+    → ReadsContainer meaning width old new result → Reads rejection meaning width old new result
 reads_container None meaning width old new result is reads = reads
-reads_container (Some refusal) meaning width old new result is reads = cc
+reads_container (Some rejection) meaning width old new result is reads = cc
 
 -- a reason has the error that it is of, whichever fault was saved
-pub same_error : (refusal : Refusal) (fault : IoFault)
-    → error_of_sample (reason_of (error_of refusal)) fault ≡ error_of refusal
+pub same_error : (rejection : Rejection) (fault : IoFault)
+    → error_of_sample (reason_of (error_of rejection)) fault ≡ error_of rejection
 same_error too_wide fault = refl
 same_error unsupported fault = refl

@@ -5,17 +5,17 @@ use Rattle.hound_number.specs.{bytes_of}
 use Rattle.hound_spec.specs.{IsPair, is_pair, pairs}
 use Rattle.hound_spec.proofs.WritableLemmas.{of_pair}
 use Rattle.hound_spec.specs.declared.spec.SampleFormat.TheVariants.{Int, Float}
-use Rattle.hound_sample.specs.Container.{Refusal, too_wide, unsupported, fits, int_bytes, int_container, pattern_container, offset_byte}
+use Rattle.hound_sample.specs.Container.{Rejection, too_wide, unsupported, fits, int_bytes, int_container, pattern_container, offset_byte}
 
 -- one to four bytes, as many as the width says
 abbrev InWidth : List ℕ → ℕ → Type 0
 InWidth c width = (length c ≡ width) × (1 ≤ width) × (width ≤ 4)
 
 -- what is Ok has met its condition
-met : (b : Bool) (here : Result (List ℕ) Refusal) (refusal : Refusal) (c : List ℕ)
-    → cond b here (Err refusal) ≡ Ok c → IsTrue b × (here ≡ Ok c)
-met true here refusal c is = (refl, is)
-met false here refusal c is = cc
+met : (b : Bool) (here : Result (List ℕ) Rejection) (rejection : Rejection) (c : List ℕ)
+    → cond b here (Err rejection) ≡ Ok c → IsTrue b × (here ≡ Ok c)
+met true here rejection c is = (refl, is)
+met false here rejection c is = cc
 
 -- an integer that has a container: its bits and bytes are a pair, and it fits
 pub contained : (v : ℤ) (bits width : ℕ) (c : List ℕ) → int_container v bits width ≡ Ok c

@@ -3,7 +3,7 @@
 ghost use Rattle.std.specs.Prelude.{◌≡◌, ◌≤◌, ◌<◌, ◌*◌, ℕ, List, length, map, take, Option, None, IsOk, IsSome, OnErr, OnOk};
 ghost use Rattle.std.specs.Io.KnownBytes.{Consumes};
 ghost use Rattle.hound_sample.specs.Container.{containers};
-ghost use Rattle.hound_sample.specs.Reading.{ReadsItem, FillsFront, ReadsEach, items_of, ReadRefusal, Reads, float_refusal, int_refusal, read_error};
+ghost use Rattle.hound_sample.specs.Reading.{ReadsItem, FillsFront, ReadsEach, items_of, ReadRejection, Reads, float_rejection, int_rejection, read_error};
 ghost use Rattle.hound_spec.specs.{IsPair};
 ghost use Rattle.hound_spec.specs.declared.spec.SampleFormat.{SampleFormat};
 ghost use Rattle.hound_spec.specs.declared.spec.SampleFormat.TheVariants.{Float, Int};
@@ -25,7 +25,7 @@ const SMALL_PIECE: usize = 64;
 /// allows no cycle between the methods of an `impl`.
 pub trait Decode: Sized + Drop {
     /// Why containers of a format, with these bytes and used bits, aren't decoded, if they aren't.
-    ghost decode_refusal: { SampleFormat → ℕ → ℕ → Option ReadRefusal };
+    ghost decode_rejection: { SampleFormat → ℕ → ℕ → Option ReadRejection };
 
     /// The value of a container, in a file of this format, with these bytes and used bits.
     ghost value: { SampleFormat → ℕ → ℕ → List ℕ → Self };
@@ -33,12 +33,12 @@ pub trait Decode: Sized + Drop {
     /// Whether containers of a format, with these bytes and used bits, are decoded, or why not: the
     /// errors of [`Sample::read`](crate::Sample::read).
     fn check(fmt: SampleFormat, bytes: u16, bits: u16) -> Result<()>
-        ensures check { result ≡ read_error (decode_refusal fmt bytes bits) }
+        ensures check { result ≡ read_error (decode_rejection fmt bytes bits) }
         ensures pair { IsOk result → IsPair fmt bits bytes };
 
     /// The value of a container of this many bytes.
     fn decode(container: &[u8], fmt: SampleFormat, bytes: u16, bits: u16) -> Self
-        requires decodes { decode_refusal fmt bytes bits ≡ None }
+        requires decodes { decode_rejection fmt bytes bits ≡ None }
         requires width { length container.now ≡ bytes }
         ensures { result ≡ value fmt bytes bits container.now };
 }
@@ -52,8 +52,8 @@ pub(crate) fn check_type(
     bytes: u16,
     bits: u16,
 ) -> Result<()>
-    ensures int { format ≡ Int → result ≡ read_error (int_refusal most fmt bytes bits) }
-    ensures float { format ≡ Float → most ≡ 4 → result ≡ read_error (float_refusal fmt bytes bits) }
+    ensures int { format ≡ Int → result ≡ read_error (int_rejection most fmt bytes bits) }
+    ensures float { format ≡ Float → most ≡ 4 → result ≡ read_error (float_rejection fmt bytes bits) }
     ensures pair { IsOk result → IsPair fmt bits bytes }
 {
     if fmt == format && bytes <= most && is_pair(fmt, bits, bytes) {
@@ -76,9 +76,9 @@ pub(crate) fn read_container<S: Decode, R: io::Read>(
     bytes: u16,
     bits: u16,
 ) -> Result<S>
-    ensures reads { Reads (S.decode_refusal fmt bytes bits) (S.value fmt bytes bits) bytes
+    ensures reads { Reads (S.decode_rejection fmt bytes bits) (S.value fmt bytes bits) bytes
         (R.remaining reader.old) (R.remaining reader.new) result }
-    ensures untouched { IsSome (S.decode_refusal fmt bytes bits) → reader.new ≡ reader.old }
+    ensures untouched { IsSome (S.decode_rejection fmt bytes bits) → reader.new ≡ reader.old }
 {
     S::check(fmt, bytes, bits)?;
     let mut container = [0; 4];
@@ -97,7 +97,7 @@ fn decode_container<S: Decode, R: ContainerReader>(
     bytes: u16,
     bits: u16,
 ) -> result::Result<S, SampleError>
-    requires decodes { S.decode_refusal fmt bytes bits ≡ None }
+    requires decodes { S.decode_rejection fmt bytes bits ≡ None }
     requires some { 1 ≤ bytes }
     requires few { bytes ≤ 4 }
     ensures { ReadsItem None (S.value fmt bytes bits) bytes (R.remaining reader.old) (R.remaining reader.new) result }
@@ -117,9 +117,9 @@ pub(crate) fn decode_next<S: Decode, R: ContainerReader>(
     bytes: u16,
     bits: u16,
 ) -> result::Result<S, SampleError>
-    ensures item { ReadsItem (S.decode_refusal fmt bytes bits) (S.value fmt bytes bits) bytes
+    ensures item { ReadsItem (S.decode_rejection fmt bytes bits) (S.value fmt bytes bits) bytes
         (R.remaining reader.old) (R.remaining reader.new) result }
-    ensures untouched { IsSome (S.decode_refusal fmt bytes bits) → reader.new ≡ reader.old }
+    ensures untouched { IsSome (S.decode_rejection fmt bytes bits) → reader.new ≡ reader.old }
 {
     if let Err(error) = S::check(fmt, bytes, bits) {
         return Err(reason_of(error));
@@ -162,7 +162,7 @@ pub(crate) fn decode_each<S: Decode>(
     bytes: u16,
     bits: u16,
 )
-    requires decodes { S.decode_refusal fmt bytes bits ≡ None }
+    requires decodes { S.decode_rejection fmt bytes bits ≡ None }
     requires whole { length from.now ≡ length samples.old * bytes }
     ensures { samples.new ≡ map (S.value fmt bytes bits)
         (containers bytes (length samples.old) from.now) }
@@ -183,7 +183,7 @@ fn read_through<S: Decode, R: io::Read>(
     bytes: u16,
     bits: u16,
 ) -> (usize, Result<()>)
-    requires decodes { S.decode_refusal fmt bytes bits ≡ None }
+    requires decodes { S.decode_rejection fmt bytes bits ≡ None }
     requires some { 1 ≤ bytes }
     requires few { bytes ≤ 4 }
     requires room { 4 ≤ length piece.old }
@@ -222,7 +222,7 @@ fn read_pieces<S: Decode, R: io::Read>(
     bytes: u16,
     bits: u16,
 ) -> (usize, Result<()>)
-    requires decodes { S.decode_refusal fmt bytes bits ≡ None }
+    requires decodes { S.decode_rejection fmt bytes bits ≡ None }
     requires some { 1 ≤ bytes }
     requires few { bytes ≤ 4 }
     ensures each { ReadsEach None (S.value fmt bytes bits) bytes
@@ -246,11 +246,11 @@ pub(crate) fn read_containers<S: Decode, R: io::Read>(
     bytes: u16,
     bits: u16,
 ) -> (usize, Result<()>)
-    ensures each { ReadsEach (S.decode_refusal fmt bytes bits) (S.value fmt bytes bits) bytes
+    ensures each { ReadsEach (S.decode_rejection fmt bytes bits) (S.value fmt bytes bits) bytes
         (items_of (take result.0 samples.new) result.1)
         (R.remaining reader.old) (R.remaining reader.new) }
     ensures front { FillsFront result.0 result.1 samples.old samples.new }
-    ensures untouched { IsSome (S.decode_refusal fmt bytes bits) → reader.new ≡ reader.old }
+    ensures untouched { IsSome (S.decode_rejection fmt bytes bits) → reader.new ≡ reader.old }
 {
     if samples.is_empty() {
         return (0, Ok(()));

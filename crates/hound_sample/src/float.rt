@@ -4,7 +4,7 @@ ghost use lib.Ieee.{binary32};
 ghost use Rattle.hound_number.specs.{number};
 ghost use Rattle.hound_sample.specs.Container.{pattern_container};
 ghost use Rattle.hound_sample.specs.ContainerLaws.{pattern_container-in_width};
-ghost use Rattle.hound_sample.specs.Reading.{float_refusal, pattern, ReadsContainer};
+ghost use Rattle.hound_sample.specs.Reading.{float_rejection, pattern, ReadsContainer};
 ghost use Rattle.hound_spec.specs.declared.error.Error.TheVariants.{InvalidSampleFormat, TooWide, Unsupported};
 ghost use Rattle.hound_spec.specs.declared.spec.SampleFormat.TheVariants.{Float, Int};
 
@@ -55,7 +55,7 @@ impl FloatBits {
 }
 
 impl Decode for FloatBits {
-    ghost decode_refusal = { float_refusal };
+    ghost decode_rejection = { float_rejection };
 
     ghost value = { λ fmt bytes bits container. record { 0 = pattern container } };
 
@@ -75,7 +75,7 @@ impl Sample for FloatBits {
 
     ghost in_width = { λ sample. pattern_container-in_width sample.0 };
 
-    ghost refusal = { float_refusal };
+    ghost rejection = { float_rejection };
 
     ghost meaning = { λ format width bits container. record { 0 = pattern container } };
 

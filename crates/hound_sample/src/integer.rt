@@ -2,7 +2,7 @@
 ghost use Rattle.std.specs.Prelude.{◌≡◌, ◌<◌, ◌≤◌, ◌++◌, ◌∷◌, [], ℤ, take, None, Ok, Err, IsOk, if◌then◌else◌};
 ghost use Rattle.hound_number.specs.{signed_bytes_of};
 ghost use Rattle.hound_sample.specs.Container.{fits, if_fits, offset_byte, int_container, IsEncoded};
-ghost use Rattle.hound_sample.specs.Reading.{int_meaning, int_refusal, low_i16, ReadsContainer, read_error};
+ghost use Rattle.hound_sample.specs.Reading.{int_meaning, int_rejection, low_i16, ReadsContainer, read_error};
 ghost use Rattle.hound_spec.specs.{IsPair};
 ghost use Rattle.hound_spec.specs.declared.error.Error.TheVariants.{InvalidSampleFormat, TooWide, Unsupported};
 ghost use Rattle.hound_spec.specs.declared.spec.SampleFormat.TheVariants.{Float, Int};
@@ -79,7 +79,7 @@ pub(crate) fn lowest_16_bits(x: i32) -> i16
 }
 
 impl Decode for i8 {
-    ghost decode_refusal = { int_refusal 1 };
+    ghost decode_rejection = { int_rejection 1 };
 
     ghost value = { λ fmt. int_meaning };
 
@@ -95,7 +95,7 @@ impl Decode for i8 {
 }
 
 impl Decode for i16 {
-    ghost decode_refusal = { int_refusal 2 };
+    ghost decode_rejection = { int_rejection 2 };
 
     ghost value = { λ fmt. int_meaning };
 
@@ -114,7 +114,7 @@ impl Decode for i16 {
 }
 
 impl Decode for i32 {
-    ghost decode_refusal = { int_refusal 4 };
+    ghost decode_rejection = { int_rejection 4 };
 
     ghost value = { λ fmt. int_meaning };
 

@@ -1,8 +1,8 @@
 // The types of samples.
 ghost use Rattle.std.specs.Prelude.{◌≡◌, ◌≤◌, ◌/◌, ℕ, ℤ, ⊤, List, Option, Result, Ok, IsSome, IsErr, length, take};
-ghost use Rattle.hound_sample.specs.Container.{Refusal, int_container, IsEncoded, WritesContainer};
+ghost use Rattle.hound_sample.specs.Container.{Rejection, int_container, IsEncoded, WritesContainer};
 ghost use Rattle.hound_sample.specs.ContainerLaws.{int_container-in_width};
-ghost use Rattle.hound_sample.specs.Reading.{ReadRefusal, int_refusal, int_meaning, low_i16, ReadsItem, FillsFront, ReadsEach, items_of, Reads};
+ghost use Rattle.hound_sample.specs.Reading.{ReadRejection, int_rejection, int_meaning, low_i16, ReadsItem, FillsFront, ReadsEach, items_of, Reads};
 ghost use Rattle.hound_spec.specs.declared.spec.SampleFormat.{SampleFormat};
 
 use crate::decode::{decode_next, read_container, read_containers};
@@ -20,7 +20,7 @@ use std::{io, result};
 /// writes.
 ///
 /// A sample of `bits` used bits takes `byte_width` bytes in the file, its container. A type's
-/// tables say which pairs of the two it takes, and which values: `container` for writing, `refusal`
+/// tables say which pairs of the two it takes, and which values: `container` for writing, `rejection`
 /// and `meaning` for reading. A type of your own has tables of its own, with `read`, `as_i16` and
 /// `encode`; the reader and the writer treat it as any other.
 ///
@@ -30,11 +30,11 @@ use std::{io, result};
 /// `Unsupported`.
 pub trait Sample: Sized + Drop {
     /// The container of a value with these used bits and bytes, or why there is none.
-    ghost container: { Self → ℕ → ℕ → Result (List ℕ) Refusal };
+    ghost container: { Self → ℕ → ℕ → Result (List ℕ) Rejection };
 
     /// Why samples of a format, with these bytes and used bits, aren't read as this type, if they
     /// aren't.
-    ghost refusal: { SampleFormat → ℕ → ℕ → Option ReadRefusal };
+    ghost rejection: { SampleFormat → ℕ → ℕ → Option ReadRejection };
 
     /// The value of a container, in a file of this format, with these bytes and used bits.
     ghost meaning: { SampleFormat → ℕ → ℕ → List ℕ → Self };
@@ -76,9 +76,9 @@ pub trait Sample: Sized + Drop {
     /// fault that it met itself. An error for the format, the bytes or the bits comes before any
     /// read and leaves the reader untouched.
     fn read<R: io::Read>(reader: &mut R, fmt: SampleFormat, bytes: u16, bits: u16) -> Result<Self>
-        ensures reads { Reads (refusal fmt bytes bits) (meaning fmt bytes bits) bytes
+        ensures reads { Reads (rejection fmt bytes bits) (meaning fmt bytes bits) bytes
             (R.remaining reader.old) (R.remaining reader.new) result }
-        ensures untouched { IsSome (refusal fmt bytes bits) → reader.new ≡ reader.old };
+        ensures untouched { IsSome (rejection fmt bytes bits) → reader.new ≡ reader.old };
 
     /// Reads a sample as [`Sample::read`] does, from a reader that saves its faults (own).
     ///
@@ -91,9 +91,9 @@ pub trait Sample: Sized + Drop {
         bytes: u16,
         bits: u16,
     ) -> result::Result<Self, SampleError>
-        ensures item { ReadsItem (refusal fmt bytes bits) (meaning fmt bytes bits) bytes
+        ensures item { ReadsItem (rejection fmt bytes bits) (meaning fmt bytes bits) bytes
             (R.remaining reader.old) (R.remaining reader.new) result }
-        ensures untouched { IsSome (refusal fmt bytes bits) → reader.new ≡ reader.old }
+        ensures untouched { IsSome (rejection fmt bytes bits) → reader.new ≡ reader.old }
     {
         Self::read(reader, fmt, bytes, bits).map_err(reason_of)
     }
@@ -110,11 +110,11 @@ pub trait Sample: Sized + Drop {
         bytes: u16,
         bits: u16,
     ) -> (usize, Result<()>)
-        ensures each { ReadsEach (refusal fmt bytes bits) (meaning fmt bytes bits) bytes
+        ensures each { ReadsEach (rejection fmt bytes bits) (meaning fmt bytes bits) bytes
             (items_of (take result.0 samples.new) result.1)
             (R.remaining reader.old) (R.remaining reader.new) }
         ensures front { FillsFront result.0 result.1 samples.old samples.new }
-        ensures untouched { IsSome (refusal fmt bytes bits) → reader.new ≡ reader.old }
+        ensures untouched { IsSome (rejection fmt bytes bits) → reader.new ≡ reader.old }
     {
         for i in 0..samples.len() {
             match Self::read(reader, fmt, bytes, bits) {
@@ -146,7 +146,7 @@ impl<T: Integer> Sample for T {
 
     ghost in_width = { λ v. int_container-in_width (T.number v) };
 
-    ghost refusal = { T.decode_refusal };
+    ghost rejection = { T.decode_rejection };
 
     ghost meaning = { T.value };
 

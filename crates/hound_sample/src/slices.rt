@@ -129,7 +129,7 @@ pub fn decode_containers<S: Decode>(
     bytes: u16,
     bits: u16,
 )
-    requires decodes { S.decode_refusal fmt bytes bits ≡ None }
+    requires decodes { S.decode_rejection fmt bytes bits ≡ None }
     requires whole { length from.now ≡ length samples.old * bytes }
     ensures { samples.new ≡ map (S.value fmt bytes bits)
         (containers bytes (length samples.old) from.now) }

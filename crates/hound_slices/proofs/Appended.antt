@@ -63,8 +63,8 @@ module _ (s : WavSpecEx) (samples h used n k riff : ℕ) (list : List (List ℕ)
   new_long = length-take-le n two (omega (arith, room, long, same.long))
 
   -- after the header nothing changes in the second step
-  behind : drop h two ≡ drop h one
-  behind = grind (arith, common_steps, same)
+  beyond : drop h two ≡ drop h one
+  beyond = grind (arith, common_steps, same)
 
   pub sizes_only : ChangesSizesOnly h (take used file) (take n two)
   sizes_only = record {
@@ -85,7 +85,7 @@ module _ (s : WavSpecEx) (samples h used n k riff : ℕ) (list : List (List ℕ)
   follows : drop h (take n two) ≡ take (samples * w) (drop h file) ++ added
   follows =
       let e : n ≡ h + (n - h) = omega (arith, n_is) in
-      ap (λ m. drop h (take m two)) e ∙ drop-take h (n - h) two ∙ ap (take (n - h)) behind
+      ap (λ m. drop h (take m two)) e ∙ drop-take h (n - h) two ∙ ap (take (n - h)) beyond
       ∙ sym (drop-take h (n - h) one) ∙ sym (ap (λ m. drop h (take m one)) e)
       ∙ ap (drop h) (take_put at k file added size fits n n_is)
       ∙ drop-append-le h (take at file) added (omega (arith, length-take-le at file (omega (arith, fits))))

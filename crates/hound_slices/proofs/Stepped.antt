@@ -7,7 +7,7 @@ use Rattle.hound_repair.specs.declared.steps.Repairing.{Repairing}
 use Rattle.hound_repair.specs.declared.steps.Task.{Task}
 use Rattle.hound_writer.specs.declared.effects.Report.{Report}
 use Rattle.hound_slices.specs.Repairers.{GivesStep}
-use Rattle.hound_slices.specs.declared.fault.Fault.{Fault}
+use Rattle.hound_slices.specs.declared.error.CallError.{CallError}
 use Rattle.hound_slices.specs.declared.repairer.HoundRepairer.{HoundRepairer}
 use Rattle.hound_slices.specs.declared.spec.HoundRepair.{HoundRepair}
 
@@ -23,7 +23,7 @@ step_is n task other bytes read report said old was new now step t b r o w asks 
     (subst (λ x. AsksNext task n bytes report old x step) w asks))))
 
 pub gives_for : (old new : HoundRepairer) (was now : HoundRepair)
-    (step other : Result RepairStep RepairError) (outcome : Result ℕ Fault) → step ≡ other
+    (step other : Result RepairStep RepairError) (outcome : Result ℕ CallError) → step ≡ other
     → GivesStep old new was now other outcome → GivesStep old new was now step outcome
 gives_for old new was now step other outcome is gives =
     subst (λ x. GivesStep old new was now x outcome) (sym is) gives

@@ -6,8 +6,8 @@ use Rattle.hound_walk.specs.declared.cause.Reason.{Reason}
 use Rattle.hound_walk.specs.declared.cause.Reason.TheVariants.{NoRiffTag, NoWaveTag, NoDataChunk, NoFmtChunk, FmtSize, UnexpectedFmtSize, ZeroChannels, BitsExceedWidth, Inconsistent, BitsNotWholeBytes, ZeroBits, BitsNot8Or16, ExSize, BitsNot32, ExtensibleSize, DataLength, FrameLength}
 use Rattle.hound_writer.specs.declared.recorder.RecorderError.{RecorderError}
 use Rattle.hound_writer.specs.declared.recorder.RecorderError.TheVariants.{NotWritable, TooLong as TooLongToRecord, UnfinishedFrame as HalfFrame, Truncated as LacksSamples, NeedsCheckpoint, SyncFailed, CutOff, HasChunksAfterData}
-use Rattle.hound_slices.specs.declared.fault.Fault.{Fault}
-use Rattle.hound_slices.specs.declared.fault.Fault.TheVariants.{Head, OtherFormat, TooWide, NotWritable, Truncated, TooLong, UnfinishedFrame, NoRoom, NotPerformed, Recorder}
+use Rattle.hound_slices.specs.declared.error.CallError.{CallError}
+use Rattle.hound_slices.specs.declared.error.CallError.TheVariants.{Head, OtherFormat, TooWide, NotWritable, Truncated, TooLong, UnfinishedFrame, NoRoom, NotPerformed, Recorder}
 
 abbrev pub reason_code : Reason → ℤ
 reason_code NoRiffTag = negsuc 9
@@ -28,41 +28,41 @@ reason_code ExtensibleSize = negsuc 23
 reason_code DataLength = negsuc 24
 reason_code FrameLength = negsuc 25
 
-abbrev pub fault_code : Fault → ℤ
-fault_code (Head Ended) = negsuc 0
-fault_code (Head Unsupported) = negsuc 1
-fault_code (Head (Format reason)) = reason_code reason
-fault_code OtherFormat = negsuc 2
-fault_code TooWide = negsuc 3
-fault_code NotWritable = negsuc 4
-fault_code Truncated = negsuc 5
-fault_code TooLong = negsuc 6
-fault_code UnfinishedFrame = negsuc 7
-fault_code NoRoom = negsuc 8
-fault_code NotPerformed = negsuc 30
-fault_code (Recorder NotWritable) = negsuc 4
-fault_code (Recorder TooLongToRecord) = negsuc 6
-fault_code (Recorder HalfFrame) = negsuc 7
-fault_code (Recorder LacksSamples) = negsuc 5
-fault_code (Recorder NeedsCheckpoint) = negsuc 26
-fault_code (Recorder SyncFailed) = negsuc 27
-fault_code (Recorder CutOff) = negsuc 28
-fault_code (Recorder HasChunksAfterData) = negsuc 29
+abbrev pub error_code : CallError → ℤ
+error_code (Head Ended) = negsuc 0
+error_code (Head Unsupported) = negsuc 1
+error_code (Head (Format reason)) = reason_code reason
+error_code OtherFormat = negsuc 2
+error_code TooWide = negsuc 3
+error_code NotWritable = negsuc 4
+error_code Truncated = negsuc 5
+error_code TooLong = negsuc 6
+error_code UnfinishedFrame = negsuc 7
+error_code NoRoom = negsuc 8
+error_code NotPerformed = negsuc 30
+error_code (Recorder NotWritable) = negsuc 4
+error_code (Recorder TooLongToRecord) = negsuc 6
+error_code (Recorder HalfFrame) = negsuc 7
+error_code (Recorder LacksSamples) = negsuc 5
+error_code (Recorder NeedsCheckpoint) = negsuc 26
+error_code (Recorder SyncFailed) = negsuc 27
+error_code (Recorder CutOff) = negsuc 28
+error_code (Recorder HasChunksAfterData) = negsuc 29
 
 -- the bytes have no data to be read, for a cause that P holds for
-abbrev pub IsHeadFault : (Cause → Type 0) → Fault → Type 0
-IsHeadFault P fault = (cause : Cause) × (fault ≡ Head cause) × P cause
+abbrev pub IsHeadError : (Cause → Type 0) → CallError → Type 0
+IsHeadError P error = (cause : Cause) × (error ≡ Head cause) × P cause
 
--- the count, or the number of the fault
-abbrev pub code_for : Result ℕ Fault → ℤ
+-- the count, or the number of the error
+abbrev pub code_for : Result ℕ CallError → ℤ
 code_for (Ok n) = pos n
-code_for (Err fault) = fault_code fault
+code_for (Err error) = error_code error
 
 -- what C gets is the number of an outcome that P holds for
-abbrev pub Returns : ℤ → (Result ℕ Fault → Type 0) → Type 0
-Returns number P = (outcome : Result ℕ Fault) × (number ≡ code_for outcome) × P outcome
+abbrev pub Returns : ℤ → (Result ℕ CallError → Type 0) → Type 0
+Returns number P = (outcome : Result ℕ CallError) × (number ≡ code_for outcome) × P outcome
 
 -- what C gets of a recorder's call is a number of its result, or that of its error
 abbrev pub Records : {T : Type 0} → ℤ → (T → ℕ) → (Result T RecorderError → Type 0) → Type 0
 Records {T} number value P = (result : Result T RecorderError) × P result
-    × MatchResult result (λ x. number ≡ pos (value x)) (λ error. number ≡ fault_code (Recorder error))
+    × MatchResult result (λ x. number ≡ pos (value x)) (λ error. number ≡ error_code (Recorder error))

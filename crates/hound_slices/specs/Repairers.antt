@@ -8,10 +8,10 @@ use Rattle.hound_repair.specs.declared.sizes.RepairState.{RepairState}
 use Rattle.hound_repair.specs.declared.sizes.RepairState.TheVariants.{Whole, CutOff, HasChunksAfterData}
 use Rattle.hound_repair.specs.declared.steps.Failure.{Failure}
 use Rattle.hound_repair.specs.declared.steps.Failure.TheVariants.{Sync, Call}
-use Rattle.hound_repair.specs.declared.steps.Refusal.{Refusal}
-use Rattle.hound_repair.specs.declared.steps.Refusal.TheVariants as refusals
+use Rattle.hound_repair.specs.declared.steps.Rejection.{Rejection}
+use Rattle.hound_repair.specs.declared.steps.Rejection.TheVariants as rejections
 use Rattle.hound_repair.specs.declared.steps.RepairError.{RepairError}
-use Rattle.hound_repair.specs.declared.steps.RepairError.TheVariants.{Refused, Failed}
+use Rattle.hound_repair.specs.declared.steps.RepairError.TheVariants.{Rejected, Failed}
 use Rattle.hound_repair.specs.declared.steps.RepairStep.{RepairStep}
 use Rattle.hound_repair.specs.declared.steps.RepairStep.TheVariants.{Asks, Found}
 use Rattle.hound_repair.specs.declared.steps.Repairing.{Repairing}
@@ -23,8 +23,8 @@ use Rattle.hound_writer.specs.declared.recorder.RecorderError.TheVariants.{SyncF
 use Rattle.hound_slices.specs.Effects.{effect_of, report_of}
 use Rattle.hound_slices.specs.Repairing.{IsReported}
 use Rattle.hound_slices.specs.Walks.{found_of, part_of}
-use Rattle.hound_slices.specs.declared.fault.Fault.{Fault}
-use Rattle.hound_slices.specs.declared.fault.Fault.TheVariants.{Head, NotPerformed, NotWritable, Recorder, TooLong}
+use Rattle.hound_slices.specs.declared.error.CallError.{CallError}
+use Rattle.hound_slices.specs.declared.error.CallError.TheVariants.{Head, NotPerformed, NotWritable, Recorder, TooLong}
 use Rattle.hound_slices.specs.declared.repairer.HoundRepairer.{HoundRepairer}
 use Rattle.hound_slices.specs.declared.spec.HoundRepair.{HoundRepair}
 
@@ -99,30 +99,30 @@ count_of _ = 0
 abbrev pub bytes_read : HoundRepairer → List ℕ
 bytes_read c = take (min (min c.effect.length 40) (count_of (repairing_of c))) c.effect.bytes
 
--- the fault of an error
-abbrev pub fault_of : RepairError → Fault
-fault_of (Refused (refusals.Head cause)) = Head cause
-fault_of (Refused refusals.Unsupported) = NotWritable
-fault_of (Refused refusals.TooLong) = TooLong
-fault_of (Failed Sync) = Recorder SyncFailed
-fault_of (Failed Call) = NotPerformed
+-- what a call returns for an error of a repair
+abbrev pub error_of : RepairError → CallError
+error_of (Rejected (rejections.Head cause)) = Head cause
+error_of (Rejected rejections.Unsupported) = NotWritable
+error_of (Rejected rejections.TooLong) = TooLong
+error_of (Failed Sync) = Recorder SyncFailed
+error_of (Failed Call) = NotPerformed
 
 -- What C gets of a step: the effect that is requested, or what was found with the place of the data, their
--- length as in the header and the length of the file, or a fault. At a fault of the bytes all stays.
+-- length as in the header and the length of the file, or an error. At an error of the bytes all stays.
 abbrev pub GivesStep : HoundRepairer → HoundRepairer → HoundRepair → HoundRepair
-    → Result RepairStep RepairError → Result ℕ Fault → Type 0
+    → Result RepairStep RepairError → Result ℕ CallError → Type 0
 GivesStep old new was now (Ok (Asks action)) outcome =
     (outcome ≡ Ok 1) × (new.effect ≡ effect_of (Some action)) × (now ≡ was)
 GivesStep old new was now (Ok (Found found)) outcome =
     (outcome ≡ Ok 0) × (new.effect ≡ effect_of None) × IsReported found now
     × (now.data_start ≡ new.data_start) × (now.data_length ≡ new.data_length) × (now.length ≡ old.length)
 GivesStep old new was now (Err (Failed failure)) outcome =
-    (outcome ≡ Err (fault_of (Failed failure))) × (new.effect ≡ effect_of None) × (now ≡ was)
-GivesStep old new was now (Err (Refused why)) outcome =
-    (outcome ≡ Err (fault_of (Refused why))) × (new ≡ old) × (now ≡ was)
+    (outcome ≡ Err (error_of (Failed failure))) × (new.effect ≡ effect_of None) × (now ≡ was)
+GivesStep old new was now (Err (Rejected why)) outcome =
+    (outcome ≡ Err (error_of (Rejected why))) × (new ≡ old) × (now ≡ was)
 
 -- What a step of a repairer does, by its outcome: what the repair that it is does.
-pub record StepsRepairer (old new : HoundRepairer) (was now : HoundRepair) (outcome : Result ℕ Fault) :
+pub record StepsRepairer (old new : HoundRepairer) (was now : HoundRepair) (outcome : Result ℕ CallError) :
     Type 0 where
   pub step : Result RepairStep RepairError
   pub next : AsksNext (task_of old.mode) old.length (bytes_read old) (report_of old.effect)

@@ -2,15 +2,15 @@
 use Rattle.std.specs.Prelude.{◌≡◌, ◌⊎◌, ℕ, Bool, ◌<◌, ◌≤◌, List, length, take, true, Result, Ok, Err}
 use Rattle.hound_walk.specs.declared.cause.Cause.TheVariants.{Unsupported}
 use Rattle.hound_spec.specs.declared.spec.WavSpecEx.{WavSpecEx}
-use Rattle.hound_walk.specs.{Head, Refused}
+use Rattle.hound_walk.specs.{Head, Rejected}
 use Rattle.hound_writer.specs.{by_bytes, too_long}
 use Rattle.hound_repair.specs.{HasUnfitHead, IsFoundAt, LacksRoom, RepairsBytes}
 use Rattle.hound_repair.specs.declared.sizes.Repair.{Repair}
 use Rattle.hound_repair.specs.declared.sizes.RepairState.{RepairState}
 use Rattle.hound_repair.specs.declared.sizes.RepairState.TheVariants.{Whole, CutOff, HasChunksAfterData}
 use Rattle.hound_slices.specs.Writing.{IsExplicit, spec_from_c}
-use Rattle.hound_slices.specs.declared.fault.Fault.{Fault}
-use Rattle.hound_slices.specs.declared.fault.Fault.TheVariants.{Head as NoHead, NotWritable, TooLong, NoRoom}
+use Rattle.hound_slices.specs.declared.error.CallError.{CallError}
+use Rattle.hound_slices.specs.declared.error.CallError.TheVariants.{Head as NoHead, NotWritable, TooLong, NoRoom}
 use Rattle.hound_slices.specs.declared.spec.HoundRepair.{HoundRepair}
 
 -- the number of how a file was found
@@ -38,23 +38,23 @@ FindsInFile bytes c = (found : Repair) × IsReported found c × HasHeadOf bytes 
 
 -- why a file isn't looked at: it has no head for this cause, or it has one of samples that aren't
 -- written, or whose sizes don't fit
-abbrev pub IsDamageFault : List ℕ → Fault → Type 0
-IsDamageFault bytes (NoHead cause) = Refused bytes cause
-IsDamageFault bytes NotWritable = HasUnfitHead bytes (by_bytes Unsupported)
-IsDamageFault bytes TooLong = HasUnfitHead bytes too_long
-IsDamageFault bytes _ = ⊥
+abbrev pub IsDamageError : List ℕ → CallError → Type 0
+IsDamageError bytes (NoHead cause) = Rejected bytes cause
+IsDamageError bytes NotWritable = HasUnfitHead bytes (by_bytes Unsupported)
+IsDamageError bytes TooLong = HasUnfitHead bytes too_long
+IsDamageError bytes _ = ⊥
 
 -- why a file isn't repaired
-abbrev pub IsFileFault : Bool → ℕ → List ℕ → Fault → Type 0
-IsFileFault looks used old NoRoom = (length old < used) ⊎ LacksRoom looks used old
-IsFileFault looks used old fault = IsDamageFault (take used old) fault
+abbrev pub IsFileError : Bool → ℕ → List ℕ → CallError → Type 0
+IsFileError looks used old NoRoom = (length old < used) ⊎ LacksRoom looks used old
+IsFileError looks used old error = IsDamageError (take used old) error
 
 -- what repairing does, by its outcome: the first n bytes are what `repair` leaves of the file, or
 -- `repair_to_end` where no chunks are looked for, all of them in the caller's memory, and what it
 -- found is reported; or all stays
-abbrev pub RepairsFile : Bool → ℕ → List ℕ → List ℕ → HoundRepair → HoundRepair → Result ℕ Fault → Type 0
+abbrev pub RepairsFile : Bool → ℕ → List ℕ → List ℕ → HoundRepair → HoundRepair → Result ℕ CallError → Type 0
 RepairsFile looks used old new was now (Ok n) = (used ≤ length old) × (n ≤ length new)
     × (found : Repair) × RepairsBytes looks used n found old new × IsReported found now
     × HasHeadOf (take used old) now
-RepairsFile looks used old new was now (Err fault) = (new ≡ old) × (now ≡ was)
-    × IsFileFault looks used old fault
+RepairsFile looks used old new was now (Err error) = (new ≡ old) × (now ≡ was)
+    × IsFileError looks used old error

@@ -2,7 +2,7 @@
 use Rattle.std.specs.Prelude.{◌≡◌, Bool, true, false, ℕ, ◌+◌, ◌*◌, ◌≤◌, ◌<◌, ℤ, pos, List, min, take, Option, Some, None, ◌==◌, nat_lt, if◌then◌else◌}
 use Rattle.hound_spec.specs.{greatest_u16}
 use Rattle.hound_spec.specs.declared.spec.WavSpecEx.{WavSpecEx}
-use Rattle.hound_walk.specs.{Head, IsAt, Readable, Refused, Unreadable, part_bytes, part_length, part_start, parts_left}
+use Rattle.hound_walk.specs.{Head, IsAt, Readable, Rejected, Unreadable, part_bytes, part_length, part_start, parts_left}
 use Rattle.hound_walk.specs.declared.cause.Cause.{Cause}
 use Rattle.hound_walk.specs.declared.parts.HeadWalk.{HeadWalk}
 use Rattle.hound_walk.specs.declared.parts.Part.{Part}
@@ -10,10 +10,10 @@ use Rattle.hound_walk.specs.declared.parts.Part.TheVariants.{Front, Header, Last
 use Rattle.hound_writer.specs.declared.effects.Action.TheVariants.{Read}
 use Rattle.hound_writer.specs.declared.effects.Report.{Report}
 use Rattle.hound_writer.specs.declared.effects.Report.TheVariants.{Pending, Done, Failed as NotDone}
-use Rattle.hound_slices.specs.Codes.{fault_code}
+use Rattle.hound_slices.specs.Codes.{error_code}
 use Rattle.hound_slices.specs.Effects.{effect_of, report_of}
 use Rattle.hound_slices.specs.Writing.{IsExplicit, spec_from_c}
-use Rattle.hound_slices.specs.declared.fault.Fault.TheVariants as faults
+use Rattle.hound_slices.specs.declared.error.CallError.TheVariants as errors
 use Rattle.hound_slices.specs.declared.spec.HoundSpec.{HoundSpec}
 use Rattle.hound_slices.specs.declared.spec.HoundInfo.{HoundInfo}
 use Rattle.hound_slices.specs.declared.spec.HoundWalk.{HoundWalk}
@@ -65,7 +65,7 @@ IsHeadOf false file info = (info.samples ≡ 0)
 -- why there is none
 abbrev pub HasNoHead : Bool → List ℕ → Cause → Type 0
 HasNoHead true = Unreadable
-HasNoHead false = Refused
+HasNoHead false = Rejected
 
 -- A step of a walk over a file, of which its part was handed in, leads on, to the data, or to the
 -- cause why there are none.
@@ -73,8 +73,8 @@ pub record Steps (is_counted : Bool) (file : List ℕ) (number : ℤ) (new : Hou
     Type 0 where
   pub on : number ≡ pos 1 → IsAt file (walk_of new)
   pub found : number ≡ pos 0 → IsHeadOf is_counted file info
-  pub refused : (number ≡ pos 1 → ⊥) → (number ≡ pos 0 → ⊥)
-      → (cause : Cause) × (number ≡ fault_code (faults.Head cause)) × HasNoHead is_counted file cause
+  pub rejected : (number ≡ pos 1 → ⊥) → (number ≡ pos 0 → ⊥)
+      → (cause : Cause) × (number ≡ error_code (errors.Head cause)) × HasNoHead is_counted file cause
 
 -- the bytes that were read of the part that a walk asks for
 abbrev pub bytes_of_part : HoundWalk → List ℕ
@@ -94,7 +94,7 @@ pub record AsksAgain (number : ℤ) (old new : HoundWalk) : Type 0 where
 -- what comes of a part, by how its read has ended
 abbrev pub AnswersPart : Bool → Report → ℤ → HoundWalk → HoundWalk → HoundInfo → Type 0
 AnswersPart is_counted Pending number old new info = AsksAgain number old new
-AnswersPart is_counted NotDone number old new info = number ≡ fault_code faults.NotPerformed
+AnswersPart is_counted NotDone number old new info = number ≡ error_code errors.NotPerformed
 AnswersPart is_counted Done number old new info = (number ≡ pos 1 → AsksOn old new)
     × ((file : List ℕ) → IsAt file (walk_of old) → AreAsked old file → Steps is_counted file number new info)
 

@@ -6,11 +6,11 @@ use Rattle.hound_spec.specs.{greatest_u32, canonical, data_start, header, padded
 use Rattle.hound_spec.specs.declared.spec.SampleFormat.{SampleFormat}
 use Rattle.hound_spec.specs.declared.spec.SampleFormat.TheVariants.{Int, Float}
 use Rattle.hound_spec.specs.declared.spec.WavSpecEx.{WavSpecEx}
-use Rattle.hound_sample.specs.{Refusal, too_wide, unsupported, containers}
+use Rattle.hound_sample.specs.{Rejection, too_wide, unsupported, containers}
 use Rattle.hound_walk.specs.{Readable, Unreadable}
 use Rattle.hound_writer.specs.{containers_in, ReadsAs, with_sizes}
-use Rattle.hound_slices.specs.declared.fault.Fault.{Fault}
-use Rattle.hound_slices.specs.declared.fault.Fault.TheVariants.{Head, OtherFormat, TooWide, NotWritable, Truncated, TooLong, UnfinishedFrame, NoRoom}
+use Rattle.hound_slices.specs.declared.error.CallError.{CallError}
+use Rattle.hound_slices.specs.declared.error.CallError.TheVariants.{Head, OtherFormat, TooWide, NotWritable, Truncated, TooLong, UnfinishedFrame, NoRoom}
 use Rattle.hound_slices.specs.declared.spec.HoundSpec.{HoundSpec}
 
 -- The spec that C's is. A number that is no format gives a spec without bits, which no call takes.
@@ -30,7 +30,7 @@ abbrev pub IsExplicit : HoundSpec → Type 0
 IsExplicit c = (0 < c.bytes_per_sample) × (c.sample_format ≤ 1)
 
 -- whether values have containers
-abbrev pub check_of : {T : Type 0} → Result T Refusal → Result (Unit {0}) Fault
+abbrev pub check_of : {T : Type 0} → Result T Rejection → Result (Unit {0}) CallError
 check_of (Ok list) = Ok tt
 check_of (Err too_wide) = Err TooWide
 check_of (Err unsupported) = Err NotWritable
@@ -40,10 +40,10 @@ abbrev pub file_size : WavSpecEx → ℕ → ℕ
 file_size s count = data_start s + padded (count * s.bytes_per_sample)
 
 -- why so many samples after a header of this length are no file
-abbrev pub IsSizeFault : WavSpecEx → ℕ → ℕ → Fault → Type 0
-IsSizeFault s start count UnfinishedFrame = (1 ≤ s.spec.channels) × (count % s.spec.channels ≡ 0 → ⊥)
-IsSizeFault s start count TooLong = greatest_u32 < riff_size start (count * s.bytes_per_sample)
-IsSizeFault s start count _ = ⊥
+abbrev pub IsSizeError : WavSpecEx → ℕ → ℕ → CallError → Type 0
+IsSizeError s start count UnfinishedFrame = (1 ≤ s.spec.channels) × (count % s.spec.channels ≡ 0 → ⊥)
+IsSizeError s start count TooLong = greatest_u32 < riff_size start (count * s.bytes_per_sample)
+IsSizeError s start count _ = ⊥
 
 -- so many samples after a header of this length are a file: whole frames, and sizes of 32 bits
 abbrev pub IsFile : WavSpecEx → ℕ → ℕ → Type 0
@@ -51,41 +51,41 @@ IsFile s start count = (count % s.spec.channels ≡ 0)
     × (riff_size start (count * s.bytes_per_sample) ≤ greatest_u32)
 
 -- why a file isn't written
-abbrev pub IsWriteFault : {V : Type 0} → SampleFormat → (V → ℕ → ℕ → Result (List ℕ) Refusal)
-    → WavSpecEx → List V → ℕ → Fault → Type 0
-IsWriteFault format container s values room OtherFormat = s.spec.sample_format ≡ format → ⊥
-IsWriteFault format container s values room NotWritable = (IsWritable s → ⊥)
+abbrev pub IsWriteError : {V : Type 0} → SampleFormat → (V → ℕ → ℕ → Result (List ℕ) Rejection)
+    → WavSpecEx → List V → ℕ → CallError → Type 0
+IsWriteError format container s values room OtherFormat = s.spec.sample_format ≡ format → ⊥
+IsWriteError format container s values room NotWritable = (IsWritable s → ⊥)
     ⊎ ((s.spec.sample_format ≡ format) × (containers_in container s values ≡ Err unsupported))
-IsWriteFault format container s values room TooWide =
+IsWriteError format container s values room TooWide =
     (s.spec.sample_format ≡ format) × (containers_in container s values ≡ Err too_wide)
-IsWriteFault format container s values room NoRoom = room < file_size s (length values)
-IsWriteFault format container s values room fault = IsSizeFault s (data_start s) (length values) fault
+IsWriteError format container s values room NoRoom = room < file_size s (length values)
+IsWriteError format container s values room error = IsSizeError s (data_start s) (length values) error
 
 -- what writing does, by its outcome: the canonical file of the values is the front of the caller's
 -- memory, and the rest stays; or all stays
-abbrev pub WritesFile : {V : Type 0} → SampleFormat → (V → ℕ → ℕ → Result (List ℕ) Refusal) → WavSpecEx
-    → List V → List ℕ → List ℕ → Result ℕ Fault → Type 0
+abbrev pub WritesFile : {V : Type 0} → SampleFormat → (V → ℕ → ℕ → Result (List ℕ) Rejection) → WavSpecEx
+    → List V → List ℕ → List ℕ → Result ℕ CallError → Type 0
 WritesFile format container s values old new (Ok n) = IsWritable s × (s.spec.sample_format ≡ format)
     × (list : List (List ℕ)) × (containers_in container s values ≡ Ok list)
     × (take n new ≡ canonical s list) × (drop n new ≡ drop n old)
     × (n ≡ file_size s (length values)) × IsFile s (data_start s) (length values)
-WritesFile format container s values old new (Err fault) = (new ≡ old)
-    × IsWriteFault format container s values (length old) fault
+WritesFile format container s values old new (Err error) = (new ≡ old)
+    × IsWriteError format container s values (length old) error
 
 -- what the call that asks for a size does
-abbrev pub Sizes : WavSpecEx → ℕ → Result ℕ Fault → Type 0
+abbrev pub Sizes : WavSpecEx → ℕ → Result ℕ CallError → Type 0
 Sizes s count (Ok n) = IsWritable s × (n ≡ file_size s count) × IsFile s (data_start s) count
 Sizes s count (Err NotWritable) = IsWritable s → ⊥
-Sizes s count (Err fault) = IsSizeFault s (data_start s) count fault
+Sizes s count (Err error) = IsSizeError s (data_start s) count error
 
 -- what the call for a header does: it is that of the canonical file of so many samples
-abbrev pub GivesHeader : WavSpecEx → ℕ → List ℕ → List ℕ → Result ℕ Fault → Type 0
+abbrev pub GivesHeader : WavSpecEx → ℕ → List ℕ → List ℕ → Result ℕ CallError → Type 0
 GivesHeader s count old new (Ok n) = IsWritable s × (n ≡ data_start s) × IsFile s (data_start s) count
     × (take n new ≡ header s (riff_size (data_start s) (count * s.bytes_per_sample)) (count * s.bytes_per_sample))
     × (drop n new ≡ drop n old)
 GivesHeader s count old new (Err NotWritable) = (new ≡ old) × (IsWritable s → ⊥)
 GivesHeader s count old new (Err NoRoom) = (new ≡ old) × (length old < data_start s)
-GivesHeader s count old new (Err fault) = (new ≡ old) × IsSizeFault s (data_start s) count fault
+GivesHeader s count old new (Err error) = (new ≡ old) × IsSizeError s (data_start s) count error
 
 -- samples of a spec whose data begin at a place can be those of a file: its first chunk needs 20 bytes
 abbrev pub HasPlace : WavSpecEx → ℕ → Type 0
@@ -94,20 +94,20 @@ HasPlace s start = IsPair s.spec.sample_format s.spec.bits_per_sample s.bytes_pe
 
 -- what the call for the two sizes does: they are the RIFF size and the data length of the file of so
 -- many samples whose data begin at a place, and n is how many bytes that file has
-abbrev pub GivesSizes : WavSpecEx → ℕ → ℕ → List ℕ → List ℕ → Result ℕ Fault → Type 0
+abbrev pub GivesSizes : WavSpecEx → ℕ → ℕ → List ℕ → List ℕ → Result ℕ CallError → Type 0
 GivesSizes s start count old new (Ok n) = HasPlace s start × IsFile s start count
     × (n ≡ start + padded (count * s.bytes_per_sample))
     × (take 8 new ≡ bytes_of 4 (riff_size start (count * s.bytes_per_sample))
     ++ bytes_of 4 (count * s.bytes_per_sample)) × (drop 8 new ≡ drop 8 old)
 GivesSizes s start count old new (Err NotWritable) = (new ≡ old) × (HasPlace s start → ⊥)
 GivesSizes s start count old new (Err NoRoom) = (new ≡ old) × (length old < 8)
-GivesSizes s start count old new (Err fault) = (new ≡ old) × IsSizeFault s start count fault
+GivesSizes s start count old new (Err error) = (new ≡ old) × IsSizeError s start count error
 
 -- What appending does. The header counts samples that are all among the first bytes; the new
 -- containers follow them, then their pad byte, and the two sizes are those of all. So the first n
 -- bytes are read as the samples of before and then the new ones, and no other byte changes.
 pub record AppendsSamples {V : Type 0} (format : SampleFormat)
-    (container : V → ℕ → ℕ → Result (List ℕ) Refusal)
+    (container : V → ℕ → ℕ → Result (List ℕ) Rejection)
     (values : List V) (used n : ℕ) (old new : List ℕ) : Type 0 where
   pub spec_ex : WavSpecEx
   pub samples : ℕ
@@ -129,55 +129,55 @@ pub record AppendsSamples {V : Type 0} (format : SampleFormat)
       (containers spec_ex.bytes_per_sample samples (drop start (take used old)) ++ list) (take n new)
 
 -- why values aren't appended to a file of so many samples
-abbrev pub IsRefusedBy : {V : Type 0} → SampleFormat → (V → ℕ → ℕ → Result (List ℕ) Refusal)
-    → WavSpecEx → ℕ → ℕ → List V → ℕ → ℕ → Fault → Type 0
-IsRefusedBy format container s samples start values used room OtherFormat =
+abbrev pub IsRejectedBy : {V : Type 0} → SampleFormat → (V → ℕ → ℕ → Result (List ℕ) Rejection)
+    → WavSpecEx → ℕ → ℕ → List V → ℕ → ℕ → CallError → Type 0
+IsRejectedBy format container s samples start values used room OtherFormat =
     s.spec.sample_format ≡ format → ⊥
-IsRefusedBy format container s samples start values used room NotWritable =
+IsRejectedBy format container s samples start values used room NotWritable =
     (IsPair s.spec.sample_format s.spec.bits_per_sample s.bytes_per_sample → ⊥)
     ⊎ ((s.spec.sample_format ≡ format) × (containers_in container s values ≡ Err unsupported))
-IsRefusedBy format container s samples start values used room TooWide =
+IsRejectedBy format container s samples start values used room TooWide =
     (s.spec.sample_format ≡ format) × (containers_in container s values ≡ Err too_wide)
-IsRefusedBy format container s samples start values used room Truncated =
+IsRejectedBy format container s samples start values used room Truncated =
     used < start + samples * s.bytes_per_sample
-IsRefusedBy format container s samples start values used room NoRoom =
+IsRejectedBy format container s samples start values used room NoRoom =
     room < start + padded ((length values + samples) * s.bytes_per_sample)
-IsRefusedBy format container s samples start values used room fault =
-    IsSizeFault s start (length values + samples) fault
+IsRejectedBy format container s samples start values used room error =
+    IsSizeError s start (length values + samples) error
 
-abbrev pub IsAppendingFault : {V : Type 0} → SampleFormat → (V → ℕ → ℕ → Result (List ℕ) Refusal)
-    → List V → ℕ → List ℕ → Fault → Type 0
-IsAppendingFault format container values used old (Head cause) = Unreadable (take used old) cause
-IsAppendingFault format container values used old fault = ((fault ≡ NoRoom) × (length old < used))
+abbrev pub IsAppendingError : {V : Type 0} → SampleFormat → (V → ℕ → ℕ → Result (List ℕ) Rejection)
+    → List V → ℕ → List ℕ → CallError → Type 0
+IsAppendingError format container values used old (Head cause) = Unreadable (take used old) cause
+IsAppendingError format container values used old error = ((error ≡ NoRoom) × (length old < used))
     ⊎ ((s : WavSpecEx) × (samples : ℕ) × (start : ℕ) × Readable (take used old) s samples start
-    × IsRefusedBy format container s samples start values used (length old) fault)
+    × IsRejectedBy format container s samples start values used (length old) error)
 
-abbrev pub AppendsInPlace : {V : Type 0} → SampleFormat → (V → ℕ → ℕ → Result (List ℕ) Refusal) → List V
-    → ℕ → List ℕ → List ℕ → Result ℕ Fault → Type 0
+abbrev pub AppendsInPlace : {V : Type 0} → SampleFormat → (V → ℕ → ℕ → Result (List ℕ) Rejection) → List V
+    → ℕ → List ℕ → List ℕ → Result ℕ CallError → Type 0
 AppendsInPlace format container values used old new (Ok n) =
     AppendsSamples format container values used n old new
-AppendsInPlace format container values used old new (Err fault) = (new ≡ old)
-    × IsAppendingFault format container values used old fault
+AppendsInPlace format container values used old new (Err error) = (new ≡ old)
+    × IsAppendingError format container values used old error
 
 -- why values aren't encoded
-abbrev pub IsEncodeFault : {V : Type 0} → SampleFormat → (V → ℕ → ℕ → Result (List ℕ) Refusal)
-    → WavSpecEx → List V → ℕ → Fault → Type 0
-IsEncodeFault format container s values room OtherFormat = s.spec.sample_format ≡ format → ⊥
-IsEncodeFault format container s values room NotWritable =
+abbrev pub IsEncodeError : {V : Type 0} → SampleFormat → (V → ℕ → ℕ → Result (List ℕ) Rejection)
+    → WavSpecEx → List V → ℕ → CallError → Type 0
+IsEncodeError format container s values room OtherFormat = s.spec.sample_format ≡ format → ⊥
+IsEncodeError format container s values room NotWritable =
     (IsPair s.spec.sample_format s.spec.bits_per_sample s.bytes_per_sample → ⊥)
     ⊎ ((s.spec.sample_format ≡ format) × (containers_in container s values ≡ Err unsupported))
-IsEncodeFault format container s values room TooWide =
+IsEncodeError format container s values room TooWide =
     (s.spec.sample_format ≡ format) × (containers_in container s values ≡ Err too_wide)
-IsEncodeFault format container s values room NoRoom = room < length values * s.bytes_per_sample
-IsEncodeFault format container s values room _ = ⊥
+IsEncodeError format container s values room NoRoom = room < length values * s.bytes_per_sample
+IsEncodeError format container s values room _ = ⊥
 
 -- what encoding does, by its outcome: the containers of the values are the front of the caller's
 -- memory
-abbrev pub Encodes : {V : Type 0} → SampleFormat → (V → ℕ → ℕ → Result (List ℕ) Refusal) → WavSpecEx
-    → List V → List ℕ → List ℕ → Result ℕ Fault → Type 0
+abbrev pub Encodes : {V : Type 0} → SampleFormat → (V → ℕ → ℕ → Result (List ℕ) Rejection) → WavSpecEx
+    → List V → List ℕ → List ℕ → Result ℕ CallError → Type 0
 Encodes format container s values old new (Ok n) = (s.spec.sample_format ≡ format)
     × IsPair s.spec.sample_format s.spec.bits_per_sample s.bytes_per_sample
     × (list : List (List ℕ)) × (containers_in container s values ≡ Ok list)
     × (take n new ≡ concat list) × (drop n new ≡ drop n old) × (n ≡ length values * s.bytes_per_sample)
-Encodes format container s values old new (Err fault) = (new ≡ old)
-    × IsEncodeFault format container s values (length old) fault
+Encodes format container s values old new (Err error) = (new ≡ old)
+    × IsEncodeError format container s values (length old) error

@@ -2,7 +2,7 @@
 ghost use Rattle.std.specs.Prelude.{◌≡◌, ◌≤◌, IfOk, length};
 ghost use Rattle.hound_slices.specs.Writing.{AppendsInPlace};
 
-use crate::fault::Fault;
+use crate::error::CallError;
 use crate::head::find_samples;
 use crate::writing::{check_samples, sizes_of, write_data_at};
 use hound_repair::set_sizes;
@@ -15,36 +15,36 @@ pub fn append_block<S: Sample + Copy>(
     used: usize,
     format: SampleFormat,
     samples: &[S],
-) -> Result<usize, Fault>
+) -> Result<usize, CallError>
     ensures appends { AppendsInPlace format S.container samples.now used file.old file.new result }
     ensures within { IfOk result (λ n. n ≤ length file.old) }
 {
     if used > file.len() {
-        return Err(Fault::NoRoom);
+        return Err(CallError::NoRoom);
     }
     let (head, stored) = find_samples(&file[..used])?;
     let spec_ex = head.spec_ex;
     if spec_ex.spec.sample_format != format {
-        return Err(Fault::OtherFormat);
+        return Err(CallError::OtherFormat);
     }
     let bits = spec_ex.spec.bits_per_sample;
     let width = spec_ex.bytes_per_sample;
     if !is_pair(spec_ex.spec.sample_format, bits, width) {
-        return Err(Fault::NotWritable);
+        return Err(CallError::NotWritable);
     }
     let data_start = head.data_start as usize;
     let end = data_start + stored as usize * width as usize;
     if end > used {
-        return Err(Fault::Truncated);
+        return Err(CallError::Truncated);
     }
     check_samples(samples, bits, width)?;
     if samples.len() > u32::MAX as usize {
-        return Err(Fault::TooLong);
+        return Err(CallError::TooLong);
     }
     let count = samples.len() as u64 + stored as u64;
     let (data_length, size) = sizes_of(spec_ex, data_start, count)?;
     if size > file.len() {
-        return Err(Fault::NoRoom);
+        return Err(CallError::NoRoom);
     }
     write_data_at(file, end, samples, bits, width, data_length);
     set_sizes(file, data_start - 4, (size - 8) as u32, data_length);

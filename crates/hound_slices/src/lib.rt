@@ -6,7 +6,7 @@
 
 mod appending;
 mod effect;
-mod fault;
+mod error;
 mod head;
 mod reading;
 mod recording;
@@ -21,7 +21,7 @@ mod writing;
 
 pub use appending::append_block;
 pub use effect::{HoundEffect, effect_for_c, report_of};
-pub use fault::{Fault, code_of, code_of_fault};
+pub use error::{CallError, code_of, code_of_error};
 pub use head::find_samples;
 pub use reading::{decode_block, read_block};
 pub use recording::{HoundRecorder, found_file, mends, overwrites, recorder_for_c};

@@ -4,16 +4,16 @@ ghost use Rattle.hound_walk.specs.{IsSoundOption};
 ghost use Rattle.hound_repair.specs.{IsSoundHead, IsSoundRepairing, IsSoundStage};
 ghost use Rattle.hound_repair.specs.declared.steps.Repairing.TheVariants as states;
 ghost use Rattle.hound_repair.specs.declared.steps.Stage.TheVariants as stages;
-ghost use Rattle.hound_slices.specs.Repairers.{BeginsRepairer, StepsRepairer, after_head, count_of, failure_of_code, fault_of, head_of, repairing_of, state_of_code, task_of};
+ghost use Rattle.hound_slices.specs.Repairers.{BeginsRepairer, StepsRepairer, after_head, count_of, failure_of_code, error_of, head_of, repairing_of, state_of_code, task_of};
 
 use crate::effect::{HoundEffect, effect_for_c, report_of};
-use crate::fault::Fault;
+use crate::error::CallError;
 use crate::repairing::{repair_for_c, state_code};
 use crate::spec::{HoundRepair, HoundSpec};
 use crate::walking::{found_for_c, found_of};
 use hound_repair::{
-    Failure, Look, Refusal, RepairError, RepairState, RepairStep, Repairing, SeenHead, Stage, Task,
-    repair_next, seen_head,
+    Failure, Look, Rejection, RepairError, RepairState, RepairStep, Repairing, SeenHead, Stage,
+    Task, repair_next, seen_head,
 };
 use hound_walk::{FileHead, HeadWalk, Part};
 use hound_writer::RecorderError;
@@ -257,16 +257,16 @@ fn count_of(state: Repairing, length: u64, task: Task) -> usize
     }
 }
 
-// The fault of an error.
-fn fault_of(error: RepairError) -> Fault
-    ensures { result ≡ fault_of error }
+// What a call returns for an error of a repair.
+fn error_of(error: RepairError) -> CallError
+    ensures { result ≡ error_of error }
 {
     match error {
-        RepairError::Refused(Refusal::Head(cause)) => Fault::Head(cause),
-        RepairError::Refused(Refusal::Unsupported) => Fault::NotWritable,
-        RepairError::Refused(Refusal::TooLong) => Fault::TooLong,
-        RepairError::Failed(Failure::Sync) => Fault::Recorder(RecorderError::SyncFailed),
-        RepairError::Failed(Failure::Call) => Fault::NotPerformed,
+        RepairError::Rejected(Rejection::Head(cause)) => CallError::Head(cause),
+        RepairError::Rejected(Rejection::Unsupported) => CallError::NotWritable,
+        RepairError::Rejected(Rejection::TooLong) => CallError::TooLong,
+        RepairError::Failed(Failure::Sync) => CallError::Recorder(RecorderError::SyncFailed),
+        RepairError::Failed(Failure::Call) => CallError::NotPerformed,
     }
 }
 
@@ -291,7 +291,10 @@ pub fn begin_repairer(length: u64, mode: u32) -> HoundRepairer
 }
 
 /// Takes what an effect was reported as: 1 if an effect is requested, 0 if all is done.
-pub fn step_repairer(repairer: &mut HoundRepairer, found: &mut HoundRepair) -> Result<usize, Fault>
+pub fn step_repairer(
+    repairer: &mut HoundRepairer,
+    found: &mut HoundRepair,
+) -> Result<usize, CallError>
     ensures steps { StepsRepairer repairer.old repairer.new found.old found.new result }
     ensures few { IfOk result (λ n. n ≤ 1) }
 {
@@ -329,13 +332,13 @@ pub fn step_repairer(repairer: &mut HoundRepairer, found: &mut HoundRepair) -> R
             };
             Ok(0)
         }
-        Err(RepairError::Refused(why)) => Err(fault_of(RepairError::Refused(why))),
+        Err(RepairError::Rejected(why)) => Err(error_of(RepairError::Rejected(why))),
         Err(RepairError::Failed(failure)) => {
             *repairer = HoundRepairer {
                 effect: effect_for_c(None),
                 ..repairer_for_c(c, state)
             };
-            Err(fault_of(RepairError::Failed(failure)))
+            Err(error_of(RepairError::Failed(failure)))
         }
     }
 }

@@ -1,9 +1,9 @@
 // Files that are repaired.
 ghost use Rattle.std.specs.Prelude.{◌≡◌, ◌<◌, ◌≤◌, IfErr, IfOk, length};
-ghost use Rattle.hound_slices.specs.Repairing.{FindsInFile, IsDamageFault, IsReported, RepairsFile, state_code};
+ghost use Rattle.hound_slices.specs.Repairing.{FindsInFile, IsDamageError, IsReported, RepairsFile, state_code};
 ghost use Rattle.hound_repair.specs.{may_be_chunks};
 
-use crate::fault::Fault;
+use crate::error::CallError;
 use crate::head::find_head;
 use crate::spec::{HoundRepair, spec_for_c};
 use hound_repair::{Repair, RepairState, Rest, Unrepaired, find_damage_in_bytes, repair_bytes};
@@ -41,16 +41,16 @@ pub(crate) fn repair_for_c(repair: Repair, head: FileHead, length: u64) -> Hound
 }
 
 /// Looks at a file, and returns what a repair would report.
-pub fn find_file_damage(file: &[u8]) -> Result<HoundRepair, Fault>
+pub fn find_file_damage(file: &[u8]) -> Result<HoundRepair, CallError>
     ensures found { IfOk result (FindsInFile file.now) }
-    ensures fault { IfErr result (IsDamageFault file.now) }
+    ensures error { IfErr result (IsDamageError file.now) }
 {
     let head = find_head(file)?;
     match find_damage_in_bytes(file, head) {
         Ok(repair) => Ok(repair_for_c(repair, head, file.len() as u64)),
-        Err(Unrepaired::Unsupported) => Err(Fault::NotWritable),
-        Err(Unrepaired::TooLong) => Err(Fault::TooLong),
-        Err(Unrepaired::NoRoom) => Err(Fault::NoRoom),
+        Err(Unrepaired::Unsupported) => Err(CallError::NotWritable),
+        Err(Unrepaired::TooLong) => Err(CallError::TooLong),
+        Err(Unrepaired::NoRoom) => Err(CallError::NoRoom),
     }
 }
 
@@ -61,12 +61,12 @@ pub fn repair_file(
     used: usize,
     rest: Rest,
     found: &mut HoundRepair,
-) -> Result<usize, Fault>
+) -> Result<usize, CallError>
     ensures repairs { RepairsFile (may_be_chunks rest) used file.old file.new found.old found.new result }
     ensures within { IfOk result (λ n. n ≤ length file.old) }
 {
     if used > file.len() {
-        return Err(Fault::NoRoom);
+        return Err(CallError::NoRoom);
     }
     let head = find_head(&file[..used])?;
     match repair_bytes(file, used, head, rest) {
@@ -74,8 +74,8 @@ pub fn repair_file(
             *found = repair_for_c(repair, head, used as u64);
             Ok(length)
         }
-        Err(Unrepaired::Unsupported) => Err(Fault::NotWritable),
-        Err(Unrepaired::TooLong) => Err(Fault::TooLong),
-        Err(Unrepaired::NoRoom) => Err(Fault::NoRoom),
+        Err(Unrepaired::Unsupported) => Err(CallError::NotWritable),
+        Err(Unrepaired::TooLong) => Err(CallError::TooLong),
+        Err(Unrepaired::NoRoom) => Err(CallError::NoRoom),
     }
 }

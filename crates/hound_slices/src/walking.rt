@@ -5,7 +5,7 @@ ghost use Rattle.hound_slices.specs.Effects.{report_of};
 ghost use Rattle.hound_slices.specs.Walks.{AnswersPart, Asks, FindsHead, bytes_of_part, found_of, walk_of};
 
 use crate::effect::{effect_for_c, report_of};
-use crate::fault::{Fault, code_of_fault};
+use crate::error::{CallError, code_of_error};
 use crate::spec::{HoundInfo, HoundSpec, HoundWalk, info_for_c, spec_for_c, spec_from_c};
 use hound_spec::WavSpecEx;
 use hound_walk::{HeadWalk, Part, Step, count_samples, take_part};
@@ -107,7 +107,7 @@ pub fn step_walk(walk: &mut HoundWalk, info: &mut HoundInfo, is_counted: bool) -
             *walk = walk_for_c(asked);
             return 1;
         }
-        Report::Failed => return code_of_fault(Fault::NotPerformed),
+        Report::Failed => return code_of_error(CallError::NotPerformed),
         Report::Done => (),
     }
     let head = match take_part(asked, part_read(walk)) {
@@ -116,12 +116,12 @@ pub fn step_walk(walk: &mut HoundWalk, info: &mut HoundInfo, is_counted: bool) -
             return 1;
         }
         Ok(Step::Data(head)) => head,
-        Err(cause) => return code_of_fault(Fault::Head(cause)),
+        Err(cause) => return code_of_error(CallError::Head(cause)),
     };
     let samples = if is_counted {
         match count_samples(head) {
             Ok(samples) => samples,
-            Err(cause) => return code_of_fault(Fault::Head(cause)),
+            Err(cause) => return code_of_error(CallError::Head(cause)),
         }
     } else {
         0

@@ -2,9 +2,9 @@
 ghost use Rattle.std.specs.Prelude.{◌≡◌, ◌+◌, ◌*◌, ◌%◌, ◌^◌, ◌≤◌, ◌++◌, IsOk, IfOk, IfErr, length, take, drop};
 ghost use Rattle.hound_spec.specs.{IsWritable, greatest_u32, data_start, header, padded, padding, riff_size};
 ghost use Rattle.hound_sample.specs.{all_containers, joined_containers};
-ghost use Rattle.hound_slices.specs.Writing.{Encodes, GivesHeader, GivesSizes, IsSizeFault, Sizes, WritesFile, check_of, spec_from_c};
+ghost use Rattle.hound_slices.specs.Writing.{Encodes, GivesHeader, GivesSizes, IsSizeError, Sizes, WritesFile, check_of, spec_from_c};
 
-use crate::fault::Fault;
+use crate::error::CallError;
 use crate::spec::{HoundSpec, spec_from_c};
 use hound_number::le_u32;
 use hound_sample::{Sample, SampleError, check_containers, have_containers, store_containers};
@@ -15,7 +15,7 @@ pub(crate) fn check_samples<S: Sample + Copy>(
     samples: &[S],
     bits: u16,
     width: u16,
-) -> Result<(), Fault>
+) -> Result<(), CallError>
     ensures { result ≡ check_of (all_containers (λ s. S.container s bits width) samples.now) }
 {
     if have_containers(samples, bits, width) {
@@ -23,8 +23,8 @@ pub(crate) fn check_samples<S: Sample + Copy>(
     }
     match check_containers(samples, bits, width) {
         Ok(()) => Ok(()),
-        Err(SampleError::TooWide) => Err(Fault::TooWide),
-        Err(_) => Err(Fault::NotWritable),
+        Err(SampleError::TooWide) => Err(CallError::TooWide),
+        Err(_) => Err(CallError::NotWritable),
     }
 }
 
@@ -67,7 +67,7 @@ pub(crate) fn sizes_of(
     spec_ex: WavSpecEx,
     data_start: usize,
     samples: u64,
-) -> Result<(u32, usize), Fault>
+) -> Result<(u32, usize), CallError>
     requires channels { 1 ≤ spec_ex.spec.channels }
     requires width { 1 ≤ spec_ex.bytes_per_sample }
     requires some { 8 ≤ data_start }
@@ -76,48 +76,48 @@ pub(crate) fn sizes_of(
     ensures end { IfOk result (λ r. r.1 ≡ data_start + padded (samples * spec_ex.bytes_per_sample)) }
     ensures fits { IfOk result (λ r. riff_size data_start (samples * spec_ex.bytes_per_sample) ≤ greatest_u32) }
     ensures frames { IfOk result (λ r. samples % spec_ex.spec.channels ≡ 0) }
-    ensures refused { IfErr result (IsSizeFault spec_ex data_start samples) }
+    ensures rejected { IfErr result (IsSizeError spec_ex data_start samples) }
 {
     if samples > u32::MAX as u64 {
-        return Err(Fault::TooLong);
+        return Err(CallError::TooLong);
     }
     let count = samples as u32;
     if count % spec_ex.spec.channels as u32 != 0 {
-        return Err(Fault::UnfinishedFrame);
+        return Err(CallError::UnfinishedFrame);
     }
     let data_length = count as u64 * spec_ex.bytes_per_sample as u64;
     let end = data_start as u64 + data_length + data_length % 2;
     if !riff_size_fits(data_start as u64, data_length) {
-        return Err(Fault::TooLong);
+        return Err(CallError::TooLong);
     }
     Ok((data_length as u32, end as usize))
 }
 
 /// How many bytes the file of so many samples has.
-pub fn file_size(spec: HoundSpec, samples: u64) -> Result<usize, Fault>
+pub fn file_size(spec: HoundSpec, samples: u64) -> Result<usize, CallError>
     ensures sizes { Sizes (spec_from_c spec) samples result }
     ensures small { IfOk result (λ n. n ≤ 2 ^ 33) }
 {
     let spec_ex = spec_from_c(spec);
     if !spec_ex.is_writable() {
-        return Err(Fault::NotWritable);
+        return Err(CallError::NotWritable);
     }
     Ok(sizes_of(spec_ex, header_length(spec_ex), samples)?.1)
 }
 
 /// Writes the header of a file of so many samples to the front of `out`, and returns its length.
-pub fn write_header(spec: HoundSpec, samples: u64, out: &mut [u8]) -> Result<usize, Fault>
+pub fn write_header(spec: HoundSpec, samples: u64, out: &mut [u8]) -> Result<usize, CallError>
     ensures gives { GivesHeader (spec_from_c spec) samples out.old out.new result }
     ensures small { IfOk result (λ n. n ≤ 68) }
 {
     let spec_ex = spec_from_c(spec);
     if !spec_ex.is_writable() {
-        return Err(Fault::NotWritable);
+        return Err(CallError::NotWritable);
     }
     let data_start = header_length(spec_ex);
     let (data_length, size) = sizes_of(spec_ex, data_start, samples)?;
     if data_start > out.len() {
-        return Err(Fault::NoRoom);
+        return Err(CallError::NoRoom);
     }
     put_header(spec_ex, (size - 8) as u32, data_length, out);
     Ok(data_start)
@@ -130,7 +130,7 @@ pub fn write_sizes(
     data_start: u64,
     samples: u64,
     out: &mut [u8],
-) -> Result<usize, Fault>
+) -> Result<usize, CallError>
     ensures gives { GivesSizes (spec_from_c spec) data_start samples out.old out.new result }
     ensures small { IfOk result (λ n. n ≤ 2 ^ 33) }
 {
@@ -141,16 +141,16 @@ pub fn write_sizes(
         spec.bits_per_sample,
         spec_ex.bytes_per_sample,
     ) {
-        return Err(Fault::NotWritable);
+        return Err(CallError::NotWritable);
     }
     if spec.channels == 0 || data_start < 20 {
-        return Err(Fault::NotWritable);
+        return Err(CallError::NotWritable);
     }
     if data_start > u32::MAX as u64 + 8 {
-        return Err(Fault::TooLong);
+        return Err(CallError::TooLong);
     }
     if out.len() < 8 {
-        return Err(Fault::NoRoom);
+        return Err(CallError::NoRoom);
     }
     let (data_length, size) = sizes_of(spec_ex, data_start as usize, samples)?;
     out[..4].copy_from_slice(&le_u32((size - 8) as u32));
@@ -164,16 +164,16 @@ pub fn write_file<S: Sample + Copy>(
     format: SampleFormat,
     samples: &[S],
     out: &mut [u8],
-) -> Result<usize, Fault>
+) -> Result<usize, CallError>
     ensures writes { WritesFile format S.container (spec_from_c spec) samples.now out.old out.new result }
     ensures within { IfOk result (λ n. n ≤ length out.old) }
 {
     let spec_ex = spec_from_c(spec);
     if !spec_ex.is_writable() {
-        return Err(Fault::NotWritable);
+        return Err(CallError::NotWritable);
     }
     if spec_ex.spec.sample_format != format {
-        return Err(Fault::OtherFormat);
+        return Err(CallError::OtherFormat);
     }
     let bits = spec_ex.spec.bits_per_sample;
     let width = spec_ex.bytes_per_sample;
@@ -181,7 +181,7 @@ pub fn write_file<S: Sample + Copy>(
     let data_start = header_length(spec_ex);
     let (data_length, size) = sizes_of(spec_ex, data_start, samples.len() as u64)?;
     if size > out.len() {
-        return Err(Fault::NoRoom);
+        return Err(CallError::NoRoom);
     }
     put_header(spec_ex, (size - 8) as u32, data_length, out);
     write_data_at(out, data_start, samples, bits, width, data_length);
@@ -194,22 +194,22 @@ pub fn encode_block<S: Sample + Copy>(
     format: SampleFormat,
     samples: &[S],
     out: &mut [u8],
-) -> Result<usize, Fault>
+) -> Result<usize, CallError>
     ensures encodes { Encodes format S.container (spec_from_c spec) samples.now out.old out.new result }
     ensures within { IfOk result (λ n. n ≤ length out.old) }
 {
     let spec_ex = spec_from_c(spec);
     if spec_ex.spec.sample_format != format {
-        return Err(Fault::OtherFormat);
+        return Err(CallError::OtherFormat);
     }
     let bits = spec_ex.spec.bits_per_sample;
     let width = spec_ex.bytes_per_sample;
     if !is_pair(spec_ex.spec.sample_format, bits, width) {
-        return Err(Fault::NotWritable);
+        return Err(CallError::NotWritable);
     }
     check_samples(samples, bits, width)?;
     if samples.len() > out.len() / width as usize {
-        return Err(Fault::NoRoom);
+        return Err(CallError::NoRoom);
     }
     let end = samples.len() * width as usize;
     store_containers(&mut out[..end], samples, bits, width);

@@ -58,7 +58,7 @@ impl From<io::Error> for Error {
 impl From<AllocError> for Error {
     ghost from_gives = { λ _ r. r ≡ OutOfMemory };
 
-    fn from(_refused: AllocError) -> Error {
+    fn from(_rejected: AllocError) -> Error {
         Error::OutOfMemory
     }
 }
@@ -67,7 +67,7 @@ impl From<AllocError> for Error {
 impl<T: Drop> From<AllocFailed<T>> for Error {
     ghost from_gives = { λ _ r. r ≡ OutOfMemory };
 
-    fn from(_refused: AllocFailed<T>) -> Error {
+    fn from(_rejected: AllocFailed<T>) -> Error {
         Error::OutOfMemory
     }
 }

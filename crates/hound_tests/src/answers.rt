@@ -30,10 +30,10 @@ fn wrong_answers()
 // An error beside a slice that is full, or beside all samples that are left; an Ok of fewer.
 fn wrong_blocks<R: io::Read, S: Sample>()
     ensures error { (count : ℕ) (error : Error) (before after : List S) (old new : ReaderState R) →
-        ReadsBlock R.remaining S.refusal S.meaning count (Err error) before after old new →
+        ReadsBlock R.remaining S.rejection S.meaning count (Err error) before after old new →
         min (length after) (samples_left old) ≤ count → ⊥ }
     ensures few { (count : ℕ) (before after : List S) (old new : ReaderState R) →
-        ReadsBlock R.remaining S.refusal S.meaning count (Ok tt) before after old new →
+        ReadsBlock R.remaining S.rejection S.meaning count (Ok tt) before after old new →
         count < min (length after) (samples_left old) → ⊥ }
 {}
 

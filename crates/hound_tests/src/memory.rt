@@ -244,9 +244,9 @@ fn a_block_is_read_without_memory(rt: HostRuntime) -> Result<(), Fail> {
 #[test]
 fn a_writer_begins_over_a_tape_that_cannot_grow(rt: HostRuntime) -> Result<(), Fail> {
     let blocks = take_all_but(rt.alloc(), 0)?;
-    let refused = WavWriter::new(empty_tape(rt.alloc()), sixteen(1));
+    let rejected = WavWriter::new(empty_tape(rt.alloc()), sixteen(1));
     drop(blocks);
-    assert!(rt; words_of_answer(&refused) == NO_MEMORY);
+    assert!(rt; words_of_answer(&rejected) == NO_MEMORY);
     Ok(())
 }
 
@@ -314,10 +314,10 @@ fn journal_without(
 fn begins_without(alloc: Global) -> Result<bool, Fail> {
     let bytes = FOUR_SAMPLES.to_vec(alloc)?;
     let blocks = take_all_but(alloc, 0)?;
-    let refused = Journal::new(alloc, bytes);
+    let rejected = Journal::new(alloc, bytes);
     let empty = Journal::new(alloc, Vec::new(alloc));
     drop(blocks);
-    Ok(matches!(refused, Err(Error::OutOfMemory)) && empty.is_ok())
+    Ok(matches!(rejected, Err(Error::OutOfMemory)) && empty.is_ok())
 }
 
 #[test]
@@ -331,12 +331,12 @@ fn a_journal_that_begins(rt: HostRuntime) -> Result<(), Fail> {
 
 // Whether a journal of the four samples takes 3000 bytes more, if not with this much memory then
 // with all; counts the errors.
-fn journal_grows(alloc: Global, room: usize, refusals: &mut u32) -> Result<bool, Fail> {
+fn journal_grows(alloc: Global, room: usize, rejections: &mut u32) -> Result<bool, Fail> {
     let mut journal = Journal::new(alloc, FOUR_SAMPLES.to_vec(alloc)?)?;
     journal.go(52)?;
     let answer = put_without(&mut journal, alloc, room)?;
     if answer.is_err() {
-        *refusals = refusals.saturating_add(1);
+        *rejections = rejections.saturating_add(1);
         let stays = bytes_of_now(&journal, alloc)?.as_slice() == FOUR_SAMPLES.as_slice();
         if !is_out_of_memory(&answer) || journal.taken() != 0 || !stays {
             return Ok(false);
@@ -350,12 +350,12 @@ fn journal_grows(alloc: Global, room: usize, refusals: &mut u32) -> Result<bool,
 #[test]
 fn a_journal_that_grows(rt: HostRuntime) -> Result<(), Fail> {
     let _taken = take_most(rt.alloc())?;
-    let mut refusals = 0u32;
+    let mut rejections = 0u32;
     for room in [0, 16384, 32768, 49152, 50176, 65536] {
-        let grows = journal_grows(rt.alloc(), room, &mut refusals)?;
+        let grows = journal_grows(rt.alloc(), room, &mut rejections)?;
         assert!(rt; grows, "room {room}");
     }
-    assert!(rt; refusals == 5);
+    assert!(rt; rejections == 5);
     Ok(())
 }
 
@@ -473,9 +473,9 @@ fn opens_as_said(
         return Ok(words.is_empty());
     }
     let stays = bytes.as_slice() == FOUR_SAMPLES.as_slice();
-    let is_refused = words == "OutOfMemory" || words == NO_MEMORY;
+    let is_rejected = words == "OutOfMemory" || words == NO_MEMORY;
     let is_made = matches!(opening, Opening::Create);
-    Ok(is_refused && (stays || is_made && bytes.is_empty()))
+    Ok(is_rejected && (stays || is_made && bytes.is_empty()))
 }
 
 // Only the buffer is allocated.

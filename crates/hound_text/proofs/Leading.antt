@@ -2,12 +2,12 @@
 use Rattle.std.proofs.Common.{◌≡◌, ℕ, ℤ, ◌≤◌, List, [], ◌++◌, take, drop, Option, Some, None, IfSome, ap, sym, ◌∙◌, append_assoc, arith, take-append-drop, IfErr, Result, Ok, Err, subst}
 use Rattle.std.proofs.lemmas.Grind.{common_steps}
 use Rattle.std.specs.Io.KnownBytes.{Consumes, IsAtEnd}
-use Rattle.hound_text.specs.Reading.{Breaks, Follows, before, ended, numbers_from, IsRefused, IsTextRefusal}
+use Rattle.hound_text.specs.Reading.{Breaks, Follows, before, ended, numbers_from, IsRejected, IsTextRejection}
 use Rattle.hound_text.specs.Text.{SaysNoNumbers, SaysNumbers}
 use Rattle.hound_text.specs.declared.numbers.Place.{Place}
 use Rattle.std.specs.Result.{IsErrAnd}
-use Rattle.hound_text.specs.declared.numbers.Refusal.{Refusal}
-use Rattle.hound_text.specs.declared.numbers.Refusal.TheVariants.{BadNumber, InputOrOutput, TooLong, OutOfMemory}
+use Rattle.hound_text.specs.declared.numbers.Rejection.{Rejection}
+use Rattle.hound_text.specs.declared.numbers.Rejection.TheVariants.{BadNumber, InputOrOutput, TooLong, OutOfMemory}
 use Rattle.hound_text.proofs.Saying.{said, unsaid}
 
 -- at the end of the input its numbers are those so far, and that of the word that ends there
@@ -43,20 +43,20 @@ silent_where_broken (Some text) (Some us) (Some vs) p ns bytes xs ys follows rea
     (read ∙ (ap (λ t. t ++ vs) split ∙ append_assoc xs ys vs)) ∙ ap (before ns) (breaks (ys ++ vs))))
 
 -- why a text says no numbers: what breaks it
-pub refused : {T : Type 0} (result : Result T Refusal) (refusal : Refusal) (breaks : Type 0) (old : Option (List ℕ))
-    → IsErrAnd result (λ e. e ≡ refusal) → IsTextRefusal refusal breaks → (breaks → IfSome old SaysNoNumbers)
-    → IfErr result (λ e. IfSome old (IsRefused e))
-refused (Ok x) refusal breaks old is text silent = tt
-refused (Err e) refusal breaks old is text silent =
-    subst (λ r. IfSome old (IsRefused r)) (sym is) (by_cause refusal old text silent)
+pub rejected : {T : Type 0} (result : Result T Rejection) (rejection : Rejection) (breaks : Type 0) (old : Option (List ℕ))
+    → IsErrAnd result (λ e. e ≡ rejection) → IsTextRejection rejection breaks → (breaks → IfSome old SaysNoNumbers)
+    → IfErr result (λ e. IfSome old (IsRejected e))
+rejected (Ok x) rejection breaks old is text silent = tt
+rejected (Err e) rejection breaks old is text silent =
+    subst (λ r. IfSome old (IsRejected r)) (sym is) (by_cause rejection old text silent)
   where
     always : (old : Option (List ℕ)) (P : List ℕ → Type 0) → ((text : List ℕ) → P text) → IfSome old P
     always None P h = tt
     always (Some text) P h = h text
 
-    by_cause : (refusal : Refusal) (old : Option (List ℕ)) → IsTextRefusal refusal breaks → (breaks → IfSome old SaysNoNumbers) → IfSome old (IsRefused refusal)
+    by_cause : (rejection : Rejection) (old : Option (List ℕ)) → IsTextRejection rejection breaks → (breaks → IfSome old SaysNoNumbers) → IfSome old (IsRejected rejection)
     by_cause BadNumber old text silent = silent text
-    by_cause OutOfMemory old text silent = always old (IsRefused OutOfMemory) (λ _. tt)
+    by_cause OutOfMemory old text silent = always old (IsRejected OutOfMemory) (λ _. tt)
     by_cause InputOrOutput old text silent = absurd text
     by_cause TooLong old text silent = absurd text
 

@@ -235,12 +235,12 @@ end_answers (Inside negative magnitude) (c ∷ cs) led = by_fit (nat_le magnitud
 -- ---- a text
 
 -- what is read from a place on, where a word has begun
-answered : (bytes : List ℕ) (place : Place) (word : List ℕ) → Led word place
+returned : (bytes : List ℕ) (place : Place) (word : List ℕ) → Led word place
     → Answers (filter is_filled (append_first word (slice_split is_separator bytes))) (numbers_from place bytes)
-answered [] place word led =
+returned [] place word led =
     subst (λ w. Answers (filter is_filled (w ∷ [])) (ended place)) (sym (append-nil word)) (end_answers place word led)
-answered (b ∷ bytes) place word led =
-    by_separator (λ next started begun. answered bytes next started begun) (is_separator b)
+returned (b ∷ bytes) place word led =
+    by_separator (λ next started begun. returned bytes next started begun) (is_separator b)
   where
     by_next : ((next : Place) (started : List ℕ) → Led started next
         → Answers (filter is_filled (append_first started (slice_split is_separator bytes))) (numbers_from next bytes))
@@ -265,7 +265,7 @@ answered (b ∷ bytes) place word led =
         (sym (append_first-onto word b (slice_split is_separator bytes))) (by_next later (next_place place b) (byte_more place word b led))
 
 whole : (text : List ℕ) → Answers (words text) (numbers_from Between text)
-whole text = subst (λ p. Answers (filter is_filled p) (numbers_from Between text)) (append_first-nil text) (answered text Between [] refl)
+whole text = subst (λ p. Answers (filter is_filled p) (numbers_from Between text)) (append_first-nil text) (returned text Between [] refl)
 
 -- the numbers that are read are those that the text says
 pub said : (text : List ℕ) (numbers : List ℤ) → numbers_from Between text ≡ Some numbers → SaysNumbers text numbers

@@ -9,5 +9,5 @@ mod output;
 
 pub use laws::lines_say_their_numbers;
 pub use lines::Lines;
-pub use numbers::{Refusal, digits, read_numbers};
+pub use numbers::{Rejection, digits, read_numbers};
 pub use output::write_text;

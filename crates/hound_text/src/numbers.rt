@@ -2,10 +2,10 @@
 ghost use Rattle.std.specs.Prelude.{◌≡◌, ℕ, ℤ, ◌≤◌, ◌<◌, ◌++◌, Bool, true, false, List, IfErr, IfOk, IfSome, IsNone, OnOk, SomeIff, [], ◌∷◌, Some, None, length};
 ghost use Rattle.std.specs.Io.KnownBytes.{IsAtEnd};
 ghost use Rattle.std.specs.Str.Parse.{IsNumeral, digits_value};
-ghost use Rattle.hound_text.specs.Reading.{IsRefused, IsTextRefusal, Breaks, Leads, before, begins_with_digit, ended, is_digit, numbers_from};
+ghost use Rattle.hound_text.specs.Reading.{IsRejected, IsTextRejection, Breaks, Leads, before, begins_with_digit, ended, is_digit, numbers_from};
 ghost use Rattle.hound_text.specs.Text.{SaysNumbers};
 ghost use Rattle.hound_text.specs.declared.numbers.Place.TheVariants.{Between, Inside};
-ghost use Rattle.hound_text.specs.declared.numbers.Refusal.TheVariants.{BadNumber};
+ghost use Rattle.hound_text.specs.declared.numbers.Rejection.TheVariants.{BadNumber};
 
 use std::alloc::Global;
 use std::io;
@@ -16,7 +16,7 @@ const INPUT_LENGTH: usize = 16384;
 /// Why a text isn't read. It has one byte, where an error that holds an `io::Error` has a hundred,
 /// and it is part of the result for each number.
 #[derive(Clone, Copy)]
-pub enum Refusal {
+pub enum Rejection {
     /// A byte that no number has at its place, or a number beyond `i32`.
     BadNumber,
     /// The input failed.
@@ -63,23 +63,23 @@ fn take_digits(place: Place, mut bytes: &[u8]) -> Option<(Place, &[u8])>
 
 // Takes a byte that is no digit, and appends the number that it ends.
 #[inline(always)]
-fn take_byte(place: Place, byte: u8, numbers: &mut Vec<i32>) -> Result<Place, Refusal>
+fn take_byte(place: Place, byte: u8, numbers: &mut Vec<i32>) -> Result<Place, Rejection>
     requires { is_digit byte ≡ false }
     ensures taken { IfOk result (λ later.
         Leads place (byte ∷ []) numbers.old.items later [] numbers.new.items) }
-    ensures refused { IfErr result (λ refusal. IsTextRefusal refusal (Breaks place (byte ∷ []))) }
+    ensures rejected { IfErr result (λ rejection. IsTextRejection rejection (Breaks place (byte ∷ []))) }
 {
     match (place, byte) {
         (Place::Between, b'-') => Ok(Place::AfterMinus),
         (_, b' ' | b'\t' | b'\r' | b'\n') => end_of_word(place, numbers).and(Ok(Place::Between)),
-        _ => Err(Refusal::BadNumber),
+        _ => Err(Rejection::BadNumber),
     }
 }
 
 // Appends the number that ends with a word, or with the text.
-fn end_of_word(place: Place, numbers: &mut Vec<i32>) -> Result<(), Refusal>
+fn end_of_word(place: Place, numbers: &mut Vec<i32>) -> Result<(), Rejection>
     ensures ended { OnOk result (before numbers.old.items (ended place) ≡ Some numbers.new.items) }
-    ensures refused { IfErr result (λ refusal. IsTextRefusal refusal (ended place ≡ None)) }
+    ensures rejected { IfErr result (λ rejection. IsTextRejection rejection (ended place ≡ None)) }
 {
     let number = match place {
         Place::Between => return Ok(()),
@@ -87,19 +87,23 @@ fn end_of_word(place: Place, numbers: &mut Vec<i32>) -> Result<(), Refusal>
         Place::Inside(false, magnitude) => i32::try_from(magnitude).ok(),
         Place::Inside(true, magnitude) => 0_i32.checked_sub_unsigned(magnitude),
     };
-    let number = number.ok_or(Refusal::BadNumber)?;
-    numbers.push(number).or(Err(Refusal::OutOfMemory))
+    let number = number.ok_or(Rejection::BadNumber)?;
+    numbers.push(number).or(Err(Rejection::OutOfMemory))
 }
 
 // Takes bytes of the text, in order.
-fn take_bytes(mut place: Place, mut bytes: &[u8], numbers: &mut Vec<i32>) -> Result<Place, Refusal>
+fn take_bytes(
+    mut place: Place,
+    mut bytes: &[u8],
+    numbers: &mut Vec<i32>,
+) -> Result<Place, Rejection>
     ensures taken { IfOk result (λ later.
         Leads place bytes.now numbers.old.items later [] numbers.new.items) }
-    ensures refused { IfErr result (λ refusal. IsTextRefusal refusal (Breaks place bytes.now)) }
+    ensures rejected { IfErr result (λ rejection. IsTextRejection rejection (Breaks place bytes.now)) }
 {
     while let Some((byte, rest)) = bytes.split_first() {
         if let b'0'..=b'9' = *byte {
-            (place, bytes) = take_digits(place, bytes).ok_or(Refusal::BadNumber)?;
+            (place, bytes) = take_digits(place, bytes).ok_or(Rejection::BadNumber)?;
         } else {
             place = take_byte(place, *byte, numbers)?;
             bytes = rest;
@@ -113,12 +117,12 @@ fn take_bytes(mut place: Place, mut bytes: &[u8], numbers: &mut Vec<i32>) -> Res
 /// They are separated by spaces, tabs, carriage returns and line feeds: an optional `-`, and then
 /// digits, within `i32`. The first byte that breaks this is `BadNumber`. A fault of the input is
 /// `InputOrOutput`, and more than 4294967295 bytes of it are `TooLong`.
-pub fn read_numbers<R: io::Read>(alloc: Global, input: &mut R) -> Result<Vec<i32>, Refusal>
+pub fn read_numbers<R: io::Read>(alloc: Global, input: &mut R) -> Result<Vec<i32>, Rejection>
     ensures end { OnOk result (IsAtEnd (R.remaining input.new)) }
     ensures numbers { IfOk result (λ numbers.
         IfSome (R.remaining input.old) (λ text. SaysNumbers text numbers.items)) }
-    ensures refused { IfErr result (λ refusal.
-        IfSome (R.remaining input.old) (IsRefused refusal)) }
+    ensures rejected { IfErr result (λ rejection.
+        IfSome (R.remaining input.old) (IsRejected rejection)) }
 {
     let mut numbers = Vec::new(alloc);
     let mut place = Place::Between;
@@ -126,7 +130,7 @@ pub fn read_numbers<R: io::Read>(alloc: Global, input: &mut R) -> Result<Vec<i32
     let mut room = u32::MAX as usize;
     loop {
         let Ok(count) = input.read(&mut buffer) else {
-            return Err(Refusal::InputOrOutput);
+            return Err(Rejection::InputOrOutput);
         };
         if count == 0 {
             end_of_word(place, &mut numbers)?;
@@ -135,7 +139,7 @@ pub fn read_numbers<R: io::Read>(alloc: Global, input: &mut R) -> Result<Vec<i32
         let taken = count.min(room);
         place = take_bytes(place, &buffer[..taken], &mut numbers)?;
         if taken < count {
-            return Err(Refusal::TooLong);
+            return Err(Rejection::TooLong);
         }
         room -= taken;
     }

@@ -7,12 +7,12 @@ use Rattle.std.proofs.KnownBytes.{Consumes-trans}
 use Rattle.hound_number.specs.{WhereKnown}
 use Rattle.hound_number.proofs.KnownSteps.{known_from, known_then}
 use Rattle.hound_walk.specs.Grammar.{front_fault}
-use Rattle.hound_walk.specs.Walking.{TakesFront, TakesLess, ReportsFront, front_taken, Refuses, AreTaken}
-use Rattle.hound_walk.specs.Refusals.{ReportsError}
+use Rattle.hound_walk.specs.Walking.{TakesFront, TakesLess, ReportsFront, front_taken, Rejects, AreTaken}
+use Rattle.hound_walk.specs.Rejections.{ReportsError}
 use Rattle.hound_spec.specs.declared.error.Error.{Error}
 use Rattle.hound_walk.specs.declared.cause.Cause.TheVariants.{Ended, Unsupported}
 use Rattle.hound_walk.specs.declared.cause.HeadError.{HeadError}
-use Rattle.hound_walk.specs.declared.cause.HeadError.TheVariants.{Failed, Refused}
+use Rattle.hound_walk.specs.declared.cause.HeadError.TheVariants.{Failed, Rejected}
 
 -- these bytes were taken
 pub all_taken : (bytes : List ℕ) (k : ℕ) (o n : Option (List ℕ)) → Consumes o n bytes
@@ -22,7 +22,7 @@ all_taken bytes k o n taken l = grind (arith, common_steps)
 -- h was taken, and then a part of what was needed: a fault or the end cut it
 pub front_cut : (h : List ℕ) (k : ℕ) (o m n : Option (List ℕ)) (e : HeadError) → Consumes o m h
     → length h + k ≤ 12 → (bytes : List ℕ) × (length bytes < k) × Consumes m n bytes
-    → Refuses e (λ c. (c ≡ Ended) × WhereKnown m n (λ xs ys. (length xs < k) × (ys ≡ [])))
+    → Rejects e (λ c. (c ≡ Ended) × WhereKnown m n (λ xs ys. (length xs < k) × (ys ≡ [])))
     → WhereKnown o n (TakesFront e)
 front_cut h k o m n (Failed e) taken room (bytes, less, part) r =
     known_from (h ++ bytes) o n TakesLess (Consumes-trans o m n h bytes taken part) (λ ys. (
@@ -33,7 +33,7 @@ front_cut h k o m n (Failed e) taken room (bytes, less, part) r =
         sym (drop_at (h ++ bytes) ys (length (h ++ bytes)) refl),
       ),
     ))
-front_cut h k o m n (Refused c) taken room part (is, end) =
+front_cut h k o m n (Rejected c) taken room part (is, end) =
     subst (λ d. WhereKnown o n (λ xs ys. AreTaken (front_taken d xs) xs ys)) (sym is)
     (known_then h o m n _ (λ xs ys. AreTaken (length xs) xs ys) taken end
     (λ ys zs p. (omega arith, p.1 ∙ sym (drop-length (h ++ ys)))))
@@ -47,14 +47,14 @@ unfolding front_fault
 no_unsupported xs e = grind (arith, common_steps)
 
 -- what callers get for it
-told : (e : HeadError) (error : Error) (xs ys : List ℕ) → ReportsError e error
-    → Refuses e (λ c. front_fault xs ≡ Some c) → TakesFront e xs ys → ReportsFront error xs ys
-told e error xs ys r f t = grind (arith, common_steps, ends_in_front, no_unsupported)
+modelled : (e : HeadError) (error : Error) (xs ys : List ℕ) → ReportsError e error
+    → Rejects e (λ c. front_fault xs ≡ Some c) → TakesFront e xs ys → ReportsFront error xs ys
+modelled e error xs ys r f t = grind (arith, common_steps, ends_in_front, no_unsupported)
 
-pub front_told : (e : HeadError) (error : Error) (o n : Option (List ℕ)) → ReportsError e error
-    → Refuses e (λ c. WhereKnown o n (λ xs ys. front_fault xs ≡ Some c)) → WhereKnown o n (TakesFront e)
+pub front_reported : (e : HeadError) (error : Error) (o n : Option (List ℕ)) → ReportsError e error
+    → Rejects e (λ c. WhereKnown o n (λ xs ys. front_fault xs ≡ Some c)) → WhereKnown o n (TakesFront e)
     → WhereKnown o n (ReportsFront error)
-front_told e error None n r f t = tt
-front_told e error (Some xs) None r f t = t
-front_told (Failed x) error (Some xs) (Some ys) r f t = told (Failed x) error xs ys r tt t
-front_told (Refused c) error (Some xs) (Some ys) r f t = told (Refused c) error xs ys r f t
+front_reported e error None n r f t = tt
+front_reported e error (Some xs) None r f t = t
+front_reported (Failed x) error (Some xs) (Some ys) r f t = modelled (Failed x) error xs ys r tt t
+front_reported (Rejected c) error (Some xs) (Some ys) r f t = modelled (Rejected c) error xs ys r f t

@@ -5,7 +5,7 @@ use Rattle.std.proofs.Math.Seq.{drop-append-add}
 use Rattle.std.specs.Io.KnownBytes.{Consumes}
 use Rattle.hound_walk.specs.declared.cause.Cause.{Cause}
 use Rattle.hound_walk.specs.declared.cause.HeadError.{HeadError}
-use Rattle.hound_walk.specs.declared.cause.HeadError.TheVariants.{Failed, Refused}
+use Rattle.hound_walk.specs.declared.cause.HeadError.TheVariants.{Failed, Rejected}
 use Rattle.hound_number.specs.{WhereKnown}
 use Rattle.hound_number.proofs.KnownSteps.{known_from, known_then}
 use Rattle.hound_walk.specs.Walking.{Gives}
@@ -32,7 +32,7 @@ gives_from k j h o m n (Ok x) f g t l e d = known_then h o m n _ _ t d (λ ys zs
   p.2 ∙ sym (drop-append-add h ys k) ∙ ap (λ i. drop i (h ++ ys)) (sym l),
 ))
 gives_from k j h o m n (Err (Failed e)) f g t l q d = tt
-gives_from k j h o m n (Err (Refused c)) f g t l q d =
+gives_from k j h o m n (Err (Rejected c)) f g t l q d =
     known_then h o m n _ _ t d (λ ys zs p. q ys ∙ p)
 
 -- h was taken, and g of what begins with h is a fault

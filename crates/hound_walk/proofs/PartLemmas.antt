@@ -10,12 +10,12 @@ use Rattle.hound_walk.specs.declared.cause.Cause.{Cause}
 use Rattle.hound_walk.specs.declared.cause.Cause.TheVariants.{Ended, Format}
 use Rattle.hound_walk.specs.declared.cause.Reason.TheVariants.{NoDataChunk}
 use Rattle.hound_walk.specs.Fmt.{fmt_len, fmt_of, fmt_said}
-use Rattle.hound_walk.specs.Grammar.{Refused, front_fault, content_fault, chunk_fault, fmt_fault, spec_after, cut_fault, joined, Chunk, Head}
+use Rattle.hound_walk.specs.Grammar.{Rejected, front_fault, content_fault, chunk_fault, fmt_fault, spec_after, cut_fault, joined, Chunk, Head}
 use Rattle.hound_walk.proofs.WalkLemmas.{walked_more, head_from, same_tag}
 use Rattle.std.proofs.lemmas.Bool.{cases_lt}
-use Rattle.hound_walk.specs.Walking.{Walked, Refuses}
+use Rattle.hound_walk.specs.Walking.{Walked, Rejects}
 use Rattle.hound_walk.specs.declared.cause.HeadError.{HeadError}
-use Rattle.hound_walk.specs.declared.cause.HeadError.TheVariants.{Refused as Caused}
+use Rattle.hound_walk.specs.declared.cause.HeadError.TheVariants.{Rejected as Caused}
 use Rattle.hound_walk.specs.Parts.{Reaches, IsAt, IsAfter}
 use Rattle.hound_walk.specs.declared.parts.HeadWalk.{HeadWalk}
 
@@ -24,8 +24,8 @@ empty [] e = refl
 empty (y ∷ ys) e = absurd (omega (arith, e))
 
 -- what is known of the cause of an error
-pub refuses_at : (e : HeadError) (c : Cause) (P : Cause → Type 0) → e ≡ Caused c → Refuses e P → P c
-refuses_at e c P is r = subst (λ d. Refuses d P) is r
+pub rejects_at : (e : HeadError) (c : Cause) (P : Cause → Type 0) → e ≡ Caused c → Rejects e P → P c
+rejects_at e c P is r = subst (λ d. Rejects d P) is r
 
 cut_at_end : (n : ℕ) (after : List ℕ) → length after < n → cut_fault n after ≡ Some Ended
 cut_at_end n after less = grind (arith, common_steps)
@@ -57,9 +57,9 @@ front_walked file size ys e four =
     }
 
 -- what reaches after whole chunks has a fault
-pub refused_at : (file rest : List ℕ) (found : Option WavSpecEx) (c : ℕ) (cause : Cause)
-    → Walked file rest found c → chunk_fault c found rest ≡ Some cause → Refused file cause
-refused_at file rest found c cause w is =
+pub rejected_at : (file rest : List ℕ) (found : Option WavSpecEx) (c : ℕ) (cause : Cause)
+    → Walked file rest found c → chunk_fault c found rest ≡ Some cause → Rejected file cause
+rejected_at file rest found c cause w is =
     inr (w.chunks, rest, w.walk, cc (w.taken_is, w.found_is, is))
 
 pub over_fault : (c : ℕ) (found : Option WavSpecEx) (rest : List ℕ) → greatest_u32 < c + 8
@@ -159,7 +159,7 @@ passed file tag size after found next c len w is tag_four four says other limit 
     elim (cases_lt (length after) (padded len)) [
       | inl less ↦ inr (
         omega (arith, less, long),
-        refused_at file rest found c Ended w
+        rejected_at file rest found c Ended w
             (ap (chunk_fault c found) is ∙ cut_off c found tag size after len tag_four four says other limit sound less),
       )
       | inr whole ↦ inl (
@@ -210,13 +210,13 @@ head_at file h found c spec len w is l room tag f k =
     ) refl).0
 
 -- a header at fault
-pub refused_header : (file h : List ℕ) (found : Option WavSpecEx) (c len : ℕ) (cause : Cause)
+pub rejected_header : (file h : List ℕ) (found : Option WavSpecEx) (c len : ℕ) (cause : Cause)
     → Walked file (drop (12 + c) file) found c → h ≡ take 8 (drop (12 + c) file) → 8 ≤ length h
     → c + 8 ≤ greatest_u32 → len ≡ number (slice_range h 4 8)
-    → ((rest : List ℕ) → content_fault c found (take 4 h) len rest ≡ Some cause) → Refused file cause
-refused_header file h found c len cause w is l room k bad =
+    → ((rest : List ℕ) → content_fault c found (take 4 h) len rest ≡ Some cause) → Rejected file cause
+rejected_header file h found c len cause w is l room k bad =
     let rest = drop (12 + c) file in
-    refused_at file rest found c cause w
+    rejected_at file rest found c cause w
     (header_fault c found rest h room is l
     ∙ ap (λ n. content_fault c found (take 4 h) n (drop 8 rest)) (sym k) ∙ bad (drop 8 rest))
 
@@ -224,7 +224,7 @@ refused_header file h found c len cause w is l room k bad =
 pub reaches : (file : List ℕ) (next : HeadWalk) (content read : ℕ) (found : Option WavSpecEx) (to : ℕ)
     → Reaches file found to → IsAfter content read next.part → next.found ≡ found
     → next.taken ≡ to → (read ≡ content → to + 12 ≤ length file) → IsAt file next
-reaches file next content read found to come behind f t inside = grind (arith, common_steps)
+reaches file next content read found to come beyond f t inside = grind (arith, common_steps)
 
 -- eight bytes of a header are inside the file
 pub header_inside : (file h : List ℕ) (c : ℕ) → h ≡ take 8 (drop (12 + c) file) → 8 ≤ length h
@@ -289,16 +289,16 @@ passed_fmt file size bytes found spec c len w four says parts limit is read =
     (rw same refl) (rw same refl)
 
 -- a fmt chunk at fault
-pub refused_fmt : (file size bytes : List ℕ) (found : Option WavSpecEx) (c len : ℕ) (cause : Cause)
+pub rejected_fmt : (file size bytes : List ℕ) (found : Option WavSpecEx) (c len : ℕ) (cause : Cause)
     → Walked file (drop (12 + c) file) found c → length size ≡ 4 → number size ≡ len
     → drop (12 + c) file ≡ fmt_tag ++ (size ++ drop (20 + c) file) → c + 8 + padded len ≤ greatest_u32
     → bytes ≡ take (fmt_len len) (drop (20 + c) file) → fmt_of len bytes ≡ Err cause
-    → Refused file cause
-refused_fmt file size bytes found c len cause w four says parts limit is read =
+    → Rejected file cause
+rejected_fmt file size bytes found c len cause w four says parts limit is read =
     let after = drop (20 + c) file in
     let rest = drop (12 + c) file in
     let same : fmt_of len (take (padded len) after) ≡ Err cause = fmt_same len bytes after is ∙ read in
-    refused_at file rest found c cause w
+    rejected_at file rest found c cause w
     (ap (chunk_fault c found) parts ∙ fmt_at_fault c found size after len cause four says limit same)
 
 -- the fmt chunk that a part asks for is inside the file, and its used part if it has no fault
@@ -329,7 +329,7 @@ last_is_there file bytes found c (inr (less, r)) is some = absurd (omega (
 
 -- if there is none, the file has ended
 pub last_is_missing : (file bytes : List ℕ) (found : Option WavSpecEx) (c : ℕ) → Reaches file found c
-    → bytes ≡ take 9 (drop (11 + c) file) → length bytes ≡ 0 → Refused file Ended
+    → bytes ≡ take 9 (drop (11 + c) file) → length bytes ≡ 0 → Rejected file Ended
 last_is_missing file bytes found c (inr (less, r)) is none = r
 last_is_missing file bytes found c (inl w) is none = absurd (omega (
   arith,

@@ -5,8 +5,8 @@ use Rattle.std.proofs.Math.Seq.{drop-append-add}
 use Rattle.std.specs.Io.KnownBytes.{Consumes}
 use Rattle.hound_number.specs.{WhereKnown, number}
 use Rattle.hound_number.proofs.KnownSteps.{known_both, known_then, known_weaker}
-use Rattle.hound_walk.specs.Walking.{Refuses, RefusedAfter, UnreadableAfter, TakesAll, TakesFor, chunk_taken, content_taken, Walked, AreTaken}
-use Rattle.hound_walk.specs.Grammar.{Head, Refused as Refused', chunk_fault, data_fault, joined}
+use Rattle.hound_walk.specs.Walking.{Rejects, RejectedAfter, UnreadableAfter, TakesAll, TakesFor, chunk_taken, content_taken, Walked, AreTaken}
+use Rattle.hound_walk.specs.Grammar.{Head, Rejected as Rejected', chunk_fault, data_fault, joined}
 use Rattle.hound_spec.specs.{riff_tag, wave_tag, FmtFields, Extension, fmt_fields, greatest_u32}
 use Rattle.std.specs.Prelude.{IfErr}
 use Rattle.hound_walk.specs.Fmt.{by_subformat, wave_format}
@@ -14,7 +14,7 @@ use Rattle.hound_spec.specs.declared.spec.WavSpecEx.{WavSpecEx}
 use Rattle.hound_walk.specs.declared.cause.Cause.{Cause}
 use Rattle.hound_walk.specs.declared.cause.Cause.TheVariants.{Unsupported}
 use Rattle.hound_walk.specs.declared.cause.HeadError.{HeadError}
-use Rattle.hound_walk.specs.declared.cause.HeadError.TheVariants.{Failed, Refused}
+use Rattle.hound_walk.specs.declared.cause.HeadError.TheVariants.{Failed, Rejected}
 
 -- h was taken, and then n bytes
 pub taken_then : (h ys zs : List ℕ) (n : ℕ) → AreTaken n ys zs
@@ -23,11 +23,11 @@ taken_then h ys zs n t = grind (arith, common_steps, length-append, drop-append-
 
 -- h was taken, and then what an error takes, for a cause that P holds for
 pub takes_after : (h : List ℕ) (o m n : Option (List ℕ)) (f g : Cause → List ℕ → ℕ)
-    (P : Cause → Type 0) (e : HeadError) → Consumes o m h → Refuses e P
+    (P : Cause → Type 0) (e : HeadError) → Consumes o m h → Rejects e P
     → ((c : Cause) (ys : List ℕ) → P c → g c (h ++ ys) ≡ length h + f c ys)
     → TakesFor m n f e → TakesFor o n g e
 takes_after h o m n f g P (Failed e) taken is same t = tt
-takes_after h o m n f g P (Refused c) taken is same t =
+takes_after h o m n f g P (Rejected c) taken is same t =
     known_then h o m n (λ xs ys. AreTaken (f c xs) xs ys) (λ xs ys. AreTaken (g c xs) xs ys) taken t
     (λ ys zs p. subst (λ i. AreTaken i (h ++ ys) zs) (sym (same c ys is))
     (taken_then h ys zs (f c ys) p))
@@ -71,13 +71,13 @@ known_and o n P Q p q = grind (arith, common_steps)
 -- whole chunks, and then a fault
 pub walk_takes : (o m n : Option (List ℕ)) (found : Option WavSpecEx) (taken : ℕ) (e : HeadError)
     → WhereKnown o m (λ xs ys. Walked xs ys found taken)
-    → Refuses e (λ c. WhereKnown m n (λ xs ys. chunk_fault taken found xs ≡ Some c))
-    → TakesFor m n (chunk_taken taken) e → TakesAll RefusedAfter o n e
+    → Rejects e (λ c. WhereKnown m n (λ xs ys. chunk_fault taken found xs ≡ Some c))
+    → TakesFor m n (chunk_taken taken) e → TakesAll RejectedAfter o n e
 walk_takes o m n found taken (Failed e) walked fault t = tt
-walk_takes o m n found taken (Refused c) walked fault t =
+walk_takes o m n found taken (Rejected c) walked fault t =
     known_both o m n (λ xs ys. Walked xs ys found taken)
     (λ ys zs. (chunk_fault taken found ys ≡ Some c) × AreTaken (chunk_taken taken c ys) ys zs)
-    (λ xs zs. (k : ℕ) × RefusedAfter xs c k × AreTaken k xs zs) walked
+    (λ xs zs. (k : ℕ) × RejectedAfter xs c k × AreTaken k xs zs) walked
     (known_and m n _ _ fault t) (λ xs ys zs w p.
     let body = joined w.chunks in
     let front = riff_tag ++ (w.walk.size ++ (wave_tag ++ body)) in
@@ -96,9 +96,9 @@ walk_takes o m n found taken (Refused c) walked fault t =
     ))
 
 -- what is taken of bytes without a head shows why they have none
-pub refused_for : (o n : Option (List ℕ)) (e : HeadError) → TakesAll RefusedAfter o n e
-    → Refuses e (λ c. WhereKnown o n (λ xs ys. Refused' xs c))
-refused_for o n e t = grind (arith, common_steps)
+pub rejected_for : (o n : Option (List ℕ)) (e : HeadError) → TakesAll RejectedAfter o n e
+    → Rejects e (λ c. WhereKnown o n (λ xs ys. Rejected' xs c))
+rejected_for o n e t = grind (arith, common_steps)
 
 -- a head is complete
 pub head_is_there : (bytes : List ℕ) (spec : WavSpecEx) (len h : ℕ) → Head bytes spec len h

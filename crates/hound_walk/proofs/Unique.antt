@@ -8,7 +8,7 @@ use Rattle.std.proofs.lemmas.Option.{same_Some}
 use Rattle.hound_spec.specs.declared.spec.WavSpecEx.{WavSpecEx}
 use Rattle.hound_walk.specs.declared.cause.Cause.{Cause}
 use Rattle.hound_number.specs.{number}
-use Rattle.hound_walk.specs.Grammar.{Chunk, IsChunk, chunk_bytes, Chunks, joined, last_spec, Walk, Head, Refused, front_fault, content_fault, chunk_fault}
+use Rattle.hound_walk.specs.Grammar.{Chunk, IsChunk, chunk_bytes, Chunks, joined, last_spec, Walk, Head, Rejected, front_fault, content_fault, chunk_fault}
 use Rattle.hound_spec.specs.{greatest_u32, padded, riff_tag, wave_tag, data_tag}
 
 -- fronts of one length
@@ -145,7 +145,7 @@ heads_agree bytes s t m n h k a b =
     )
 
 pub head_no_fault : (bytes : List ℕ) (s : WavSpecEx) (m h : ℕ) (cause : Cause) → Head bytes s m h
-    → Refused bytes cause → ⊥
+    → Rejected bytes cause → ⊥
 head_no_fault bytes s m h cause a (inl e) = let n = no_front_fault bytes a.chunks _ a.walk in cc
 head_no_fault bytes s m h cause a (inr (chunks, rest, walk, fault)) =
     let w = same_walks bytes a.chunks chunks _ _ a.walk walk (data_ends _ a.size a.rest)
@@ -153,7 +153,7 @@ head_no_fault bytes s m h cause a (inr (chunks, rest, walk, fault)) =
     let none = data_sound (length (joined a.chunks)) s a.size a.rest a.limit a.four in
     cc (w.0, w.1, none, fault, a.spec_is)
 
-pub faults_agree : (bytes : List ℕ) (c d : Cause) → Refused bytes c → Refused bytes d → c ≡ d
+pub faults_agree : (bytes : List ℕ) (c d : Cause) → Rejected bytes c → Rejected bytes d → c ≡ d
 faults_agree bytes c d (inl e) (inl f) = same_Some c d (sym e ∙ f)
 faults_agree bytes c d (inl e) (inr (chunks, rest, walk, fault)) =
     let n = no_front_fault bytes chunks rest walk in cc

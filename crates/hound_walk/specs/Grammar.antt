@@ -122,8 +122,8 @@ chunk_fault taken found bytes =
 
 -- The bytes have no head for this cause: the first twelve bytes have it, or what comes after
 -- whole chunks has it.
-abbrev pub Refused : List ℕ → Cause → Type 0
-Refused bytes cause = (front_fault bytes ≡ Some cause)
+abbrev pub Rejected : List ℕ → Cause → Type 0
+Rejected bytes cause = (front_fault bytes ≡ Some cause)
     ⊎ ((chunks : List Chunk) × (rest : List ℕ) × Walk bytes chunks rest
     × (chunk_fault (length (joined chunks)) (last_spec None chunks) rest ≡ Some cause))
 
@@ -144,7 +144,7 @@ pub record Readable (bytes : List ℕ) (spec : WavSpecEx) (samples data_start : 
 
 -- The bytes can't be read for this cause: they have no head, or its data length is at fault.
 abbrev pub Unreadable : List ℕ → Cause → Type 0
-Unreadable bytes cause = Refused bytes cause
+Unreadable bytes cause = Rejected bytes cause
     ⊎ ((spec : WavSpecEx) × (len : ℕ) × (data_start : ℕ) × Head bytes spec len data_start
     × (data_fault spec len ≡ Some cause))
 
@@ -156,7 +156,7 @@ pub data Answer : Type 0 where
 -- the bytes have this head, with the data's length, or none for this cause
 abbrev pub Answers : List ℕ → Answer → Type 0
 Answers bytes (readable spec len data_start) = Head bytes spec len data_start
-Answers bytes (unreadable cause) = Refused bytes cause
+Answers bytes (unreadable cause) = Rejected bytes cause
 
 -- the bytes have exactly one head, or exactly one cause
 abbrev pub HasOneAnswer : List ℕ → Type 0

@@ -4,7 +4,7 @@ use Rattle.hound_number.specs.{number}
 use Rattle.hound_spec.specs.{greatest_u32, padded, fmt_tag}
 use Rattle.hound_spec.specs.declared.spec.WavSpecEx.{WavSpecEx}
 use Rattle.hound_walk.specs.Fmt.{fmt_len, IsSoundSpec}
-use Rattle.hound_walk.specs.Grammar.{Head, IsDataPlace, Refused}
+use Rattle.hound_walk.specs.Grammar.{Head, IsDataPlace, Rejected}
 use Rattle.hound_walk.specs.Walking.{Walked, IsSoundOption}
 use Rattle.hound_walk.specs.declared.cause.Cause.{Cause}
 use Rattle.hound_walk.specs.declared.cause.Cause.TheVariants.{Ended}
@@ -18,7 +18,7 @@ use Rattle.hound_walk.specs.declared.parts.Step.TheVariants.{Next, Data}
 -- or the file ends before that, and so has no head.
 abbrev pub Reaches : List ℕ → Option WavSpecEx → ℕ → Type 0
 Reaches file found c = Walked file (drop (12 + c) file) found c
-    ⊎ ((length file < 12 + c) × Refused file Ended)
+    ⊎ ((length file < 12 + c) × Rejected file Ended)
 
 -- the part after a content of which so much was read: its last byte, too, unless that was read
 abbrev pub IsAfter : ℕ → ℕ → Part → Type 0
@@ -59,7 +59,7 @@ part_bytes walk file = take (part_length walk.part) (drop (part_start walk.part 
 abbrev pub LeadsTo : List ℕ → Result Step Cause → Type 0
 LeadsTo file (Ok (Next next)) = IsAt file next
 LeadsTo file (Ok (Data head)) = Head file head.spec_ex head.data_length head.data_start
-LeadsTo file (Err cause) = Refused file cause
+LeadsTo file (Err cause) = Rejected file cause
 
 -- No byte is requested twice, and none of the data, which begin where the last part ends.
 abbrev pub IsAhead : ℕ → Step → Type 0

@@ -2,10 +2,10 @@
 use Rattle.std.specs.Prelude.{◌≡◌, ℕ, List, drop, ⊤, Result, Ok, Err}
 use Rattle.hound_number.specs.{Account}
 use Rattle.hound_medium.specs.{MediumState, one_more}
-use Rattle.hound_walk.specs.Grammar.{Head, Refused as Refused'}
+use Rattle.hound_walk.specs.Grammar.{Head, Rejected as Rejected'}
 use Rattle.hound_walk.specs.declared.chunks.FileHead.{FileHead}
 use Rattle.hound_walk.specs.declared.cause.HeadError.{HeadError}
-use Rattle.hound_walk.specs.declared.cause.HeadError.TheVariants.{Failed, Refused}
+use Rattle.hound_walk.specs.declared.cause.HeadError.TheVariants.{Failed, Rejected}
 
 -- the bytes from the place on
 abbrev pub unread : MediumState → List ℕ
@@ -29,7 +29,7 @@ account_of s = record {
 abbrev pub faults_after_walk : {A : Type 0} → Result A HeadError → ℕ → ℕ
 faults_after_walk (Ok x) faults = faults
 faults_after_walk (Err (Failed e)) faults = one_more faults
-faults_after_walk (Err (Refused c)) faults = faults
+faults_after_walk (Err (Rejected c)) faults = faults
 
 -- the result of a walk for bytes, of which `rest` is left: their head, or the cause why they have
 -- none; a failed read shows nothing of them
@@ -37,7 +37,7 @@ abbrev pub AnswersBytes : Result FileHead HeadError → List ℕ → List ℕ �
 AnswersBytes (Ok head) bytes rest = Head bytes head.spec_ex head.data_length head.data_start
     × (rest ≡ drop head.data_start bytes)
 AnswersBytes (Err (Failed e)) bytes rest = ⊤
-AnswersBytes (Err (Refused c)) bytes rest = Refused' bytes c
+AnswersBytes (Err (Rejected c)) bytes rest = Rejected' bytes c
 
 -- a walk over a source: its result is that of the bytes from the place on, and only the place moves
 pub record FindsData (result : Result FileHead HeadError) (old new : MediumState) : Type 0 where

@@ -3,7 +3,7 @@
 use Rattle.std.specs.Prelude.{◌≡◌, ℕ, ◌≤◌, List, length, take, drop, ⊤, Option, IfOk, IfErr, ◌-◌, Result, Ok, Err, ◌+◌, ◌++◌, Some, None, true, false, ◌<◌, ◌==◌, ◌⊎◌, slice_range, nat_lt, if◌then◌else◌}
 use Rattle.hound_number.specs.{Account, WhereKnown, NoneFailed, OneFailed, number}
 use Rattle.hound_walk.specs.declared.cause.HeadError.{HeadError}
-use Rattle.hound_walk.specs.declared.cause.HeadError.TheVariants.{Failed, Refused}
+use Rattle.hound_walk.specs.declared.cause.HeadError.TheVariants.{Failed, Rejected}
 use Rattle.hound_walk.specs.declared.cause.Cause.{Cause}
 use Rattle.hound_spec.specs.{greatest_u32, extensible, fmt_fields, padded, fmt_tag, data_tag}
 use Rattle.hound_walk.specs.Grammar.{joined, last_spec, chunk_fault, Chunk, IsChunk, chunk_bytes, spec_after, fmt_fault, front_fault, content_fault, Head, Walk, data_fault}
@@ -14,7 +14,7 @@ use Rattle.hound_walk.specs.declared.chunks.ChunkRead.{ChunkRead}
 use Rattle.hound_walk.specs.declared.chunks.ChunkRead.TheVariants.{Data, Other}
 use Rattle.hound_walk.specs.declared.chunks.Content.{Content}
 use Rattle.hound_walk.specs.declared.chunks.Content.TheVariants as contents
-use Rattle.hound_walk.specs.Refusals.{reason_text}
+use Rattle.hound_walk.specs.Rejections.{reason_text}
 use Rattle.hound_spec.specs.declared.error.Error.{Error}
 use Rattle.hound_spec.specs.declared.error.Error.TheVariants as errors
 use Rattle.hound_walk.specs.declared.cause.Cause.TheVariants.{Format, Ended, Unsupported}
@@ -26,23 +26,23 @@ abbrev pub AreTaken : ℕ → List ℕ → List ℕ → Type 0
 AreTaken n old new = (n ≤ length old) × (new ≡ drop n old)
 
 -- P for the cause, unless a read failed
-abbrev pub Refuses : HeadError → (Cause → Type 0) → Type 0
-Refuses (Failed e) P = ⊤
-Refuses (Refused c) P = P c
+abbrev pub Rejects : HeadError → (Cause → Type 0) → Type 0
+Rejects (Failed e) P = ⊤
+Rejects (Rejected c) P = P c
 
 -- A call that takes n bytes returns `read` of the bytes, unless a read failed.
 abbrev pub Gives : {A : Type 0} → Option (List ℕ) → Option (List ℕ) → ℕ → Result A HeadError
     → (List ℕ → Result A Cause) → Type 0
 Gives old new n (Ok x) read =
     WhereKnown old new (λ xs ys. (read xs ≡ Ok x) × (n ≤ length xs) × (ys ≡ drop n xs))
-Gives old new n (Err e) read = Refuses e (λ c. WhereKnown old new (λ xs ys. read xs ≡ Err c))
+Gives old new n (Err e) read = Rejects e (λ c. WhereKnown old new (λ xs ys. read xs ≡ Err c))
 
 -- a failed read is counted, and nothing else is
 abbrev pub CountsFailed : {Kept A : Type 0} → Option (Account Kept) → Option (Account Kept)
     → Result A HeadError → Type 0
 CountsFailed old new (Ok x) = NoneFailed old new
 CountsFailed old new (Err (Failed e)) = OneFailed old new
-CountsFailed old new (Err (Refused c)) = NoneFailed old new
+CountsFailed old new (Err (Rejected c)) = NoneFailed old new
 
 -- What was taken of xs, of which ys are left, if a chunk was read that began c bytes after the
 -- WAVE tag.
@@ -92,8 +92,8 @@ front_taken (Format NoWaveTag) bytes = 12
 front_taken cause bytes = length bytes
 
 -- the first twelve bytes have this fault, and this many were taken for it
-abbrev pub RefusesFront : Cause → List ℕ → List ℕ → Type 0
-RefusesFront cause old new =
+abbrev pub RejectsFront : Cause → List ℕ → List ℕ → Type 0
+RejectsFront cause old new =
     (front_fault old ≡ Some cause) × AreTaken (front_taken cause old) old new
 
 -- fewer than twelve bytes were taken
@@ -103,14 +103,14 @@ TakesLess old new = (n : ℕ) × (n < 12) × AreTaken n old new
 -- what was taken of the first twelve bytes at an error: fewer than twelve if a read failed
 abbrev pub TakesFront : HeadError → List ℕ → List ℕ → Type 0
 TakesFront (Failed e) old new = TakesLess old new
-TakesFront (Refused cause) old new = AreTaken (front_taken cause old) old new
+TakesFront (Rejected cause) old new = AreTaken (front_taken cause old) old new
 
 -- what callers get for it: the words of a wrong tag, or an `IoError`, for which fewer than twelve
 -- bytes were taken
 abbrev pub ReportsFront : Error → List ℕ → List ℕ → Type 0
 ReportsFront (errors.IoError e) old new = TakesLess old new
 ReportsFront (errors.FormatError s) old new =
-    (reason : Reason) × RefusesFront (Format reason) old new × (s.now ≡ reason_text reason)
+    (reason : Reason) × RejectsFront (Format reason) old new × (s.now ≡ reason_text reason)
 ReportsFront _ old new = ⊥
 
 -- How many of the n bytes after the header of a chunk are taken for a fault, by the chunk's length
@@ -142,8 +142,8 @@ chunk_taken c cause bytes =
     (length (drop 8 bytes))
 
 -- The bytes have no head for this cause, and this many of them are taken until it is found.
-abbrev pub RefusedAfter : List ℕ → Cause → ℕ → Type 0
-RefusedAfter bytes cause n = ((front_fault bytes ≡ Some cause) × (n ≡ front_taken cause bytes))
+abbrev pub RejectedAfter : List ℕ → Cause → ℕ → Type 0
+RejectedAfter bytes cause n = ((front_fault bytes ≡ Some cause) × (n ≡ front_taken cause bytes))
     ⊎ ((chunks : List Chunk) × (rest : List ℕ) × Walk bytes chunks rest
     × (chunk_fault (length (joined chunks)) (last_spec None chunks) rest ≡ Some cause)
     × (n ≡ 12 + length (joined chunks) + chunk_taken (length (joined chunks)) cause rest))
@@ -151,17 +151,17 @@ RefusedAfter bytes cause n = ((front_fault bytes ≡ Some cause) × (n ≡ front
 -- The bytes can't be read for this cause, and this many of them are taken until it is found: all up
 -- to the data if the data length is at fault.
 abbrev pub UnreadableAfter : List ℕ → Cause → ℕ → Type 0
-UnreadableAfter bytes cause n = RefusedAfter bytes cause n
+UnreadableAfter bytes cause n = RejectedAfter bytes cause n
     ⊎ ((spec : WavSpecEx) × (len : ℕ) × Head bytes spec len n × (data_fault spec len ≡ Some cause))
 
 -- At an error this many bytes were taken, by its cause and the bytes that were left.
 abbrev pub TakesFor : Option (List ℕ) → Option (List ℕ) → (Cause → List ℕ → ℕ) → HeadError → Type 0
-TakesFor old new n e = Refuses e (λ c. WhereKnown old new (λ xs ys. AreTaken (n c xs) xs ys))
+TakesFor old new n e = Rejects e (λ c. WhereKnown old new (λ xs ys. AreTaken (n c xs) xs ys))
 
 -- At an error the bytes that were taken are as many as its cause takes.
 abbrev pub TakesAll : (List ℕ → Cause → ℕ → Type 0) → Option (List ℕ) → Option (List ℕ) → HeadError
     → Type 0
-TakesAll P old new e = Refuses e (λ c. WhereKnown old new (λ xs ys.
+TakesAll P old new e = Rejects e (λ c. WhereKnown old new (λ xs ys.
     (n : ℕ) × P xs c n × AreTaken n xs ys))
 
 -- What a call does with the content of a fmt chunk of this length, after its first sixteen bytes: it
@@ -176,7 +176,7 @@ pub record ReadsFormat {R Kept : Type 0} (account : R → Option (Account Kept))
       (λ xs. read (take (fmt_len len - 16) xs))
   pub taken : IfErr result (TakesFor (left old) (left new)
       (λ c xs. content_taken tag len c (16 + length xs) - 16))
-  pub late : IfErr result (λ e. Refuses e (λ c. (n : ℕ) → 16 ≤ content_taken tag len c (16 + n)))
+  pub late : IfErr result (λ e. Rejects e (λ c. (n : ℕ) → 16 ≤ content_taken tag len c (16 + n)))
 
 -- What a part of the walk does: an Ok is sound, and P relates the bytes before and after it; a cause is
 -- the fault of the bytes, and n says how many of them it takes; a failed read is counted.
@@ -187,7 +187,7 @@ pub record Walks {R Kept A : Type 0} (account : R → Option (Account Kept))
   pub sound : IfOk result IsSound
   pub failures : CountsFailed (account old) (account new) result
   pub ok : IfOk result (λ found. WhereKnown (left old) (left new) (P found))
-  pub err : IfErr result (λ e. Refuses e (λ c.
+  pub err : IfErr result (λ e. Rejects e (λ c.
       WhereKnown (left old) (left new) (λ xs ys. fault xs ≡ Some c)))
   pub taken : IfErr result (TakesFor (left old) (left new) n)
 

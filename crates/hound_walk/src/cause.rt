@@ -1,14 +1,14 @@
 // Why the bytes before the data can't be read.
 ghost use Rattle.std.specs.Prelude.{◌≡◌};
-ghost use Rattle.hound_walk.specs.declared.cause.HeadError.TheVariants.{Refused};
-ghost use Rattle.hound_walk.specs.Refusals.{reason_text, ReportsError};
+ghost use Rattle.hound_walk.specs.declared.cause.HeadError.TheVariants.{Rejected};
+ghost use Rattle.hound_walk.specs.Rejections.{reason_text, ReportsError};
 
 use hound_number::ReadError;
 use hound_spec::Error;
 use std::io;
 
 /// What is wrong with a file. [`error_of`] has the words for it, which a `FormatError` holds;
-/// `fmt_of` and `Refused` of the specs have the order in which a walk looks for these.
+/// `fmt_of` and `Rejected` of the specs have the order in which a walk looks for these.
 #[derive(Clone, Copy, Debug, PartialEq, Eq)]
 pub enum Reason {
     /// The file doesn't begin with "RIFF".
@@ -64,14 +64,14 @@ pub enum HeadError {
     /// A read failed.
     Failed(io::Error),
     /// The bytes decide it.
-    Refused(Cause),
+    Rejected(Cause),
 }
 
 impl From<Cause> for HeadError {
-    ghost from_gives = { λ c e. e ≡ Refused c };
+    ghost from_gives = { λ c e. e ≡ Rejected c };
 
     fn from(cause: Cause) -> HeadError {
-        HeadError::Refused(cause)
+        HeadError::Rejected(cause)
     }
 }
 
@@ -107,8 +107,8 @@ pub fn error_of(head_error: HeadError) -> Error
 {
     match head_error {
         HeadError::Failed(e) => Error::IoError(e),
-        HeadError::Refused(Cause::Ended) => Error::IoError(ReadError::Ended.into()),
-        HeadError::Refused(Cause::Format(reason)) => Error::FormatError(text_of(reason)),
-        HeadError::Refused(Cause::Unsupported) => Error::Unsupported,
+        HeadError::Rejected(Cause::Ended) => Error::IoError(ReadError::Ended.into()),
+        HeadError::Rejected(Cause::Format(reason)) => Error::FormatError(text_of(reason)),
+        HeadError::Rejected(Cause::Unsupported) => Error::Unsupported,
     }
 }

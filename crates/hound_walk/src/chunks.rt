@@ -4,14 +4,14 @@ ghost use Rattle.std.specs.Prelude.{◌≡◌, ℕ, ◌+◌, ◌++◌, ◌<◌, 
 ghost use Rattle.std.specs.Io.KnownBytes.{Consumes};
 ghost use Rattle.hound_number.specs.{WhereKnown, number};
 ghost use Rattle.hound_spec.specs.{fmt_fields, greatest_u32, padded, riff_tag, wave_tag};
-ghost use Rattle.hound_walk.specs.Walking.{CountsFailed, Refuses, Walks, TakesFront, RefusedAfter, TakesAll, chunk_taken, content_takes, ReadsChunk, ReadsContent, SaysContent, IsSoundOption, IsSoundChunk};
+ghost use Rattle.hound_walk.specs.Walking.{CountsFailed, Rejects, Walks, TakesFront, RejectedAfter, TakesAll, chunk_taken, content_takes, ReadsChunk, ReadsContent, SaysContent, IsSoundOption, IsSoundChunk};
 ghost use Rattle.hound_walk.specs.Fmt.{IsSoundSpec};
-ghost use Rattle.hound_walk.specs.Grammar.{Head, IsDataPlace, Refused, front_fault, content_fault, chunk_fault};
+ghost use Rattle.hound_walk.specs.Grammar.{Head, IsDataPlace, Rejected, front_fault, content_fault, chunk_fault};
 ghost use Rattle.hound_walk.specs.Sources.{FindsData, unread};
 
 use crate::cause::{Cause, HeadError, Reason};
 use crate::fmt::read_fmt_chunk;
-use crate::input::{Counted, fill};
+use crate::input::{SourceReader, fill};
 use hound_medium::Source;
 use hound_number::{Input, u32_at};
 use hound_spec::{WAVEFORMATEXTENSIBLE_LENGTH, WavSpecEx};
@@ -44,7 +44,7 @@ fn skip_bytes<R: Input>(reader: &mut R, count: u32) -> Result<(), HeadError>
     ensures failures { CountsFailed (R.account reader.old) (R.account reader.new) result }
     ensures ok { OnOk result ((bytes : List ℕ)
         × Consumes (R.left reader.old) (R.left reader.new) bytes × (length bytes ≡ count)) }
-    ensures err { IfErr result (λ e. Refuses e (λ c. (c ≡ Cause.Ended)
+    ensures err { IfErr result (λ e. Rejects e (λ c. (c ≡ Cause.Ended)
         × WhereKnown (R.left reader.old) (R.left reader.new)
         (λ xs ys. (length xs < count) × (ys ≡ [])))) }
 {
@@ -64,7 +64,7 @@ pub(crate) fn read_riff_header<R: Input>(reader: &mut R) -> Result<u32, HeadErro
     ensures failures { CountsFailed (R.account reader.old) (R.account reader.new) result }
     ensures ok { IfOk result (λ n. WhereKnown (R.left reader.old) (R.left reader.new) (λ xs ys.
         (size : List ℕ) × (length size ≡ 4) × (xs ≡ riff_tag ++ (size ++ (wave_tag ++ ys))) × (n ≡ number size))) }
-    ensures err { IfErr result (λ e. Refuses e (λ c.
+    ensures err { IfErr result (λ e. Rejects e (λ c.
         WhereKnown (R.left reader.old) (R.left reader.new) (λ xs ys. front_fault xs ≡ Some c))) }
     ensures taken { IfErr result (λ e.
         WhereKnown (R.left reader.old) (R.left reader.new) (TakesFront e)) }
@@ -72,12 +72,12 @@ pub(crate) fn read_riff_header<R: Input>(reader: &mut R) -> Result<u32, HeadErro
     let mut tag = [0; 4];
     fill(reader, &mut tag)?;
     if tag.as_slice() != b"RIFF".as_slice() {
-        return Err(HeadError::Refused(Cause::Format(Reason::NoRiffTag)));
+        return Err(HeadError::Rejected(Cause::Format(Reason::NoRiffTag)));
     }
     let mut rest = [0; 8];
     fill(reader, &mut rest)?;
     if &rest[4..8] != b"WAVE".as_slice() {
-        return Err(HeadError::Refused(Cause::Format(Reason::NoWaveTag)));
+        return Err(HeadError::Rejected(Cause::Format(Reason::NoWaveTag)));
     }
     Ok(u32_at(&rest, 0))
 }
@@ -165,7 +165,7 @@ fn read_next_chunk<R: Input>(
         (chunk_fault taken found) (chunk_taken taken) reader.old reader.new result }
 {
     if taken > u32::MAX - 8 {
-        return Err(HeadError::Refused(Cause::Format(Reason::NoDataChunk)));
+        return Err(HeadError::Rejected(Cause::Format(Reason::NoDataChunk)));
     }
     let mut head = [0; 8];
     fill(reader, &mut head)?;
@@ -184,9 +184,9 @@ pub fn read_until_data<R: Input>(reader: &mut R) -> Result<FileHead, HeadError>
     ensures failures { CountsFailed (R.account reader.old) (R.account reader.new) result }
     ensures found { IfOk result (λ r. WhereKnown (R.left reader.old) (R.left reader.new) (λ xs ys.
         Head xs r.spec_ex r.data_length r.data_start × (ys ≡ drop r.data_start xs))) }
-    ensures refused { IfErr result (λ e. Refuses e (λ c.
-        WhereKnown (R.left reader.old) (R.left reader.new) (λ xs ys. Refused xs c))) }
-    ensures taken { IfErr result (TakesAll RefusedAfter (R.left reader.old) (R.left reader.new)) }
+    ensures rejected { IfErr result (λ e. Rejects e (λ c.
+        WhereKnown (R.left reader.old) (R.left reader.new) (λ xs ys. Rejected xs c))) }
+    ensures taken { IfErr result (TakesAll RejectedAfter (R.left reader.old) (R.left reader.new)) }
 {
     let _size = read_riff_header(reader)?;
     let mut found = None;
@@ -215,10 +215,10 @@ pub fn find_data<S: Source>(source: S) -> (S, Result<FileHead, HeadError>)
     ensures sound { IfOk result.1 (λ r. IsSoundSpec r.spec_ex) }
     ensures start { IfOk result.1 (λ r. IsDataPlace r.data_start) }
     ensures finds { WhereTells S.tells (FindsData result.1 (S.state source) (S.state result.0)) }
-    ensures taken { WhereTells S.tells (IfErr result.1 (TakesAll RefusedAfter
+    ensures taken { WhereTells S.tells (IfErr result.1 (TakesAll RejectedAfter
         (Some (unread (S.state source))) (Some (unread (S.state result.0))))) }
 {
-    let mut input = Counted { source };
+    let mut input = SourceReader { source };
     let answer = read_until_data(&mut input);
     (input.source, answer)
 }

@@ -77,14 +77,14 @@ fn read_wave_format_pcm<R: Input>(
     }
     // Some programs write integers into a chunk of forty bytes, without the tag for it.
     if chunk_len != WAVEFORMATEX_LENGTH && chunk_len != WAVEFORMATEXTENSIBLE_LENGTH {
-        return Err(HeadError::Refused(Cause::Format(Reason::UnexpectedFmtSize)));
+        return Err(HeadError::Rejected(Cause::Format(Reason::UnexpectedFmtSize)));
     }
     // The size of more means nothing for integers, and some files have one.
     fill(reader, &mut [0; 2])?;
     let bits = found.spec.bits_per_sample;
     // A WAVEFORMATEX of integers may have 8 or 16 bits; files with 24 are there all the same.
     if bits != 8 && bits != 16 && bits != 24 {
-        return Err(HeadError::Refused(Cause::Format(Reason::BitsNot8Or16)));
+        return Err(HeadError::Rejected(Cause::Format(Reason::BitsNot8Or16)));
     }
     if chunk_len == WAVEFORMATEXTENSIBLE_LENGTH {
         fill(reader, &mut [0; EXTENSION_LENGTH as usize])?;
@@ -106,19 +106,19 @@ fn read_wave_format_ieee_float<R: Input>(
 {
     // A float has no extension that could follow here.
     if chunk_len != PCMWAVEFORMAT_LENGTH && chunk_len != WAVEFORMATEX_LENGTH {
-        return Err(HeadError::Refused(Cause::Format(Reason::UnexpectedFmtSize)));
+        return Err(HeadError::Rejected(Cause::Format(Reason::UnexpectedFmtSize)));
     }
     if chunk_len == WAVEFORMATEX_LENGTH {
         let mut size = [0; 2];
         fill(reader, &mut size)?;
         // The chunk ends here, so no more can follow.
         if u16_at(&size, 0) != 0 {
-            return Err(HeadError::Refused(Cause::Format(Reason::ExSize)));
+            return Err(HeadError::Rejected(Cause::Format(Reason::ExSize)));
         }
     }
     // The tag is for floats of 32 bits; those of 64 that some programs write aren't read.
     if found.spec.bits_per_sample != 32 {
-        return Err(HeadError::Refused(Cause::Format(Reason::BitsNot32)));
+        return Err(HeadError::Rejected(Cause::Format(Reason::BitsNot32)));
     }
     let spec = WavSpec {
         sample_format: SampleFormat::Float,
@@ -172,13 +172,13 @@ fn read_wave_format_extensible<R: Input>(
 {
     // Its size and the extension follow the first sixteen bytes.
     if chunk_len < WAVEFORMATEXTENSIBLE_LENGTH {
-        return Err(HeadError::Refused(Cause::Format(Reason::UnexpectedFmtSize)));
+        return Err(HeadError::Rejected(Cause::Format(Reason::UnexpectedFmtSize)));
     }
     let mut size = [0; 2];
     fill(reader, &mut size)?;
     // A larger extension would have fields that nothing here knows.
     if u16_at(&size, 0) != EXTENSION_LENGTH {
-        return Err(HeadError::Refused(Cause::Format(Reason::ExtensibleSize)));
+        return Err(HeadError::Rejected(Cause::Format(Reason::ExtensibleSize)));
     }
     let mut rest = [0; EXTENSION_LENGTH as usize];
     fill(reader, &mut rest)?;
@@ -201,7 +201,7 @@ fn read_by_tag<R: Input>(
         WAVE_FORMAT_PCM => read_wave_format_pcm(reader, chunk_len, found),
         WAVE_FORMAT_IEEE_FLOAT => read_wave_format_ieee_float(reader, chunk_len, found),
         WAVE_FORMAT_EXTENSIBLE => read_wave_format_extensible(reader, chunk_len, found),
-        _ => Err(HeadError::Refused(Cause::Unsupported)),
+        _ => Err(HeadError::Rejected(Cause::Unsupported)),
     }
 }
 
@@ -221,7 +221,7 @@ pub(crate) fn read_fmt_chunk<R: Input>(
 {
     // Fourteen bytes would say all but the bits; no program is known to write so short a chunk.
     if chunk_len < PCMWAVEFORMAT_LENGTH {
-        return Err(HeadError::Refused(Cause::Format(Reason::FmtSize)));
+        return Err(HeadError::Rejected(Cause::Format(Reason::FmtSize)));
     }
     let mut head = [0; 16];
     fill(reader, &mut head)?;

@@ -2,7 +2,7 @@
 ghost use Rattle.std.specs.Prelude.{◌≡◌, ℕ, ◌+◌, ◌%◌, ◌++◌, List, length, drop, IfOk, IfErr};
 ghost use Rattle.hound_number.specs.{WhereKnown, number};
 ghost use Rattle.hound_spec.specs.{riff_tag, wave_tag};
-ghost use Rattle.hound_walk.specs.Walking.{CountsFailed, Refuses, ReportsFront, TakesAll, UnreadableAfter};
+ghost use Rattle.hound_walk.specs.Walking.{CountsFailed, Rejects, ReportsFront, TakesAll, UnreadableAfter};
 ghost use Rattle.hound_walk.specs.Fmt.{IsSoundSpec};
 ghost use Rattle.hound_walk.specs.Grammar.{IsDataPlace, Readable, Unreadable};
 
@@ -21,7 +21,7 @@ pub fn read_until_samples<R: Input>(reader: &mut R) -> result::Result<(FileHead,
     ensures failures { CountsFailed (R.account reader.old) (R.account reader.new) result }
     ensures found { IfOk result (λ r. WhereKnown (R.left reader.old) (R.left reader.new) (λ xs ys.
         Readable xs r.0.spec_ex r.1 r.0.data_start × (ys ≡ drop r.0.data_start xs))) }
-    ensures refused { IfErr result (λ e. Refuses e
+    ensures rejected { IfErr result (λ e. Rejects e
         (λ c. WhereKnown (R.left reader.old) (R.left reader.new) (λ xs ys. Unreadable xs c))) }
     ensures taken { IfErr result (TakesAll UnreadableAfter (R.left reader.old) (R.left reader.new)) }
     ensures frames { IfOk result (λ r. r.1 % r.0.spec_ex.spec.channels ≡ 0) }
@@ -43,7 +43,7 @@ pub fn read_wave_header<R: io::Read>(reader: &mut R) -> Result<u64>
         (λ xs ys.
         (size : List ℕ) × (length size ≡ 4) × (xs ≡ riff_tag ++ (size ++ (wave_tag ++ ys)))
         × (n ≡ number size + 8))) }
-    ensures refused { IfErr result (λ e.
+    ensures rejected { IfErr result (λ e.
         WhereKnown (R.remaining reader.old) (R.remaining reader.new) (ReportsFront e)) }
 {
     match read_riff_header(reader) {

@@ -16,6 +16,6 @@ mod parts;
 pub use cause::{Cause, HeadError, Reason, error_of};
 pub use chunks::{FileHead, find_data, read_until_data};
 pub use head::{read_until_samples, read_wave_header};
-pub use input::Counted;
+pub use input::SourceReader;
 pub use laws::{one_answer, written_is_head};
 pub use parts::{HeadWalk, Part, Step, bytes_at, count_samples, find_by_parts, take_part};

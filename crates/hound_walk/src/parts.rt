@@ -4,7 +4,7 @@ ghost use Rattle.std.specs.Prelude.{◌≡◌, ℕ, ◌+◌, ◌≤◌, ◌/◌,
 ghost use Rattle.hound_spec.specs.{greatest_u32, padded};
 ghost use Rattle.hound_spec.specs.declared.spec.WavSpecEx.{WavSpecEx};
 ghost use Rattle.hound_walk.specs.Fmt.{fmt_len, IsSoundSpec};
-ghost use Rattle.hound_walk.specs.Grammar.{Head, IsDataPlace, Refused, data_fault};
+ghost use Rattle.hound_walk.specs.Grammar.{Head, IsDataPlace, Rejected, data_fault};
 ghost use Rattle.hound_walk.specs.Walking.{IsSoundOption, Walked};
 ghost use Rattle.hound_walk.specs.Parts.{IsAhead, IsAt, IsAtPart, IsAfter, IsNearer, IsSoundStep, LeadsTo, part_bytes, part_start, part_length, parts_left};
 ghost use Rattle.hound_walk.specs.declared.parts.Part.TheVariants as kinds;
@@ -85,7 +85,7 @@ fn take_front(bytes: &[u8]) -> Result<Step, Cause>
             taken: 0,
             part: Part::Header,
         })),
-        Err(HeadError::Refused(cause)) => Err(cause),
+        Err(HeadError::Rejected(cause)) => Err(cause),
         Err(HeadError::Failed(_)) => unreachable!(),
     }
 }
@@ -162,7 +162,7 @@ fn take_fmt(taken: u32, chunk_len: u32, bytes: &[u8]) -> Result<Step, Cause>
             chunk_len,
             chunk_len.min(WAVEFORMATEXTENSIBLE_LENGTH),
         ))),
-        Err(HeadError::Refused(cause)) => Err(cause),
+        Err(HeadError::Rejected(cause)) => Err(cause),
         Err(HeadError::Failed(_)) => unreachable!(),
     }
 }
@@ -255,7 +255,7 @@ pub fn find_by_parts(file: &[u8]) -> Result<FileHead, Cause>
     ensures sound { IfOk result (λ h. IsSoundSpec h.spec_ex) }
     ensures start { IfOk result (λ h. IsDataPlace h.data_start) }
     ensures inside { IfOk result (λ h. h.data_start ≤ length file.now) }
-    ensures refused { IfErr result (Refused file.now) }
+    ensures rejected { IfErr result (Rejected file.now) }
 {
     let mut walk = HeadWalk {
         found: None,

@@ -11,11 +11,11 @@ use Rattle.hound_medium.proofs.Spans.{span_puts, span_still}
 use Rattle.hound_spec.specs.declared.error.Error.{Error}
 use Rattle.hound_spec.specs.declared.error.Error.TheVariants.{IoError}
 use Rattle.hound_spec.specs.{riff_size, greatest_u32}
-use Rattle.hound_sample.specs.{Refusal, containers, error_of, too_wide, unsupported}
-use Rattle.hound_writer.specs.Accepting.{AcceptsBytes, Accepts, AddsAtEach, AcceptAnswer, IsIoError, OnRefused, faults_told, if_marked, mark_of}
+use Rattle.hound_sample.specs.{Rejection, containers, error_of, too_wide, unsupported}
+use Rattle.hound_writer.specs.Accepting.{AcceptsBytes, Accepts, AddsAtEach, AcceptAnswer, IsIoError, OnRejected, faults_reported, if_marked, mark_of}
 use Rattle.hound_writer.specs.Parts.{all_out, GoesAtEach, GoesToFile, PutsAt, CountsAtMost, StaysAround}
 use Rattle.hound_writer.specs.Writer.{Ghosts, Counts, WriterState, HasRoom, IsCounted, IsSound, IsWhole, accepted_samples, data_length}
-use Rattle.hound_writer.proofs.Answers.{accept_as, on_refused, refused_then, unless_failed}
+use Rattle.hound_writer.proofs.Answers.{accept_as, on_rejected, rejected_then, unless_failed}
 use Rattle.hound_writer.proofs.Containers.{joined_bytes}
 use Rattle.hound_writer.proofs.PutsFrom.{puts_from}
 use Rattle.hound_writer.proofs.Storing.{stored_same, stored_still}
@@ -32,37 +32,37 @@ pub adds_nothing : {W : Type 0} (state : W → MediumState) (w : WriterState W)
 adds_nothing state w counts replays = grind (arith, common_steps, span_still, stored_still)
 
 -- an error before anything changes
-pub accepts_refused : {W : Type 0} (kind : Ghosts W)
-    (w : WriterState W) (asked : Result (List (List ℕ)) Refusal) (e : Error)
+pub accepts_rejected : {W : Type 0} (kind : Ghosts W)
+    (w : WriterState W) (asked : Result (List (List ℕ)) Rejection) (e : Error)
     → WhereTells kind.tells (IsWhole kind.state w → IsCounted kind.state w)
     → WhereKeeps kind.tells kind.keeps
     ((kind.state w.medium).contents ≡ overlay (kind.state w.medium).start (kind.state w.medium).past)
     → mark_of {T = Unit {0}} (Err e) ≡ false
-    → ((faults : ℕ) → faults ≡ faults_told {T = Unit {0}} (Err e) faults)
+    → ((faults : ℕ) → faults ≡ faults_reported {T = Unit {0}} (Err e) faults)
     → AcceptAnswer {T = Unit {0}} asked w (Err e)
     → Accepts kind asked (Err e) w w
-accepts_refused kind w asked e counts replays mark faults answers =
+accepts_rejected kind w asked e counts replays mark faults answers =
     let old = kind.state w.medium in
     let nothing : if_marked (mark_of {T = Unit {0}} (Err e)) asked ≡ [] =
     ap (λ m. if_marked m asked) mark in
     let more = ap (λ l. length (concat l)) nothing in
     let none = append-nil (accepted_samples kind.state w) in
     record {
-      adds = search (rules, on_refused);
-      file = λ told. let same = faults old.faults in search (rules, unless_failed);
-      moments = λ told kept. adds_nothing kind.state w (counts told) (replays told kept);
+      adds = search (rules, on_rejected);
+      file = λ modelled. let same = faults old.faults in search (rules, unless_failed);
+      moments = λ modelled kept. adds_nothing kind.state w (counts modelled) (replays modelled kept);
     }
 
 -- the type has no container
-pub type_refuses : {W : Type 0} (kind : Ghosts W) (w : WriterState W)
-    (refusal : Refusal) → WhereTells kind.tells (IsWhole kind.state w → IsCounted kind.state w)
+pub type_rejects : {W : Type 0} (kind : Ghosts W) (w : WriterState W)
+    (rejection : Rejection) → WhereTells kind.tells (IsWhole kind.state w → IsCounted kind.state w)
     → WhereKeeps kind.tells kind.keeps
     ((kind.state w.medium).contents ≡ overlay (kind.state w.medium).start (kind.state w.medium).past)
-    → Accepts kind (Err refusal) (Err (error_of refusal)) w w
-type_refuses kind w too_wide counts replays =
-    accepts_refused kind w _ _ counts replays refl (λ _. refl) refl
-type_refuses kind w unsupported counts replays =
-    accepts_refused kind w _ _ counts replays refl (λ _. refl) refl
+    → Accepts kind (Err rejection) (Err (error_of rejection)) w w
+type_rejects kind w too_wide counts replays =
+    accepts_rejected kind w _ _ counts replays refl (λ _. refl) refl
+type_rejects kind w unsupported counts replays =
+    accepts_rejected kind w _ _ counts replays refl (λ _. refl) refl
 
 -- whole containers for which there is room fit
 pub room_fits : {W : Type 0} (w : WriterState W) (bytes : List ℕ) → HasRoom w (length bytes)
@@ -77,7 +77,7 @@ room_fits w bytes room whole = grind (arith, common_steps, le-leb, joined_bytes)
 -- bytes that are written after a writer's data, all or a beginning
 module _ {W : Type 0} (kind : Ghosts W) (w : WriterState W) (at_most : WhereTells kind.tells
     (CountsAtMost w.spec_ex w.data_start w.bytes_written (kind.state w.medium).contents)) {T E : Type 0} (m : W)
-    (bytes : List ℕ) (result : Result T E) (told : IsTrue kind.tells)
+    (bytes : List ℕ) (result : Result T E) (modelled : IsTrue kind.tells)
     (puts : PutsAt kind.keeps (w.data_start + w.bytes_written) bytes result (kind.state w.medium) (kind.state m)) where
   abbrev was : List ℕ
   was = (kind.state w.medium).contents
@@ -96,7 +96,7 @@ module _ {W : Type 0} (kind : Ghosts W) (w : WriterState W) (at_most : WhereTell
   grows = grind (arith, common_steps, length_overlay_le)
 
   there : w.data_start ≤ length was
-  there = inside w.spec_ex w.data_start w.bytes_written was was (at_most told)
+  there = inside w.spec_ex w.data_start w.bytes_written was was (at_most modelled)
 
   pub front : take w.data_start now ≡ take w.data_start was
   front = front_stays w.data_start (omega arith) there
@@ -106,7 +106,7 @@ module _ {W : Type 0} (kind : Ghosts W) (w : WriterState W) (at_most : WhereTell
   data_stays whole = grind (arith, common_steps, front_part, front_stays)
 
   pub still : CountsAtMost w.spec_ex w.data_start w.bytes_written now
-  still = at_most_front w.spec_ex w.data_start w.bytes_written was now (at_most told) front
+  still = at_most_front w.spec_ex w.data_start w.bytes_written was now (at_most modelled) front
       (omega (arith, there, grows))
 
   pub rest : drop (at + length bytes) now ≡ drop (at + length bytes) was
@@ -130,7 +130,7 @@ module _ {W : Type 0} (kind : Ghosts W) (w : WriterState W) (at_most : WhereTell
         front = span_puts (λ _ c. take w.data_start c ≡ take w.data_start was) 0 old (kind.state m) at bs
             replays puts.start (puts.past kept) (inl puts.flushed)
             (λ k within. take_overlay_before (take k bs) w.data_start at was (omega arith) there);
-        behind = puts_from w.data_start at bs old (kind.state m) (omega arith) (puts.past kept);
+        beyond = puts_from w.data_start at bs old (kind.state m) (omega arith) (puts.past kept);
       }
 
   pub around : (far : ℕ) → w.data_start + w.bytes_written + length bytes ≡ far
@@ -162,17 +162,17 @@ module _ {W : Type 0} (kind : Ghosts W) (w : WriterState W)
   counts_front : IsTrue kind.tells → IsWhole kind.state w → (c : List ℕ)
       → take (w.data_start + w.bytes_written) c ≡ take (w.data_start + w.bytes_written) (kind.state w.medium).contents
       → Counts w.spec_ex w.data_start (accepted_samples kind.state w) c
-  counts_front told whole c same =
+  counts_front modelled whole c same =
       let first : take w.data_start c ≡ take w.data_start old.contents =
       take_front w.data_start end old.contents c (omega arith) same in
       let long : w.data_start ≤ length c =
       omega (arith, ap length same, length-take end c, length-take-le end old.contents whole) in
       counts_at kind.state w sound (whole_written kind.state w none sound) c whole
-      (at_most_front w.spec_ex w.data_start w.bytes_written old.contents c (at_most told) first long)
+      (at_most_front w.spec_ex w.data_start w.bytes_written old.contents c (at_most modelled) first long)
       (front_part end w.data_start w.bytes_written c old.contents (omega arith) same)
 
   -- bytes that are written, all or a beginning
-  module _ {T E : Type 0} (m : W) (bytes : List ℕ) (result : Result T E) (told : IsTrue kind.tells)
+  module _ {T E : Type 0} (m : W) (bytes : List ℕ) (result : Result T E) (modelled : IsTrue kind.tells)
       (puts : PutsAt kind.keeps (w.data_start + w.bytes_written) bytes result (kind.state w.medium) (kind.state m)) where
     abbrev new : MediumState
     new = kind.state m
@@ -194,7 +194,7 @@ module _ {W : Type 0} (kind : Ghosts W) (w : WriterState W)
               (λ _. Counts w.spec_ex w.data_start
               (accepted_samples kind.state w)) 0 old new end bs replays puts.start (puts.past kept)
               (inl puts.flushed)
-              (λ k within. counts_front told whole (overlay old.contents (placed end (take k bs)))
+              (λ k within. counts_front modelled whole (overlay old.contents (placed end (take k bs)))
               (same whole k));
           front = fixed;
           stored =
@@ -246,16 +246,16 @@ module _ {W : Type 0} (kind : Ghosts W) (w : WriterState W)
       adds =
           let fits = room_fits w bytes room whole_bytes in
           search rules;
-      file = λ told.
-          let p = puts told in
+      file = λ modelled.
+          let p = puts modelled in
           let f = goes_beside kind.state (end + length bytes) false w m sound (whole_written kind.state w none sound)
           p.faults
-          (around kind w at_most m bytes (all_out false) told p (end + length bytes) refl)
+          (around kind w at_most m bytes (all_out false) modelled p (end + length bytes) refl)
           in
           let none = append-nil (accepted_samples kind.state w) in
           search rules;
       moments =
-          λ told kept. at_each m bytes (all_out false) told (puts told) kept (replays told kept);
+          λ modelled kept. at_each m bytes (all_out false) modelled (puts modelled) kept (replays modelled kept);
     }
 
     -- else all of it
@@ -272,8 +272,8 @@ module _ {W : Type 0} (kind : Ghosts W) (w : WriterState W)
           let fits = room_fits w bytes room whole_bytes in
           let size = ap length (joined_bytes width bytes whole_bytes) in
           search rules;
-      file = λ told.
-          let p = puts told in
+      file = λ modelled.
+          let p = puts modelled in
           let last = after_put m (w.bytes_written + length bytes) in
           let samples = drop w.data_start (kind.state m).contents in
           let more : IsWhole kind.state w
@@ -283,38 +283,38 @@ module _ {W : Type 0} (kind : Ghosts W) (w : WriterState W)
           (omega (arith, ap length none))
           (cc (
             take-add w.bytes_written (length bytes) samples,
-            data_stays kind w at_most m bytes (all_out true) told p whole,
+            data_stays kind w at_most m bytes (all_out true) modelled p whole,
             drop-drop w.bytes_written w.data_start (kind.state m).contents,
-            bytes_in_place m bytes (all_out true) told p p.whole whole,
+            bytes_in_place m bytes (all_out true) modelled p p.whole whole,
             append-nil (take w.bytes_written (drop w.data_start old.contents) ++ bytes),
             append-nil (take w.bytes_written (drop w.data_start old.contents)),
           )) in
           let at_most_now =
           at_most_more w.spec_ex w.data_start w.bytes_written (w.bytes_written + length bytes) (kind.state m).contents
-          (omega arith) (still kind w at_most m bytes (all_out true) told p) in
-          let inside = bytes_inside m bytes (all_out true) told p p.whole in
+          (omega arith) (still kind w at_most m bytes (all_out true) modelled p) in
+          let inside = bytes_inside m bytes (all_out true) modelled p p.whole in
           let counts = counts_at kind.state last sound_more (whole_written kind.state last none sound_more)
           (kind.state m).contents in
-          let before = front kind w at_most m bytes (all_out true) told p in
-          let long = reach kind w at_most m bytes (all_out true) told p in
+          let before = front kind w at_most m bytes (all_out true) modelled p in
+          let long = reach kind w at_most m bytes (all_out true) modelled p in
           let size = ap length none in
           let at : end + length bytes ≡ w.data_start + (w.bytes_written + length bytes + length w.buffered) =
           omega (arith, size) in
-          let behind = rw at at (rest kind w at_most m bytes (all_out true) told p) in
+          let beyond = rw at at (rest kind w at_most m bytes (all_out true) modelled p) in
           search rules;
       moments =
-          λ told kept. at_each m bytes (all_out true) told (puts told) kept (replays told kept);
+          λ modelled kept. at_each m bytes (all_out true) modelled (puts modelled) kept (replays modelled kept);
     }
 
-pub not_refused : {T : Type 0} (P : Type 0) (answer : Result T Error) → IfErr answer IsIoError
-    → OnRefused answer P
-not_refused P (Ok x) failed = tt
-not_refused P (Err (IoError e)) failed = tt
-not_refused P (Err e) failed = absurd failed
+pub not_rejected : {T : Type 0} (P : Type 0) (answer : Result T Error) → IfErr answer IsIoError
+    → OnRejected answer P
+not_rejected P (Ok x) failed = tt
+not_rejected P (Err (IoError e)) failed = tt
+not_rejected P (Err e) failed = absurd failed
 
 -- the same for writers that hold other memory, which the call leaves as it is
 pub accepts_beside : {W : Type 0} (kind : Ghosts W)
-    (asked : Result (List (List ℕ)) Refusal) (answer : Result (Unit {0}) Error)
+    (asked : Result (List (List ℕ)) Rejection) (answer : Result (Unit {0}) Error)
     (a b : WriterState W) (memory : List ℕ) → Accepts kind asked answer a b
     → Accepts kind asked answer (record a { batch_memory = memory })
     (record b { batch_memory = memory })
@@ -324,8 +324,8 @@ accepts_beside kind asked answer a b memory accepts =
       adds =
           let answers = accept_as asked answer a (record a { batch_memory = memory }) refl refl
           adds.answers in
-          let refused = refused_then answer
-          (ap (λ (w : WriterState _). record w { batch_memory = memory })) adds.refused in
+          let rejected = rejected_then answer
+          (ap (λ (w : WriterState _). record w { batch_memory = memory })) adds.rejected in
           search rules;
       file = search rules;
       moments = search rules;

@@ -6,7 +6,7 @@ use Rattle.std.proofs.Math.Nat.{mul-div_cancel_left, mul-le-mul_right, mul-mod_r
 use Rattle.std.specs.List.{concat}
 use Rattle.std.specs.declared.io.Error.{Error as IoFault}
 use Rattle.hound_medium.specs.{overlay, WhereKeeps, WhereTells}
-use Rattle.hound_sample.specs.{Refusal, answer_of, containers, first_reason}
+use Rattle.hound_sample.specs.{Rejection, answer_of, containers, first_reason}
 use Rattle.hound_sample.specs.declared.item.SampleError.{SampleError}
 use Rattle.hound_spec.specs.declared.error.Error.{Error}
 use Rattle.hound_spec.specs.declared.error.Error.TheVariants.{TooLong}
@@ -15,14 +15,14 @@ use Rattle.hound_spec.specs.{greatest_u32}
 use Rattle.hound_writer.specs.Accepting.{AcceptsBytes, whole_containers, Accepts, containers_in, sample_bytes}
 use Rattle.hound_writer.specs.Parts.{IsConsistent}
 use Rattle.hound_writer.specs.Writer.{Ghosts, WriterState, HasRoom, IsCounted, IsWhole}
-use Rattle.hound_writer.proofs.Accepting.{type_refuses}
+use Rattle.hound_writer.proofs.Accepting.{type_rejects}
 use Rattle.hound_sample.proofs.Joined.{joined, joined_size}
 use Rattle.hound_sample.proofs.Reading.{same_error}
 use Rattle.hound_writer.proofs.Samples.{valid_of}
 use Rattle.hound_writer.proofs.Writing.{bytes_too_long}
 
 -- values of a type with this table, whose containers have the requested number of bytes
-module _ {V : Type 0} (container : V → ℕ → ℕ → Result (List ℕ) Refusal)
+module _ {V : Type 0} (container : V → ℕ → ℕ → Result (List ℕ) Rejection)
     (sized : (v : V) (bits width : ℕ) (c : List ℕ) → container v bits width ≡ Ok c
     → (length c ≡ width) × (1 ≤ width) × (width ≤ 4)) (values : List V) where
   -- in a file of this spec they have these bytes, whole containers, for which there is room
@@ -52,10 +52,10 @@ module _ {V : Type 0} (container : V → ℕ → ℕ → Result (List ℕ) Refus
   asked_is s some have =
       go (containers_in container s values) refl have
     where
-      go : (all : Result (List (List ℕ)) Refusal) → containers_in container s values ≡ all
+      go : (all : Result (List (List ℕ)) Rejection) → containers_in container s values ≡ all
           → IsOk all
           → whole_containers s (sample_bytes container s values) ≡ containers_in container s values
-      go (Err refusal) is none = cc
+      go (Err rejection) is none = cc
       go (Ok list) is one =
           let all =
           joined (λ v. container v s.spec.bits_per_sample s.bytes_per_sample) s.bytes_per_sample
@@ -85,16 +85,16 @@ module _ {V : Type 0} (container : V → ℕ → ℕ → Result (List ℕ) Refus
       counts = (valid_of kind moved limit w known).counts
 
       -- one of them has no container
-      pub many_refused : (told : Result (Unit {0}) SampleError) (fault : IoFault)
-          → told ≡ first_reason (containers_in container w.spec_ex values)
+      pub many_rejected : (outcome : Result (Unit {0}) SampleError) (fault : IoFault)
+          → outcome ≡ first_reason (containers_in container w.spec_ex values)
           → (IsOk (containers_in container w.spec_ex values) → ⊥)
-          → Accepts kind (containers_in container w.spec_ex values) (answer_of told fault) w w
-      many_refused told fault is none = rw is (go (containers_in container w.spec_ex values) none)
+          → Accepts kind (containers_in container w.spec_ex values) (answer_of outcome fault) w w
+      many_rejected outcome fault is none = rw is (go (containers_in container w.spec_ex values) none)
         where
-          go : (asked : Result (List (List ℕ)) Refusal) → (IsOk asked → ⊥)
+          go : (asked : Result (List (List ℕ)) Rejection) → (IsOk asked → ⊥)
               → Accepts kind asked (answer_of (first_reason asked) fault) w w
           go (Ok list) none = absurd (none refl)
-          go (Err refusal) none = rw (same_error refusal fault) (type_refuses kind w refusal counts replays)
+          go (Err rejection) none = rw (same_error rejection fault) (type_rejects kind w rejection counts replays)
 
       -- the file has no room for all of them
       pub many_too_long : IsOk (containers_in container w.spec_ex values)

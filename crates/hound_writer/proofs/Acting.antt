@@ -275,17 +275,17 @@ directing_handed s file known old new m place len d (some, rest, r, inr (two, ne
     )
 
 pub directing_cut : (s : WavSpecEx) (file : Begun) (known : List Known) (old new : Recorder) (m : MediumState)
-    (ok : Bool) (told : Result (Unit {0}) RecorderError) → Directed s file known old m → 0 < old.has_rest
-    → HasEnded ok old new told → Directed s file known new m
-directing_cut s file known old new m ok told d some (inl (idle, is, _)) = rw is d
-directing_cut s file known old new m ok told d some (inr (inl (busy, _, four, is, _))) =
+    (ok : Bool) (outcome : Result (Unit {0}) RecorderError) → Directed s file known old m → 0 < old.has_rest
+    → HasEnded ok old new outcome → Directed s file known new m
+directing_cut s file known old new m ok outcome d some (inl (idle, is, _)) = rw is d
+directing_cut s file known old new m ok outcome d some (inr (inl (busy, _, four, is, _))) =
     rw is (moved s file known known old old m m old.task 0 d d.in_step (refl, refl, refl, refl) d.placed d.ready
     (λ more. absurd (four (d.rest more).0)))
-directing_cut s file known old new m ok told d some (inr (inr (inl (four, _, is, _)))) =
+directing_cut s file known old new m ok outcome d some (inr (inr (inl (four, _, is, _)))) =
     rw is (rests s file known known old old m m 0 0 (λ busy. absurd (omega (arith, busy))) d d.in_step
     (refl, refl, refl, refl))
-directing_cut s file known old new m ok told d some (inr (inr (inr (inl (_, none, _, _, _))))) = absurd (omega (arith, some, none))
-directing_cut s file known old new m ok told d some (inr (inr (inr (inr (_, _, none, _))))) = absurd (omega (arith, some, none))
+directing_cut s file known old new m ok outcome d some (inr (inr (inr (inl (_, none, _, _, _))))) = absurd (omega (arith, some, none))
+directing_cut s file known old new m ok outcome d some (inr (inr (inr (inr (_, _, none, _))))) = absurd (omega (arith, some, none))
 
 -- what a checkpoint needs is there
 no_failure : (s : WavSpecEx) (file : Begun) (known : List Known) (old new : Recorder) (m : MediumState)
@@ -320,38 +320,38 @@ pub directing_failed : (s : WavSpecEx) (file : Begun) (known : List Known) (old 
     → GoesOn old new (Err error) → ⊥
 directing_failed s file known old new m error d low (some, rest, r, inl (failed, _)) =
     no_failure s file known old r m error d.in_step low failed
-directing_failed s file known old new m error d low (some, rest, r, inr (inl (inl high, same), refused, _)) =
+directing_failed s file known old new m error d low (some, rest, r, inr (inl (inl high, same), rejected, _)) =
     let few : old.task ≤ 3 = by (d.rest) in
     let (none, clean) = d.ready (omega (arith, high, few)) in
     let (place, there) = d.placed (omega (arith, high)) (omega (arith, few)) in
     one_place old old.samples place error (clean, none, there.2, there.3)
-    (subst (λ r. Places r old.samples (Err error)) same refused)
+    (subst (λ r. Places r old.samples (Err error)) same rejected)
   where
     by : (3 < old.task → (old.task ≡ 4) × (0 < old.has_rest)) → old.task ≤ 3
     by lost = grind (arith, common_steps)
-directing_failed s file known old new m error d low (some, rest, r, inr (inl (inr (two, clean, none), same), refused, _)) =
+directing_failed s file known old new m error d low (some, rest, r, inr (inl (inr (two, clean, none), same), rejected, _)) =
     let (place, there) = d.placed (omega (arith, two)) (omega (arith, two)) in
     one_place old old.samples place error (clean, none, there.2, there.3)
-    (subst (λ r. Places r old.samples (Err error)) same refused)
-directing_failed s file known old new m error d low (some, rest, r, inr (inr (two, next), refused, _)) =
+    (subst (λ r. Places r old.samples (Err error)) same rejected)
+directing_failed s file known old new m error d low (some, rest, r, inr (inr (two, next), rejected, _)) =
     let (place, there) = d.placed (omega (arith, two)) (omega (arith, two)) in
-    one_place r old.samples place error (rw next.4 there) refused
+    one_place r old.samples place error (rw next.4 there) rejected
 
 -- an effect was performed and its end reported
 effect_ended : (s : WavSpecEx) (file : Begun) (known : List Known) (old new r : Recorder)
     (m : MediumState) (end : Log) (effect : Effect) (result : Result (Unit {0}) IoFault)
-    (told : Result (Unit {0}) RecorderError) → Directed s file known old m → old.task < 3
+    (outcome : Result (Unit {0}) RecorderError) → Directed s file known old m → old.task < 3
     → NextEffect true old r (Ok (Some effect)) → Performs effect result m end.state
-    → EffectEnds (is_ok result) old r (Ok (Some effect)) new told
-    → Directed s file (known ++ cut_known told) new end.state
-effect_ended s file known old new r m end effect (Ok x) told d few next did (ok, is) =
+    → EffectEnds (is_ok result) old r (Ok (Some effect)) new outcome
+    → Directed s file (known ++ cut_known outcome) new end.state
+effect_ended s file known old new r m end effect (Ok x) outcome d few next did (ok, is) =
     let task : r.task ≡ old.task = ap (λ (x : Recorder). x.task) next.4 in
     rw (ok, append-nil known, is) (moved s file known known old r m end.state r.task r.has_rest d
     (step_effect s file known old r true m end effect (Ok x) d.in_step next did)
     (keeps_data true old r (Ok (Some effect)) next)
     (λ busy less. rw next.4 (d.placed (rw task at busy) (rw task at less)))
     (λ three. absurd (omega (arith, few, three, task))) (λ more. absurd (omega (arith, few, more, task))))
-effect_ended s file known old new r m end effect (Err e) told d few next did (last, error, failed, err, is) =
+effect_ended s file known old new r m end effect (Err e) outcome d few next did (last, error, failed, err, is) =
     let mid = step_effect s file known old r true m end effect (Err e) d.in_step next did in
     let low : r.condition ≤ 1 = rw next.4 next.0 in
     let (none, step) = step_cut s file known r last false end.state error mid low failed in
@@ -363,28 +363,28 @@ effect_ended s file known old new r m end effect (Err e) told d few next did (la
 
 pub directing_performed : (s : WavSpecEx) (file : Begun) (known : List Known) (old mid new : Recorder)
     (m : MediumState) (end : Log) (effect : Effect) (result : Result (Unit {0}) IoFault)
-    (told : Result (Unit {0}) RecorderError) → Directed s file known old m
+    (outcome : Result (Unit {0}) RecorderError) → Directed s file known old m
     → GoesOn old mid (Ok (Some (Perform effect))) → Performs effect result m end.state
-    → HasEnded (is_ok result) mid new told → Directed s file (known ++ cut_known told) new end.state
-directing_performed s file known old mid new m end effect result told d (some, few, rest, same, saves, r, next) did ended =
-    by (subst (λ x. HasEnded (is_ok result) x new told) same ended)
+    → HasEnded (is_ok result) mid new outcome → Directed s file (known ++ cut_known outcome) new end.state
+directing_performed s file known old mid new m end effect result outcome d (some, few, rest, same, saves, r, next) did ended =
+    by (subst (λ x. HasEnded (is_ok result) x new outcome) same ended)
   where
-    by : HasEnded (is_ok result) old new told → Directed s file (known ++ cut_known told) new end.state
+    by : HasEnded (is_ok result) old new outcome → Directed s file (known ++ cut_known outcome) new end.state
     by (inl (idle, is, _)) = absurd (omega (arith, idle, some))
     by (inr (inl (busy, cuts, _, is, _))) = absurd (omega (arith, cuts, rest))
     by (inr (inr (inl (four, cuts, is, _)))) = absurd (omega (arith, cuts, rest))
     by (inr (inr (inr (inl (three, none, _, _, _))))) = absurd (omega (arith, three, few))
     by (inr (inr (inr (inr (busy, other, none, (after, step, stepped, ends)))))) =
         let (is, one) = same_next old r after (Some effect) step next stepped in
-        effect_ended s file known old new r m end effect result told d few next did
-        (subst (λ (x : Recorder × Result (Option Effect) RecorderError). EffectEnds (is_ok result) old x.0 x.1 new told)
+        effect_ended s file known old new r m end effect result outcome d few next did
+        (subst (λ (x : Recorder × Result (Option Effect) RecorderError). EffectEnds (is_ok result) old x.0 x.1 new outcome)
         (λ i. (one i, is i)) ends)
 
 -- a report of a block that has a place is no error
-reported_ok : (samples place : ℕ) (ok : Bool) (old new : Recorder) (told : Result (Unit {0}) RecorderError)
-    → Places old samples (Ok place) → Reports samples ok old new told → told ≡ Ok tt
+reported_ok : (samples place : ℕ) (ok : Bool) (old new : Recorder) (outcome : Result (Unit {0}) RecorderError)
+    → Places old samples (Ok place) → Reports samples ok old new outcome → outcome ≡ Ok tt
 reported_ok samples place ok old new (Ok x) there reports = refl
-reported_ok samples place ok old new (Err error) there (refused, _) = absurd (one_place old samples place error there refused)
+reported_ok samples place ok old new (Err error) there (rejected, _) = absurd (one_place old samples place error there rejected)
 
 -- a block was written and its end reported
 block_ended : (s : WavSpecEx) (file : Begun) (known : List Known) (old new r : Recorder)
@@ -413,27 +413,27 @@ block_ended s file known old new r m end bytes false d step counts is =
 
 pub directing_wrote : (s : WavSpecEx) (file : Begun) (known : List Known) (old new : Recorder)
     (m : MediumState) (end : Log) (bytes : List ℕ) (result : Result (Unit {0}) IoFault)
-    (told : Result (Unit {0}) RecorderError) → Directed s file known old m → old.task ≡ 3 → old.has_rest ≡ 0
+    (outcome : Result (Unit {0}) RecorderError) → Directed s file known old m → old.task ≡ 3 → old.has_rest ≡ 0
     → length bytes ≡ old.samples * old.bytes_per_sample
     → PutsAt true (end_of old) bytes result m end.state
-    → HasEnded (is_ok result) old new told
+    → HasEnded (is_ok result) old new outcome
     → Directed s file (known ++ block_known bytes (is_ok result) s ∷ []) new end.state
-directing_wrote s file known old new m end bytes result told d three rest long puts (inl (idle, is, _)) =
+directing_wrote s file known old new m end bytes result outcome d three rest long puts (inl (idle, is, _)) =
     absurd (omega (arith, idle, three))
-directing_wrote s file known old new m end bytes result told d three rest long puts (inr (inl (busy, cuts, _, is, _))) =
+directing_wrote s file known old new m end bytes result outcome d three rest long puts (inr (inl (busy, cuts, _, is, _))) =
     absurd (omega (arith, cuts, rest))
-directing_wrote s file known old new m end bytes result told d three rest long puts (inr (inr (inl (four, cuts, is, _)))) =
+directing_wrote s file known old new m end bytes result outcome d three rest long puts (inr (inr (inl (four, cuts, is, _)))) =
     absurd (omega (arith, cuts, rest))
-directing_wrote s file known old new m end bytes result told d three rest long puts
+directing_wrote s file known old new m end bytes result outcome d three rest long puts
     (inr (inr (inr (inl (_, none, r, reports, is))))) =
     let (place, clean) = d.placed (omega (arith, three)) (omega (arith, three)) in
     let (idle, sound) = d.ready three in
     let there : Places old old.samples (Ok place) = (sound, idle, clean.2, clean.3) in
     let fine : Reports old.samples (is_ok result) old r (Ok tt) =
     subst (Reports old.samples (is_ok result) old r)
-    (reported_ok old.samples place (is_ok result) old r told there reports) reports in
+    (reported_ok old.samples place (is_ok result) old r outcome there reports) reports in
     block_ended s file known old new r m end bytes (is_ok result) d
     (step_block s file known old r m end old.samples place bytes result d.in_step there long
     (rw there.3 puts) fine) fine.1 is
-directing_wrote s file known old new m end bytes result told d three rest long puts
+directing_wrote s file known old new m end bytes result outcome d three rest long puts
     (inr (inr (inr (inr (busy, other, _, _))))) = absurd (other three)

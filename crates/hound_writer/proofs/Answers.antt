@@ -7,21 +7,21 @@ use Rattle.hound_spec.specs.declared.error.Error.{Error}
 use Rattle.hound_spec.specs.declared.error.Error.TheVariants.{IoError, UnfinishedSample}
 use Rattle.hound_spec.specs.{greatest_u32, riff_size}
 use Rattle.hound_medium.specs.{faults_after}
-use Rattle.hound_sample.specs.{Refusal}
-use Rattle.hound_writer.specs.Accepting.{AcceptAnswer, FitAnswer, IsIoError, IsPublishing, OnRefused, OnPublished, UnlessFailed, faults_told, mark_of}
+use Rattle.hound_sample.specs.{Rejection}
+use Rattle.hound_writer.specs.Accepting.{AcceptAnswer, FitAnswer, IsIoError, IsPublishing, OnRejected, OnPublished, UnlessFailed, faults_reported, mark_of}
 use Rattle.hound_writer.specs.Parts.{IsPublishResult}
 use Rattle.hound_writer.specs.Writer.{WriterState, data_length, sample_count}
 
-pub on_refused : {T P : Type 0} (answer : Result T Error) → P → OnRefused answer P
-on_refused (Ok x) here = tt
-on_refused (Err (IoError e)) here = tt
-on_refused (Err e) here = here
+pub on_rejected : {T P : Type 0} (answer : Result T Error) → P → OnRejected answer P
+on_rejected (Ok x) here = tt
+on_rejected (Err (IoError e)) here = tt
+on_rejected (Err e) here = here
 
-pub refused_then : {T P Q : Type 0} (answer : Result T Error) → (P → Q) → OnRefused answer P
-    → OnRefused answer Q
-refused_then (Ok x) f here = tt
-refused_then (Err (IoError e)) f here = tt
-refused_then (Err e) f here = f here
+pub rejected_then : {T P Q : Type 0} (answer : Result T Error) → (P → Q) → OnRejected answer P
+    → OnRejected answer Q
+rejected_then (Ok x) f here = tt
+rejected_then (Err (IoError e)) f here = tt
+rejected_then (Err e) f here = f here
 
 pub unless_failed : {T P : Type 0} (answer : Result T Error) → P → UnlessFailed answer P
 unless_failed (Ok x) here = here
@@ -42,34 +42,34 @@ on_published_then (Err e) then here = tt
 
 -- what holds after an Ok patch holds if its caller returns that all was published
 pub published : (P : Type 0) (patched : Result (Unit {0}) IoFault) (are_frames : Bool)
-    (told : Result (Unit {0}) Error) → IsPublishResult patched are_frames told → OnOk patched P
-    → OnPublished told P
-published P (Err e) are_frames told is here = rw is tt
-published P (Ok x) true told is here = rw is here
-published P (Ok x) false told is here = rw is here
+    (outcome : Result (Unit {0}) Error) → IsPublishResult patched are_frames outcome → OnOk patched P
+    → OnPublished outcome P
+published P (Err e) are_frames outcome is here = rw is tt
+published P (Ok x) true outcome is here = rw is here
+published P (Ok x) false outcome is here = rw is here
 
 -- an Ok is returned only for whole frames
-pub told_ok : (P : Type 0) (patched : Result (Unit {0}) IoFault) (are_frames : Bool)
-    (told : Result (Unit {0}) Error) → IsPublishResult patched are_frames told
-    → (are_frames ≡ true → OnOk patched P) → OnOk told P
-told_ok P (Err e) are_frames told is here = rw is tt
-told_ok P (Ok x) true told is here = rw is (here refl)
-told_ok P (Ok x) false told is here = rw is tt
+pub reported_ok : (P : Type 0) (patched : Result (Unit {0}) IoFault) (are_frames : Bool)
+    (outcome : Result (Unit {0}) Error) → IsPublishResult patched are_frames outcome
+    → (are_frames ≡ true → OnOk patched P) → OnOk outcome P
+reported_ok P (Err e) are_frames outcome is here = rw is tt
+reported_ok P (Ok x) true outcome is here = rw is (here refl)
+reported_ok P (Ok x) false outcome is here = rw is tt
 
 -- the faults that a result reports are those of the patch
-pub told_faults : (patched : Result (Unit {0}) IoFault) (are_frames : Bool)
-    (told : Result (Unit {0}) Error) (old new : ℕ) → IsPublishResult patched are_frames told
-    → new ≡ faults_after patched old → new ≡ faults_told told old
-told_faults (Err e) are_frames told old new is here = rw is here
-told_faults (Ok x) true told old new is here = rw is here
-told_faults (Ok x) false told old new is here = rw is here
+pub reported_faults : (patched : Result (Unit {0}) IoFault) (are_frames : Bool)
+    (outcome : Result (Unit {0}) Error) (old new : ℕ) → IsPublishResult patched are_frames outcome
+    → new ≡ faults_after patched old → new ≡ faults_reported outcome old
+reported_faults (Err e) are_frames outcome old new is here = rw is here
+reported_faults (Ok x) true outcome old new is here = rw is here
+reported_faults (Ok x) false outcome old new is here = rw is here
 
 -- writers of as many bytes after the same head return the same for the same containers
-pub accept_as : {V W : Type 0} (asked : Result (List (List ℕ)) Refusal)
+pub accept_as : {V W : Type 0} (asked : Result (List (List ℕ)) Rejection)
     (answer : Result (Unit {0}) Error) (w : WriterState W) (v : WriterState V)
     → w.data_start ≡ v.data_start → data_length w ≡ data_length v
     → AcceptAnswer asked w answer → AcceptAnswer asked v answer
-accept_as (Err refusal) answer w v start size is = is
+accept_as (Err rejection) answer w v start size is = is
 accept_as (Ok list) answer w v start size is =
     subst (λ n. FitAnswer (nat_le n greatest_u32) answer)
     (λ i. riff_size (start i) (size i + length (concat list))) is
@@ -97,19 +97,19 @@ where_marked (Err UnfinishedSample) marked here = here
 where_marked (Err e) marked here = absurd (false≢true marked)
 
 -- an error of a call that met no fault is no `IoError`
-pub no_io : (e : Error) (f : ℕ) → f < 18446744073709551615 → faults_told {T = Unit {0}} (Err e) f ≡ f
+pub no_io : (e : Error) (f : ℕ) → f < 18446744073709551615 → faults_reported {T = Unit {0}} (Err e) f ≡ f
     → IsIoError e → ⊥
 no_io (IoError e) f small same io = absurd (omega (arith, small, same))
 no_io e f small same io = io
 
 -- what holds of an error that is no fault of the medium
-pub refused_of : {P : Type 0} (e : Error) → (IsIoError e → ⊥) → OnRefused {T = Unit {0}} (Err e) P → P
-refused_of (IoError e) none here = absurd (none tt)
-refused_of e none here = here
+pub rejected_of : {P : Type 0} (e : Error) → (IsIoError e → ⊥) → OnRejected {T = Unit {0}} (Err e) P → P
+rejected_of (IoError e) none here = absurd (none tt)
+rejected_of e none here = here
 
 -- a call that publishes and meets no fault has published all
 pub all_marked : {M : Type 0} (answer : Result (Unit {0}) Error) (w : WriterState M) (f : ℕ)
-    → f < 18446744073709551615 → faults_told answer f ≡ f → IsPublishing answer w
+    → f < 18446744073709551615 → faults_reported answer f ≡ f → IsPublishing answer w
     → mark_of answer ≡ true
 all_marked (Ok x) w f small same is = refl
 all_marked (Err (IoError e)) w f small same is = absurd (omega (arith, small, same))

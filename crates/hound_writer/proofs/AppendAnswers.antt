@@ -4,7 +4,7 @@ use Rattle.hound_spec.specs.declared.spec.WavSpecEx.{WavSpecEx}
 use Rattle.hound_spec.specs.{greatest_u32, riff_size, IsWritable}
 use Rattle.hound_walk.specs.{Answer, readable, unreadable, Answers, HasOneAnswer, Head, data_fault}
 use Rattle.std.proofs.lemmas.Bool.{not-false}
-use Rattle.hound_writer.proofs.Appending.{none_behind}
+use Rattle.hound_writer.proofs.Appending.{none_beyond}
 use Rattle.hound_writer.specs.Appending.{AppendFault, by_bytes, head_fault, AppendAnswer, appendable, faulty, AnswersAppend, HasOneAppendAnswer}
 
 abbrev fault_of : Answer → Option AppendFault
@@ -27,15 +27,15 @@ of_head bytes s len h head (Some fault) is = inr (s, len, h, head, is)
 
 of_answer : (bytes : List ℕ) (a : Answer) → Answers bytes a → AnswersAppend bytes (append_of a)
 of_answer bytes (readable s len h) head = of_head bytes s len h head (head_fault s len h) refl
-of_answer bytes (unreadable cause) refused = inl (cause, refl, refused)
+of_answer bytes (unreadable cause) rejected = inl (cause, refl, rejected)
 
 -- each answer for appending is that of an answer for reading
 to_answer : (bytes : List ℕ) (b : AppendAnswer) → AnswersAppend bytes b → (a : Answer)
     × Answers bytes a × (b ≡ append_of a)
 to_answer bytes (appendable s len h) (head, is) =
     (readable s len h, head, sym (ap (with_fault (readable s len h)) is))
-to_answer bytes (faulty fault) (inl (cause, is, refused)) =
-    (unreadable cause, refused, ap faulty is)
+to_answer bytes (faulty fault) (inl (cause, is, rejected)) =
+    (unreadable cause, rejected, ap faulty is)
 to_answer bytes (faulty fault) (inr (s, len, h, head, is)) =
     (readable s len h, head, sym (ap (with_fault (readable s len h)) is))
 
@@ -51,8 +51,8 @@ pub no_head_fault : (s : WavSpecEx) (len h : ℕ) → IsWritable s → data_faul
     → riff_size h len ≤ greatest_u32 → head_fault s len h ≡ None
 unfolding head_fault
 no_head_fault s len h writable none fits =
-    let samples = none_behind (not (eqb (len % s.bytes_per_sample) 0)) _ _ none in
-    let frames = none_behind (not (eqb (len / s.bytes_per_sample % s.spec.channels) 0)) _ _
+    let samples = none_beyond (not (eqb (len % s.bytes_per_sample) 0)) _ _ none in
+    let frames = none_beyond (not (eqb (len / s.bytes_per_sample % s.spec.channels) 0)) _ _
     samples.1 in
     let a = not-false _ samples.0 in
     let b = writable.pair in

@@ -7,8 +7,8 @@ use Rattle.hound_medium.specs.{MediumState, Goes, WhereTells, one_more}
 use Rattle.hound_walk.specs.declared.chunks.FileHead.{FileHead}
 use Rattle.hound_walk.specs.declared.cause.Cause.{Cause}
 use Rattle.hound_walk.specs.declared.cause.HeadError.{HeadError}
-use Rattle.hound_walk.specs.declared.cause.HeadError.TheVariants.{Failed, Refused}
-use Rattle.hound_walk.specs.{IsSoundSpec as IsSoundHead, Head, Refused as RefusedFor, ReportsError, FindsData}
+use Rattle.hound_walk.specs.declared.cause.HeadError.TheVariants.{Failed, Rejected}
+use Rattle.hound_walk.specs.{IsSoundSpec as IsSoundHead, Head, Rejected as RejectedFor, ReportsError, FindsData}
 use Rattle.std.specs.declared.io.Error.{Error as IoFault}
 use Rattle.hound_writer.specs.Accepting.{IsIoError}
 use Rattle.hound_writer.specs.Parts.{of_fields, CountsAtMost}
@@ -18,10 +18,10 @@ use Rattle.hound_writer.proofs.Heads.{head_field}
 use Rattle.hound_writer.proofs.Samples.{counts_at, whole_written}
 
 -- if a row of a table isn't met, the rows after it decide
-pub none_behind : {A : Type 0} (b : Bool) (x : A) (rest : Option A) → cond b (Some x) rest ≡ None
+pub none_beyond : {A : Type 0} (b : Bool) (x : A) (rest : Option A) → cond b (Some x) rest ≡ None
     → (b ≡ false) × (rest ≡ None)
-none_behind true x rest e = cc
-none_behind false x rest e = (refl, e)
+none_beyond true x rest e = cc
+none_beyond false x rest e = (refl, e)
 
 -- a head with no fault
 pub sound_head : {W : Type 0} (medium : W) (s : WavSpecEx) (len h : ℕ) → IsSoundHead s → 20 ≤ h
@@ -72,11 +72,11 @@ appends_after : {W : Type 0} (kind : Ghosts W) (head : FileHead)
     → Appends kind mid w → Appends kind old w
 appends_after kind head old mid w finds on = grind (arith, common_steps)
 
-refused_after : (head : FileHead) (old mid new : MediumState) (e : Error)
+rejected_after : (head : FileHead) (old mid new : MediumState) (e : Error)
     → FindsData (Ok head) old mid → IsNotAppended mid new e → IsNotAppended old new e
-refused_after head old mid new e finds refused = record {
+rejected_after head old mid new e finds rejected = record {
   puts = search rules;
-  why = elim refused.why [
+  why = elim rejected.why [
     | inl (fault, is, names, faults) ↦
         inl (
           fault,
@@ -93,34 +93,34 @@ pub answer_after : {W : Type 0} (kind : Ghosts W) (head : FileHead)
     (old mid : MediumState) (answer : Result (WriterState W) (W × Error))
     → WhereTells kind.tells (FindsData (Ok head) old mid)
     → MatchResult answer (Appends kind mid)
-    (λ refused. WhereTells kind.tells (IsNotAppended mid (kind.state refused.0) refused.1))
+    (λ rejected. WhereTells kind.tells (IsNotAppended mid (kind.state rejected.0) rejected.1))
     → MatchResult answer (Appends kind old)
-    (λ refused. WhereTells kind.tells (IsNotAppended old (kind.state refused.0) refused.1))
+    (λ rejected. WhereTells kind.tells (IsNotAppended old (kind.state rejected.0) rejected.1))
 answer_after kind head old mid (Ok w) finds on = appends_after kind head old mid w finds on
-answer_after kind head old mid (Err refused) finds on =
-    λ told. refused_after head old mid (kind.state refused.0) refused.1 (finds told) (on told)
+answer_after kind head old mid (Err rejected) finds on =
+    λ modelled. rejected_after head old mid (kind.state rejected.0) rejected.1 (finds modelled) (on modelled)
 
 -- A walk that found no head: a fault of the bytes, as each cause of a walk is one, or of the medium.
 pub no_head : (IsFault : AppendFault → Type 0) (error : HeadError) (e : Error) (old new : MediumState)
-    → ((cause : Cause) → RefusedFor old.contents cause → IsFault (by_bytes cause)) → old.place ≡ 0
+    → ((cause : Cause) → RejectedFor old.contents cause → IsFault (by_bytes cause)) → old.place ≡ 0
     → ReportsError error e → FindsData (Err error) old new
     → ((fault : AppendFault) × IsFault fault × NamesFault e fault × (new.faults ≡ old.faults))
     ⊎ (IsIoError e × (new.faults ≡ one_more old.faults))
-no_head IsFault (Failed x) e old new by_cause begins told finds =
-    inr (subst IsIoError (sym told) tt, finds.faults)
-no_head IsFault (Refused cause) e old new by_cause begins told finds =
+no_head IsFault (Failed x) e old new by_cause begins modelled finds =
+    inr (subst IsIoError (sym modelled) tt, finds.faults)
+no_head IsFault (Rejected cause) e old new by_cause begins modelled finds =
     inl (
       by_bytes cause,
-      by_cause cause (subst (λ n. RefusedFor (drop n old.contents) cause) begins finds.answer),
-      told,
+      by_cause cause (subst (λ n. RejectedFor (drop n old.contents) cause) begins finds.answer),
+      modelled,
       finds.faults,
     )
 
 -- so there is nothing to append to
 pub walk_fails : (error : HeadError) (e : Error) (old new : MediumState) → old.place ≡ 0
     → ReportsError error e → FindsData (Err error) old new → IsNotAppended old new e
-walk_fails error e old new begins told finds = record {
+walk_fails error e old new begins modelled finds = record {
   puts = search rules;
   why = no_head (IsAppendFault old.contents) error e old new (λ cause is. inl (cause, refl, is))
-      begins told finds;
+      begins modelled finds;
 }

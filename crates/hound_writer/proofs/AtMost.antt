@@ -8,7 +8,7 @@ use Rattle.hound_medium.proofs.Overlays.{front_part}
 use Rattle.hound_spec.specs.declared.spec.WavSpecEx.{WavSpecEx}
 use Rattle.hound_writer.specs.Parts.{CountsAtMost}
 use Rattle.hound_writer.specs.Writer.{SameButSizes, field}
-use Rattle.hound_writer.proofs.Heads.{head_with, head_front, head_behind, head_inside}
+use Rattle.hound_writer.proofs.Heads.{head_with, head_front, head_beyond, head_inside}
 
 module _ (s : WavSpecEx) (start n : ℕ) (old new : List ℕ) (at_most : CountsAtMost s start n old) where
   pub inside : start ≤ length old
@@ -24,7 +24,7 @@ module _ (s : WavSpecEx) (start n : ℕ) (old new : List ℕ) (at_most : CountsA
           at_most.counted,
           ap number
               (front_part start (start - 4) 4 new old
-              (omega (arith, head_behind old s (field (start - 4) old) start at_most.head)) same),
+              (omega (arith, head_beyond old s (field (start - 4) old) start at_most.head)) same),
         );
   }
 

@@ -3,7 +3,7 @@ use Rattle.std.proofs.Common.{◌≡◌, ℕ, ℤ, pos, negsuc, ◌*◌, ◌^◌
 use Rattle.std.proofs.lemmas.List.{append-nil}
 use Rattle.hound_number.specs.{signed_bytes_of}
 use Rattle.hound_spec.specs.declared.error.Error.{Error}
-use Rattle.hound_sample.specs.{Refusal, int_bytes, int_container, too_wide, all_containers, bytes_in, joined_containers, contained, int_container-in_width}
+use Rattle.hound_sample.specs.{Rejection, int_bytes, int_container, too_wide, all_containers, bytes_in, joined_containers, contained, int_container-in_width}
 use Rattle.hound_writer.specs.Accepting.{AcceptsBytes, Accepts, AreI16, containers_in, sample_bytes, i16_bytes}
 use Rattle.hound_writer.specs.Parts.{memory_bytes}
 use Rattle.hound_writer.specs.Writer.{Ghosts, WriterState}
@@ -34,9 +34,9 @@ pub i16s_more : (values : List ℤ) (v : ℤ) → AreI16 values → FitsSigned w
 i16s_more values v fits fit =
     ok_append (λ v. int_container v 16 2) values v ∙ (λ i. fits i && i16_ok v fit i)
 
-bytes_of_i16 : (v : ℤ) (asked : Result (List ℕ) Refusal) → int_container v 16 2 ≡ asked
+bytes_of_i16 : (v : ℤ) (asked : Result (List ℕ) Rejection) → int_container v 16 2 ≡ asked
     → IsOk asked → bytes_in asked ≡ signed_bytes_of 2 v
-bytes_of_i16 v (Err refusal) is have = cc
+bytes_of_i16 v (Err rejection) is have = cc
 bytes_of_i16 v (Ok c) is have =
     let (_, _, same) = contained v 16 2 c is in same ∙ append-nil (signed_bytes_of 2 v)
 
@@ -45,7 +45,7 @@ pub joined_i16s : (values : List ℤ) → AreI16 values
     → joined_containers (λ v. int_container v 16 2) values ≡ i16_bytes values
 joined_i16s [] fits = refl
 joined_i16s (v ∷ values) fits =
-    let container : ℤ → Result (List ℕ) Refusal = λ v. int_container v 16 2 in
+    let container : ℤ → Result (List ℕ) Rejection = λ v. int_container v 16 2 in
     λ i. bytes_of_i16 v (container v) refl
     (head_ok (container v) (all_containers container values) fits) i
     ++ joined_i16s values (tail_ok (container v) (all_containers container values) fits) i

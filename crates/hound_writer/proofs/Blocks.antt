@@ -59,14 +59,14 @@ module _ {W : Type 0} (kind : Ghosts W) (w : WriterState W)
             let size = ap length (joined_bytes width bytes whole_bytes) in
             let longer = more in
             search rules;
-        file = λ told.
+        file = λ modelled.
             let more = λ (whole : IsWhole kind.state w).
             samples_append kind.state w w.medium w.bytes_written (w.buffered ++ bytes) bytes sound whole more
             (sym (append_assoc (take w.bytes_written (drop w.data_start old.contents)) w.buffered bytes)) in
             let counts = counts_at kind.state longer sound_longer known.whole_written old.contents in
             search rules;
-        moments = λ told kept. adds_nothing kind.state w
-            ((valid_of kind moved limit w known).counts told) (replays told kept);
+        moments = λ modelled kept. adds_nothing kind.state w
+            ((valid_of kind moved limit w known).counts modelled) (replays modelled kept);
       }
 
 -- the buffered samples are written after the bytes in the medium
@@ -126,27 +126,27 @@ module _ {W : Type 0} (kind : Ghosts W) (w : WriterState W)
     where
       stored_out : IsTrue kind.tells → IsTrue kind.keeps → IsWhole kind.state w
           → StaysStored w.data_start (concat (accepted_samples kind.state w)) (kind.state w.medium) (kind.state m)
-      stored_out told kept whole =
+      stored_out modelled kept whole =
           let held = drop w.data_start old.contents in
           let size : w.data_start + length (take w.bytes_written held) ≡ end =
           ap (λ n. w.data_start + n)
           (length-take-le w.bytes_written held
           (omega (arith, whole, length-drop w.data_start old.contents))) in
           rw (joined_samples kind.state w known.sound whole)
-          (puts_stored w.data_start end (take w.bytes_written held) w.buffered (puts told).count old (kind.state m)
-          size ((puts told).past kept))
+          (puts_stored w.data_start end (take w.bytes_written held) w.buffered (puts modelled).count old (kind.state m)
+          size ((puts modelled).past kept))
 
       moments_out : WhereKeeps kind.tells kind.keeps (GoesAtEach kind.state w (kind.state m))
-      moments_out told kept =
-          goes_at_each kind w at_most m w.buffered (all_out all) told (puts told) kept
-          (replays told kept)
-          (moments (stored_out told kept)
+      moments_out modelled kept =
+          goes_at_each kind w at_most m w.buffered (all_out all) modelled (puts modelled) kept
+          (replays modelled kept)
+          (moments (stored_out modelled kept)
           (at_each kind shorter refl sound_shorter at_most m w.buffered
-          (all_out all) told (puts told) kept (replays told kept)))
+          (all_out all) modelled (puts modelled) kept (replays modelled kept)))
 
       stays_around : IsTrue kind.tells → StaysAround kind.state (data_end w) w (kind.state m)
-      stays_around told =
-          around kind w at_most m w.buffered (all_out all) told (puts told) (data_end w)
+      stays_around modelled =
+          around kind w at_most m w.buffered (all_out all) modelled (puts modelled) (data_end w)
           (omega arith)
 
   pub goes_out : (all : Bool)
@@ -156,10 +156,10 @@ module _ {W : Type 0} (kind : Ghosts W) (w : WriterState W)
   goes_out true puts = record {
     value = refl;
     sound = known.sound;
-    file = λ told.
+    file = λ modelled.
         let f = (accepts_all kind shorter refl sound_shorter at_most m w.buffered
-        (omega (arith, known.sound.fits)) known.whole_buffered puts replays).file told in
-        let around = stays_around true puts told in
+        (omega (arith, known.sound.fits)) known.whole_buffered puts replays).file modelled in
+        let around = stays_around true puts modelled in
         let first = samples_first in
         search rules;
     moments = moments_out true puts;
@@ -167,9 +167,9 @@ module _ {W : Type 0} (kind : Ghosts W) (w : WriterState W)
   goes_out false puts = record {
     value = refl;
     sound = known.sound;
-    file = λ told.
-        goes_beside kind.state (data_end w) false w m known.sound known.whole_written (puts told).faults
-        (stays_around false puts told);
+    file = λ modelled.
+        goes_beside kind.state (data_end w) false w m known.sound known.whole_written (puts modelled).faults
+        (stays_around false puts modelled);
     moments = moments_out false puts;
   }
 
@@ -184,16 +184,16 @@ module _ {W : Type 0} (kind : Ghosts W) (w : WriterState W)
   consistent_out next room puts =
       let sound = sound_out in
       let none = none_whole wide in
-      let at_most = λ (told : IsTrue kind.tells).
+      let at_most = λ (modelled : IsTrue kind.tells).
       at_most_more w.spec_ex w.data_start w.bytes_written (data_length w) (kind.state m).contents (omega arith)
-      (stays_around true puts told).at_most in
+      (stays_around true puts modelled).at_most in
       search rules
 
   pub consistent_cut : WhereTells kind.tells
       (PutsAt kind.keeps (w.data_start + w.bytes_written) w.buffered (all_out false) (kind.state w.medium) (kind.state m))
       → IsConsistent kind (record w { medium = m }) true limit
   consistent_cut puts =
-      consistent_moved kind w m moved limit known (λ told. (stays_around false puts told).at_most)
+      consistent_moved kind w m moved limit known (λ modelled. (stays_around false puts modelled).at_most)
 
 -- if nothing is buffered nothing is written
 pub goes_out_nothing : {W : Type 0} (kind : Ghosts W) (far : ℕ)
@@ -211,11 +211,11 @@ goes_out_nothing kind far w moved limit known replays none =
           search rules;
       sound = known.sound;
       file = search rules;
-      moments = λ told kept. record {
-        adds = adds_nothing kind.state w (counts told) (replays told kept);
+      moments = λ modelled kept. record {
+        adds = adds_nothing kind.state w (counts modelled) (replays modelled kept);
         front = span_still (λ _ c. take w.data_start c ≡ take w.data_start old.contents) 0 old old
-            (replays told kept) refl refl (inl refl) refl;
-        behind = search rules;
+            (replays modelled kept) refl refl (inl refl) refl;
+        beyond = search rules;
       };
     }
 
@@ -239,7 +239,7 @@ module _ {W : Type 0} (kind : Ghosts W) (w : WriterState W)
   kept_at_once next limit_next room whole puts =
       let sound = sound_more kind w none known.sound known.at_most m bytes room whole in
       let both = whole_more w.bytes_written (length bytes) w.spec_ex.bytes_per_sample known.whole_written whole in
-      let at_most = λ (told : IsTrue kind.tells).
+      let at_most = λ (modelled : IsTrue kind.tells).
       at_most_more w.spec_ex w.data_start w.bytes_written (w.bytes_written + length bytes) (kind.state m).contents (omega arith)
-      (still kind w known.at_most m bytes (all_out true) told (puts told)) in
+      (still kind w known.at_most m bytes (all_out true) modelled (puts modelled)) in
       search rules

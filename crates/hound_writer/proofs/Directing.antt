@@ -34,7 +34,7 @@ use Rattle.hound_writer.proofs.Appending.{follows, sound_head, at_most_on}
 use Rattle.hound_writer.proofs.Beginning.{header_file, sound_begin, at_most_begin}
 use Rattle.hound_writer.proofs.Checkpoint.{as_out, bad, fine, good_over, publishes_effects}
 use Rattle.hound_writer.proofs.Containers.{count_bytes}
-use Rattle.hound_writer.proofs.Heads.{head_behind}
+use Rattle.hound_writer.proofs.Heads.{head_beyond}
 use Rattle.hound_writer.proofs.Ordering.{all_ordered, effects_ordered, header_in_order, in_order_none, puts_in_order, taken_ordered}
 use Rattle.hound_writer.proofs.Recording.{recorded_first, recorded_more, recorded_spec}
 use Rattle.hound_writer.proofs.Samples.{samples_out}
@@ -48,16 +48,16 @@ pub record IsCall (asked : Asked) (ok : Bool) (old new : WriterState Log) : Type
   pub idle : IsIdle new
 
 -- the result of the call, by that of the effects and whether there are whole frames
-abbrev told_of : Result (Unit {0}) IoFault → Bool → Result (Unit {0}) Error
-told_of (Err e) frames = Err (IoError e)
-told_of (Ok x) true = Ok x
-told_of (Ok x) false = Err UnfinishedSample
+abbrev reported_of : Result (Unit {0}) IoFault → Bool → Result (Unit {0}) Error
+reported_of (Err e) frames = Err (IoError e)
+reported_of (Ok x) true = Ok x
+reported_of (Ok x) false = Err UnfinishedSample
 
-is_told : (r : Result (Unit {0}) IoFault) (frames : Bool)
-    → IsPublishResult r frames (told_of r frames) × (mark_of (told_of r frames) ≡ is_ok r)
-is_told (Err e) frames = (refl, refl)
-is_told (Ok x) true = (refl, refl)
-is_told (Ok x) false = (refl, refl)
+is_reported : (r : Result (Unit {0}) IoFault) (frames : Bool)
+    → IsPublishResult r frames (reported_of r frames) × (mark_of (reported_of r frames) ≡ is_ok r)
+is_reported (Err e) frames = (refl, refl)
+is_reported (Ok x) true = (refl, refl)
+is_reported (Ok x) false = (refl, refl)
 
 is_zero : (n : ℕ) → (b : Bool) × (IsTrue b → n ≡ 0) × (n ≡ 0 → IsTrue b)
 is_zero zero = (true, (λ _. refl), (λ _. refl))
@@ -70,13 +70,13 @@ pub save_call : (clean : Bool) (r : Result (Unit {0}) IoFault) (w : WriterState 
     → IsCall publish (is_ok r) w (record w { medium = m })
 save_call clean r w m idle did =
     let (frames, so, back) = is_zero (sample_count w % w.spec_ex.spec.channels) in
-    let told = is_told r frames in
+    let modelled = is_reported r frames in
     let (does, at_most) =
-    publishes_effects r frames (told_of r frames) told.0 m clean w idle (so, back) did in
+    publishes_effects r frames (reported_of r frames) modelled.0 m clean w idle (so, back) did in
     record {
-      answer = told_of r frames;
+      answer = reported_of r frames;
       does = does;
-      mark = told.1;
+      mark = modelled.1;
       idle = good_over w m idle at_most;
     }
 
@@ -197,10 +197,10 @@ step_resumed f samples old log is enough (channels, pair, frames, (far, wide, fi
     (readable_length s samples start old.contents is.readable ∙ sym counted) is.readable.head in
     let check : head_fault s len start ≡ None = rw counted (no_fault s samples start is.sound.1
     (readable_frames s samples start old.contents is.readable) pair (rw counted at fits)) in
-    let after = head_behind old.contents s len start head in
+    let after = head_beyond old.contents s len start head in
     let sound : IsSound w = sound_head log s len start is.sound after check in
     let stays = is.goes.stays.contents in
-    let file = λ (told : IsTrue true).
+    let file = λ (modelled : IsTrue true).
     follows log_kind.state log s len start old is.sound after head check is.goes in
     let count : len / s.bytes_per_sample ≡ samples = rw counted (mul-div_cancel samples is.sound.1) in
     let found : accepted_samples log_kind.state w ≡ containers s.bytes_per_sample samples (drop start old.contents) =

@@ -26,7 +26,7 @@ pub begun_front : {M : Type 0} (state : M → MediumState) (old new : WriterStat
     → IsBegun state old → IsBegun state new
 begun_front state old new spec start front (has, at) = grind (arith, common_steps, header_front)
 
-module _ {W : Type 0} (kind : Ghosts W) (told : IsTrue kind.tells)
+module _ {W : Type 0} (kind : Ghosts W) (modelled : IsTrue kind.tells)
     (s : WavSpecEx) (old : MediumState) (first : WriterState W)
     (begins : Begins kind s old first) where
   -- a new file, one call for samples, and an end
@@ -35,9 +35,9 @@ module _ {W : Type 0} (kind : Ghosts W) (told : IsTrue kind.tells)
       → Finishes kind last (Ok tt) end → (kind.state end).contents ≡ canonical s list
   fresh_file last end list empty accepts finishes =
       let b = begins.begun in
-      let f = begins.file told in
-      let a = accepts.file told in
-      let p = finishes.publishes told in
+      let f = begins.file modelled in
+      let a = accepts.file modelled in
+      let p = finishes.publishes modelled in
       let whole = a.whole f.whole in
       let samples : accepted_samples kind.state last ≡ list =
       a.accepted f.whole ∙ ap (λ l. l ++ list) (none_accepted kind.state first b.sound b.none_buffered b.none_out) in

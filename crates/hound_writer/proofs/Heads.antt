@@ -14,7 +14,7 @@ use Rattle.hound_writer.proofs.Sizes.{take_front}
 pub in_parts : (p : ℕ) (c : List ℕ) → 8 ≤ p
     → c ≡ take 4 c ++
     (take 4 (drop 4 c) ++ (drop 8 (take p c) ++ (take 4 (drop p c) ++ drop (p + 4) c)))
-in_parts p c behind =
+in_parts p c beyond =
     let at_p : drop (p - 8) (drop 8 c) ≡ drop p c =
     drop-drop (p - 8) 8 c ∙ ap (λ n. drop n c) (let e : 8 + (p - 8) ≡ p = omega arith in e) in
     cc (
@@ -37,8 +37,8 @@ module _ (old : List ℕ) (s : WavSpecEx) (len h : ℕ) (head : Head old s len h
   long = grind (arith, common_steps)
 
   -- the data begin after the first twelve bytes and a chunk's header
-  pub head_behind : 20 ≤ h
-  head_behind = omega (arith, head.place)
+  pub head_beyond : 20 ≤ h
+  head_beyond = omega (arith, head.place)
 
   pub head_inside : h ≤ length old
   head_inside = grind (arith, common_steps)

@@ -8,12 +8,12 @@ use Rattle.hound_medium.specs.{MediumState}
 use Rattle.hound_medium.proofs.Spans.{join, span_weaker}
 use Rattle.hound_spec.specs.declared.error.Error.{Error}
 use Rattle.hound_spec.specs.declared.error.Error.TheVariants.{IoError}
-use Rattle.hound_sample.specs.{Refusal}
+use Rattle.hound_sample.specs.{Rejection}
 use Rattle.hound_sample.proofs.Many.{drop_further}
-use Rattle.hound_writer.specs.Accepting.{AcceptsBytes, Accepts, AddsAtEach, IsIoError, faults_told}
+use Rattle.hound_writer.specs.Accepting.{AcceptsBytes, Accepts, AddsAtEach, IsIoError, faults_reported}
 use Rattle.hound_writer.specs.Parts.{GoesOut, after_out, or_fault}
 use Rattle.hound_writer.specs.Writer.{Ghosts, Counts, WriterState, HasRoom, IsWhole, accepted_samples, data_length, data_end}
-use Rattle.hound_writer.proofs.Accepting.{not_refused, room_fits}
+use Rattle.hound_writer.proofs.Accepting.{not_rejected, room_fits}
 use Rattle.hound_writer.proofs.Answers.{accept_as, unless_then}
 use Rattle.hound_writer.proofs.Sizes.{take_front}
 use Rattle.hound_writer.proofs.Storing.{stored_join}
@@ -43,16 +43,16 @@ module _ {W : Type 0} (kind : Ghosts W) (far : ℕ) (a : WriterState W)
   reach_out = a.data_start + a.bytes_written
 
   -- what was up to the end of the bytes in the medium at first
-  front_later : (told : IsTrue kind.tells) → IsWhole kind.state a → (c : List ℕ)
+  front_later : (modelled : IsTrue kind.tells) → IsWhole kind.state a → (c : List ℕ)
       → take (a.data_start + data_length a) c ≡ take (a.data_start + data_length a) then
       → take reach_out c ≡ take reach_out first
-  front_later told whole c same = grind (arith, common_steps, take_front)
+  front_later modelled whole c same = grind (arith, common_steps, take_front)
 
-  at_each_later : (told : IsTrue kind.tells) → IsTrue kind.keeps → (new : MediumState)
+  at_each_later : (modelled : IsTrue kind.tells) → IsTrue kind.keeps → (new : MediumState)
       → AddsAtEach kind.state b new → AddsAtEach kind.state a new
-  at_each_later told kept new at_each =
-      let before = (out.moments told kept).adds in
-      let f = out.file told in
+  at_each_later modelled kept new at_each =
+      let before = (out.moments modelled kept).adds in
+      let f = out.file modelled in
       record {
         counts = λ whole. join (λ _. Counts a.spec_ex a.data_start (accepted_samples kind.state a)) 0
             (kind.state a.medium) (kind.state m) new (before.counts whole)
@@ -63,7 +63,7 @@ module _ {W : Type 0} (kind : Ghosts W) (far : ℕ) (a : WriterState W)
             (λ _ c. take (a.data_start + data_length a) c ≡ take
             (a.data_start + data_length a) then)
             (λ _ c. take reach_out c ≡ take reach_out first) 0 (kind.state m) new
-            (λ j c same. front_later told whole c same) (at_each.front (f.whole whole)));
+            (λ j c same. front_later modelled whole c same) (at_each.front (f.whole whole)));
         stored =
             λ whole.
             let out_span = before.front whole in
@@ -75,7 +75,7 @@ module _ {W : Type 0} (kind : Ghosts W) (far : ℕ) (a : WriterState W)
       }
 
   accepts_after : far ≤ data_end a
-      → (asked : Result (List (List ℕ)) Refusal) (answer : Result (Unit {0}) Error)
+      → (asked : Result (List (List ℕ)) Rejection) (answer : Result (Unit {0}) Error)
       (c : WriterState W) → IfErr answer IsIoError
       → Accepts kind asked answer b c
       → Accepts kind asked answer a c
@@ -86,22 +86,22 @@ module _ {W : Type 0} (kind : Ghosts W) (far : ℕ) (a : WriterState W)
       record {
         adds =
             let answers = accept_as asked answer b a refl length_same adds.answers in
-            let refused = not_refused (c ≡ a) answer failed in
+            let rejected = not_rejected (c ≡ a) answer failed in
             let same = length_same in
             search rules;
-        file = λ told.
-            let f = out.file told in
-            let g = accepts.file told in
-            let faults = ap (faults_told answer) f.faults in
+        file = λ modelled.
+            let f = out.file modelled in
+            let g = accepts.file modelled in
+            let faults = ap (faults_reported answer) f.faults in
             let rest = drop_later far (data_end c) then first (omega (arith, near, end))
             f.around.rest in
             search (rules, unless_then);
-        moments = λ told kept. at_each_later told kept (kind.state c.medium) (accepts.moments told kept);
+        moments = λ modelled kept. at_each_later modelled kept (kind.state c.medium) (accepts.moments modelled kept);
       }
 
 -- containers that are accepted once the buffered samples are written
 pub accepts_later : {W : Type 0} (kind : Ghosts W)
-    (a b c : WriterState W) (asked : Result (List (List ℕ)) Refusal)
+    (a b c : WriterState W) (asked : Result (List (List ℕ)) Rejection)
     (answer : Result (Unit {0}) Error)
     → GoesOut kind (data_end a) true a b → IfErr answer IsIoError
     → Accepts kind asked answer (after_out true b.medium a) c

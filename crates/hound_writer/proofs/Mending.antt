@@ -27,7 +27,7 @@ use Rattle.hound_writer.proofs.Appending.{at_most_on, sound_head}
 use Rattle.hound_writer.proofs.AtMost.{at_most_more}
 use Rattle.hound_writer.proofs.Acting.{idle}
 use Rattle.hound_writer.proofs.Directing.{no_fault, save_call, step_resumed}
-use Rattle.hound_writer.proofs.Heads.{head_behind}
+use Rattle.hound_writer.proofs.Heads.{head_beyond}
 
 -- whole frames of n bytes
 whole_frames : (n channels width : ℕ) → n % (channels * width) ≡ 0 → (frames : ℕ) × (n ≡ frames * channels * width)
@@ -69,7 +69,7 @@ module _ (f : FoundFile) (r : Recorder) (old : Log) (cut : IsCutOff f r.data_len
   is_idle =
       let check : head_fault s n f.data_start ≡ None = rw counted (no_fault s samples f.data_start cut.sound.1
       (mul-mod_left frames.0 s.spec.channels) appends.1 (rw counted at appends.3.2)) in
-      let after = head_behind old.state.contents s f.data_length f.data_start cut.head in
+      let after = head_beyond old.state.contents s f.data_length f.data_start cut.head in
       record {
         none = refl;
         sound = sound_head old s n f.data_start cut.sound after check;

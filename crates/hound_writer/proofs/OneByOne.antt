@@ -4,7 +4,7 @@ use Rattle.std.proofs.Common.{◌≡◌, ℕ, ◌+◌, IsTrue, List, [], ◌∷�
 use Rattle.std.proofs.lemmas.List.{append-nil}
 use Rattle.std.specs.List.{concat}
 use Rattle.hound_medium.specs.{MediumState}
-use Rattle.hound_sample.specs.{Refusal, and_more}
+use Rattle.hound_sample.specs.{Rejection, and_more}
 use Rattle.hound_writer.specs.Accepting.{Accepts, one, AcceptsEach, containers_in}
 use Rattle.hound_writer.specs.Writer.{Ghosts, WriterState, IsWhole, accepted_samples, data_length}
 
@@ -16,19 +16,19 @@ pub record HasMore {W : Type 0} (state : W → MediumState) (list : List (List �
 
 -- an Ok accepted all containers of its call, which are there
 pub all_accepted : {W : Type 0} (kind : Ghosts W)
-    (asked : Result (List (List ℕ)) Refusal) (old new : WriterState W) → IsTrue kind.tells
+    (asked : Result (List (List ℕ)) Rejection) (old new : WriterState W) → IsTrue kind.tells
     → IsWhole kind.state old → Accepts kind asked (Ok tt) old new
     → (list : List (List ℕ)) × (asked ≡ Ok list) × HasMore kind.state list old new
-all_accepted kind (Err refusal) old new told whole accepts = let h =
+all_accepted kind (Err rejection) old new modelled whole accepts = let h =
     accepts.adds.answers in absurd (cc h)
-all_accepted kind (Ok list) old new told whole accepts = (
+all_accepted kind (Ok list) old new modelled whole accepts = (
   list,
   refl,
-  record { samples = (accepts.file told).accepted whole; size = accepts.adds.data_length },
+  record { samples = (accepts.file modelled).accepted whole; size = accepts.adds.data_length },
 )
 
 module _ {V W : Type 0} (kind : Ghosts W)
-    (container : V → ℕ → ℕ → Result (List ℕ) Refusal) (told : IsTrue kind.tells) where
+    (container : V → ℕ → ℕ → Result (List ℕ) Rejection) (modelled : IsTrue kind.tells) where
   -- all that were written one by one
   each_accepted : (values : List V) (old new : WriterState W) → IsWhole kind.state old
       → AcceptsEach kind container values old new
@@ -38,9 +38,9 @@ module _ {V W : Type 0} (kind : Ghosts W)
       let none = append-nil (accepted_samples kind.state old) in ([], refl, search rules)
   each_accepted (value ∷ values) old new whole (mid, accepts, each) =
       go (container value old.spec_ex.spec.bits_per_sample old.spec_ex.bytes_per_sample) refl accepts
-      (each_accepted values mid new ((accepts.file told).whole whole) each)
+      (each_accepted values mid new ((accepts.file modelled).whole whole) each)
     where
-      go : (asked : Result (List ℕ) Refusal)
+      go : (asked : Result (List ℕ) Rejection)
           → container value old.spec_ex.spec.bits_per_sample old.spec_ex.bytes_per_sample ≡ asked
           → Accepts kind (one asked) (Ok tt) old mid
           → (list : List (List ℕ)) × (containers_in container mid.spec_ex values ≡ Ok list)
@@ -48,7 +48,7 @@ module _ {V W : Type 0} (kind : Ghosts W)
           → (list : List (List ℕ))
           × (containers_in container old.spec_ex (value ∷ values) ≡ Ok list)
           × HasMore kind.state list old new
-      go (Err refusal) is accepts rest = let h = accepts.adds.answers in absurd (cc h)
+      go (Err rejection) is accepts rest = let h = accepts.adds.answers in absurd (cc h)
       go (Ok c) is accepts (list, list_is, more) = (
         c ∷ list,
         (λ i. and_more (is i) ((ap (λ s. containers_in container s values)
@@ -56,7 +56,7 @@ module _ {V W : Type 0} (kind : Ghosts W)
         let samples = append_assoc (accepted_samples kind.state old) (c ∷ []) list in
             let one = length-append c [] in
             let all = length-append c (concat list) in
-            let accepted = (accepts.file told).accepted whole in
+            let accepted = (accepts.file modelled).accepted whole in
             search rules,
       )
 

@@ -52,17 +52,17 @@ module _ {W : Type 0} (kind : Ghosts W) (w : WriterState W)
     goes_out = record {
       value = value all;
       sound = known.sound;
-      file = λ told.
-          goes_beside kind.state (padded_end w) all w m known.sound known.whole_written (puts told).faults
-          (around kind w known.at_most m pad (all_out all) told (puts told)
+      file = λ modelled.
+          goes_beside kind.state (padded_end w) all w m known.sound known.whole_written (puts modelled).faults
+          (around kind w known.at_most m pad (all_out all) modelled (puts modelled)
           (padded_end w) (omega (arith, size, odd_size)));
-      moments = λ told kept.
-          goes_at_each kind w known.at_most m pad (all_out all) told (puts told) kept
-          (replays told kept)
-          (at_each kind w none known.sound known.at_most m pad (all_out all) told
-          (puts told) kept (replays told kept));
+      moments = λ modelled kept.
+          goes_at_each kind w known.at_most m pad (all_out all) modelled (puts modelled) kept
+          (replays modelled kept)
+          (at_each kind w none known.sound known.at_most m pad (all_out all) modelled
+          (puts modelled) kept (replays modelled kept));
     }
 
     -- once it is written it is there
     pub padded_odd : WhereTells kind.tells (IsTrue all → IsPadded w (kind.state m).contents)
-    padded_odd told done = grind (arith, common_steps, take_all, put_in_place, odd_size, size)
+    padded_odd modelled done = grind (arith, common_steps, take_all, put_in_place, odd_size, size)

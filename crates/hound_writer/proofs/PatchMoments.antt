@@ -122,10 +122,10 @@ pub publishes_at_each : {W : Type 0} (state : W → MediumState) (w : WriterStat
     → CountsAtMost w.spec_ex w.data_start w.bytes_written (state w.medium).contents
     → IsPadded w (state w.medium).contents → AreBytes (state w.medium).contents
     → (end : W) (patched : Result (Unit {0}) IoFault) (are_frames : Bool)
-    (told : Result (Unit {0}) Error) → IsPublishResult patched are_frames told
+    (outcome : Result (Unit {0}) Error) → IsPublishResult patched are_frames outcome
     → PatchesAtEach (w.data_start - 4) (riff_size w.data_start w.bytes_written) w.bytes_written patched
-    (state w.medium) (state end) → PublishesAtEach state w told end
-publishes_at_each state w none sound at_most padded small end patched are_frames told is patches =
+    (state w.medium) (state end) → PublishesAtEach state w outcome end
+publishes_at_each state w none sound at_most padded small end patched are_frames outcome is patches =
     let p = w.data_start - 4 in
     let old = (state w.medium).contents in
     let split = patches.split in
@@ -141,13 +141,13 @@ publishes_at_each state w none sound at_most padded small end patched are_frames
     → Counts w.spec_ex w.data_start (accepted_samples state w) c =
     λ whole j c at. counts_at state w sound (whole_written state w none sound) c whole
     (at_most_patched w.spec_ex w.data_start w.bytes_written old c at_most j at.same at.field)
-    (samples c at.same.behind) in
-    let behind : (c : List ℕ) → drop (p + 4) c ≡ drop (p + 4) old
+    (samples c at.same.beyond) in
+    let beyond : (c : List ℕ) → drop (p + 4) c ≡ drop (p + 4) old
     → drop (data_end w) c ≡ drop (data_end w) old =
     λ c same. drop_later (p + 4) (data_end w) c old (omega (arith, start)) same in
     let half : (j : ℕ) (c : List ℕ) → IsPatched p (riff_size w.data_start w.bytes_written) old w.bytes_written j c → IsHalfPublished w old j c =
     λ j c at.
-    let out = samples c at.same.behind in
+    let out = samples c at.same.beyond in
     let length_is = at.field ∙ ap (mix j (field p old)) all in
     search rules in
     record {
@@ -166,12 +166,12 @@ publishes_at_each state w none sound at_most padded small end patched are_frames
       half = span_weaker (IsPatched p (riff_size w.data_start w.bytes_written) old w.bytes_written)
           (IsHalfPublished w old) split (state w.medium) (state end) half span;
       puts = patches.puts;
-      whole = published _ patched are_frames told is patches.whole;
+      whole = published _ patched are_frames outcome is patches.whole;
       old_or_new = rw all at
           (old_or_new p (riff_size w.data_start w.bytes_written) w.bytes_written split (state w.medium) (state end) has
           (omega (arith, sound.fits, sound.after_head, all)) span patches.puts);
       padded = λ i k from more before later to.
-          rw (behind _ (span.each k (omega (arith, from, later)) to).same.behind) padded;
+          rw (beyond _ (span.each k (omega (arith, from, later)) to).same.beyond) padded;
       there = λ whole i k from more before later to.
           omega (arith, whole, all, (span.each k (omega (arith, from, later)) to).same.long);
       stored =
@@ -183,7 +183,7 @@ publishes_at_each state w none sound at_most padded small end patched are_frames
             length-take w.bytes_written (drop w.data_start old),
           ))
           (λ k from to. samples (moment (state end).start (state end).past k)
-          (span.each k from to).same.behind);
+          (span.each k from to).same.beyond);
     }
 
 -- a call of a writer that patches, and its result by the frames
@@ -191,8 +191,8 @@ module _ {W : Type 0} (kind : Ghosts W) (w : WriterState W) (end : W)
     (none : w.buffered ≡ []) (sound : IsSound w)
     (at_most : WhereTells kind.tells (CountsAtMost w.spec_ex w.data_start w.bytes_written (kind.state w.medium).contents))
     (padded : WhereTells kind.tells (IsPadded w (kind.state w.medium).contents))
-    (patched : Result (Unit {0}) IoFault) (are_frames : Bool) (told : Result (Unit {0}) Error)
-    (is : IsPublishResult patched are_frames told)
+    (patched : Result (Unit {0}) IoFault) (are_frames : Bool) (outcome : Result (Unit {0}) Error)
+    (is : IsPublishResult patched are_frames outcome)
     (new : WriterState W) (same : new ≡ record w { medium = end })
     (of_new : (IsTrue are_frames → AreFrames new) × (AreFrames new → IsTrue are_frames))
     (before : WhereTells kind.tells (AreBytes (kind.state w.medium).contents))
@@ -207,20 +207,20 @@ module _ {W : Type 0} (kind : Ghosts W) (w : WriterState W) (end : W)
   frames =
       rw same at of_new
 
-  answers : IsPublishing told w
+  answers : IsPublishing outcome w
   answers = grind (arith, common_steps)
 
-  published_all : WhereTells kind.tells (Publishes kind.state w told end)
+  published_all : WhereTells kind.tells (Publishes kind.state w outcome end)
   published_all known =
       publishes kind.state w none sound (at_most known)
-      (padded known) end patched are_frames told is frames.0 (after known) (patches known)
+      (padded known) end patched are_frames outcome is frames.0 (after known) (patches known)
 
-  at_each : WhereKeeps kind.tells kind.keeps (PublishesAtEach kind.state w told end)
+  at_each : WhereKeeps kind.tells kind.keeps (PublishesAtEach kind.state w outcome end)
   at_each known kept =
       publishes_at_each kind.state w none sound (at_most known) (padded known)
-      (before known) end patched are_frames told is (moments known kept)
+      (before known) end patched are_frames outcome is (moments known kept)
 
   -- all was published, and the medium left somewhere
   pub publishes_to : (at : ℕ) → WhereTells kind.tells (OnOk patched ((kind.state end).place ≡ at))
-      → PublishesTo kind at told w new
+      → PublishesTo kind at outcome w new
   publishes_to at place = grind (arith, common_steps, in_medium, answers, published_all, published, at_each)

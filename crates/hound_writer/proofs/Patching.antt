@@ -18,27 +18,27 @@ use Rattle.hound_writer.proofs.Sizes.{same_transitive, same_riff, field_riff, sa
 
 pub has_size : (p : ℕ) (contents : List ℕ) → 8 ≤ p → p + 4 ≤ length contents → AreBytes contents
     → HasSize p contents
-has_size p contents behind inside small =
-    record { behind = behind; inside = inside; small = small }
+has_size p contents beyond inside small =
+    record { beyond = beyond; inside = inside; small = small }
 
 -- both sizes written, one after the other
 pub sizes_put : (p size data_length : ℕ) (c : List ℕ) → 8 ≤ p → p + 4 ≤ length c
     → overlay (overlay c (placed 4 (bytes_of 4 size)))
     (placed p (bytes_of 4 data_length)) ≡ with_sizes p size data_length c
 unfolding with_sizes
-sizes_put p size data_length c behind inside =
+sizes_put p size data_length c beyond inside =
     let bs = bytes_of 4 size in
     let ls = bytes_of 4 data_length in
     let d = overlay c (placed 4 bs) in
-    let first = same_riff p c behind inside bs (omega arith) in
+    let first = same_riff p c beyond inside bs (omega arith) in
     let long : p + 4 ≤ length d = omega (arith, first.long) in
-    let then = same_length p d behind long ls (omega arith) in
+    let then = same_length p d beyond long ls (omega arith) in
     cc (
-      in_parts p (overlay d (placed p ls)) behind,
+      in_parts p (overlay d (placed p ls)) beyond,
       drop_to c 4 bs (omega arith),
       take_at bs (drop (4 + 4) c) 4 refl,
       front_part 8 4 4 (overlay d (placed p ls)) d (omega arith)
-          (take_overlay_before ls 8 p d behind (omega arith)),
+          (take_overlay_before ls 8 p d beyond (omega arith)),
       drop_to d p ls (omega arith),
       take_at ls (drop (p + 4) d) 4 refl,
     )
@@ -49,7 +49,7 @@ module _ (p size new : ℕ) (base : List ℕ) (has : HasSize p base) where
   field_small = number_at_small p base has.inside has.small
 
   four : 4 + 4 ≤ length base
-  four = omega (arith, has.behind, has.inside)
+  four = omega (arith, has.beyond, has.inside)
 
   -- the RIFF size, all of its bytes or a beginning
   pub patched_riff : (k : ℕ) → k ≤ 4
@@ -58,10 +58,10 @@ module _ (p size new : ℕ) (base : List ℕ) (has : HasSize p base) where
       let bytes = take k (bytes_of 4 size) in
       let few : length bytes ≤ 4 = omega (arith, length-take k (bytes_of 4 size)) in
       record {
-        same = same_riff p base has.behind has.inside bytes few;
+        same = same_riff p base has.beyond has.inside bytes few;
         riff = (k, within, number_at_mix 4 base four has.small size k within);
         order = λ some. absurd (omega (arith, some));
-        field = field_riff p base has.behind has.inside bytes few
+        field = field_riff p base has.beyond has.inside bytes few
             ∙ sym (mix_none (field p base) new field_small);
       }
 
@@ -76,10 +76,10 @@ module _ (p size new : ℕ) (base : List ℕ) (has : HasSize p base) where
     patched_field j within =
         let bytes = take j (bytes_of 4 new) in
         let few : length bytes ≤ 4 = omega (arith, length-take j (bytes_of 4 new)) in
-        let still = riff_length p c has.behind inside_now bytes few in
+        let still = riff_length p c has.beyond inside_now bytes few in
         record {
           same = same_transitive p base c (overlay c (placed p bytes)) so_far.same
-              (same_length p c has.behind inside_now bytes few);
+              (same_length p c has.beyond inside_now bytes few);
           riff = (so_far.riff.0, so_far.riff.1, still ∙ so_far.riff.2);
           order = λ _. still ∙ riff;
           field = number_at_mix p c inside_now small new j within
@@ -129,7 +129,7 @@ patched keeps p size data_length r s flush a b c d has small first second all_fi
     ∙ ap (λ l. overlay b.contents (placed p l))
     (take_all second.count (bytes_of 4 data_length) (omega (arith, all_second)))
     ∙ ap (λ l. overlay l (placed p (bytes_of 4 data_length))) one
-    ∙ sizes_put p size data_length a.contents has.behind has.inside in
+    ∙ sizes_put p size data_length a.contents has.beyond has.inside in
     let same = flushes.stays.contents in
     record {
       contents = on_ok flush (same ∙ both);
@@ -150,7 +150,7 @@ patched keeps p size data_length r s flush a b c d has small first second all_fi
     is_flushed P Q (Err e) there = tt
 
 -- the contents with two sizes, part by part
-module _ (p size data_length : ℕ) (c : List ℕ) (behind : 8 ≤ p) (inside : p + 4 ≤ length c) where
+module _ (p size data_length : ℕ) (c : List ℕ) (beyond : 8 ≤ p) (inside : p + 4 ≤ length c) where
   length-front : length (take 4 c) ≡ 4
   length-front = length-take-le 4 c (omega arith)
 

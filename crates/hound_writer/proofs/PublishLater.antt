@@ -13,7 +13,7 @@ use Rattle.hound_medium.proofs.Spans.{join, moment_before, span_weaker}
 use Rattle.hound_medium.proofs.Torn.{number_at_small}
 use Rattle.hound_spec.specs.declared.error.Error.{Error}
 use Rattle.hound_spec.specs.declared.error.Error.TheVariants.{IoError}
-use Rattle.hound_writer.specs.Accepting.{faults_told}
+use Rattle.hound_writer.specs.Accepting.{faults_reported}
 use Rattle.hound_writer.specs.Parts.{GoesAtEach, GoesOut, StaysAround, after_out}
 use Rattle.hound_writer.specs.Writer.{Ghosts, Counts, ChangesSizesOnly, field, WriterState, IsBegun, IsPadded, IsSound, HasHeader, accepted_samples, data_end, data_length, padded_end}
 use Rattle.hound_durable.specs.{place_of}
@@ -84,8 +84,8 @@ module _ {W : Type 0} (kind : Ghosts W) (a : WriterState W) (m : W)
     (out : GoesOut kind (padded_end a) false a (after_out false m a))
     (e : IoFault) where
   publishes_cut : IsTrue kind.tells → Publishes kind.state a (Err (IoError e)) m
-  publishes_cut told =
-      let f = out.file told in
+  publishes_cut modelled =
+      let f = out.file modelled in
       let front = sizes_of kind.state a out.sound (kind.state m).contents f.around.front in
       let bytes = data_of kind.state a out.sound (kind.state m).contents in
       let begun = header_of kind.state a out.sound (kind.state m).contents f.around.front in
@@ -93,9 +93,9 @@ module _ {W : Type 0} (kind : Ghosts W) (a : WriterState W) (m : W)
 
   publishes_at_each_cut : IsTrue kind.tells → IsTrue kind.keeps → AreBytes (kind.state a.medium).contents
       → PublishesAtEach kind.state a (Err (IoError e)) m
-  publishes_at_each_cut told kept small =
-      let goes = out.moments told kept in
-      let around = (out.file told).around in
+  publishes_at_each_cut modelled kept small =
+      let goes = out.moments modelled kept in
+      let around = (out.file modelled).around in
       let split = length (kind.state m).past in
       record {
         counts = goes.adds.counts;
@@ -108,10 +108,10 @@ module _ {W : Type 0} (kind : Ghosts W) (a : WriterState W) (m : W)
             inl (field_of kind.state a out.sound (moment (kind.state m).start (kind.state m).past k)
             (goes.front.each k from to));
         padded =
-            λ i k from to before later last. absurd (omega (arith, before, goes.behind i from to));
+            λ i k from to before later last. absurd (omega (arith, before, goes.beyond i from to));
         there =
             λ whole i k from to before later last.
-            absurd (omega (arith, before, goes.behind i from to));
+            absurd (omega (arith, before, goes.beyond i from to));
         stored = goes.adds.stored;
       }
 
@@ -119,7 +119,7 @@ module _ {W : Type 0} (kind : Ghosts W) (a : WriterState W) (m : W)
       → PublishesTo kind at (Err (IoError e)) a (after_out false m a)
   published_of at small =
       in_medium kind at (Err (IoError e)) a m tt publishes_cut (λ _. tt)
-      (λ told kept. publishes_at_each_cut told kept (small told))
+      (λ modelled kept. publishes_at_each_cut modelled kept (small modelled))
 
 -- the same for a writer as contracts see it
 pub published_cut : {W : Type 0} (kind : Ghosts W) (far at : ℕ)
@@ -154,13 +154,13 @@ module _ {W : Type 0} (kind : Ghosts W) (a : WriterState W) (m : W)
     new = (kind.state end).contents
 
     publishes_later : IsTrue kind.tells → Publishes kind.state b answer end → Publishes kind.state a answer end
-    publishes_later told g =
-        let f = out.file told in
+    publishes_later modelled g =
+        let f = out.file modelled in
         let around = f.around in
         let begun : IsBegun kind.state a → IsBegun kind.state b =
         λ is. (header_of kind.state a sound mid around.front is, is.1) in
         record {
-          faults = g.faults ∙ ap (faults_told answer) f.faults;
+          faults = g.faults ∙ ap (faults_reported answer) f.faults;
           front = sizes_then a.data_start old mid new (sizes_of kind.state a sound mid around.front)
               g.front;
           bytes_written = λ whole. take_front a.bytes_written (data_length a) (drop a.data_start mid)
@@ -180,21 +180,21 @@ module _ {W : Type 0} (kind : Ghosts W) (a : WriterState W) (m : W)
           canonical = λ whole is. rw (f.accepted whole) at (g.canonical (f.whole whole) (begun is));
         }
 
-    module _ (told : IsTrue kind.tells) (kept : IsTrue kind.keeps)
+    module _ (modelled : IsTrue kind.tells) (kept : IsTrue kind.keeps)
         (small : AreBytes (kind.state a.medium).contents) (g : PublishesAtEach kind.state b answer end) where
       goes : GoesAtEach kind.state a (kind.state m)
-      goes = out.moments told kept
+      goes = out.moments modelled kept
 
       field_same : field (a.data_start - 4) mid ≡ field (a.data_start - 4) old
-      field_same = field_of kind.state a sound mid (out.file told).around.front
+      field_same = field_of kind.state a sound mid (out.file modelled).around.front
 
       half_later : (j : ℕ) (c : List ℕ) → IsHalfPublished b mid j c → IsHalfPublished a old j c
       half_later j c half = record {
         front = sizes_then a.data_start old mid c
-            (sizes_of kind.state a sound mid (out.file told).around.front) half.front;
+            (sizes_of kind.state a sound mid (out.file modelled).around.front) half.front;
         bytes_written = λ whole. take_front a.bytes_written (data_length a) (drop a.data_start mid)
-            (drop a.data_start c) (omega arith) (half.bytes_written ((out.file told).whole whole))
-            ∙ data_of kind.state a sound mid ((out.file told).around.bytes_written whole);
+            (drop a.data_start c) (omega arith) (half.bytes_written ((out.file modelled).whole whole))
+            ∙ data_of kind.state a sound mid ((out.file modelled).around.bytes_written whole);
         length_is = half.length_is ∙ (λ i. mix j (field_same i) (same_length i));
       }
 
@@ -207,7 +207,7 @@ module _ {W : Type 0} (kind : Ghosts W) (a : WriterState W) (m : W)
       old_or_new_later : IsOldOrNew (a.data_start - 4) (field (a.data_start - 4) old)
           (data_length a) (kind.state a.medium) (kind.state end)
       old_or_new_later k from to outside =
-          let sooner = longer kind.state a sound small (kind.state m) (out.file told).around goes in
+          let sooner = longer kind.state a sound small (kind.state m) (out.file modelled).around goes in
           elim (cases_lt (length (kind.state m).past) k) [
             | inl later ↦
                 (rw (field_same, same_length) at g.old_or_new) k (omega (arith, later)) to
@@ -224,13 +224,13 @@ module _ {W : Type 0} (kind : Ghosts W) (a : WriterState W) (m : W)
                 let same : place_of (kind.state end).past i ≡ place_of (kind.state m).past i =
                 ap (λ l. place_of l i) g.half.past
                 ∙ place_before (kind.state m).past g.half.added i sooner in
-                absurd (omega (arith, before, same, goes.behind i from sooner))
+                absurd (omega (arith, before, same, goes.beyond i from sooner))
             | inr then ↦ once i k then to before later last
           ]
 
       publishes_at_each_later : PublishesAtEach kind.state a answer end
       publishes_at_each_later =
-          let f = out.file told in
+          let f = out.file modelled in
           record {
             counts =
                 λ whole. join (λ _. Counts a.spec_ex a.data_start (accepted_samples kind.state a)) 0
@@ -239,11 +239,11 @@ module _ {W : Type 0} (kind : Ghosts W) (a : WriterState W) (m : W)
             split = g.split;
             half = join (IsHalfPublished a old) g.split (kind.state a.medium) (kind.state m) (kind.state end)
                 (half_out kind.state a sound small (kind.state m)
-                (out.file told).around goes g.split g.puts.later)
+                (out.file modelled).around goes g.split g.puts.later)
                 (span_weaker (IsHalfPublished b mid) (IsHalfPublished a old) g.split (kind.state m)
                 (kind.state end) half_later g.half);
             puts =
-                let sooner = longer kind.state a sound small (kind.state m) (out.file told).around goes in
+                let sooner = longer kind.state a sound small (kind.state m) (out.file modelled).around goes in
                 search rules;
             whole = g.whole;
             old_or_new = old_or_new_later;
@@ -263,15 +263,15 @@ module _ {W : Type 0} (kind : Ghosts W) (a : WriterState W) (m : W)
   published_after at answer c small g = record {
     answers = publishing_as answer b a refl same_length g.answers;
     samples = let same = same_length in search rules;
-    publishes = λ told. publishes_later answer c.medium told (g.publishes told);
-    whole = λ told whole. g.whole told ((out.file told).whole whole);
+    publishes = λ modelled. publishes_later answer c.medium modelled (g.publishes modelled);
+    whole = λ modelled whole. g.whole modelled ((out.file modelled).whole whole);
     accepted =
-        λ told whole. g.accepted told ((out.file told).whole whole)
-        ∙ (out.file told).accepted whole;
+        λ modelled whole. g.accepted modelled ((out.file modelled).whole whole)
+        ∙ (out.file modelled).accepted whole;
     place = g.place;
     moments =
-        λ told kept. publishes_at_each_later answer c.medium told kept (small told)
-        (g.moments told kept);
+        λ modelled kept. publishes_at_each_later answer c.medium modelled kept (small modelled)
+        (g.moments modelled kept);
   }
 
 -- the same for a writer as contracts see it

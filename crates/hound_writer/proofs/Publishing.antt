@@ -19,7 +19,7 @@ use Rattle.hound_writer.specs.Parts.{IsConsistent, IsPublishResult, Patches, Cou
 use Rattle.hound_writer.specs.Writer.{Ghosts, SameButSizes, with_sizes, field, Counts, WriterState, AreFrames, IsPadded, IsSound, IsWhole, IsBegun, HasHeader, accepted_samples, data_length, data_end, padded_end}
 use Rattle.hound_writer.specs.Accepting.{IsPublishing, OnPublished}
 use Rattle.hound_writer.specs.Publishing.{Publishes, PublishesAtEach, PublishesTo, ReadsAs}
-use Rattle.hound_writer.proofs.Answers.{published, told_faults, told_ok}
+use Rattle.hound_writer.proofs.Answers.{published, reported_faults, reported_ok}
 use Rattle.hound_writer.proofs.Keeping.{consistent_moved}
 use Rattle.hound_writer.proofs.Later.{drop_later}
 use Rattle.hound_writer.proofs.Samples.{concat-samples, counts_at, length-samples, length_written, whole_written}
@@ -88,25 +88,25 @@ canonical_begins s containers n start samples contents is_start enough joined pa
 sizes_of : (p : ℕ) (old new : List ℕ) → 8 ≤ p → p + 4 ≤ length new → AreBytes new
     → SameButSizes p old new → new ≡ with_sizes p (field 4 new) (field p new) old
 unfolding with_sizes
-sizes_of p old new behind inside small same =
-    in_parts p new behind
+sizes_of p old new beyond inside small same =
+    in_parts p new beyond
     ∙ (λ i. same.front i ++
-    (sym (bytes_at 4 new (omega (arith, behind, inside)) small) i ++
-    (same.middle i ++ (sym (bytes_at p new inside small) i ++ same.behind i))))
+    (sym (bytes_at 4 new (omega (arith, beyond, inside)) small) i ++
+    (same.middle i ++ (sym (bytes_at p new inside small) i ++ same.beyond i))))
 
 -- a file that was begun with the header of a spec still has it, whatever its sizes
 pub begun_still : (s : WavSpecEx) (start : ℕ) (old new : List ℕ) → data_start s ≡ start → 12 ≤ start
     → start ≤ length new → AreBytes new → SameButSizes (start - 4) old new → HasHeader s old
     → HasHeader s new
-begun_still s start old new is_start behind inside small same (size, length_before, begins) =
+begun_still s start old new is_start beyond inside small same (size, length_before, begins) =
     let p = start - 4 in
     let r = field 4 new in
     let n = field p new in
     let front : take start old ≡ header s size length_before =
     ap (λ k. take k old) (sym (length-header s size length_before ∙ is_start)) ∙ begins in
     let whole : new ≡ header s r n ++ drop start old =
-    sizes_of p old new (omega (arith, behind)) (omega (arith, behind, inside)) small same
-    ∙ header_with s size length_before start p (omega (arith, behind)) is_start old front r n in (
+    sizes_of p old new (omega (arith, beyond)) (omega (arith, beyond, inside)) small same
+    ∙ header_with s size length_before start p (omega (arith, beyond)) is_start old front r n in (
       r,
       n,
       ap (take (length (header s r n))) whole
@@ -171,16 +171,16 @@ module _ {W : Type 0} (state : W → MediumState) (w : WriterState W) (none : w.
 
   -- What a patch leaves, and the result of a call that has done one.
   pub publishes : (patched : Result (Unit {0}) IoFault) (are_frames : Bool)
-      (told : Result (Unit {0}) Error) → IsPublishResult patched are_frames told
+      (outcome : Result (Unit {0}) Error) → IsPublishResult patched are_frames outcome
       → (are_frames ≡ true → AreFrames w) → AreBytes (state end).contents
       → Patches (w.data_start - 4) (riff_size w.data_start w.bytes_written) w.bytes_written patched (state w.medium)
-      (state end) → Publishes state w told end
-  publishes patched are_frames told is frames small patches =
+      (state end) → Publishes state w outcome end
+  publishes patched are_frames outcome is frames small patches =
       let half = patches.half.2 in
       let same = half.same in
       let long : w.data_start ≤ length (state end).contents =
       omega (arith, before, there, same.long) in
-      let samples = rw before at same.behind in
+      let samples = rw before at same.beyond in
       let still =
       at_most_patched w.spec_ex w.data_start w.bytes_written old
       (state end).contents at_most patches.half.0 same half.field in
@@ -188,30 +188,30 @@ module _ {W : Type 0} (state : W → MediumState) (w : WriterState W) (none : w.
       → Counts w.spec_ex w.data_start (accepted_samples state w) (state end).contents =
       λ whole. counts_at state w sound (whole_written state w none sound)
       (state end).contents whole still (ap (take w.bytes_written) samples) in
-      let behind = drop_later w.data_start (data_end w) (state end).contents old (omega arith) samples in
+      let beyond = drop_later w.data_start (data_end w) (state end).contents old (omega arith) samples in
       record {
         faults =
-            told_faults patched are_frames told (state w.medium).faults
+            reported_faults patched are_frames outcome (state w.medium).faults
             (state end).faults is patches.faults;
         front = search rules;
         bytes_written = λ _. ap (take w.bytes_written) samples;
-        rest = drop_later (data_end w) (padded_end w) (state end).contents old (omega arith) behind;
+        rest = drop_later (data_end w) (padded_end w) (state end).contents old (omega arith) beyond;
         grows = omega (arith, same.long);
         reach = omega (arith, same.long);
         counts = counts;
         begun = λ (header, at).
             begun_still w.spec_ex w.data_start old (state end).contents (sym at)
             (omega (arith, sound.after_head)) long small same header;
-        flushed = published _ patched are_frames told is patches.flushed;
-        riff_says = published _ patched are_frames told is
+        flushed = published _ patched are_frames outcome is patches.flushed;
+        riff_says = published _ patched are_frames outcome is
             (on_ok_weaker patched riff_says patches.contents);
-        length_says = published _ patched are_frames told is
+        length_says = published _ patched are_frames outcome is
             (on_ok_weaker patched (λ put. length_says put ∙ all) patches.contents);
-        stored = λ whole. published _ patched are_frames told is
+        stored = λ whole. published _ patched are_frames outcome is
             (on_ok patched
             ((λ i. take (sym all i) (samples i)) ∙ sym (concat-samples state w none sound)));
-        padded = published _ patched are_frames told is (on_ok patched (rw behind padded));
-        read = λ whole. told_ok _ patched are_frames told is
+        padded = published _ patched are_frames outcome is (on_ok patched (rw beyond padded));
+        read = λ whole. reported_ok _ patched are_frames outcome is
             (λ yes. on_ok_weaker patched
             (λ put. reads_all w.spec_ex w.data_start w.bytes_written (accepted_samples state w)
             (state end).contents (whole_written state w none sound)
@@ -219,7 +219,7 @@ module _ {W : Type 0} (state : W → MediumState) (w : WriterState W) (none : w.
             (length-samples state w none sound) (length_says put)
             (counts whole)) patches.contents);
         canonical =
-            λ whole begun. published _ patched are_frames told is
+            λ whole begun. published _ patched are_frames outcome is
             (on_ok_weaker patched (λ put. is_canonical put whole begun) patches.contents);
       }
 
@@ -231,8 +231,8 @@ pub consistent_patched : {W : Type 0} (kind : Ghosts W) (w : WriterState W)
     → IsConsistent kind (record w { medium = end }) true limit
 consistent_patched kind w end may_have_moved limit riff result before patches =
     consistent_moved kind w end may_have_moved limit before
-    (λ told. let half = (patches told).half in at_most_patched w.spec_ex w.data_start w.bytes_written
-    (kind.state w.medium).contents (kind.state end).contents (before.at_most told) half.0 half.2.same half.2.field)
+    (λ outcome. let half = (patches outcome).half in at_most_patched w.spec_ex w.data_start w.bytes_written
+    (kind.state w.medium).contents (kind.state end).contents (before.at_most outcome) half.0 half.2.same half.2.field)
 
 -- a call that publishes, of a writer of which only the medium changes
 pub in_medium : {W : Type 0} (kind : Ghosts W) (at : ℕ)

@@ -6,7 +6,7 @@ use Rattle.std.proofs.Math.Nat.{mul-le-mul_left}
 use Rattle.std.proofs.lemmas.Grind.{flat_map-append, common_steps}
 use Rattle.hound_medium.specs.{MediumState, PutsAll, PutsFirst, one_more}
 use Rattle.hound_medium.proofs.Taking.{takes_more}
-use Rattle.hound_sample.specs.{Refusal, all_containers, bytes_in, joined_containers}
+use Rattle.hound_sample.specs.{Rejection, all_containers, bytes_in, joined_containers}
 use Rattle.hound_sample.proofs.Joined.{have_part, joined_rest, joined_size}
 
 -- bytes that begin alike: the first n of the one are those of the other
@@ -15,7 +15,7 @@ puts_front : (keeps : Bool) (a b : List ℕ) (n : ℕ) (old new : MediumState)
 puts_front keeps a b n old new same puts = search rules
 
 -- values that all have containers, each of one width, of which the first `done` were written
-module _ {V : Type 0} (container : V → Result (List ℕ) Refusal) (width : ℕ)
+module _ {V : Type 0} (container : V → Result (List ℕ) Rejection) (width : ℕ)
     (sized : (value : V) (c : List ℕ) → container value ≡ Ok c → length c ≡ width) (keeps : Bool)
     (values : List V) (have : IsOk (all_containers container values)) (done next : ℕ)
     (later : done ≤ next) (inside : next ≤ length values) (old mid new : MediumState)
@@ -64,11 +64,11 @@ module _ {V : Type 0} (container : V → Result (List ℕ) Refusal) (width : ℕ
       (arith, puts.whole, size_piece, size_next) in e) (more puts.count puts.within puts.takes)
 
   -- or a part of them, if the medium failed
-  pub piece_cut : {T E T' E' : Type 0} (e : E) (told : Result T' E') → IsErr told
+  pub piece_cut : {T E T' E' : Type 0} (e : E) (outcome : Result T' E') → IsErr outcome
       → mid.faults ≡ old.faults → PutsAll {T = T} {E = E} keeps piece (Err e) mid new
-      → PutsAll keeps all told old new
+      → PutsAll keeps all outcome old new
   piece_cut e (Ok x) failed none puts = absurd (false≢true failed)
-  piece_cut e (Err told) failed none puts = let most = mul-le-mul_left width inside in record {
+  piece_cut e (Err outcome) failed none puts = let most = mul-le-mul_left width inside in record {
     count = width * done + puts.count;
     within = omega (arith, most, size_next, puts.within, size_piece, size_all);
     whole = tt;

@@ -5,7 +5,7 @@ use Rattle.std.specs.Prelude.{⊤}
 use Rattle.hound_spec.specs.declared.error.Error.{Error}
 use Rattle.hound_spec.specs.declared.spec.WavSpecEx.{WavSpecEx}
 use Rattle.hound_medium.specs.{MediumState, WhereTells}
-use Rattle.hound_sample.specs.{Refusal}
+use Rattle.hound_sample.specs.{Rejection}
 use Rattle.hound_writer.specs.Accepting.{Accepts}
 use Rattle.hound_writer.specs.Appending.{Appends}
 use Rattle.hound_writer.specs.Batch.{IsSameFile}
@@ -115,7 +115,7 @@ module _ {W : Type 0} (kind : Ghosts W) where
 
   -- one call for samples more, by their containers in a file of any spec
   pub recorded_write : (one : Asked → Known)
-      (wanted : WavSpecEx → Result (List (List ℕ)) Refusal) (answer : Result (Unit {0}) Error)
+      (wanted : WavSpecEx → Result (List (List ℕ)) Rejection) (answer : Result (Unit {0}) Error)
       (s : WavSpecEx) (file : Begun) (known : List Known) (b c : WriterState W)
       → ((asked : Asked) → IsKnown (one asked) (call_at asked answer b))
       → Recorded kind s file known b

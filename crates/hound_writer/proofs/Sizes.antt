@@ -24,8 +24,8 @@ header_front s start old new at same (size, len, begins) = grind (arith, common_
 -- and no size has changed
 pub sizes_front : (start : ℕ) (old new : List ℕ) → 4 ≤ start → take start new ≡ take start old
     → ChangesSizesOnly start old new
-sizes_front start old new behind same =
-    let front = take_front 4 start old new behind same in
+sizes_front start old new beyond same =
+    let front = take_front 4 start old new beyond same in
     let middle = ap (drop 8) (take_front (start - 4) start old new (omega arith) same) in
     search rules
 
@@ -59,7 +59,7 @@ drop_overlay_after (b ∷ bs) n p c after =
     drop_overlay_after bs n (suc p) (put_at p b c) (omega (arith, after))
     ∙ drop_put n p b c (omega (arith, after))
 
-module _ (p : ℕ) (c : List ℕ) (behind : 8 ≤ p) (inside : p + 4 ≤ length c) (bs : List ℕ)
+module _ (p : ℕ) (c : List ℕ) (beyond : 8 ≤ p) (inside : p + 4 ≤ length c) (bs : List ℕ)
     (few : length bs ≤ 4) where
   -- bytes at 4 leave the rest
   pub same_riff : SameButSizes p c (overlay c (placed 4 bs))
@@ -67,7 +67,7 @@ module _ (p : ℕ) (c : List ℕ) (behind : 8 ≤ p) (inside : p + 4 ≤ length 
     front = take_overlay_before bs 4 4 c (omega arith) (omega arith);
     middle = sym (between_is (overlay c (placed 4 bs)) 8 p)
         ∙ ap (take (p - 8)) (drop_overlay_after bs 8 4 c (omega arith)) ∙ between_is c 8 p;
-    behind = drop_overlay_after bs (p + 4) 4 c (omega arith);
+    beyond = drop_overlay_after bs (p + 4) 4 c (omega arith);
     long = omega (arith, length_overlay_max bs 4 c, length_overlay_le bs 4 c);
   }
 
@@ -79,11 +79,11 @@ module _ (p : ℕ) (c : List ℕ) (behind : 8 ≤ p) (inside : p + 4 ≤ length 
   same_length = record {
     front = take_overlay_before bs 4 p c (omega arith) (omega arith);
     middle = ap (drop 8) (take_overlay_before bs p p c (omega arith) (omega arith));
-    behind = drop_overlay_after bs (p + 4) p c (omega arith);
+    beyond = drop_overlay_after bs (p + 4) p c (omega arith);
     long = omega (arith, length_overlay_max bs p c, length_overlay_le bs p c);
   }
 
   pub riff_length : field 4 (overlay c (placed p bs)) ≡ field 4 c
   riff_length =
       ap number (front_part 8 4 4 (overlay c (placed p bs)) c (omega arith)
-      (take_overlay_before bs 8 p c behind (omega arith)))
+      (take_overlay_before bs 8 p c beyond (omega arith)))

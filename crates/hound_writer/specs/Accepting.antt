@@ -4,7 +4,7 @@ use Rattle.std.specs.List.{concat, flat_map}
 use Rattle.hound_spec.specs.declared.error.Error.{Error}
 use Rattle.hound_spec.specs.declared.error.Error.TheVariants.{IoError, UnfinishedSample, TooLong}
 use Rattle.hound_spec.specs.{riff_size, greatest_u32}
-use Rattle.hound_sample.specs.{Refusal, containers, error_of, int_container, all_containers, joined_containers}
+use Rattle.hound_sample.specs.{Rejection, containers, error_of, int_container, all_containers, joined_containers}
 use Rattle.hound_medium.specs.{one_more, moment, MediumState, WhereTells, WhereKeeps, Span}
 use Rattle.hound_writer.specs.Writer.{Ghosts, WriterState, AreFrames, data_length, Counts, IsWhole, IsCounted, accepted_samples, data_end}
 use Rattle.hound_number.specs.{signed_bytes_of}
@@ -22,10 +22,10 @@ UnlessFailed (Err (IoError e)) P = ⊤
 UnlessFailed (Err _) P = P
 
 -- P for an error that is no fault of the medium
-abbrev pub OnRefused : {T : Type 0} → Result T Error → Type 0 → Type 0
-OnRefused (Ok x) P = ⊤
-OnRefused (Err (IoError e)) P = ⊤
-OnRefused (Err _) P = P
+abbrev pub OnRejected : {T : Type 0} → Result T Error → Type 0 → Type 0
+OnRejected (Ok x) P = ⊤
+OnRejected (Err (IoError e)) P = ⊤
+OnRejected (Err _) P = P
 
 -- P, if all accepted samples were published: for an Ok and for `UnfinishedSample`
 abbrev pub OnPublished : {T : Type 0} → Result T Error → Type 0 → Type 0
@@ -40,31 +40,31 @@ mark_of (Err UnfinishedSample) = true
 mark_of (Err _) = false
 
 -- the medium's faults after a call: one more at an `IoError`, else the same
-abbrev pub faults_told : {T : Type 0} → Result T Error → ℕ → ℕ
-faults_told (Err (IoError e)) faults = one_more faults
-faults_told _ faults = faults
+abbrev pub faults_reported : {T : Type 0} → Result T Error → ℕ → ℕ
+faults_reported (Err (IoError e)) faults = one_more faults
+faults_reported _ faults = faults
 
 -- the containers of a call with this mark: those that it has, or none
-abbrev pub if_marked : Bool → Result (List (List ℕ)) Refusal → List (List ℕ)
+abbrev pub if_marked : Bool → Result (List (List ℕ)) Rejection → List (List ℕ)
 if_marked false asked = []
 if_marked true (Ok list) = list
-if_marked true (Err refusal) = []
+if_marked true (Err rejection) = []
 
 -- one container, or why there is none
-abbrev pub one : Result (List ℕ) Refusal → Result (List (List ℕ)) Refusal
+abbrev pub one : Result (List ℕ) Rejection → Result (List (List ℕ)) Rejection
 one (Ok container) = Ok (container ∷ [])
-one (Err refusal) = Err refusal
+one (Err rejection) = Err rejection
 
 -- the result for containers, by whether the RIFF size has room for them: Ok or an `IoError`, or that
 -- the file would be too long
 abbrev pub FitAnswer : {T : Type 0} → Bool → Result T Error → Type 0
-FitAnswer true answer = OnRefused answer ⊥
+FitAnswer true answer = OnRejected answer ⊥
 FitAnswer false answer = answer ≡ Err TooLong
 
 -- the result for a sample or a batch: the error of the type, or as above
-abbrev pub AcceptAnswer : {T W : Type 0} → Result (List (List ℕ)) Refusal → WriterState W →
+abbrev pub AcceptAnswer : {T W : Type 0} → Result (List (List ℕ)) Rejection → WriterState W →
     Result T Error → Type 0
-AcceptAnswer (Err refusal) w answer = answer ≡ Err (error_of refusal)
+AcceptAnswer (Err rejection) w answer = answer ≡ Err (error_of rejection)
 AcceptAnswer (Ok list) w answer =
     let size = riff_size w.data_start (data_length w + length (concat list)) in
     FitAnswer (nat_le size greatest_u32) answer
@@ -97,10 +97,10 @@ StaysStored start bytes old new =
 -- What a call with these containers did to its writer, by its result, over every medium: it accepts
 -- all of them or none, and an error of the type or the size leaves the writer and its medium as
 -- they were.
-pub record Adds {W : Type 0} (asked : Result (List (List ℕ)) Refusal)
+pub record Adds {W : Type 0} (asked : Result (List (List ℕ)) Rejection)
     (answer : Result (Unit {0}) Error) (old new : WriterState W) : Type 0 where
   pub answers : AcceptAnswer asked old answer
-  pub refused : OnRefused answer (new ≡ old)
+  pub rejected : OnRejected answer (new ≡ old)
   pub spec_ex : new.spec_ex ≡ old.spec_ex
   pub data_start : new.data_start ≡ old.data_start
   pub data_length : data_length new
@@ -111,9 +111,9 @@ pub record Adds {W : Type 0} (asked : Result (List (List ℕ)) Refusal)
 -- stays, and unless the medium failed what is after the accepted data. If the bytes in the medium
 -- were all there, they are so afterwards.
 pub record AddsToFile {W : Type 0} (state : W → MediumState)
-    (asked : Result (List (List ℕ)) Refusal)
+    (asked : Result (List (List ℕ)) Rejection)
     (answer : Result (Unit {0}) Error) (old new : WriterState W) : Type 0 where
-  pub faults : (state new.medium).faults ≡ faults_told answer (state old.medium).faults
+  pub faults : (state new.medium).faults ≡ faults_reported answer (state old.medium).faults
   pub front : take old.data_start (state new.medium).contents
       ≡ take old.data_start (state old.medium).contents
   pub rest : UnlessFailed answer
@@ -143,14 +143,14 @@ pub record AddsAtEach {W : Type 0} (state : W → MediumState) (old : WriterStat
 
 -- What a call with these containers does, by its result.
 pub record Accepts {W : Type 0} (kind : Ghosts W)
-    (asked : Result (List (List ℕ)) Refusal) (answer : Result (Unit {0}) Error)
+    (asked : Result (List (List ℕ)) Rejection) (answer : Result (Unit {0}) Error)
     (old new : WriterState W) : Type 0 where
   pub adds : Adds asked answer old new
   pub file : WhereTells kind.tells (AddsToFile kind.state asked answer old new)
   pub moments : WhereKeeps kind.tells kind.keeps (AddsAtEach kind.state old (kind.state new.medium))
 
 -- the containers in these bytes, in a file of this spec
-abbrev pub whole_containers : WavSpecEx → List ℕ → Result (List (List ℕ)) Refusal
+abbrev pub whole_containers : WavSpecEx → List ℕ → Result (List (List ℕ)) Rejection
 whole_containers s bytes =
     Ok (containers s.bytes_per_sample (length bytes / s.bytes_per_sample) bytes)
 
@@ -161,18 +161,18 @@ AcceptsBytes kind bytes answer old new =
     Accepts kind (whole_containers old.spec_ex bytes) answer old new
 
 -- the container of a sample in a file of this spec, by its type's table, or the error
-abbrev pub container_in : {V : Type 0} → (V → ℕ → ℕ → Result (List ℕ) Refusal) → WavSpecEx → V →
-    Result (List (List ℕ)) Refusal
+abbrev pub container_in : {V : Type 0} → (V → ℕ → ℕ → Result (List ℕ) Rejection) → WavSpecEx → V →
+    Result (List (List ℕ)) Rejection
 container_in container s value = one (container value s.spec.bits_per_sample s.bytes_per_sample)
 
 -- the containers of samples in a file of this spec, by their type's table, or the first error
-abbrev pub containers_in : {V : Type 0} → (V → ℕ → ℕ → Result (List ℕ) Refusal) → WavSpecEx → List V →
-    Result (List (List ℕ)) Refusal
+abbrev pub containers_in : {V : Type 0} → (V → ℕ → ℕ → Result (List ℕ) Rejection) → WavSpecEx → List V →
+    Result (List (List ℕ)) Rejection
 containers_in container s values =
     all_containers (λ v. container v s.spec.bits_per_sample s.bytes_per_sample) values
 
 -- the bytes of samples in a file of this spec
-abbrev pub sample_bytes : {V : Type 0} → (V → ℕ → ℕ → Result (List ℕ) Refusal) → WavSpecEx → List V →
+abbrev pub sample_bytes : {V : Type 0} → (V → ℕ → ℕ → Result (List ℕ) Rejection) → WavSpecEx → List V →
     List ℕ
 sample_bytes container s values =
     joined_containers (λ v. container v s.spec.bits_per_sample s.bytes_per_sample) values
@@ -187,7 +187,7 @@ i16_bytes values = flat_map (signed_bytes_of 2) values
 
 -- Samples that were written one by one, each where the one before ended, and all accepted.
 abbrev pub AcceptsEach : {V W : Type 0} → Ghosts W →
-    (V → ℕ → ℕ → Result (List ℕ) Refusal) → List V → WriterState W → WriterState W → Type 0
+    (V → ℕ → ℕ → Result (List ℕ) Rejection) → List V → WriterState W → WriterState W → Type 0
 AcceptsEach kind container [] old new = new ≡ old
 AcceptsEach {V} {W} kind container (value ∷ values) old new =
     (mid : WriterState W)

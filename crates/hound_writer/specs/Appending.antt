@@ -8,7 +8,7 @@ use Rattle.hound_medium.specs.{MediumState, Stays, WhereTells, one_more}
 use Rattle.hound_walk.specs.declared.cause.Cause.{Cause}
 use Rattle.hound_walk.specs.declared.cause.Cause.TheVariants.{Format, Unsupported}
 use Rattle.hound_walk.specs.declared.cause.Reason.TheVariants.{DataLength, FrameLength}
-use Rattle.hound_walk.specs.{Head, IsRefusal, IsSoundSpec, Refused, Names}
+use Rattle.hound_walk.specs.{Head, IsRejection, IsSoundSpec, Rejected, Names}
 use Rattle.hound_writer.specs.Accepting.{IsIoError}
 use Rattle.hound_writer.specs.Writer.{Ghosts, WriterState, IsSound, IsWhole, IsCounted, data_length, data_end}
 
@@ -33,7 +33,7 @@ head_fault s len h =
 -- the bytes have this fault: they have no head for this cause, or their head fails a check
 abbrev pub IsAppendFault : List ℕ → AppendFault → Type 0
 IsAppendFault bytes fault =
-    ((cause : Cause) × (fault ≡ by_bytes cause) × Refused bytes cause)
+    ((cause : Cause) × (fault ≡ by_bytes cause) × Rejected bytes cause)
     ⊎ ((s : WavSpecEx) × (len : ℕ) × (h : ℕ) × Head bytes s len h
     × (head_fault s len h ≡ Some fault))
 
@@ -61,7 +61,7 @@ NamesFault e too_long = e ≡ TooLong
 
 -- an error of appending to the file in a medium, or of repairing it, over every medium
 abbrev pub IsMediumError : Error → Type 0
-IsMediumError e = (e ≡ TooLong) ⊎ IsRefusal e (λ _. ⊤)
+IsMediumError e = (e ≡ TooLong) ⊎ IsRejection e (λ _. ⊤)
 
 -- the same of a file on disk, for whose buffer there may be no memory
 abbrev pub IsFileError : Error → Type 0

@@ -4,7 +4,7 @@ use Rattle.hound_spec.specs.declared.error.Error.{Error}
 use Rattle.hound_spec.specs.declared.spec.WavSpecEx.{WavSpecEx}
 use Rattle.hound_spec.specs.{data_start}
 use Rattle.hound_medium.specs.{MediumState, WhereTells}
-use Rattle.hound_sample.specs.{Refusal}
+use Rattle.hound_sample.specs.{Rejection}
 use Rattle.hound_writer.specs.Accepting.{Accepts, mark_of}
 use Rattle.hound_writer.specs.Appending.{Appends}
 use Rattle.hound_writer.specs.Beginning.{Begins}
@@ -14,7 +14,7 @@ use Rattle.hound_writer.specs.Writer.{Ghosts, WriterState, IsWhole, accepted_sam
 -- What a call asks of a writer: to accept these containers, or none, with the reason; or to publish
 -- what was accepted, by a flush or an end.
 pub data Asked : Type 0 where
-  write : Result (List (List ℕ)) Refusal → Asked
+  write : Result (List (List ℕ)) Rejection → Asked
   publish : Asked
 
 -- A call: what it asked, what it returned, and the length of the medium's past when it began.
@@ -54,8 +54,8 @@ abbrev pub marked : Asked → Bool → Known
 marked asked mark = record { asked = asked; of_result = mark_seen mark }
 
 -- a call with this result
-abbrev pub answered : Asked → Result (Unit {0}) Error → Known
-answered asked answer = record { asked = asked; of_result = result_seen answer }
+abbrev pub returned : Asked → Result (Unit {0}) Error → Known
+returned asked answer = record { asked = asked; of_result = result_seen answer }
 
 -- this is known of a call
 abbrev pub IsKnown : Known → Call → Type 0

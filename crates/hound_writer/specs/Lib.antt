@@ -1,11 +1,11 @@
 -- The words of this crate, for those above it. The file is made by `scripts/make_words`.
-pub use Rattle.hound_writer.specs.Accepting.{AcceptAnswer, Accepts, AcceptsBytes, AcceptsEach, Adds, AddsAtEach, AddsToFile, AreI16, FitAnswer, IsIoError, IsPublishing, IsStored, OnPublished, OnRefused, StaysStored, StaysTrue, UnlessFailed, container_in, containers_in, faults_told, i16_bytes, if_marked, mark_of, one, sample_bytes, whole_containers}
+pub use Rattle.hound_writer.specs.Accepting.{AcceptAnswer, Accepts, AcceptsBytes, AcceptsEach, Adds, AddsAtEach, AddsToFile, AreI16, FitAnswer, IsIoError, IsPublishing, IsStored, OnPublished, OnRejected, StaysStored, StaysTrue, UnlessFailed, container_in, containers_in, faults_reported, i16_bytes, if_marked, mark_of, one, sample_bytes, whole_containers}
 pub use Rattle.hound_writer.specs.Appending.{AnswersAppend, AppendAnswer, AppendFault, Appends, FailsCheck, FollowsData, HasOneAppendAnswer, IsAppendFault, IsFileError, IsMediumError, IsNotAppended, NamesFault, PutsNothing, appendable, by_bytes, faulty, too_long}
 unfoldable pub use Rattle.hound_writer.specs.Appending.{head_fault}
 pub use Rattle.hound_writer.specs.Batch.{IsSameFile, WritesToBatch, batch_bytes, batch_lender, batch_writer, remaining}
 pub use Rattle.hound_writer.specs.Beginning.{Begins, BeginsFile, HasBegun, IsNotBegun, PutsHeader}
 pub use Rattle.hound_writer.specs.Parts.{CountsAtMost, GoesAtEach, GoesOut, GoesToFile, HasSize, IsConsistent, IsLimit, IsPatched, IsPublishResult, Patches, PatchesAtEach, PutsAt, StaysAround, after_out, all_out, memory_bytes, of_fields, or_fault}
-pub use Rattle.hound_writer.specs.Calls.{AreKnown, Asked, Begun, Call, Does, Ends, Extends, HadData, HasSameCalls, IsKnown, IsSeen, Known, Lead, LeftBy, Opens, RecordedBy, Seen, answered, appended, asked_by_all, found_in, handed_in, made, mark_seen, marked, new_file, publish, result_seen, start_of, unseen, with_memory, write}
+pub use Rattle.hound_writer.specs.Calls.{AreKnown, Asked, Begun, Call, Does, Ends, Extends, HadData, HasSameCalls, IsKnown, IsSeen, Known, Lead, LeftBy, Opens, RecordedBy, Seen, appended, asked_by_all, found_in, handed_in, made, mark_seen, marked, new_file, publish, result_seen, returned, start_of, unseen, with_memory, write}
 unfoldable pub use Rattle.hound_writer.specs.Calls.{Left, Recorded}
 pub use Rattle.hound_writer.specs.Writer.{AreFrames, ChangesSizesOnly, Counts, Ghosts, HasHeader, HasRoom, HasSameSamples, IsBegun, IsCounted, IsPadded, IsSixteen, IsSound, IsValid, IsWhole, ReadsFirst, SameButSizes, WriterState, accepted_bytes, accepted_samples, block_length, data_end, data_length, field, padded_end, sample_count}
 unfoldable pub use Rattle.hound_writer.specs.Writer.{with_sizes}

@@ -86,13 +86,13 @@ ThenGoesOn (Err error) mid new result = (result ≡ Err error) × (new ≡ mid)
 
 -- what the call for what comes next does
 abbrev pub Advances : Report → Recorder → Recorder → Result (Option Action) RecorderError → Type 0
-Advances report old new result = (mid : Recorder) × (told : Result (Unit {0}) RecorderError)
-    × Settles report old mid told × ThenGoesOn told mid new result
+Advances report old new result = (mid : Recorder) × (outcome : Result (Unit {0}) RecorderError)
+    × Settles report old mid outcome × ThenGoesOn outcome mid new result
 
 -- what was under way is reported, and given up
 abbrev pub Abandons : Report → Recorder → Recorder → Type 0
-Abandons report old new = (mid : Recorder) × (told : Result (Unit {0}) RecorderError)
-    × Settles report old mid told × GivesUp mid new
+Abandons report old new = (mid : Recorder) × (outcome : Result (Unit {0}) RecorderError)
+    × Settles report old mid outcome × GivesUp mid new
 
 -- what the call for a checkpoint does
 abbrev pub AsksForCheckpoint : Report → Recorder → Recorder → Type 0

@@ -28,7 +28,7 @@ pub record PutsAt {T E : Type 0} (keeps : Bool) (at : ℕ) (bytes : List ℕ) (r
 
 -- there are four bytes at p, after the RIFF size
 pub record HasSize (p : ℕ) (contents : List ℕ) : Type 0 where
-  pub behind : 8 ≤ p
+  pub beyond : 8 ≤ p
   pub inside : p + 4 ≤ length contents
   pub small : AreBytes contents
 
@@ -65,9 +65,9 @@ pub record CountsAtMost (s : WavSpecEx) (start n : ℕ) (contents : List ℕ) : 
 
 -- the result of a call that has patched the header, or met a fault: Ok exactly for whole frames
 abbrev pub IsPublishResult : Result (Unit {0}) IoFault → Bool → Result (Unit {0}) Error → Type 0
-IsPublishResult (Err e) are_frames told = told ≡ Err (IoError e)
-IsPublishResult (Ok x) true told = told ≡ Ok x
-IsPublishResult (Ok x) false told = told ≡ Err UnfinishedSample
+IsPublishResult (Err e) are_frames modelled = modelled ≡ Err (IoError e)
+IsPublishResult (Ok x) true modelled = modelled ≡ Ok x
+IsPublishResult (Ok x) false modelled = modelled ≡ Err UnfinishedSample
 
 -- Ok if all were written, else an Err
 abbrev pub all_out : Bool → Result (Unit {0}) (Unit {0})
@@ -113,7 +113,7 @@ pub record GoesAtEach {W : Type 0} (state : W → MediumState) (old : WriterStat
   pub front : Span
       (λ _ c. take old.data_start c ≡ take old.data_start (state old.medium).contents) 0
       (state old.medium) new
-  pub behind : PutsFrom old.data_start (state old.medium) new
+  pub beyond : PutsFrom old.data_start (state old.medium) new
 
 -- The buffered samples are written, and then perhaps bytes up to `end`; or a beginning of all that
 -- if the medium fails, and then all samples stay buffered.

@@ -10,7 +10,7 @@ use Rattle.hound_sample.specs.{containers}
 use Rattle.hound_medium.specs.{moment, MediumState, WhereTells, WhereKeeps, Span}
 use Rattle.hound_durable.specs.{place_of}
 use Rattle.hound_walk.specs.{Readable}
-use Rattle.hound_writer.specs.Accepting.{IsPublishing, OnPublished, faults_told, StaysStored}
+use Rattle.hound_writer.specs.Accepting.{IsPublishing, OnPublished, faults_reported, StaysStored}
 use Rattle.hound_writer.specs.Writer.{Ghosts, Counts, ChangesSizesOnly, field, WriterState, HasSameSamples, IsWhole, IsBegun, IsPadded, HasHeader, accepted_samples, data_end, data_length, padded_end}
 
 -- The contents are read as exactly these samples, with this spec, from this place on.
@@ -27,7 +27,7 @@ pub record ReadsAs (s : WavSpecEx) (start : ℕ) (samples : List (List ℕ))
 -- header is then the canonical one.
 pub record Publishes {W : Type 0} (state : W → MediumState) (w : WriterState W)
     (answer : Result (Unit {0}) Error) (end : W) : Type 0 where
-  pub faults : (state end).faults ≡ faults_told answer (state w.medium).faults
+  pub faults : (state end).faults ≡ faults_reported answer (state w.medium).faults
   pub front : ChangesSizesOnly w.data_start (state w.medium).contents (state end).contents
   pub bytes_written : IsWhole state w →
       take w.bytes_written (drop w.data_start (state end).contents)

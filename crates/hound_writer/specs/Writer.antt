@@ -33,7 +33,7 @@ with_sizes p size data_length contents =
 pub record SameButSizes (p : ℕ) (old new : List ℕ) : Type 0 where
   pub front : take 4 new ≡ take 4 old
   pub middle : drop 8 (take p new) ≡ drop 8 (take p old)
-  pub behind : drop (p + 4) new ≡ drop (p + 4) old
+  pub beyond : drop (p + 4) new ≡ drop (p + 4) old
   pub long : length new ≡ length old
 
 -- what reading gives, by the fault of a data length n: exactly the first n bytes of the accepted

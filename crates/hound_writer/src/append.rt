@@ -21,13 +21,13 @@ fn check_head(head: FileHead) -> Result<()>
     let spec = head.spec_ex.spec;
     let width = head.spec_ex.bytes_per_sample;
     if head.data_length % width as u32 != 0 {
-        return Err(error_of(HeadError::Refused(Cause::Format(Reason::DataLength))));
+        return Err(error_of(HeadError::Rejected(Cause::Format(Reason::DataLength))));
     }
     if !is_pair(spec.sample_format, spec.bits_per_sample, width) {
         return Err(Error::Unsupported);
     }
     if head.data_length / width as u32 % spec.channels as u32 != 0 {
-        return Err(error_of(HeadError::Refused(Cause::Format(Reason::FrameLength))));
+        return Err(error_of(HeadError::Rejected(Cause::Format(Reason::FrameLength))));
     }
     if !riff_size_fits(head.data_start, head.data_length as u64) {
         return Err(Error::TooLong);
@@ -45,8 +45,8 @@ pub(crate) fn append_at<W: Medium>(
     requires head { WhereTells W.tells
         (Head (W.state writer).contents head.spec_ex head.data_length head.data_start) }
     ensures appends { MatchResult result (Appends W.Placed (W.state writer))
-        (λ refused. WhereTells W.tells (IsNotAppended (W.state writer) (W.state refused.0) refused.1)) }
-    ensures told { IfErr result (λ refused. IsMediumError refused.1) }
+        (λ rejected. WhereTells W.tells (IsNotAppended (W.state writer) (W.state rejected.0) rejected.1)) }
+    ensures reported { IfErr result (λ rejected. IsMediumError rejected.1) }
 {
     if let Err(error) = check_head(head) {
         return Err((writer, error));
@@ -72,7 +72,7 @@ impl<W: Source + Medium> WavWriter<W> {
         requires { WhereTells W.tells ((W.state writer).place ≡ 0) }
         ensures appends { MatchResult result (Appends W.Placed (W.state writer))
             (λ e. (back : W) × WhereTells W.tells (IsNotAppended (W.state writer) (W.state back) e)) }
-        ensures told { IfErr result IsMediumError }
+        ensures reported { IfErr result IsMediumError }
         ensures recorded { IfOk result (λ w. WhereTells W.tells (IsWhole W.state w) →
             Recorded W.Placed w.spec_ex (appended (W.state writer) w.data_start
             (accepted_samples W.state w)) [] w) }
@@ -95,8 +95,8 @@ impl<W: Source + Medium> WavWriter<W> {
     pub fn try_append(writer: W) -> result::Result<WavWriter<W>, (W, Error)>
         requires { WhereTells W.tells ((W.state writer).place ≡ 0) }
         ensures appends { MatchResult result (Appends W.Placed (W.state writer))
-            (λ refused. WhereTells W.tells (IsNotAppended (W.state writer) (W.state refused.0) refused.1)) }
-        ensures told { IfErr result (λ refused. IsMediumError refused.1) }
+            (λ rejected. WhereTells W.tells (IsNotAppended (W.state writer) (W.state rejected.0) rejected.1)) }
+        ensures reported { IfErr result (λ rejected. IsMediumError rejected.1) }
         ensures recorded { IfOk result (λ w. WhereTells W.tells (IsWhole W.state w) →
             Recorded W.Placed w.spec_ex (appended (W.state writer) w.data_start
             (accepted_samples W.state w)) [] w) }

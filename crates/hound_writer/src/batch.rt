@@ -98,7 +98,7 @@ impl<W: Medium> Output<W> {
         ensures long { IfOk result (λ memory. num_samples ≤ length memory.items) }
         ensures length { IfOk result (λ memory. length (i16_bytes memory.items)
             ≡ max (length self.old.batch_memory) (2 * num_samples)) }
-        ensures refused { IfErr result (λ e. (e ≡ OutOfMemory) × (self.new ≡ self.old)
+        ensures rejected { IfErr result (λ e. (e ≡ OutOfMemory) × (self.new ≡ self.old)
             × (length self.old.batch_memory < 2 * num_samples)) }
     {
         let mut memory = self.batch_memory.take().unwrap_or(Vec::new(alloc));

@@ -62,7 +62,7 @@ fn open_until_data(
 ) -> Result<(fs::File, FileHead)>
     ensures sound { IfOk result (λ found. IsSoundSpec found.1.spec_ex) }
     ensures start { IfOk result (λ found. IsDataPlace found.1.data_start) }
-    ensures told { IfErr result IsFileError }
+    ensures reported { IfErr result IsFileError }
 {
     let mut file = fs::OpenOptions::new()
         .read(true)
@@ -136,7 +136,7 @@ impl WavWriter<io::BufWriter<fs::File>> {
     ) -> Result<WavWriter<io::BufWriter<fs::File>>>
         ensures sound { IfOk result (λ w. IsSound w) }
         ensures fresh { IfOk result (λ w. (w.buffered ≡ []) × (w.batch_memory ≡ [])) }
-        ensures told { IfErr result IsFileError }
+        ensures reported { IfErr result IsFileError }
     {
         let (file, head) = open_until_data(rt, alloc, path)?;
         let writer = buffered(alloc, file)?;
@@ -196,7 +196,7 @@ impl WavWriter<Durable<SyncedFile>> {
     ) -> Result<WavWriter<Durable<SyncedFile>>>
         ensures sound { IfOk result (λ w. IsSound w) }
         ensures fresh { IfOk result (λ w. (w.buffered ≡ []) × (w.batch_memory ≡ [])) }
-        ensures told { IfErr result IsFileError }
+        ensures reported { IfErr result IsFileError }
     {
         let (file, head) = open_until_data(rt, alloc, path)?;
         let writer = synced(rt, alloc, path, file)?;

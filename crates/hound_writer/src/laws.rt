@@ -81,18 +81,18 @@ pub fn a_recorder_directs()
         × (TakesBlock samples end new (Ok tt) → Directed s file known new m) }
     ensures performed { (s : WavSpecEx) (file : Begun) (known : List Known) (old mid new : Recorder)
         (m : MediumState) (end : Log) (effect : Effect) (result : Result Unit IoFault)
-        (told : Result Unit RecorderError) → Directed s file known old m
+        (outcome : Result Unit RecorderError) → Directed s file known old m
         → GoesOn old mid (Ok (Some (Perform effect))) → Performs effect result m end.state
-        → HasEnded (is_ok result) mid new told → Directed s file (known ++ cut_known told) new end.state }
+        → HasEnded (is_ok result) mid new outcome → Directed s file (known ++ cut_known outcome) new end.state }
     ensures wrote { (s : WavSpecEx) (file : Begun) (known : List Known) (old new : Recorder)
         (m : MediumState) (end : Log) (bytes : List ℕ) (result : Result Unit IoFault)
-        (told : Result Unit RecorderError) → Directed s file known old m → old.task ≡ 3 → old.has_rest ≡ 0
+        (outcome : Result Unit RecorderError) → Directed s file known old m → old.task ≡ 3 → old.has_rest ≡ 0
         → length bytes ≡ old.samples * old.bytes_per_sample → PutsAt true (end_of old) bytes result m end.state
-        → HasEnded (is_ok result) old new told
+        → HasEnded (is_ok result) old new outcome
         → Directed s file (known ++ block_known bytes (is_ok result) s ∷ []) new end.state }
     ensures cut { (s : WavSpecEx) (file : Begun) (known : List Known) (old new : Recorder) (m : MediumState)
-        (ok : Bool) (told : Result Unit RecorderError) → Directed s file known old m → 0 < old.has_rest
-        → HasEnded ok old new told → Directed s file known new m }
+        (ok : Bool) (outcome : Result Unit RecorderError) → Directed s file known old m → 0 < old.has_rest
+        → HasEnded ok old new outcome → Directed s file known new m }
     ensures handed { (s : WavSpecEx) (file : Begun) (known : List Known) (old new : Recorder)
         (m : MediumState) (place len : ℕ) → Directed s file known old m
         → GoesOn old new (Ok (Some (WriteBlock place len))) → (place ≡ end_of new)

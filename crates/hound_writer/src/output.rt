@@ -57,7 +57,7 @@ impl<W: Medium> Model for Output<W> {
 // Below how many buffered bytes a block has room for a sample of any width, if this many bytes are
 // written: 0 if a whole block more might not fit the RIFF size.
 fn fast_path_limit_of(data_start: u64, data_bytes_written: u32) -> usize
-    requires behind { 8 ≤ data_start }
+    requires beyond { 8 ≤ data_start }
     requires small { data_start ≤ 2 ^ 33 }
     ensures room { IsLimit data_start data_bytes_written result }
 {
@@ -230,7 +230,7 @@ impl<W: Medium> Output<W> {
                 }
                 self.accept_slowly(container, fault)
             }
-            Err(refusal) => Err(reason_of(refusal)),
+            Err(rejection) => Err(reason_of(rejection)),
         }
     }
 

@@ -26,7 +26,7 @@ pub fn patch<M: Medium>(
     riff_size: u32,
     data_length: u32,
 ) -> io::Result<()>
-    requires behind { 8 ≤ data_len_offset }
+    requires beyond { 8 ≤ data_len_offset }
     requires inside { WhereTells M.tells (data_len_offset + 4
         ≤ length (M.state medium.old).contents) }
     ensures patches { WhereTells M.tells (Patches data_len_offset riff_size data_length result

@@ -122,7 +122,7 @@ impl Recorder {
     // The data length, where a file can have it.
     fn check_length(&self, length: u64) -> Result<u32, RecorderError>
         ensures is { IfOk result (λ n. (n ≡ length) × HasData self.now length) }
-        ensures refused { IfErr result (HasNoData self.now length) }
+        ensures rejected { IfErr result (HasNoData self.now length) }
     {
         if self.data_start < 20 || self.bytes_per_sample == 0 {
             return Err(RecorderError::NotWritable);
@@ -137,7 +137,7 @@ impl Recorder {
     fn length_with(&self, samples: u64) -> Result<u32, RecorderError>
         ensures is { IfOk result (λ n. (n ≡ length_with self.now samples)
             × Places self.now samples (Ok (self.now.data_start + self.now.data_length))) }
-        ensures refused { IfErr result (λ error. Places self.now samples (Err error)) }
+        ensures rejected { IfErr result (λ error. Places self.now samples (Err error)) }
     {
         if self.condition > 1 {
             return Err(RecorderError::SyncFailed);

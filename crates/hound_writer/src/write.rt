@@ -78,7 +78,7 @@ impl<W: Medium> WavWriter<W> {
     ghost use Rattle.hound_medium.specs.{WhereTells};
     ghost use Rattle.hound_writer.specs.Accepting.{Accepts, mark_of, container_in, containers_in};
     ghost use Rattle.hound_writer.specs.Beginning.{Begins, IsNotBegun};
-    ghost use Rattle.hound_writer.specs.Calls.{Ends, Extends, Recorded, answered, made, marked, new_file, publish, write};
+    ghost use Rattle.hound_writer.specs.Calls.{Ends, Extends, Recorded, returned, made, marked, new_file, publish, write};
     ghost use Rattle.hound_spec.specs.declared.spec.WavSpecEx.{WavSpecEx};
     ghost use Rattle.hound_writer.specs.Publishing.{Checkpoints, Finishes};
     ghost use Rattle.hound_writer.specs.Writer.{IsValid, sample_count};
@@ -125,7 +125,7 @@ impl<W: Medium> WavWriter<W> {
     pub fn try_new(writer: W, spec_ex: WavSpecEx) -> result::Result<WavWriter<W>, (W, Error)>
         requires { WhereTells W.tells ((W.state writer).place ≡ 0) }
         ensures begins { MatchResult result (Begins W.Placed spec_ex (W.state writer))
-            (λ refused. IsNotBegun W.Placed spec_ex writer refused.0 refused.1) }
+            (λ rejected. IsNotBegun W.Placed spec_ex writer rejected.0 rejected.1) }
         ensures recorded { IfOk result
             (Recorded W.Placed spec_ex (new_file (W.state writer)) []) }
     {
@@ -207,7 +207,7 @@ impl<W: Medium> WavWriter<W> {
         ensures checkpoints { Checkpoints W.Placed result self.old self.new }
         ensures recorded { Extends W.Placed (λ _. made publish) self.old self.new }
         ensures marked { Extends W.Placed (λ _. marked publish (mark_of result)) self.old self.new }
-        ensures answered { Extends W.Placed (λ _. answered publish result) self.old self.new }
+        ensures returned { Extends W.Placed (λ _. returned publish result) self.old self.new }
     {
         self.output.publish_all(true, &mut self.fault)
     }
@@ -221,7 +221,7 @@ impl<W: Medium> WavWriter<W> {
         ensures left { (end : W) × Ends W.Placed (made publish) self end }
         ensures marked { (end : W)
             × Ends W.Placed (marked publish (mark_of result)) self end }
-        ensures answered { (end : W) × Ends W.Placed (answered publish result) self end }
+        ensures returned { (end : W) × Ends W.Placed (returned publish result) self end }
     {
         let (_, result) = self.finalize_into();
         result
@@ -244,7 +244,7 @@ impl<W: Medium> WavWriter<W> {
         ensures finishes { Finishes W.Placed self result.1 result.0 }
         ensures left { Ends W.Placed (made publish) self result.0 }
         ensures marked { Ends W.Placed (marked publish (mark_of result.1)) self result.0 }
-        ensures answered { Ends W.Placed (answered publish result.1) self result.0 }
+        ensures returned { Ends W.Placed (returned publish result.1) self result.0 }
     {
         let WavWriter {
             mut output,

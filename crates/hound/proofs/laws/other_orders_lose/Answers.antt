@@ -6,5 +6,5 @@ returns-clause-riff c w end none sound at_most other did leaves =
     riff_left_out w end none sound at_most other did leaves
 
 pub returns-clause-synced : goal.returns-clause-synced
-returns-clause-synced c at i bytes old new result from to behind puts some ascends =
-    not_synced at i bytes result old new from to behind puts some ascends
+returns-clause-synced c at i bytes old new result from to beyond puts some ascends =
+    not_synced at i bytes result old new from to beyond puts some ascends

@@ -3,7 +3,7 @@ use Rattle.std.proofs.lemmas.Result.{on_ok_weaker}
 use Rattle.hound.specs.declared.session.Begin.TheVariants.{New}
 use Rattle.hound.specs.Sessions.{RunsOn, RunsOnce}
 use Rattle.hound.proofs.Running.{is_ok}
-use Rattle.hound.proofs.WholeSessions.{leave, sessions_answered}
+use Rattle.hound.proofs.WholeSessions.{leave, sessions_returned}
 use Rattle.hound.proofs.sessions.run_sessions.Goals as goal
 
 pub returns-in-Err : goal.returns-in-Err
@@ -21,13 +21,13 @@ returns-in-Err g c =
     )) in
     record {
       sessions = runs;
-      answered = sessions_answered W c.args.spec_ex c.args.medium _
-          (λ told m. g.met.M.Placed.bytes m told) c.requires c.args.sessions.now
+      returned = sessions_returned W c.args.spec_ex c.args.medium _
+          (λ modelled m. g.met.M.Placed.bytes m modelled) c.requires c.args.sessions.now
           (Err c.in-Err.error) runs;
       canonical = λ _ _. tt;
       exact = λ _ _ _. tt;
-      stops = λ told. (leave W c.args.spec_ex c.args.medium _ told
-          (λ m. g.met.M.Placed.bytes m told) (c.requires told) c.args.sessions.now
+      stops = λ modelled. (leave W c.args.spec_ex c.args.medium _ modelled
+          (λ m. g.met.M.Placed.bytes m modelled) (c.requires reported) c.args.sessions.now
           (Err c.in-Err.error) runs).stops;
     }
 
@@ -46,14 +46,14 @@ returns g c =
           (New c.args.spec_ex) c.in-Some.first.now.now c.args.medium r run.result.0) ok run.ensures,
       on.ensures,
     )) in
-    let left = λ (told : IsTrue W.tells). leave W c.args.spec_ex c.args.medium on.result.0 told
-    (λ m. g.met.M.Placed.bytes m told) (c.requires told) c.args.sessions.now on.result.1 runs in
+    let left = λ (modelled : IsTrue W.tells). leave W c.args.spec_ex c.args.medium on.result.0 modelled
+    (λ m. g.met.M.Placed.bytes m modelled) (c.requires reported) c.args.sessions.now on.result.1 runs in
     record {
       sessions = runs;
-      answered = sessions_answered W c.args.spec_ex c.args.medium _
-          (λ told m. g.met.M.Placed.bytes m told) c.requires c.args.sessions.now on.result.1 runs;
-      canonical = λ told some. on_ok_weaker on.result.1 (λ both. both.0) ((left told).file some);
-      exact = λ told some empty.
-          on_ok_weaker on.result.1 (λ both. both.1 empty) ((left told).file some);
-      stops = λ told. (left told).stops;
+      returned = sessions_returned W c.args.spec_ex c.args.medium _
+          (λ modelled m. g.met.M.Placed.bytes m modelled) c.requires c.args.sessions.now on.result.1 runs;
+      canonical = λ modelled some. on_ok_weaker on.result.1 (λ both. both.0) ((left modelled).file some);
+      exact = λ modelled some empty.
+          on_ok_weaker on.result.1 (λ both. both.1 empty) ((left modelled).file some);
+      stops = λ modelled. (left modelled).stops;
     }

@@ -2,7 +2,7 @@ use Rattle.std.proofs.Common.{◌≡◌, false, if◌then◌else◌, Err, refl, 
 use Rattle.hound_spec.specs.declared.error.Error.TheVariants.{Unsupported}
 use Rattle.hound_sample.specs.{int_container, unsupported}
 use Rattle.hound_writer.specs.{Accepts, containers_in}
-use Rattle.hound_writer.proofs.Accepting.{accepts_refused}
+use Rattle.hound_writer.proofs.Accepting.{accepts_rejected}
 use Rattle.hound.specs.Run.{is_sixteen}
 use Rattle.hound.proofs.steps.write_batch.Goals as goal
 
@@ -14,5 +14,5 @@ returns-then-not-is_sixteen g c =
     subst (λ b. Accepts W
     (if b then containers_in int_container old.spec_ex c.args.values.now else Err unsupported)
     (Err Unsupported) old old) (sym other)
-    (accepts_refused W old (Err unsupported) Unsupported
+    (accepts_rejected W old (Err unsupported) Unsupported
     c.spec.ensures.valid.counts (g.met.M.Medium.replays old.medium) refl (λ _. refl) refl)

@@ -20,10 +20,10 @@ no_fault : {T E : Type 0} (r : Result T E) (n : ℕ) → ((e : E) → r ≡ Err 
 no_fault (Ok x) n fine = refl
 no_fault (Err e) n fine = absurd (fine e refl)
 
-refused : {M : Type 0} (state : M → MediumState) (old : M) (r : Result (M × Repair) (M × Error))
+rejected : {M : Type 0} (state : M → MediumState) (old : M) (r : Result (M × Repair) (M × Error))
     (e : M × Error) → r ≡ Err e → IsNotRepaired true (state old) (state e.0) e.1
     → RepairsMedium true state old r
-refused state old r e is not = subst (RepairsMedium true state old) (sym is) not
+rejected state old r e is not = subst (RepairsMedium true state old) (sym is) not
 
 -- a repair after calls that wrote nothing and didn't fail is one of what there was before them
 module _ (looks : Bool) (old mid new : MediumState) (puts : PutsNothing old mid)
@@ -78,30 +78,30 @@ module _ (looks : Bool) (old mid new : MediumState) (puts : PutsNothing old mid)
       why (inr (io, left, one)) = inr (io, half left, one ∙ ap one_more faults)
 
 pub returns-in_err-medium-2 : goal.returns-in_err-medium-2
-returns-in_err-medium-2 g c told =
+returns-in_err-medium-2 g c modelled =
     let state = g.M.Placed.state in
     let old = state c.args.medium in
     let seen = state c.in_ok-medium.medium in
     let mid = state c.go.new.self in
-    let look = c.in_ok-medium.ensures.found told in
-    let went = c.go.ensures told in
+    let look = c.in_ok-medium.ensures.found modelled in
+    let went = c.go.ensures reported in
     let puts = both old seen mid look.puts (record { stays = went.stays; flushed = went.flushed }) in
     let faults = went.faults ∙ no_fault c.go.result seen.faults c.in_default.not-Err ∙ look.faults in
     let e = c.in_err-medium-2.field-0.0 in
-    refused state c.args.medium c.from_residual-in_err-medium-2.result e (search rules)
-    (not_repaired true old mid (state e.0) puts faults e.1 (c.in_err-medium-2.ensures.repaired told))
+    rejected state c.args.medium c.from_residual-in_err-medium-2.result e (search rules)
+    (not_repaired true old mid (state e.0) puts faults e.1 (c.in_err-medium-2.ensures.repaired modelled))
 
 pub returns : goal.returns
-returns g c told =
+returns g c modelled =
     let state = g.M.Placed.state in
     let old = state c.args.medium in
     let seen = state c.in_ok-medium.medium in
     let mid = state c.go.new.self in
-    let look = c.in_ok-medium.ensures.found told in
-    let went = c.go.ensures told in
+    let look = c.in_ok-medium.ensures.found modelled in
+    let went = c.go.ensures reported in
     let puts = both old seen mid look.puts (record { stays = went.stays; flushed = went.flushed }) in
     let faults = went.faults ∙ no_fault c.go.result seen.faults c.in_default.not-Err ∙ look.faults in
-    let done = c.in_ok-medium-2.ensures.repaired told in
+    let done = c.in_ok-medium-2.ensures.repaired modelled in
     let same = c.a_look_finds_what_a_repair_does.ensures.found true old seen mid _ _ _ look
     puts.stays.contents done in
     subst (λ found. Repairs true old found (state c.in_ok-medium-2.medium)) same

@@ -14,14 +14,14 @@ left : {R : Type 0} (now : R → List ℕ) (s : WavSpecEx) (list : List (List �
     → OpensAs result (λ r. (r.spec_ex ≡ s) × (r.num_samples ≡ length list))
     → OpensAs result (λ r. (r.spec_ex ≡ s) × (r.num_samples ≡ length list)
     × (containers s.bytes_per_sample (length list) (now r.reader) ≡ list))
-left now s list start bytes (Ok r) (a, _, one) (read, same) (h, found, behind) (spec, samples) =
+left now s list start bytes (Ok r) (a, _, one) (read, same) (h, found, beyond) (spec, samples) =
     let here = one (readable r.spec_ex r.num_samples h) found in
     let there = one (readable s (length list) start) read in
     let place : h ≡ start = cc in (
       spec,
       samples,
       ap (λ rest. containers s.bytes_per_sample (length list) rest)
-          (behind ∙ ap (λ k. drop k bytes) place) ∙ same,
+          (beyond ∙ ap (λ k. drop k bytes) place) ∙ same,
     )
 left now s list start bytes (Err (IoError e)) one read found opens = tt
 left now s list start bytes (Err _) one read found opens = absurd opens

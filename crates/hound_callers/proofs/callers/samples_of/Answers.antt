@@ -1,21 +1,21 @@
 use Rattle.std.proofs.Common.{◌≡◌, ℕ, List, [], ◌∷◌, ◌++◌, length, map, drop, Option, None, Some, Result, Ok, Err, IsErrAnd, MatchResult, ◌⊎◌, inl, refl, sym, ap, subst, ◌∙◌}
 use Rattle.std.proofs.lemmas.List.{length-map, map-append}
 use Rattle.std.proofs.lemmas.Option.{IfSome_then}
-use Rattle.hound.specs.{AreItems, Error, GivesItems, IsIoError, IsNext, ReaderState, ReadRefusal, containers, meaning_at, taken_reader}
+use Rattle.hound.specs.{AreItems, Error, GivesItems, IsIoError, IsNext, ReaderState, ReadRejection, containers, meaning_at, taken_reader}
 use Rattle.hound.specs.declared.Error.TheVariants.{IoError, OutOfMemory}
 use Rattle.hound.specs.declared.SampleFormat.{SampleFormat}
 use Rattle.hound_callers.proofs.callers.samples_of.Goals as goal
 
 -- items, and one more
 module _ {R A : Type 0} (left : R → Option (List ℕ))
-    (refusal : SampleFormat → ℕ → ℕ → Option ReadRefusal)
+    (rejection : SampleFormat → ℕ → ℕ → Option ReadRejection)
     (meaning : SampleFormat → ℕ → ℕ → List ℕ → A) where
   one_more : (items : List (Result A Error)) (item : Result A Error) (old mid new : ReaderState R)
-      → GivesItems left refusal meaning items old mid
-      → IsNext left refusal meaning (Some item) mid new
-      → GivesItems left refusal meaning (items ++ item ∷ []) old new
+      → GivesItems left rejection meaning items old mid
+      → IsNext left rejection meaning (Some item) mid new
+      → GivesItems left rejection meaning (items ++ item ∷ []) old new
   one_more [] item old mid new is next =
-      (new, subst (λ r. IsNext left refusal meaning (Some item) r new) is next, refl)
+      (new, subst (λ r. IsNext left rejection meaning (Some item) r new) is next, refl)
   one_more (first ∷ items) item old mid new (then, given, others) next =
       (then, given, one_more items item then mid new others next)
 
@@ -45,20 +45,20 @@ failed P (Err r) e is holds = inl (subst IsIoError (sym is) holds)
 pub loop-sample-preserved : goal.loop-sample-preserved
 loop-sample-preserved g c =
     let left = g.R.Read.remaining in
-    let refusal = g.S.Sample.refusal in
+    let rejection = g.S.Sample.rejection in
     let meaning = g.S.Sample.meaning in
     let old = taken_reader c.loop-sample.sample-iterator in
     let new = taken_reader c.next.new.self in
     rw (c.in_ok-push.ensures.items, map-append)
-    (one_more left refusal meaning (map Ok c.loop-sample.samples.items) (Ok c.in_ok-sample.field-0)
+    (one_more left rejection meaning (map Ok c.loop-sample.samples.items) (Ok c.in_ok-sample.field-0)
     c.args.reader old new c.loop-sample.invariant
-    (subst (λ item. IsNext left refusal meaning (Some item) old new) c.in_ok-sample.was
+    (subst (λ item. IsNext left rejection meaning (Some item) old new) c.in_ok-sample.was
     c.in-Some.ensures.steps))
 
 pub returns-in_err-sample : goal.returns-in_err-sample
 returns-in_err-sample g c =
     let left = g.R.Read.remaining in
-    let refusal = g.S.Sample.refusal in
+    let rejection = g.S.Sample.rejection in
     let meaning = g.S.Sample.meaning in
     let s = c.args.reader.spec_ex in
     let items = c.loop-sample.samples.items in
@@ -67,9 +67,9 @@ returns-in_err-sample g c =
     let e = c.in_err-sample.field-0.0 in
     IfSome_then (left c.args.reader.reader)
     (c.items_are_of_the_file.ensures.items (map Ok items ++ Err e ∷ []) c.args.reader new
-    (one_more left refusal meaning (map Ok items) (Err e) c.args.reader old new
+    (one_more left rejection meaning (map Ok items) (Err e) c.args.reader old new
     c.loop-sample.invariant
-    (subst (λ item. IsNext left refusal meaning (Some item) old new) c.in_err-sample.was
+    (subst (λ item. IsNext left rejection meaning (Some item) old new) c.in_err-sample.was
     c.in-Some.ensures.steps)))
     (λ bytes are none. failed _ c.from_residual.result e c.from_residual.ensures.1
     (last_fault (meaning_at meaning s) s.bytes_per_sample bytes items e (rw none at are)))

@@ -11,5 +11,5 @@ returns-clause-same g c known others other long gives =
     c.a_block_is_its_items.ensures.same samples others c.args.reader.now read.new.self other known
     (length-take-le count read.new.samples (omega (arith, read.ensures.within)) ∙ sym long)
     (subst (λ (r : Result (Unit {0}) Error). GivesItemsOfBytes g.R.Read.remaining
-    g.S.Sample.refusal g.S.Sample.meaning (items_of samples r) c.args.reader.now read.new.self)
+    g.S.Sample.rejection g.S.Sample.meaning (items_of samples r) c.args.reader.now read.new.self)
     c.in_ok-result.was read.ensures.items) gives

@@ -55,7 +55,7 @@ module _ {M : Type 0} (state : M → MediumState) (s : WavSpecEx) (len : ℕ) (o
       (spec, λ whole. omega (arith, start, out, whole, ap length same), all)
 
 pub returns-clause-begun : goal.returns-clause-begun
-returns-clause-begun g c told s size len rest writable none fits is =
+returns-clause-begun g c modelled s size len rest writable none fits is =
     let M = g.M.Placed in
     let old = M.state c.args.medium in
     let few : len ≤ greatest_u32 = omega (arith, fits) in
@@ -69,7 +69,7 @@ returns-clause-begun g c told s size len rest writable none fits is =
     MatchResult-weaker c.try_append.result c.try_append.ensures.appends
     (λ w appends.
     let (spec, whole, all) = opened M.state s len old answer head sound w appends.none_buffered
-    appends.sound (appends.file told) in (
+    appends.sound (appends.file modelled) in (
       spec,
       λ within. whole (omega (
         arith,
@@ -80,7 +80,7 @@ returns-clause-begun g c told s size len rest writable none fits is =
       )),
       all ∙ ap (containers s.bytes_per_sample (len / s.bytes_per_sample)) after,
     ))
-    (λ refused not. elim (not told).why [
+    (λ rejected not. elim (not modelled).why [
       | inl (fault, here, names, same) ↦
           let a = answer.2 (faulty fault) here in
           let b = this M.state s len old answer head sound in
@@ -90,7 +90,7 @@ returns-clause-begun g c told s size len rest writable none fits is =
     ])
 
 pub returns-clause-written : goal.returns-clause-written
-returns-clause-written g c told s list writable each fits is =
+returns-clause-written g c modelled s list writable each fits is =
     let (read, same) = c.written_is_read.ensures s list writable each in
     let n = length (concat list) in
     let size = riff_size (data_start s) n in
@@ -108,7 +108,7 @@ returns-clause-written g c told s list writable each fits is =
       ap (λ k. k * w) read.count,
     ) in
     MatchResult-weaker c.try_append.result
-    (returns-clause-begun g c told s size n rest writable
+    (returns-clause-begun g c modelled s size n rest writable
     (subst (λ k. data_fault s k ≡ None) long read.frames)
     (subst (λ k. riff_size (data_start s) k ≤ greatest_u32) (sym bytes) fits) is)
     (λ w (spec, whole, all). (
@@ -118,4 +118,4 @@ returns-clause-written g c told s list writable each fits is =
           ((ap (λ k. k / s.bytes_per_sample) (sym long) ∙ sym read.count) i)
           (sym (drop_at (header s size n) rest (data_start s) (length-header s size n)) i)) ∙ same,
     ))
-    (λ refused failed. failed)
+    (λ rejected failed. failed)

@@ -4,8 +4,8 @@ use Rattle.hound_callers.proofs.Mending.{at_end, effects_synced, if_err, is_cut_
 use Rattle.hound_callers.proofs.Performing.{log_of, saves}
 use Rattle.hound_callers.proofs.recorder.continue_by_effects.Goals as goal
 
-pub returns-in_err-mend-clause-refused : goal.returns-in_err-mend-clause-refused
-returns-in_err-mend-clause-refused g c = if_err c.from_residual-in_err-mend.result (λ error. inr (λ tells keeps is_found.
+pub returns-in_err-mend-clause-rejected : goal.returns-in_err-mend-clause-rejected
+returns-in_err-mend-clause-rejected g c = if_err c.from_residual-in_err-mend.result (λ error. inr (λ tells keeps is_found.
     let M = g.M.Placed in
     let f = c.args.found in
     let r = c.in_ok-continued.continued in

@@ -43,9 +43,9 @@ loop-action-preserved g c =
           let law = c.an_effect_may_be_repeated.ensures in
           let again : Again = record { begun = law.begun; again = law.again; written = law.written; synced = law.synced } in
           let laws = laws_of s file known asked c.args.block.now c.requires.asked c.loop-action.report before end
-          (λ old mid new effect result told. says.performed s file known old mid new before end effect result told)
-          (λ old new result told d three rest long. says.wrote s file known old new before end c.args.block.now result told d three rest long)
-          (λ known old new ok told. says.cut s file known old new before ok told)
+          (λ old mid new effect result modelled. says.performed s file known old mid new before end effect result modelled)
+          (λ old new result modelled d three rest long. says.wrote s file known old new before end c.args.block.now result modelled d three rest long)
+          (λ known old new ok modelled. says.cut s file known old new before ok modelled)
           (λ old new place len. says.handed s file known old new end.state place len)
           (λ old new. says.saved s file known old new end.state) still in
           let (o, w, k, goes, more, far) = next_some asked (length c.args.block.now) c.requires.asked c.loop-action.report
@@ -110,9 +110,9 @@ returns-clause-directed g c tells keeps s file known d =
     let asked = c.args.recorder.now in
     let next = rw c.in_default.is at c.in_ok-action.ensures in
     let laws = laws_of s file known asked c.args.block.now c.requires.asked c.loop-action.report before end
-    (λ old mid new effect result told. says.performed s file known old mid new before end effect result told)
-    (λ old new result told d three rest long. says.wrote s file known old new before end c.args.block.now result told d three rest long)
-    (λ known old new ok told. says.cut s file known old new before ok told)
+    (λ old mid new effect result modelled. says.performed s file known old mid new before end effect result modelled)
+    (λ old new result modelled d three rest long. says.wrote s file known old new before end c.args.block.now result modelled d three rest long)
+    (λ known old new ok modelled. says.cut s file known old new before ok modelled)
     (λ old new place len. says.handed s file known old new end.state place len)
     (λ old new. says.saved s file known old new end.state) still in
     let (is, k) = next_none asked (length c.args.block.now) c.requires.asked c.loop-action.report
@@ -133,9 +133,9 @@ returns-in_err-action-clause-directed g c tells keeps s file known d =
     let again : Again = record { begun = law.begun; again = law.again; written = law.written; synced = law.synced } in
     let asked = c.args.recorder.now in
     let laws = laws_of s file known asked c.args.block.now c.requires.asked c.loop-action.report before end
-    (λ old mid new effect result told. says.performed s file known old mid new before end effect result told)
-    (λ old new result told d three rest long. says.wrote s file known old new before end c.args.block.now result told d three rest long)
-    (λ known old new ok told. says.cut s file known old new before ok told)
+    (λ old mid new effect result modelled. says.performed s file known old mid new before end effect result modelled)
+    (λ old new result modelled d three rest long. says.wrote s file known old new before end c.args.block.now result modelled d three rest long)
+    (λ known old new ok modelled. says.cut s file known old new before ok modelled)
     (λ old new place len. says.handed s file known old new end.state place len)
     (λ old new. says.saved s file known old new end.state) still in
     let failed = not_failed s file known asked c.args.block.now c.requires.asked c.loop-action.report before end

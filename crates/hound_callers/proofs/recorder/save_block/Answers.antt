@@ -11,10 +11,10 @@ returns-then-block-width-ne0-clause-stopped g c tells keeps s file known d =
 pub returns-in_err-write-clause-stopped : goal.returns-in_err-write-clause-stopped
 returns-in_err-write-clause-stopped g c = on_err c.from_residual.result (λ err tells keeps s file known d.
     let r = c.args.recorder.now in
-    let (same, refused) = not_taken r c.write.new.self c.args.block c.in_err-write.field-0.0 c.if-block-width-ne0.false c.requires.ready
+    let (same, rejected) = not_taken r c.write.new.self c.args.block c.in_err-write.field-0.0 c.if-block-width-ne0.false c.requires.ready
     c.in_err-write.ensures in
     subst (λ x. Stops s file known c.args.block x (g.M.Placed.state c.args.medium.now)) (sym same)
-    (stopped_before s file known r c.args.block _ refused c.requires.ready d))
+    (stopped_before s file known r c.args.block _ rejected c.requires.ready d))
 
 pub returns-in_err-perform_all-clause-stopped : goal.returns-in_err-perform_all-clause-stopped
 returns-in_err-perform_all-clause-stopped g c = on_err c.from_residual-in_err-perform_all.result (λ err tells keeps s file known (once, d, repeats).

@@ -12,6 +12,6 @@ returns-clause-finishes g c = (
 )
 
 pub returns-clause-ascends : goal.returns-clause-ascends
-returns-clause-ascends g c told keeps =
+returns-clause-ascends g c modelled keeps =
     subst (λ (s : MediumState). Ascends s.past s.flushed (length s.past)) (sym c.into_inner.ensures)
-    (c.a_durable_medium_ascends.ensures.ascends told keeps)
+    (c.a_durable_medium_ascends.ensures.ascends modelled keeps)

@@ -73,9 +73,9 @@ returns-in_default-Ok g c =
           (c.calls_are_a_run.ensures (New s) Finalize c.args.medium end.result.0 first last
           (call ∷ []) (Ok tt) (Ok tt) c.in_ok-writer.ensures.begins
           (first.batch_memory, last, refl, takes, (last.batch_memory, refl)) refl finishes refl);
-      exact = λ told. subst
+      exact = λ modelled. subst
           (λ v. (W.state end.result.0).contents ≡ canonical s (containers_of s (Whole v ∷ []))) back
-          (c.sessions_leave_one_file.ensures told c.args.medium end.result.0 (c.requires.place told)
+          (c.sessions_leave_one_file.ensures reported c.args.medium end.result.0 (c.requires.place modelled)
           c.requires.empty (omega arith)
           (inr (
             end.result.0,

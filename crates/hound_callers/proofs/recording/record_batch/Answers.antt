@@ -15,7 +15,7 @@ ok_same (Ok x) f g a b ac bd same = λ q each went.
 ok_same (Err e) f g a b ac bd same = tt
 
 pub returns-clause-same : goal.returns-clause-same
-returns-clause-same g c told =
+returns-clause-same g c modelled =
     let W = g.M.Placed in
     let first = c.args.writer.now in
     let batch = c.args.batch.now in
@@ -28,7 +28,7 @@ returns-clause-same g c told =
     let last = c.flush.new.self.0 in
     ok_same c.flush.result (accepted_samples W.state) data_length (accepted_samples W.state last)
     (data_length last) (search rules) (search rules) (λ x is whole each went.
-    c.a_batch_is_its_values.ensures told first (batch_writer values) last each whole c.requires.1
+    c.a_batch_is_its_values.ensures reported first (batch_writer values) last each whole c.requires.1
     c.in_ok-values.ensures.width c.loop-value.invariant.stays
     (subst (λ (x : List ℕ × Result (Unit {0}) Error).
     Accepts W (Ok (list x.0)) x.1 (batch_writer values) last)

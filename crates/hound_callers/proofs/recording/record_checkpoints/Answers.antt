@@ -9,12 +9,12 @@ use Rattle.hound_callers.proofs.recording.record_checkpoints.Goals as goal
 pub returns : goal.returns
 returns g c = (
   c.publish_blocks-published.ensures.within,
-  λ told keeps.
+  λ modelled keeps.
       let s = c.args.spec_ex in
       let first = take c.publish_blocks-published.result c.args.blocks.now in
       let (more, stops, recorded) =
       c.publish_blocks-published.ensures.published s _ c.in-Ok.ensures.recorded in
-      let kept = c.what_a_loss_leaves.ensures told keeps s _ _ _
+      let kept = c.what_a_loss_leaves.ensures reported keeps s _ _ _
       (c.drop_into-durable.ensures.left s _ _ recorded) in (
         c.new.result,
         c.drop_into-durable.result,

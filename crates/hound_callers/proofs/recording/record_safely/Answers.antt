@@ -7,14 +7,14 @@ use Rattle.hound_callers.proofs.recording.record_safely.Goals as goal
 pub returns-clause-published : goal.returns-clause-published
 returns-clause-published g c =
     MatchResult-weaker c.record_checkpoints.result c.record_checkpoints.ensures
-    (λ done (within, here). here) (λ refused not. tt)
+    (λ done (within, here). here) (λ rejected not. tt)
 
 pub returns-clause-safe : goal.returns-clause-safe
 returns-clause-safe g c =
     let s = c.args.spec_ex in
     MatchResult-weaker c.record_checkpoints.result c.record_checkpoints.ensures
-    (λ done (within, here) told keeps some.
-    let (first, last, old, new, (more, stops, kept, flushes)) = here told keeps in
+    (λ done (within, here) modelled keeps some.
+    let (first, last, old, new, (more, stops, kept, flushes)) = here modelled keeps in
     let (before, after, flush, parts, has_all, have) = flushes some in (
       accepted_by_all before,
       have,
@@ -25,4 +25,4 @@ returns-clause-safe g c =
           (subst (λ (s : MediumState). SurvivesLoss sector s.start s.past s.flushed (length s.past)
           cut.contents) (sym new) lost))
           repairs (λ looks here. absurd (false≢true looks)),
-    )) (λ refused not. not)
+    )) (λ rejected not. not)

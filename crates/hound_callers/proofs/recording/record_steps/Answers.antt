@@ -11,8 +11,8 @@ returns-in_default-Ok g c = elim c.run_session.ensures.session [
   | inr ran ↦ record {
     run = subst (λ (r : Result (Unit {0}) Error). Ran g.M.Placed (New c.args.spec_ex) c.args.steps.now c.run_session.new.marks Drop
         c.args.medium r c.run_session.result.0) c.in_default-Ok.is-1 ran;
-    kept = λ told keeps.
-        c.what_is_kept.ensures.kept told keeps c.args.spec_ex
+    kept = λ modelled keeps.
+        c.what_is_kept.ensures.kept modelled keeps c.args.spec_ex
         (new_file (g.M.Placed.state c.args.medium)) _ _
         (c.a_run_leaves_its_calls.ensures c.args.spec_ex _ _ _ _ _ ran);
   }

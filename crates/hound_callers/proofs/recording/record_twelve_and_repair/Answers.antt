@@ -5,16 +5,16 @@ use Rattle.hound.specs.{new_file}
 use Rattle.hound_callers.proofs.recording.record_twelve_and_repair.Goals as goal
 
 -- what holds of a result where a premise of it is there
-if_told : {T E Told : Type 0} (r : Result T E) {P Q : T → Type 0} (R : E → Type 0)
-    → (Told → MatchResult r P R) → ((x : T) → (Told → P x) → Q x) → MatchResult r Q (λ _. ⊤)
-if_told (Ok x) R is then = then x is
-if_told (Err e) R is then = tt
+if_reported : {T E Reported : Type 0} (r : Result T E) {P Q : T → Type 0} (R : E → Type 0)
+    → (Reported → MatchResult r P R) → ((x : T) → (Reported → P x) → Q x) → MatchResult r Q (λ _. ⊤)
+if_reported (Ok x) R is then = then x is
+if_reported (Err e) R is then = tt
 
 -- and of an error
-if_refused : {T E Told : Type 0} (r : Result T E) (P : T → Type 0) {Q R : E → Type 0}
-    → (Told → MatchResult r P Q) → ((e : E) → (Told → Q e) → R e) → IfErr r R
-if_refused (Ok x) P is then = tt
-if_refused (Err e) P is then = then e is
+if_rejected : {T E Reported : Type 0} (r : Result T E) (P : T → Type 0) {Q R : E → Type 0}
+    → (Reported → MatchResult r P Q) → ((e : E) → (Reported → Q e) → R e) → IfErr r R
+if_rejected (Ok x) P is then = tt
+if_rejected (Err e) P is then = then e is
 
 pub returns : goal.returns
 returns g c =
@@ -24,29 +24,29 @@ returns g c =
     let file = new_file (M.state c.args.medium) in
     let left = c.drop_into-medium.ensures.left s file _ c.in_ok-writer.ensures in
     record {
-      repaired = if_told c.repair_to_end.result _ c.repair_to_end.ensures.repaired
+      repaired = if_reported c.repair_to_end.result _ c.repair_to_end.ensures.repaired
           (λ done repairs. (
             medium,
             c.go.new.self,
             left,
-            λ told. ((c.go.ensures told).stays, repairs told),
+            λ modelled. ((c.go.ensures reported).stays, repairs modelled),
           ));
-      none_lost = if_told c.repair_to_end.result _ c.repair_to_end.ensures.repaired
-          (λ done repairs told keeps.
-          let kept = c.what_is_kept.ensures.kept told keeps s file _ medium left in (
+      none_lost = if_reported c.repair_to_end.result _ c.repair_to_end.ensures.repaired
+          (λ done repairs modelled keeps.
+          let kept = c.what_is_kept.ensures.kept modelled keeps s file _ medium left in (
             medium,
             kept,
             λ before after flush parts has_all.
                 c.a_repair_loses_no_published_sample.ensures s file kept.left.recorded.calls
                 (M.state medium) kept.promised before after flush false (M.state c.go.new.self)
-                (M.state done.0) done.1 parts has_all (inl (c.go.ensures told).stays.contents)
-                (repairs told) (λ looks here. absurd (false≢true looks)),
+                (M.state done.0) done.1 parts has_all (inl (c.go.ensures reported).stays.contents)
+                (repairs modelled) (λ looks here. absurd (false≢true looks)),
           ));
-      err = if_refused c.repair_to_end.result _ c.repair_to_end.ensures.repaired
-          (λ refused not. inr (
+      err = if_rejected c.repair_to_end.result _ c.repair_to_end.ensures.repaired
+          (λ rejected not. inr (
             medium,
             c.go.new.self,
             left,
-            λ told. inr ((c.go.ensures told).stays, not told),
+            λ modelled. inr ((c.go.ensures reported).stays, not modelled),
           ));
     }

@@ -2,12 +2,12 @@ use Rattle.std.proofs.Common.{sym}
 use Rattle.hound_callers.proofs.recording.record_twelve_through_a_loss.Goals as goal
 
 pub returns : goal.returns
-returns g c told keeps = (
+returns g c modelled keeps = (
   c.new.result,
   c.finalize_into-durable.result.0,
   c.new.ensures.within,
   sym c.into_inner-2.ensures,
-  c.what_a_loss_leaves.ensures told keeps _ _ _ _
+  c.what_a_loss_leaves.ensures reported keeps _ _ _ _
       (c.finalize_into-durable.ensures.left _ _ _ c.in-Ok.ensures),
 )
 

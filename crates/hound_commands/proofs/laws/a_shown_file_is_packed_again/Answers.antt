@@ -1,4 +1,4 @@
-use Rattle.hound_commands.proofs.ShownAgain.{packed_is_not_refused, packed_once, shown_again}
+use Rattle.hound_commands.proofs.ShownAgain.{packed_is_not_rejected, packed_once, shown_again}
 use Rattle.hound_commands.proofs.laws.a_shown_file_is_packed_again.Goals as goal
 
 pub returns-clause-again : goal.returns-clause-again
@@ -10,4 +10,4 @@ pub returns-clause-once : goal.returns-clause-once
 returns-clause-once c = packed_once
 
 pub returns-clause-accepted : goal.returns-clause-accepted
-returns-clause-accepted c = packed_is_not_refused
+returns-clause-accepted c = packed_is_not_rejected

@@ -1,16 +1,16 @@
 use Rattle.std.proofs.Common.{refl, sym, ◌∙◌, ap, subst}
 use Rattle.hound_commands.specs.Commands.{failure_of, IsPackFailure, IsPacked, containers_of}
-use Rattle.hound_commands.proofs.PackAnswers.{end_named, file_made, write_refused}
+use Rattle.hound_commands.proofs.PackAnswers.{end_named, file_made, write_rejected}
 use Rattle.hound_commands.proofs.ShowAnswers.{err_is}
 use Rattle.hound_commands.proofs.packing.file_of.Goals as goal
 
-pub returns-in_err-write_samples-clause-refused : goal.returns-in_err-write_samples-clause-refused
-returns-in_err-write_samples-clause-refused c =
+pub returns-in_err-write_samples-clause-rejected : goal.returns-in_err-write_samples-clause-rejected
+returns-in_err-write_samples-clause-rejected c =
     let begun = c.in-Ok.ensures.begins.begun in
     let error = c.in_err-write_samples.field-0.0 in
     err_is _ c.from_residual.result (failure_of error) c.from_residual.ensures.1
     (subst (λ s. IsPackFailure s c.args.numbers.now (failure_of error)) c.from.ensures
-    (write_refused c.from.result (ap (λ s. s.spec.sample_format) c.from.ensures ∙ c.requires.integers)
+    (write_rejected c.from.result (ap (λ s. s.spec.sample_format) c.from.ensures ∙ c.requires.integers)
     c.args.numbers.now c.in-Ok.writer begun _
     (ap (λ s. containers_of s c.args.numbers.now) (sym begun.spec)) _
     c.in_err-write_samples.ensures.accepts.adds.answers))
@@ -25,8 +25,8 @@ returns-clause-made c =
     c.in_ok-write_samples.ensures.accepts _ c.finalize_into-file.ensures.finishes refl
     (c.new-tape.ensures.contents ∙ c.new.ensures.items) c.new-tape.ensures.place c.in_ok-result.was)
 
-pub returns-in_err-result-clause-refused : goal.returns-in_err-result-clause-refused
-returns-in_err-result-clause-refused c =
+pub returns-in_err-result-clause-rejected : goal.returns-in_err-result-clause-rejected
+returns-in_err-result-clause-rejected c =
     let begins = c.in-Ok.ensures.begins in
     let error = c.in_err-result.field-0.0 in
     err_is _ c.from_residual-in_err-result.result (failure_of error) c.from_residual-in_err-result.ensures.1

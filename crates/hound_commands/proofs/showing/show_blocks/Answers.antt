@@ -21,7 +21,7 @@ returns-in_err-push_lines-clause-until g c =
     let loop = c.loop-result.invariant in
     err_is _ c.from_residual.result InputOrOutput c.from_residual.ensures.1
     (block_stops _ _ g.S.Line.line s n _ _ _ _ _ _ _ c.read_samples-count.result.1
-    _ _ c.requires.refusal c.requires.line loop.spec_ex loop.num_samples refl loop.within loop.shown
+    _ _ c.requires.rejection c.requires.line loop.spec_ex loop.num_samples refl loop.within loop.shown
     c.read_samples-count.ensures.items _ _
     c.in_err-push_lines.ensures.stopped c.in_err-push_lines.ensures.emptied)
 
@@ -33,7 +33,7 @@ returns-in_err-result-clause-until g c =
     err_is _ c.from_residual-in_err-result.result (failure_of c.in_err-result.field-0.0)
     c.from_residual-in_err-result.ensures.1
     (block_fails _ _ g.S.Line.line s n _ _ _ _ _ _ _ c.read_samples-count.result.1
-    _ _ c.requires.refusal c.requires.line loop.spec_ex loop.num_samples refl loop.within loop.shown
+    _ _ c.requires.rejection c.requires.line loop.spec_ex loop.num_samples refl loop.within loop.shown
     c.read_samples-count.ensures.items _ _
     c.in_err-result.field-0.0 c.in_err-result.was c.in_ok-push_lines.ensures.pushed)
 
@@ -43,7 +43,7 @@ returns-then-count-eq0-clause-shown g c =
     let n = c.args.reader.now.num_samples in
     let loop = c.loop-result.invariant in
     let block = block_shown _ _ g.S.Line.line s n _ _ _ _ _ _ _ c.read_samples-count.result.1
-    _ _ c.requires.refusal c.requires.line loop.spec_ex loop.num_samples refl loop.within loop.shown
+    _ _ c.requires.rejection c.requires.line loop.spec_ex loop.num_samples refl loop.within loop.shown
     c.read_samples-count.ensures.items _ _ _
     c.in_ok-result.was c.in_ok-push_lines.ensures.pushed in
     let none = c.if-count-eq0.true in
@@ -63,7 +63,7 @@ loop-result-preserved g c =
     let n = c.args.reader.now.num_samples in
     let loop = c.loop-result.invariant in
     let block = block_shown _ _ g.S.Line.line s n _ _ _ _ _ _ _ c.read_samples-count.result.1
-    _ _ c.requires.refusal c.requires.line loop.spec_ex loop.num_samples refl loop.within loop.shown
+    _ _ c.requires.rejection c.requires.line loop.spec_ex loop.num_samples refl loop.within loop.shown
     c.read_samples-count.ensures.items _ _ _
     c.in_ok-result.was c.in_ok-push_lines.ensures.pushed in
     record {

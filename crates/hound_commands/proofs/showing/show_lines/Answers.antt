@@ -9,7 +9,7 @@ use Rattle.hound_commands.proofs.showing.show_lines.Goals as goal
 pub returns-in_err-reader-clause-until : goal.returns-in_err-reader-clause-until
 returns-in_err-reader-clause-until g c =
     err_is _ c.from_residual.result (failure_of c.in_err-reader.field-0.0) c.from_residual.ensures.1
-    (head_stops _ _ c.in_err-reader.field-0.0 c.in_err-reader.ensures.refused)
+    (head_stops _ _ c.in_err-reader.field-0.0 c.in_err-reader.ensures.rejected)
 
 pub returns-in_err-write_to-clause-until : goal.returns-in_err-write_to-clause-until
 returns-in_err-write_to-clause-until g c =

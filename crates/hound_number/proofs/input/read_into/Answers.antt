@@ -2,11 +2,11 @@ use Rattle.std.proofs.lemmas.Grind.{common_steps}
 use Rattle.std.proofs.Common.{◌++◌, arith, length-take, length-append, take}
 use Rattle.std.proofs.KnownBytes.{Consumes-trans, Consumes-kept}
 use Rattle.hound_number.proofs.Counting.{NoneFailed-trans}
-use Rattle.hound_number.proofs.Pieces.{taken_behind}
+use Rattle.hound_number.proofs.Pieces.{taken_beyond}
 use Rattle.hound_number.proofs.input.read_into.Goals as goal
 
 pub loop-at-preserved : goal.loop-at-preserved
-loop-at-preserved g c = grind (arith, common_steps, NoneFailed-trans, taken_behind)
+loop-at-preserved g c = grind (arith, common_steps, NoneFailed-trans, taken_beyond)
 
 pub returns-in-Ok-eq0-clause-part : goal.returns-in-Ok-eq0-clause-part
 returns-in-Ok-eq0-clause-part g c =

@@ -5,12 +5,12 @@ use Rattle.hound_reader.proofs.BlockLemmas.{run_takes}
 use Rattle.hound_reader.proofs.laws.a_reader_is_where_it_counts.Goals as goal
 
 pub returns-clause-item : goal.returns-clause-item
-returns-clause-item g c = item_counted g.R.Read.remaining g.S.Sample.refusal g.S.Sample.meaning
+returns-clause-item g c = item_counted g.R.Read.remaining g.S.Sample.rejection g.S.Sample.meaning
 
 pub returns-clause-block : goal.returns-clause-block
 returns-clause-block g c bytes old new count result before after at_count block =
     took_counted g.R.Read.remaining bytes old new at_count
-    (run_takes g.S.Sample.refusal g.S.Sample.meaning _ _ _ block.items).0
+    (run_takes g.S.Sample.rejection g.S.Sample.meaning _ _ _ block.items).0
 
 pub returns-clause-passes_block : goal.returns-clause-passes_block
 returns-clause-passes_block g c old new count result before after block place = grind (arith, common_steps, run_takes)
@@ -22,7 +22,7 @@ returns-clause-ahead g c bytes time old new tells =
 
 pub returns-clause-passes : goal.returns-clause-passes
 returns-clause-passes g c =
-    item_passes g.R.Read.remaining g.R.Placed.state g.S.Sample.refusal g.S.Sample.meaning
+    item_passes g.R.Read.remaining g.R.Placed.state g.S.Sample.rejection g.S.Sample.meaning
 
 pub returns-clause-place : goal.returns-clause-place
 returns-clause-place g c start calls old new tells at_count run =

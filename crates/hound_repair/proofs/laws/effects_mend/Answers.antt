@@ -1,5 +1,5 @@
 use Rattle.std.proofs.Common.{true, ◌-◌, ◌<◌, ◌^◌, arith, subst, sym, refl}
-use Rattle.hound_writer.proofs.Heads.{head_behind, head_inside}
+use Rattle.hound_writer.proofs.Heads.{head_beyond, head_inside}
 use Rattle.hound_repair.specs.Steps.{PartlyMended, PerformedOn, effects_for, mending, mending_effects}
 use Rattle.hound_repair.specs.Held.{held}
 use Rattle.hound_repair.specs.Damages.{repair_of}
@@ -15,7 +15,7 @@ returns-clause-leaves c = λ looks d old new result at performed.
     let n = d.sizes.data_length in
     let c = old.state.contents in
     mends true start n c
-    (head_behind c d.head.spec_ex d.head.data_length start at.found.head)
+    (head_beyond c d.head.spec_ex d.head.data_length start at.found.head)
     (head_inside c d.head.spec_ex d.head.data_length start at.found.head)
     old.small
     (subst (λ k. k < 2 ^ 32) (sym (length_is d at.sound at.cut))
@@ -32,7 +32,7 @@ returns-clause-moments c = λ looks d old new result at performed.
     let c = old.state.contents in
     spans (PartlyMended start n c) (mending_effects start n (held start c)) result old.state new.state
     (allowed true start n c
-    (head_behind c d.head.spec_ex d.head.data_length start at.found.head)
+    (head_beyond c d.head.spec_ex d.head.data_length start at.found.head)
     (head_inside c d.head.spec_ex d.head.data_length start at.found.head)
     old.small
     (subst (λ k. k < 2 ^ 32) (sym (length_is d at.sound at.cut))
@@ -47,14 +47,14 @@ returns-clause-lost c = λ looks d old new result sector left at settled wide on
     let start = d.head.data_start in
     let n = d.sizes.data_length in
     let c = old.state.contents in
-    let behind = head_behind c d.head.spec_ex d.head.data_length start at.found.head in
+    let beyond = head_beyond c d.head.spec_ex d.head.data_length start at.found.head in
     let inside = head_inside c d.head.spec_ex d.head.data_length start at.found.head in
     survives sector left (PartlyMended start n c) (mending_effects start n (held start c)) result old.state new.state
-    (allowed true start n c behind inside old.small
+    (allowed true start n c beyond inside old.small
     (subst (λ k. k < 2 ^ 32) (sym (length_is d at.sound at.cut))
     (length_fits looks c (repair_of d) d.head.data_length start at.found (λ chunks. absurd (cc (chunks, at.cut))))))
-    (mending_is_safe sector left start n c behind inside
-    (λ i few. same_sector (start - 4) (start - 1) i sector (omega (arith, wide)) (omega (arith, behind, few)) one)
+    (mending_is_safe sector left start n c beyond inside
+    (λ i few. same_sector (start - 4) (start - 1) i sector (omega (arith, wide)) (omega (arith, beyond, few)) one)
     (λ i few. first_sector i sector few wide))
     old.replays settled
     (subst (λ h. PerformedOn true (mending_effects start n h) result old.state new.state) at.held_is

@@ -9,24 +9,24 @@ parts-preserved g c = record {
   sound = search rules;
   size = c.parts.invariant.size;
   same = search rules;
-  at = λ told.
+  at = λ modelled.
       let file = (g.S.Placed.state c.args.source.now).contents in
       subst (λ r. LooksTo (may_be_chunks c.args.rest) file (Ok r)) c.in-Ok-Next.field-0-is
-      (c.in-Ok-Next.ensures.leads file (c.parts.invariant.size told) (c.parts.invariant.at told)
+      (c.in-Ok-Next.ensures.leads file (c.parts.invariant.size modelled) (c.parts.invariant.at modelled)
       (part_read c.in-Ok-part_at.count c.count-asked.result _ c.place.result _ _ _ _ file _ c.part_at.auto.buf (grind (arith, length-take, c.count-asked.ensures.few))
-      c.in-Ok-part_at.ensures.within (c.parts.invariant.same told).puts.stays.contents
-      (c.in-Ok-part_at.ensures.bytes told) c.count-asked.ensures.is c.place.ensures));
+      c.in-Ok-part_at.ensures.within (c.parts.invariant.same modelled).puts.stays.contents
+      (c.in-Ok-part_at.ensures.bytes modelled) c.count-asked.ensures.is c.place.ensures));
 }
 
 pub returns-in-Ok-Found-clause-finds : goal.returns-in-Ok-Found-clause-finds
-returns-in-Ok-Found-clause-finds g c told =
+returns-in-Ok-Found-clause-finds g c modelled =
     let file = (g.S.Placed.state c.args.source.now).contents in
     let found =
     subst (λ r. LooksTo (may_be_chunks c.args.rest) file (Ok r)) c.in-Ok-Found.field-0-is
-    (c.in-Ok-Found.ensures.leads file (c.parts.invariant.size told) (c.parts.invariant.at told)
+    (c.in-Ok-Found.ensures.leads file (c.parts.invariant.size modelled) (c.parts.invariant.at modelled)
     (part_read c.in-Ok-part_at.count c.count-asked.result _ c.place.result _ _ _ _ file _ c.part_at.auto.buf (grind (arith, length-take, c.count-asked.ensures.few))
-    c.in-Ok-part_at.ensures.within (c.parts.invariant.same told).puts.stays.contents
-    (c.in-Ok-part_at.ensures.bytes told) c.count-asked.ensures.is c.place.ensures)) in
+    c.in-Ok-part_at.ensures.within (c.parts.invariant.same modelled).puts.stays.contents
+    (c.in-Ok-part_at.ensures.bytes modelled) c.count-asked.ensures.is c.place.ensures)) in
     record {
       found = found.0;
       held_is = found.1;
@@ -35,11 +35,11 @@ returns-in-Ok-Found-clause-finds g c told =
     }
 
 pub returns-in-Err-take_asked-clause-finds : goal.returns-in-Err-take_asked-clause-finds
-returns-in-Err-take_asked-clause-finds g c told =
+returns-in-Err-take_asked-clause-finds g c modelled =
     let file = (g.S.Placed.state c.args.source.now).contents in (
       record { puts = search rules; faults = search rules },
-      c.in-Err-take_asked.ensures.leads file (c.parts.invariant.size told) (c.parts.invariant.at told)
+      c.in-Err-take_asked.ensures.leads file (c.parts.invariant.size modelled) (c.parts.invariant.at modelled)
           (part_read c.in-Ok-part_at.count c.count-asked.result _ c.place.result _ _ _ _ file _ c.part_at.auto.buf (grind (arith, length-take, c.count-asked.ensures.few))
-          c.in-Ok-part_at.ensures.within (c.parts.invariant.same told).puts.stays.contents
-          (c.in-Ok-part_at.ensures.bytes told) c.count-asked.ensures.is c.place.ensures),
+          c.in-Ok-part_at.ensures.within (c.parts.invariant.same modelled).puts.stays.contents
+          (c.in-Ok-part_at.ensures.bytes modelled) c.count-asked.ensures.is c.place.ensures),
     )

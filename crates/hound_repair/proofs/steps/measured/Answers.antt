@@ -7,7 +7,7 @@ use Rattle.hound_repair.specs.Repairing.{size_fault}
 use Rattle.hound_writer.specs.{FailsCheck}
 use Rattle.hound_repair.specs.declared.sizes.Sizes.{Sizes}
 use Rattle.hound_repair.proofs.Measuring.{not_written, written}
-use Rattle.hound_repair.proofs.Stepping.{counts_serve, sizes_refused}
+use Rattle.hound_repair.proofs.Stepping.{counts_serve, sizes_rejected}
 use Rattle.hound_repair.proofs.steps.measured.Goals as goal
 
 pub returns-then-not-is_pair-clause-measures : goal.returns-then-not-is_pair-clause-measures
@@ -36,7 +36,7 @@ returns-in-Err-clause-measures c = λ file size head shown.
       h.data_length,
       h.data_start,
       head,
-      sizes_refused Sizes c.in-Err.field-0 s (shown_of h) (shown_length h.data_start h.data_length file) h.data_start
+      sizes_rejected Sizes c.in-Err.field-0 s (shown_of h) (shown_length h.data_start h.data_length file) h.data_start
           (held h.data_start file) (c.min-size.result - h.data_start)
           (subst (λ k. FailsCheck {T = Sizes} (Err c.in-Err.field-0) (size_fault s k h.data_start (c.min-size.result - h.data_start))) c.shown.ensures.is c.in-Err.ensures.check)
           (grind (arith, common_steps, serves)) (search rules),

@@ -24,7 +24,7 @@ returns-in-Some-clause-leads c = λ looks file m at is.
     one_here looks file c.args.bytes.now c.args.damage.head c.args.place c.args.padded at is c.in-Some.content
     before (search rules)
     (sym (content_is all c.args.bytes.now _ 8 (omega (arith, end, length-drop c.args.place file)) (omega (arith, end, before, ap length is, length-take 8 all, length-drop c.args.place file)) is)
-    ∙ sym c.content_of.ensures.content ∙ c.in-Some.is)
+    ∙ sym c.chunk_content.ensures.content ∙ c.in-Some.is)
 
 pub returns-in-None-clause-leads : goal.returns-in-None-clause-leads
 returns-in-None-clause-leads c = λ looks file m at is.
@@ -35,4 +35,4 @@ returns-in-None-clause-leads c = λ looks file m at is.
     (none_here looks file c.args.bytes.now c.args.damage.head c.args.place c.args.padded at is
     before (search rules)
     (sym (content_is all c.args.bytes.now _ 8 (omega (arith, end, length-drop c.args.place file)) (omega (arith, end, before, ap length is, length-take 8 all, length-drop c.args.place file)) is)
-    ∙ sym c.content_of.ensures.content ∙ c.in-None.is))
+    ∙ sym c.chunk_content.ensures.content ∙ c.in-None.is))

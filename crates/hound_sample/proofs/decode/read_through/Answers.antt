@@ -5,7 +5,7 @@ use Rattle.std.proofs.lemmas.List.{length-append, length-take-le, length-drop, t
 use Rattle.std.proofs.Math.Nat.{div-mul-le_self, div-le_of_le-mul, lt-div-mul-add, le-div_iff_mul-le, div-lt_iff_lt-mul, mul-div_cancel_left}
 use Rattle.std.proofs.lemmas.Slice.{drop-put_mid}
 use Rattle.hound_sample.specs.Container.{containers}
-use Rattle.hound_sample.proofs.Many.{decoded, each_behind, each_ended, drop_further}
+use Rattle.hound_sample.proofs.Many.{decoded, each_beyond, each_ended, drop_further}
 use Rattle.hound_sample.proofs.decode.read_through.Goals as goal
 
 -- a front of a front of bytes that more follow
@@ -59,7 +59,7 @@ pub returns-in-Err-clause-front : goal.returns-in-Err-clause-front
 returns-in-Err-clause-front g c = grind (arith, common_steps, wanted_fit, length-take-le, count_fits, length-drop, div-lt_iff_lt-mul, drop-put_mid, drop_further)
 
 pub loop-done-preserved : goal.loop-done-preserved
-loop-done-preserved g c = grind (arith, common_steps, wanted_fit, length-take-le, count_all, length-drop, le-div_iff_mul-le, decoded, front_of_front, div-mul-le_self, length-append, drop-put_mid, drop_further, each_behind)
+loop-done-preserved g c = grind (arith, common_steps, wanted_fit, length-take-le, count_all, length-drop, le-div_iff_mul-le, decoded, front_of_front, div-mul-le_self, length-append, drop-put_mid, drop_further, each_beyond)
 
 pub slice_bounds-read_piece-end-in-loop-done : goal.slice_bounds-read_piece-end-in-loop-done
 slice_bounds-read_piece-end-in-loop-done g c = grind (arith, common_steps)

@@ -1,5 +1,5 @@
 use Rattle.std.proofs.Common.{◌&&◌, sym, ◌∙◌}
-use Rattle.hound_sample.proofs.Joined.{encoded_ok, first_refused, ok_more, refused_as}
+use Rattle.hound_sample.proofs.Joined.{encoded_ok, first_rejected, ok_more, rejected_as}
 use Rattle.hound_sample.proofs.slices.check_containers.Goals as goal
 
 pub returns-in-Err : goal.returns-in-Err
@@ -7,9 +7,9 @@ returns-in-Err g c =
     let a = c.args in
     let container = λ (s : g.row.S.Denot). g.S.Sample.container s a.bits a.width in
     rw c.reason_of.ensures
-    (sym (refused_as _ _ c.in-Err.error c.in-Err.ensures
-    (λ refusal. first_refused container a.samples.now c.loop-sample.sample-index
-    c.sample-item.result refusal c.loop-sample-test.true c.sample-item.is
+    (sym (rejected_as _ _ c.in-Err.error c.in-Err.ensures
+    (λ rejection. first_rejected container a.samples.now c.loop-sample.sample-index
+    c.sample-item.result rejection c.loop-sample-test.true c.sample-item.is
     c.loop-sample.invariant)))
 
 pub loop-sample-preserved : goal.loop-sample-preserved

@@ -1,7 +1,7 @@
 use Rattle.std.proofs.lemmas.Grind.{common_steps}
 use Rattle.std.proofs.Common.{◌≡◌, Err, Ok, refl, sym, subst, ap, ◌∙◌, arith, rules}
 use Rattle.hound_repair.specs.{StaysAt}
-use Rattle.hound_repair.specs.declared.steps.RepairError.TheVariants.{Failed, Refused}
+use Rattle.hound_repair.specs.declared.steps.RepairError.TheVariants.{Failed, Rejected}
 use Rattle.hound_repair.specs.declared.steps.RepairStep.TheVariants.{Asks, Found}
 use Rattle.hound_slices.proofs.Stepped.{gives_for, step_is}
 use Rattle.hound_slices.proofs.repairer.step_repairer.Goals as goal
@@ -33,20 +33,20 @@ returns-in-Err-Failed-clause-steps c = record {
   next = step_is _ _ _ _ _ _ _ _ _ _ _ _ c.task_of-task.ensures (grind (arith, common_steps)) c.report_of.ensures
       c.repairing_of-state.ensures.is (sym c.repairer_for_c-in-Err-Failed.ensures.is) c.repair_next-step.ensures.next;
   gives = gives_for _ _ _ _ _ _ _ (let is : c.repair_next-step.result ≡ Err (Failed c.in-Err-Failed.failure) = search rules in is)
-      (ap Err c.fault_of-in-Err-Failed.ensures, c.effect_for_c-in-Err-Failed.ensures, refl);
+      (ap Err c.error_of-in-Err-Failed.ensures, c.effect_for_c-in-Err-Failed.ensures, refl);
   length = c.repairer_for_c-in-Err-Failed.ensures.length;
   mode = c.repairer_for_c-in-Err-Failed.ensures.mode;
 }
 
-pub returns-in-Err-Refused-clause-steps : goal.returns-in-Err-Refused-clause-steps
-returns-in-Err-Refused-clause-steps c =
-    let is : c.repair_next-step.result ≡ Err (Refused c.in-Err-Refused.why) = search rules in
+pub returns-in-Err-Rejected-clause-steps : goal.returns-in-Err-Rejected-clause-steps
+returns-in-Err-Rejected-clause-steps c =
+    let is : c.repair_next-step.result ≡ Err (Rejected c.in-Err-Rejected.why) = search rules in
     let stays = subst (λ r. StaysAt r c.repairing_of-state.result c.repair_next-step.new.state) is c.repair_next-step.ensures.stays in
     record {
       step = c.repair_next-step.result;
       next = step_is _ _ _ _ _ _ _ _ _ _ _ _ c.task_of-task.ensures (grind (arith, common_steps)) c.report_of.ensures
           c.repairing_of-state.ensures.is (stays ∙ c.repairing_of-state.ensures.is) c.repair_next-step.ensures.next;
-      gives = gives_for _ _ _ _ _ _ _ is (ap Err c.fault_of.ensures, refl, refl);
+      gives = gives_for _ _ _ _ _ _ _ is (ap Err c.error_of.ensures, refl, refl);
       length = refl;
       mode = refl;
     }

@@ -3,7 +3,7 @@ use Rattle.std.proofs.Common.{◌≡◌, ◌*◌, ◌++◌, Ok, length, drop, re
 use Rattle.std.proofs.lemmas.List.{drop_at, take_at}
 use Rattle.hound_writer.specs.{containers_in}
 use Rattle.hound_sample.proofs.Joined.{joined}
-use Rattle.hound_slices.specs.Writing.{Encodes, IsEncodeFault}
+use Rattle.hound_slices.specs.Writing.{Encodes, IsEncodeError}
 use Rattle.hound_slices.proofs.Checks.{failed, passed}
 use Rattle.hound_slices.proofs.writing.encode_block.Goals as goal
 
@@ -11,13 +11,13 @@ pub returns-in_err-check_samples-clause-encodes : goal.returns-in_err-check_samp
 returns-in_err-check_samples-clause-encodes g c =
     let p = err_from_is_err_and c.from_residual.result
     c.from_residual.ensures.1 in
-    let fault = c.in_err-check_samples.field-0.0 in
+    let error = c.in_err-check_samples.field-0.0 in
     rw (p.1, p.2) (
       refl,
-      subst (λ s. IsEncodeFault c.args.format g.S.Sample.container s c.args.samples.now (length c.args.out.now) fault)
+      subst (λ s. IsEncodeError c.args.format g.S.Sample.container s c.args.samples.now (length c.args.out.now) error)
           c.spec_from_c-spec_ex.ensures
-          (failed (IsEncodeFault c.args.format g.S.Sample.container c.spec_from_c-spec_ex.result c.args.samples.now (length c.args.out.now))
-          _ fault c.in_err-check_samples.ensures (λ wide. (search rules, wide)) (λ none. inr (search rules, none))),
+          (failed (IsEncodeError c.args.format g.S.Sample.container c.spec_from_c-spec_ex.result c.args.samples.now (length c.args.out.now))
+          _ error c.in_err-check_samples.ensures (λ wide. (search rules, wide)) (λ none. inr (search rules, none))),
     )
 
 pub returns-clause-encodes : goal.returns-clause-encodes

@@ -9,7 +9,7 @@ use Rattle.hound_spec.proofs.HeaderLemmas.{data_start_least, length-header, leng
 use Rattle.hound_sample.specs.{joined_containers}
 use Rattle.hound_writer.specs.{containers_in}
 use Rattle.hound_sample.proofs.Joined.{joined}
-use Rattle.hound_slices.specs.Writing.{WritesFile, IsWriteFault}
+use Rattle.hound_slices.specs.Writing.{WritesFile, IsWriteError}
 use Rattle.hound_slices.proofs.Checks.{failed, passed}
 use Rattle.hound_slices.proofs.writing.write_file.Goals as goal
 
@@ -17,13 +17,13 @@ pub returns-in_err-check_samples-clause-writes : goal.returns-in_err-check_sampl
 returns-in_err-check_samples-clause-writes g c =
     let p = err_from_is_err_and c.from_residual.result
     c.from_residual.ensures.1 in
-    let fault = c.in_err-check_samples.field-0.0 in
+    let error = c.in_err-check_samples.field-0.0 in
     rw (p.1, p.2) (
       refl,
-      subst (λ s. IsWriteFault c.args.format g.S.Sample.container s c.args.samples.now (length c.args.out.now) fault)
+      subst (λ s. IsWriteError c.args.format g.S.Sample.container s c.args.samples.now (length c.args.out.now) error)
           c.spec_from_c-spec_ex.ensures
-          (failed (IsWriteFault c.args.format g.S.Sample.container c.spec_from_c-spec_ex.result c.args.samples.now (length c.args.out.now))
-          _ fault c.in_err-check_samples.ensures (λ wide. (search rules, wide)) (λ none. inr (search rules, none))),
+          (failed (IsWriteError c.args.format g.S.Sample.container c.spec_from_c-spec_ex.result c.args.samples.now (length c.args.out.now))
+          _ error c.in_err-check_samples.ensures (λ wide. (search rules, wide)) (λ none. inr (search rules, none))),
     )
 
 pub returns-clause-writes : goal.returns-clause-writes

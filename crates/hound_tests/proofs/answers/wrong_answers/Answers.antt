@@ -1,6 +1,6 @@
 use Rattle.std.proofs.Common.{ℕ, ◌+◌, pos, Bool, true, false, nat_le, List, [], ◌∷◌, length, Result, Ok, Err, sym, subst, arith, inl, inr}
 use Rattle.std.specs.List.{concat}
-use Rattle.hound.specs.{AcceptAnswer, FitAnswer, Refusal, int_container, too_wide, unsupported, greatest_u32, riff_size, AnswersSession, AnswersStep, writer_after, batch_containers, containers_of, WriterState, data_length}
+use Rattle.hound.specs.{AcceptAnswer, FitAnswer, Rejection, int_container, too_wide, unsupported, greatest_u32, riff_size, AnswersSession, AnswersStep, writer_after, batch_containers, containers_of, WriterState, data_length}
 use Rattle.hound.specs.declared.Error.TheVariants.{OutOfMemory, TooLong, UnfinishedSample}
 use Rattle.hound.specs.declared.Step.TheVariants.{Whole, Batch}
 use Rattle.hound_tests.specs.Rows.{mono, stereo}
@@ -12,8 +12,8 @@ wide_taken list (inl (e, is, step)) = cc
 wide_taken list (inr (step, end)) = cc
 
 pub returns-clause-passed_over : goal.returns-clause-passed_over
-returns-clause-passed_over c first second third is (inl (e, told, session)) = cc
-returns-clause-passed_over c first second third is (inr (one, inl (e, told, session))) = cc
+returns-clause-passed_over c first second third is (inl (e, modelled, session)) = cc
+returns-clause-passed_over c first second third is (inr (one, inl (e, modelled, session))) = cc
 returns-clause-passed_over c first second third is (inr (one, inr (two, three))) =
     let list = containers_of mono first.now in
     wide_taken list (subst (λ steps. AnswersSession mono list steps (Ok tt)) is two)
@@ -21,7 +21,7 @@ returns-clause-passed_over c first second third is (inr (one, inr (two, three)))
 pub returns-clause-later_error : goal.returns-clause-later_error
 unfolding int_container
 returns-clause-later_error c (inl (e, is, step)) =
-    let told : AnswersStep stereo [] (Whole (pos 40000)) (Err UnfinishedSample) =
+    let modelled : AnswersStep stereo [] (Whole (pos 40000)) (Err UnfinishedSample) =
     subst (λ r. AnswersStep stereo [] (Whole (pos 40000)) r) (sym is) step in
     cc
 returns-clause-later_error c (inr (step, rest)) = cc
@@ -29,9 +29,9 @@ returns-clause-later_error c (inr (step, rest)) = cc
 pub returns-clause-fault_as_too_long : goal.returns-clause-fault_as_too_long
 unfolding int_container
 returns-clause-fault_as_too_long c (inl (e, is, step)) =
-    let told : AnswersStep mono [] (Whole (pos 11)) (Err TooLong) =
+    let modelled : AnswersStep mono [] (Whole (pos 11)) (Err TooLong) =
     subst (λ r. AnswersStep mono [] (Whole (pos 11)) r) (sym is) step in
-    told
+    modelled
 returns-clause-fault_as_too_long c (inr (step, end)) = end
 
 pub returns-clause-unfinished_flush : goal.returns-clause-unfinished_flush
@@ -46,7 +46,7 @@ returns-clause-unfinished_end c (inl (e, is, step)) = cc
 returns-clause-unfinished_end c (inr (step, end)) = omega (arith, end)
 
 -- a call for samples lacks no memory
-no_memory : {M : Type 0} (asked : Result (List (List ℕ)) Refusal) (w : WriterState M)
+no_memory : {M : Type 0} (asked : Result (List (List ℕ)) Rejection) (w : WriterState M)
     → AcceptAnswer {T = Unit {0}} asked w (Err OutOfMemory) → ⊥
 no_memory (Err too_wide) w answers = cc
 no_memory (Err unsupported) w answers = cc

@@ -6,7 +6,7 @@ use Rattle.hound_number.proofs.KnownSteps.{known_both, known_weaker}
 use Rattle.hound_walk.specs.Walking.{Walked, ReadsChunk}
 use Rattle.hound_walk.specs.declared.chunks.ChunkRead.TheVariants.{Data}
 use Rattle.hound_walk.proofs.WalkLemmas.{head_from, walked_more}
-use Rattle.hound_walk.proofs.TakenLemmas.{refused_for, walk_takes}
+use Rattle.hound_walk.proofs.TakenLemmas.{rejected_for, walk_takes}
 use Rattle.hound_walk.proofs.chunks.read_until_data.Goals as goal
 
 pub chunks-init : goal.chunks-init
@@ -15,8 +15,8 @@ chunks-init g c = grind (arith, common_steps, known_weaker)
 pub chunks-preserved : goal.chunks-preserved
 chunks-preserved g c = grind (arith, common_steps, NoneFailed-trans, known_both, walked_more)
 
-pub returns-in_err-spec_ex-clause-refused : goal.returns-in_err-spec_ex-clause-refused
-returns-in_err-spec_ex-clause-refused g c = grind (arith, common_steps, err_from_is_err_and, refused_for, walk_takes)
+pub returns-in_err-spec_ex-clause-rejected : goal.returns-in_err-spec_ex-clause-rejected
+returns-in_err-spec_ex-clause-rejected g c = grind (arith, common_steps, err_from_is_err_and, rejected_for, walk_takes)
 
 pub returns-in_err-spec_ex-clause-taken : goal.returns-in_err-spec_ex-clause-taken
 returns-in_err-spec_ex-clause-taken g c =

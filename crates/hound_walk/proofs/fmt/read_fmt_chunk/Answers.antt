@@ -8,7 +8,7 @@ use Rattle.hound_spec.specs.{fmt_fields}
 use Rattle.hound_walk.proofs.Gives.{gives_from, known_err}
 use Rattle.hound_walk.proofs.FmtLemmas.{fmt_head}
 use Rattle.hound_walk.proofs.TakenLemmas.{takes_after, takes_these, wave_format_takes}
-use Rattle.hound_walk.specs.Walking.{TakesFor, content_taken, Refuses}
+use Rattle.hound_walk.specs.Walking.{TakesFor, content_taken, Rejects}
 use Rattle.hound_number.specs.{number}
 use Rattle.hound_spec.specs.declared.spec.WavSpecEx.{WavSpecEx}
 use Rattle.hound_walk.specs.declared.cause.HeadError.{HeadError}
@@ -25,7 +25,7 @@ more_are_taken : (h : List ℕ) (tag len : ℕ) (o m n : Option (List ℕ))
     (r : Result WavSpecEx HeadError) → Consumes o m h → length h ≡ 16
     → tag ≡ number (slice_range h 0 2)
     → IfErr r (TakesFor m n (λ d xs. content_taken tag len d (16 + length xs) - 16))
-    → IfErr r (λ e. Refuses e (λ d. (k : ℕ) → 16 ≤ content_taken tag len d (16 + k)))
+    → IfErr r (λ e. Rejects e (λ d. (k : ℕ) → 16 ≤ content_taken tag len d (16 + k)))
     → IfErr r (TakesFor o n (λ d xs. content_taken (fmt_fields xs).tag len d (length xs)))
 more_are_taken h tag len o m n (Ok x) taken sixteen same t late = tt
 more_are_taken h tag len o m n (Err e) taken sixteen same t late =

@@ -1,7 +1,7 @@
 use Rattle.std.proofs.Common.{◌≡◌, ◌+◌, Err, arith, subst}
 use Rattle.hound_spec.specs.{padded}
 use Rattle.hound_walk.specs.Fmt.{fmt_len, fmt_of}
-use Rattle.hound_walk.proofs.PartLemmas.{refuses_at, reaches, passed_fmt, refused_fmt, fmt_inside, chunk_inside}
+use Rattle.hound_walk.proofs.PartLemmas.{rejects_at, reaches, passed_fmt, rejected_fmt, fmt_inside, chunk_inside}
 use Rattle.hound_walk.specs.Parts.{IsAfter}
 use Rattle.hound_walk.proofs.parts.take_fmt.Goals as goal
 
@@ -18,11 +18,11 @@ returns-in-Ok-clause-leads c = λ file found at is.
     (subst (λ n. IsAfter (padded len) n c.skip.result.part) c.min.ensures c.skip.ensures.part) c.skip.ensures.found c.skip.ensures.taken
     (λ none. omega (arith, none, fmt_inside file b t (fmt_len len) is enough (chunk_inside file size found t w four parts)))
 
-pub returns-in-Err-Refused-clause-leads : goal.returns-in-Err-Refused-clause-leads
-returns-in-Err-Refused-clause-leads c = λ file found at is.
+pub returns-in-Err-Rejected-clause-leads : goal.returns-in-Err-Rejected-clause-leads
+returns-in-Err-Rejected-clause-leads c = λ file found at is.
     let (w, limit, size, four, says, parts) = at in
     let len = c.args.chunk_len in
-    let cause = c.in-Err-Refused.cause in
-    refused_fmt file size c.args.bytes.now found c.args.taken len cause w four says parts limit is
-    (refuses_at c.in-Err-Refused.field-0 cause (λ d. fmt_of len c.args.bytes.now ≡ Err d)
-    c.in-Err-Refused.field-0-is c.in-Err-Refused.ensures.gives)
+    let cause = c.in-Err-Rejected.cause in
+    rejected_fmt file size c.args.bytes.now found c.args.taken len cause w four says parts limit is
+    (rejects_at c.in-Err-Rejected.field-0 cause (λ d. fmt_of len c.args.bytes.now ≡ Err d)
+    c.in-Err-Rejected.field-0-is c.in-Err-Rejected.ensures.gives)

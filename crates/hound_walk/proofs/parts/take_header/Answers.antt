@@ -4,27 +4,27 @@ use Rattle.hound_spec.specs.{padded, fmt_tag}
 use Rattle.hound_walk.specs.declared.cause.Cause.TheVariants.{Ended, Format}
 use Rattle.hound_walk.specs.declared.cause.Reason.TheVariants.{NoDataChunk}
 use Rattle.hound_walk.proofs.WalkLemmas.{same_tag}
-use Rattle.hound_walk.proofs.PartLemmas.{over_fault, header_cut, refused_at, refused_header, head_at, header_parts, size_long, reaches, passed_header, header_inside}
+use Rattle.hound_walk.proofs.PartLemmas.{over_fault, header_cut, rejected_at, rejected_header, head_at, header_parts, size_long, reaches, passed_header, header_inside}
 use Rattle.hound_walk.proofs.parts.take_header.Goals as goal
 
 pub returns-then-taken-clause-leads : goal.returns-then-taken-clause-leads
 returns-then-taken-clause-leads c = λ file w is.
     let t = c.args.taken in
-    refused_at file (drop (12 + t) file) c.args.found t (Format NoDataChunk) w
+    rejected_at file (drop (12 + t) file) c.args.found t (Format NoDataChunk) w
     (over_fault t c.args.found (drop (12 + t) file) (omega arith))
 
 pub returns-then-bytes-lt8-clause-leads : goal.returns-then-bytes-lt8-clause-leads
 returns-then-bytes-lt8-clause-leads c = λ file w is.
     let t = c.args.taken in
     let rest = drop (12 + t) file in
-    refused_at file rest c.args.found t Ended w
+    rejected_at file rest c.args.found t Ended w
     (header_cut t c.args.found rest (omega arith) (subst (λ h. length h < 8) is c.if-bytes-lt8.true))
 
 pub returns-in_err-spec_ex-clause-leads : goal.returns-in_err-spec_ex-clause-leads
 returns-in_err-spec_ex-clause-leads c = λ file w is.
     let p = err_from_is_err_and c.from_residual.result c.from_residual.ensures.1 in
     rw (p.1, p.2)
-    (refused_header file c.args.bytes.now c.args.found c.args.taken c.u32_at-chunk_len.result
+    (rejected_header file c.args.bytes.now c.args.found c.args.taken c.u32_at-chunk_len.result
     c.in_err-spec_ex.field-0.0 w is (omega arith) (omega arith) c.u32_at-chunk_len.ensures
     c.in_err-spec_ex.ensures.says.0)
 

@@ -9,7 +9,7 @@ use Rattle.hound_writer.proofs.patch.patch.Goals as goal
 pub returns-in_err-put_size-clause-patches : goal.returns-in_err-put_size-clause-patches
 returns-in_err-put_size-clause-patches g c tells =
     let first = c.in_err-put_size.ensures tells in
-    let has = has_size c.args.data_len_offset _ c.requires.behind (c.requires.inside tells)
+    let has = has_size c.args.data_len_offset _ c.requires.beyond (c.requires.inside tells)
     (g.met.M.Placed.bytes c.args.medium.now tells) in
     cut _ _ _ 0 _ _ _ c.from_residual.ensures.0 (omega arith)
     (first_half g.M.Placed.keeps _ _ c.args.data_length _ _ _ has first) first.faults
@@ -19,7 +19,7 @@ pub returns-in_err-put_size-2-clause-patches :
 returns-in_err-put_size-2-clause-patches g c tells =
     let first = c.in_ok-put_size.ensures tells in
     let second = c.in_err-put_size-2.ensures tells in
-    let has = has_size c.args.data_len_offset _ c.requires.behind (c.requires.inside tells)
+    let has = has_size c.args.data_len_offset _ c.requires.beyond (c.requires.inside tells)
     (g.met.M.Placed.bytes c.args.medium.now tells) in
     cut _ _ _ second.count _ _ _ c.from_residual-in_err-put_size-2.ensures.0 second.within
     (second_half g.M.Placed.keeps _ _ c.args.data_length _ _ _ has first _ _
@@ -30,7 +30,7 @@ pub returns-clause-patches : goal.returns-clause-patches
 returns-clause-patches g c tells =
     let first = c.in_ok-put_size.ensures tells in
     let second = c.in_ok-put_size-2.ensures tells in
-    let has = has_size c.args.data_len_offset _ c.requires.behind (c.requires.inside tells)
+    let has = has_size c.args.data_len_offset _ c.requires.beyond (c.requires.inside tells)
     (g.met.M.Placed.bytes c.args.medium.now tells) in
     patched g.M.Placed.keeps c.args.data_len_offset c.args.riff_size c.args.data_length _ _
     c.flush.result _ _ _ _ has (g.met.M.Placed.bytes c.put_size.new.medium tells)
@@ -41,7 +41,7 @@ pub returns-in_err-put_size-clause-moments : goal.returns-in_err-put_size-clause
 returns-in_err-put_size-clause-moments g c tells keeps =
     let p = c.args.data_len_offset in
     let old = g.M.Placed.state c.args.medium.now in
-    let has = has_size p old.contents c.requires.behind (c.requires.inside tells)
+    let has = has_size p old.contents c.requires.beyond (c.requires.inside tells)
     (g.met.M.Placed.bytes c.args.medium.now tells) in
     patches_none p c.args.riff_size c.args.data_length c.from_residual.result old
     (g.M.Placed.state c.put_size.new.medium)
@@ -53,7 +53,7 @@ pub returns-in_err-put_size-2-clause-moments :
 returns-in_err-put_size-2-clause-moments g c tells keeps =
     let bytes = g.met.M.Placed.bytes in
     let replays = g.met.M.Medium.replays in
-    let has = has_size c.args.data_len_offset _ c.requires.behind (c.requires.inside tells)
+    let has = has_size c.args.data_len_offset _ c.requires.beyond (c.requires.inside tells)
     (bytes c.args.medium.now tells) in
     let first = c.in_ok-put_size.ensures tells in
     patches_both g.M.Placed.keeps c.args.data_len_offset c.args.riff_size c.args.data_length _ _
@@ -66,7 +66,7 @@ pub returns-clause-moments : goal.returns-clause-moments
 returns-clause-moments g c tells keeps =
     let bytes = g.met.M.Placed.bytes in
     let replays = g.met.M.Medium.replays in
-    let has = has_size c.args.data_len_offset _ c.requires.behind (c.requires.inside tells)
+    let has = has_size c.args.data_len_offset _ c.requires.beyond (c.requires.inside tells)
     (bytes c.args.medium.now tells) in
     let first = c.in_ok-put_size.ensures tells in
     let second = c.in_ok-put_size-2.ensures tells in

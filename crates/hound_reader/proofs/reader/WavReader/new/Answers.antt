@@ -2,7 +2,7 @@ use Rattle.std.proofs.lemmas.Grind.{common_steps}
 use Rattle.std.proofs.Common.{arith}
 use Rattle.hound_number.proofs.KnownSteps.{known_weaker}
 use Rattle.hound_walk.specs.{Unreadable}
-use Rattle.hound_reader.proofs.ReaderLemmas.{opens_ok, refusal_told, opens_told, no_fault_ok, fails_told, is_told}
+use Rattle.hound_reader.proofs.ReaderLemmas.{opens_ok, rejection_reported, opens_reported, no_fault_ok, fails_reported, is_reported}
 use Rattle.hound_reader.proofs.reader.WavReader.new.Goals as goal
 
 pub returns-in-Ok-clause-found : goal.returns-in-Ok-clause-found
@@ -13,14 +13,14 @@ returns-in-Ok-clause-readable g c =
     rw c.over.ensures.view
     (opens_ok _ _ c.in-Ok.head.spec_ex c.in-Ok.num_samples c.in-Ok.head.data_start c.in-Ok.ensures.found)
 
-pub returns-in-Err-clause-refused : goal.returns-in-Err-clause-refused
-returns-in-Err-clause-refused g c =
-    refusal_told _ _ c.in-Err.e c.error_of.result Unreadable c.error_of.ensures
-    c.in-Err.ensures.refused
+pub returns-in-Err-clause-rejected : goal.returns-in-Err-clause-rejected
+returns-in-Err-clause-rejected g c =
+    rejection_reported _ _ c.in-Err.e c.error_of.result Unreadable c.error_of.ensures
+    c.in-Err.ensures.rejected
 
 pub returns-in-Err-clause-readable : goal.returns-in-Err-clause-readable
 returns-in-Err-clause-readable g c =
-    opens_told _ _ c.in-Err.e c.error_of.result _ c.error_of.ensures c.in-Err.ensures.refused
+    opens_reported _ _ c.in-Err.e c.error_of.result _ c.error_of.ensures c.in-Err.ensures.rejected
 
 pub returns-in-Ok-clause-unreadable : goal.returns-in-Ok-clause-unreadable
 returns-in-Ok-clause-unreadable g c =
@@ -28,7 +28,7 @@ returns-in-Ok-clause-unreadable g c =
 
 pub returns-in-Err-clause-unreadable : goal.returns-in-Err-clause-unreadable
 returns-in-Err-clause-unreadable g c =
-    fails_told _ _ c.in-Err.e c.error_of.result c.error_of.ensures c.in-Err.ensures.refused
+    fails_reported _ _ c.in-Err.e c.error_of.result c.error_of.ensures c.in-Err.ensures.rejected
 
-pub returns-in-Err-clause-told : goal.returns-in-Err-clause-told
-returns-in-Err-clause-told g c = is_told c.in-Err.e c.error_of.result c.error_of.ensures
+pub returns-in-Err-clause-reported : goal.returns-in-Err-clause-reported
+returns-in-Err-clause-reported g c = is_reported c.in-Err.e c.error_of.result c.error_of.ensures

@@ -10,7 +10,7 @@ pub returns-in-Ok-clause-answers : goal.returns-in-Ok-clause-answers
 returns-in-Ok-clause-answers g c =
     let r = c.self.inside in
     let left = g.R.Read.remaining in
-    let refusal = g.S.Sample.refusal in
+    let rejection = g.S.Sample.rejection in
     let meaning = g.S.Sample.meaning in
     let read = c.read_item_since-given in
     let same : c.args.spec_ex ≡ r.spec_ex =
@@ -24,9 +24,9 @@ returns-in-Ok-clause-answers g c =
       bytes_read = r.bytes_read + taken;
     } in
     let given = rw same at read.ensures.answers in
-    subst (λ old. AnswersNext left refusal meaning (Some (Ok c.in-Ok.sample)) old
+    subst (λ old. AnswersNext left rejection meaning (Some (Ok c.in-Ok.sample)) old
     (new c.args.spec_ex.bytes_per_sample)) c.self.view_is
-    (a_sample_is_given left refusal meaning _ (new c.args.spec_ex.bytes_per_sample) read.new.answer
+    (a_sample_is_given left rejection meaning _ (new c.args.spec_ex.bytes_per_sample) read.new.answer
     read.result.0.now.fault c.in-Ok.sample (omega (arith, c.if-self.false))
     (ap new (ap (λ (s : WavSpecEx). s.bytes_per_sample) same)) (given read.result.0.now.fault)
     (λ some. ap (λ (k : SavingReader _). k.reader) ((rw same at read.ensures.untouched) some)) c.in-Ok.is)
@@ -35,7 +35,7 @@ pub returns-in-Err-clause-answers : goal.returns-in-Err-clause-answers
 returns-in-Err-clause-answers g c =
     let r = c.self.inside in
     let left = g.R.Read.remaining in
-    let refusal = g.S.Sample.refusal in
+    let rejection = g.S.Sample.rejection in
     let meaning = g.S.Sample.meaning in
     let read = c.read_item_since-given in
     let reason = c.in-Err.no_sample in
@@ -52,9 +52,9 @@ returns-in-Err-clause-answers g c =
     let given = rw (same, c.in-Err.is) at read.ensures.answers in
     let small : r.spec_ex.bytes_per_sample < 2 ^ 64 =
     omega (arith, c.self.invariant.sound.2, c.self.invariant.sound.0) in
-    subst (λ old. AnswersNext left refusal meaning (Some (Err reason)) old (new c.taken_without.result))
+    subst (λ old. AnswersNext left rejection meaning (Some (Err reason)) old (new c.taken_without.result))
     c.self.view_is
-    (no_sample_is_given left refusal meaning _ (new c.taken_without.result) reason read.result.1
+    (no_sample_is_given left rejection meaning _ (new c.taken_without.result) reason read.result.1
     (omega (arith, c.if-self.false)) small
     (ap new (c.taken_without.ensures
     ∙ ap (λ (s : WavSpecEx). taken_without reason read.result.1 s.bytes_per_sample) same)) given

@@ -22,9 +22,9 @@ returns-in_default g c =
       samples_read = r.samples_read + k;
       bytes_read = r.bytes_read + k * r.spec_ex.bytes_per_sample;
     } in
-    subst (λ begin. ReadsBlock g.R.Read.remaining g.S.Sample.refusal g.S.Sample.meaning k (Ok tt) xs
+    subst (λ begin. ReadsBlock g.R.Read.remaining g.S.Sample.rejection g.S.Sample.meaning k (Ok tt) xs
     (read.new.samples ++ drop wanted xs) begin new) c.self.view_is
-    (is_block g.R.Read.remaining g.S.Sample.refusal g.S.Sample.meaning k wanted read.result.1
+    (is_block g.R.Read.remaining g.S.Sample.rejection g.S.Sample.meaning k wanted read.result.1
     read.new.answer.1 (Ok tt) read.result.0.now.fault xs read.new.samples _ new c.in_default.is
     (omega (arith, c.min-wanted.ensures, c.samples_left.ensures, ap (λ (s : ReaderState _). samples_left s) c.self.view_is))
     read.auto.samples (omega (arith, c.self.ranges)) (omega (arith, c.self.ranges)) read.ensures.front
@@ -54,10 +54,10 @@ returns g c =
     } in
     let torn : c.taken_without.result ≡ taken_without reason (read.result.1 - k * width) width =
     c.taken_without.ensures ∙ ap (λ n. taken_without reason n width) c.saturating_sub.ensures in
-    rw c.error_of_sample.ensures (subst (λ begin. ReadsBlock g.R.Read.remaining g.S.Sample.refusal
+    rw c.error_of_sample.ensures (subst (λ begin. ReadsBlock g.R.Read.remaining g.S.Sample.rejection
     g.S.Sample.meaning k (Err (error_of_sample reason fault)) xs (read.new.samples ++ drop wanted xs) begin new)
     c.self.view_is
-    (is_block g.R.Read.remaining g.S.Sample.refusal g.S.Sample.meaning k wanted read.result.1
+    (is_block g.R.Read.remaining g.S.Sample.rejection g.S.Sample.meaning k wanted read.result.1
     read.new.answer.1 (Err reason) fault xs read.new.samples _ new c.in-Err.is
     (omega (arith, c.min-wanted.ensures, c.samples_left.ensures, ap (λ (s : ReaderState _). samples_left s) c.self.view_is))
     read.auto.samples (omega (arith, c.self.ranges)) (omega (arith, c.self.ranges)) read.ensures.front

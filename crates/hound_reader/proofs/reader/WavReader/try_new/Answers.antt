@@ -2,7 +2,7 @@ use Rattle.std.proofs.Common.{Some, IfErr, subst}
 use Rattle.hound_walk.specs.{TakesAll, UnreadableAfter, unread}
 use Rattle.hound_reader.specs.Opening.{FindsSamples}
 use Rattle.hound_reader.proofs.OpeningLemmas.{not_opened}
-use Rattle.hound_reader.proofs.ReaderLemmas.{is_told}
+use Rattle.hound_reader.proofs.ReaderLemmas.{is_reported}
 use Rattle.hound_reader.proofs.reader.WavReader.try_new.Goals as goal
 
 pub returns-in-Err-clause-opens : goal.returns-in-Err-clause-opens
@@ -16,5 +16,5 @@ returns-in-Err-clause-opens g c tells =
     (subst (λ r. IfErr r (TakesAll UnreadableAfter (Some (unread old)) (Some (unread new)))) c.in-Err.is
     (found.taken tells))
 
-pub returns-in-Err-clause-told : goal.returns-in-Err-clause-told
-returns-in-Err-clause-told g c = is_told c.in-Err.stop c.error_of.result c.error_of.ensures
+pub returns-in-Err-clause-reported : goal.returns-in-Err-clause-reported
+returns-in-Err-clause-reported g c = is_reported c.in-Err.stop c.error_of.result c.error_of.ensures

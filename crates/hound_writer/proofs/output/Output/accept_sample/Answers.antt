@@ -2,13 +2,13 @@ use Rattle.std.proofs.Common.{Ok, arith, take}
 use Rattle.hound_sample.proofs.Joined.{encoded_bytes}
 use Rattle.hound_writer.proofs.Blocks.{accepts_buffered}
 use Rattle.hound_writer.proofs.Containers.{one_whole}
-use Rattle.hound_writer.proofs.Writing.{sample_refused, sample_accepts}
+use Rattle.hound_writer.proofs.Writing.{sample_rejected, sample_accepts}
 use Rattle.hound_writer.proofs.output.Output.accept_sample.Goals as goal
 
 pub returns-in-Err : goal.returns-in-Err
 returns-in-Err g c =
     rw (← c.self.view_is, c.reason_of.ensures)
-    (sample_refused g.W.Placed _ _ _ c.self.invariant _ c.in-Err.refusal c.args.fault.now c.in-Err.ensures
+    (sample_rejected g.W.Placed _ _ _ c.self.invariant _ c.in-Err.rejection c.args.fault.now c.in-Err.ensures
     (g.met.W.Medium.replays _))
 
 pub returns-then-len-self : goal.returns-then-len-self

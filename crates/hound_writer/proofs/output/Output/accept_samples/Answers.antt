@@ -2,7 +2,7 @@ use Rattle.std.proofs.lemmas.Grind.{common_steps}
 use Rattle.std.proofs.Common.{◌∙◌, Ok, Err, sym, arith}
 use Rattle.std.proofs.lemmas.Bool.{false≢true}
 use Rattle.hound_spec.specs.declared.error.Error.TheVariants.{IoError}
-use Rattle.hound_writer.proofs.AcceptingMany.{many_asked, many_refused, many_too_long, too_many}
+use Rattle.hound_writer.proofs.AcceptingMany.{many_asked, many_rejected, many_too_long, too_many}
 use Rattle.hound_writer.proofs.output.Output.accept_samples.Goals as goal
 
 pub returns-then-not-have_containers :
@@ -10,7 +10,7 @@ pub returns-then-not-have_containers :
 returns-then-not-have_containers g c =
     let W = g.W.Placed in
     rw (← c.self.view_is)
-    (many_refused g.S.Sample.container g.met.S.Sample.in_width c.args.samples.now W _ _ _ c.self.invariant
+    (many_rejected g.S.Sample.container g.met.S.Sample.in_width c.args.samples.now W _ _ _ c.self.invariant
     (g.met.W.Medium.replays _) _ c.args.fault.now c.check_containers.ensures
     (λ have. false≢true (sym c.if-not-have_containers.true ∙ c.have_containers.ensures ∙ have)))
 

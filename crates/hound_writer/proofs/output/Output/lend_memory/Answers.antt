@@ -30,8 +30,8 @@ returns-in-Ok-clause-length g c =
       c.in-Ok.ensures.len,
     )
 
-pub returns-in-Err-clause-refused : goal.returns-in-Err-clause-refused
-returns-in-Err-clause-refused g c =
+pub returns-in-Err-clause-rejected : goal.returns-in-Err-clause-rejected
+returns-in-Err-clause-rejected g c =
     let kept = kept_or_new (λ m. m.items) c.self.inside.batch_memory _ _ _ c.take.ensures.value
     c.unwrap_or-memory.ensures c.new.ensures.items in (
       c.from.ensures,

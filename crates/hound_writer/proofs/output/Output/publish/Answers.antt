@@ -23,24 +23,24 @@ invariant_of-self-in_err-go g c =
     let W = g.W.Placed in
     consistent_gone W _ _ _ _ _
     (consistent_patched W _ c.patch.new.medium _ _ _ c.patch.result c.self.invariant
-    c.patch.ensures.patches) (λ told. (c.in_err-go.ensures told).stays.contents)
-    (λ told is. absurd (true≢false is))
+    c.patch.ensures.patches) (λ modelled. (c.in_err-go.ensures reported).stays.contents)
+    (λ modelled is. absurd (true≢false is))
 
 pub invariant_of-self-2 : goal.invariant_of-self-2
 invariant_of-self-2 g c =
     let W = g.W.Placed in
     consistent_gone W _ _ _ _ _
     (consistent_patched W _ c.patch.new.medium _ _ _ c.patch.result c.self.invariant
-    c.patch.ensures.patches) (λ told. (c.in_ok-go.ensures told).stays.contents)
-    (λ told _. (c.in_ok-go.ensures told).place)
+    c.patch.ensures.patches) (λ modelled. (c.in_ok-go.ensures reported).stays.contents)
+    (λ modelled _. (c.in_ok-go.ensures reported).place)
 
 pub returns-in_err-go-clause-patches : goal.returns-in_err-go-clause-patches
 returns-in_err-go-clause-patches g c tells =
     let go = c.in_err-go.ensures tells in
     let patches = rw c.riff_size-riff_size.ensures at (c.in_ok-patch.ensures.patches tells) in
-    let told = c.from_residual-in_err-go in
+    let modelled = c.from_residual-in_err-go in
     rw (← c.self.view_is)
-    (cut _ _ _ patches.half.0 told.result _ _ told.ensures.0 patches.half.1
+    (cut _ _ _ patches.half.0 modelled.result _ _ modelled.ensures.0 patches.half.1
     (rw go.stays.contents patches.half.2) (go.faults ∙ ap one_more patches.faults))
 
 pub returns-clause-moments : goal.returns-clause-moments

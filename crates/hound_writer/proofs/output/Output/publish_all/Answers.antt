@@ -43,7 +43,7 @@ returns g c =
     (padded_end mid) at mid padded publish.new.self c.publish_result.result (omega arith) pad.goes
     (g.met.W.Placed.bytes mid.medium)
     (publishes_to W padded publish.new.self.medium none e.sound e.at_most
-    (λ told.
-    pad.padded told refl) publish.result c.are_frames.result c.publish_result.result c.publish_result.ensures
+    (λ modelled.
+    pad.padded modelled refl) publish.result c.are_frames.result c.publish_result.result c.publish_result.ensures
     publish.new.self e.stays c.are_frames.ensures (g.met.W.Placed.bytes padded.medium)
     (g.met.W.Placed.bytes publish.new.self.medium) e.patches e.moments at e.place))

@@ -1,6 +1,6 @@
 use Rattle.std.proofs.Common.{refl, rules}
 use Rattle.hound_writer.specs.Accepting.{mark_of}
-use Rattle.hound_writer.specs.Calls.{answered, made, marked, publish}
+use Rattle.hound_writer.specs.Calls.{returned, made, marked, publish}
 use Rattle.hound_writer.proofs.PublishLater.{finishes_of}
 use Rattle.hound_writer.proofs.Recording.{left_by}
 use Rattle.hound_writer.proofs.write.WavWriter.finalize_into.Goals as goal
@@ -25,9 +25,9 @@ returns-clause-marked g c s file known so_far =
     c.publish_all-result.result s file known c.args.self c.into_medium.result (refl, refl)
     (returns-clause-finishes g c) so_far
 
-pub returns-clause-answered : goal.returns-clause-answered
-returns-clause-answered g c s file known so_far =
+pub returns-clause-returned : goal.returns-clause-returned
+returns-clause-returned g c s file known so_far =
     let W = g.W.Placed in
-    left_by W (answered publish c.publish_all-result.result)
+    left_by W (returned publish c.publish_all-result.result)
     c.publish_all-result.result s file known c.args.self c.into_medium.result (refl, refl)
     (returns-clause-finishes g c) so_far

@@ -5,7 +5,7 @@ use Rattle.std.specs.declared.io.ErrorKind.TheVariants.{Other}
 use Rattle.hound_walk.specs.declared.cause.Cause.{Cause}
 use Rattle.hound_walk.specs.declared.cause.Cause.TheVariants.{Ended, Format, Unsupported}
 use Rattle.hound_walk.specs.declared.cause.HeadError.{HeadError}
-use Rattle.hound_walk.specs.declared.cause.HeadError.TheVariants.{Failed, Refused}
+use Rattle.hound_walk.specs.declared.cause.HeadError.TheVariants.{Failed, Rejected}
 use Rattle.hound_spec.specs.declared.error.Error.{Error}
 use Rattle.hound_spec.specs.declared.error.Error.TheVariants as errors
 use Rattle.hound_walk.specs.declared.cause.Reason.{Reason}
@@ -42,16 +42,16 @@ Names _ cause = ⊥
 
 -- the error that callers get: that of a failed read, or that of the cause
 abbrev pub ReportsError : HeadError → Error → Type 0
-ReportsError (Failed e) told = told ≡ errors.IoError e
-ReportsError (Refused cause) told = Names told cause
+ReportsError (Failed e) modelled = modelled ≡ errors.IoError e
+ReportsError (Rejected cause) modelled = Names modelled cause
 
 -- an `IoError`, or the error of a cause that P holds for
-abbrev pub IsRefusal : Error → (Cause → Type 0) → Type 0
-IsRefusal (errors.IoError e) P = ⊤
-IsRefusal (errors.FormatError s) P = (reason : Reason) × P (Format reason)
+abbrev pub IsRejection : Error → (Cause → Type 0) → Type 0
+IsRejection (errors.IoError e) P = ⊤
+IsRejection (errors.FormatError s) P = (reason : Reason) × P (Format reason)
     × (s.now ≡ reason_text reason)
-IsRefusal errors.Unsupported P = P Unsupported
-IsRefusal _ P = ⊥
+IsRejection errors.Unsupported P = P Unsupported
+IsRejection _ P = ⊥
 
 -- Ok with P, or an `IoError`
 abbrev pub OpensAs : {A : Type 0} → Result A Error → (A → Type 0) → Type 0
