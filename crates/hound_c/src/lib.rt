@@ -35,7 +35,8 @@ use hound_writer::Recorder;
 /// What is before the data: 0, or why it can't be read.
 #[unsafe(no_mangle)]
 pub extern "C" fn hound_info(file: &[u8], info: &mut HoundInfo) -> i32
-    ensures found { result ≡ pos 0 → Readable file.now (spec_from_c info.new.spec) info.new.samples info.new.data_start }
+    ensures found { result ≡ pos 0
+        → Readable file.now (spec_from_c info.new.spec) info.new.samples info.new.data_start }
     ensures explicit { result ≡ pos 0 → IsExplicit info.new.spec }
     ensures rejected { (result ≡ pos 0 → ⊥) → (info.new ≡ info.old)
         × ((cause : Cause) × (result ≡ error_code (Head cause)) × Unreadable file.now cause) }
@@ -240,7 +241,8 @@ pub extern "C" fn hound_guess_data(file: &[u8]) -> i64
 /// Decodes samples of a spec, of eight bits.
 #[unsafe(no_mangle)]
 pub extern "C" fn hound_decode_i8(spec: &HoundSpec, bytes: &[u8], out: &mut [i8]) -> i64
-    ensures { Returns result (Decodes (int_rejection 1) (λ _. int_meaning) (spec_from_c spec.now) bytes.now out.old out.new) }
+    ensures { Returns result
+        (Decodes (int_rejection 1) (λ _. int_meaning) (spec_from_c spec.now) bytes.now out.old out.new) }
 {
     code_of(decode_block::<i8>(*spec, bytes, out))
 }
@@ -256,7 +258,8 @@ pub extern "C" fn hound_encode_i8(spec: &HoundSpec, samples: &[i8], out: &mut [u
 /// Decodes samples of a spec.
 #[unsafe(no_mangle)]
 pub extern "C" fn hound_decode_i16(spec: &HoundSpec, bytes: &[u8], out: &mut [i16]) -> i64
-    ensures { Returns result (Decodes (int_rejection 2) (λ _. int_meaning) (spec_from_c spec.now) bytes.now out.old out.new) }
+    ensures { Returns result
+        (Decodes (int_rejection 2) (λ _. int_meaning) (spec_from_c spec.now) bytes.now out.old out.new) }
 {
     code_of(decode_block::<i16>(*spec, bytes, out))
 }
@@ -272,7 +275,8 @@ pub extern "C" fn hound_encode_i16(spec: &HoundSpec, samples: &[i16], out: &mut 
 /// Decodes samples of a spec.
 #[unsafe(no_mangle)]
 pub extern "C" fn hound_decode_i32(spec: &HoundSpec, bytes: &[u8], out: &mut [i32]) -> i64
-    ensures { Returns result (Decodes (int_rejection 4) (λ _. int_meaning) (spec_from_c spec.now) bytes.now out.old out.new) }
+    ensures { Returns result
+        (Decodes (int_rejection 4) (λ _. int_meaning) (spec_from_c spec.now) bytes.now out.old out.new) }
 {
     code_of(decode_block::<i32>(*spec, bytes, out))
 }

@@ -126,9 +126,11 @@ IsErrorOf _ e = e ≡ Unsupported
 abbrev pub IsNotResumed : List ℕ → Error → Type 0
 IsNotResumed contents e = IsRejection e (Unreadable contents)
     ⊎ ((s : WavSpecEx) × (samples start : ℕ) × Readable contents s samples start
-    × (((error : RecorderError) × AppendsRecorder s start (samples * s.bytes_per_sample) (Err error) × (e ≡ Unsupported))
+    × (((error : RecorderError) × AppendsRecorder s start (samples * s.bytes_per_sample) (Err error)
+    × (e ≡ Unsupported))
     ⊎ ((length contents < start + samples * s.bytes_per_sample) × SaysFormat (codes "the data are cut off") e)
-    ⊎ ((start + padded (samples * s.bytes_per_sample) < length contents) × SaysFormat (codes "more follows the data") e)))
+    ⊎ ((start + padded (samples * s.bytes_per_sample) < length contents)
+    × SaysFormat (codes "more follows the data") e)))
 
 -- the file is read as its samples and then these blocks, if they are whole frames
 abbrev pub ReadsBlocks : WavSpecEx → Begun → List (Bor (List ℕ)) → List ℕ → Type 0

@@ -89,8 +89,8 @@ pub fn reopen<M: Source + Medium>(medium: M) -> result::Result<WavWriter<M>, (M,
 /// What a player finds that opens a recording after its first k bytes were written, by what the calls of
 /// its writer promise. While one writes samples, all before the data is as it was (`front`). While one makes a
 /// checkpoint, the data length has some bytes of the old one and the others of the new one (`mixed`), and is one of
-/// these two unless a write of it is cut (`whole`). From a checkpoint to where the next one begins, he finds exactly the
-/// samples accepted before it (`checkpoint`).
+/// these two unless a write of it is cut (`whole`). From a checkpoint to where the next one begins, he finds exactly
+/// the samples accepted before it (`checkpoint`).
 pub fn opened_meanwhile(alloc: Global, journal: &Journal, k: usize) -> hound::Result<Vec<u8>>
     requires { k ≤ length (⟦<Journal as Placed>⟧.state journal.now).past }
     ensures front { let m = ⟦<Journal as Placed>⟧.state journal.now in IfOk result (λ bytes.

@@ -101,7 +101,8 @@ pub fn record_twelve_through_a_loss<M: Source + Medium>(
     ensures { let durable = ⟦<Durable<M> as Placed>⟧ in
         MatchResult result (λ left. WhereKeeps M.tells M.keeps
         (Around (M.state medium) (M.state left) (λ first last. KeptWithin durable spec_ex
-        (new_file (durable.state first)) (all_asked ⟦<Twelve as Sample>⟧.container spec_ex blocks.now) last (within last))))
+        (new_file (durable.state first))
+        (all_asked ⟦<Twelve as Sample>⟧.container spec_ex blocks.now) last (within last))))
         (λ rejected. Around (M.state medium) (M.state rejected.0) (λ first last.
         IsNotBegun durable spec_ex first last rejected.1)) }
 {
@@ -160,8 +161,8 @@ fn publish_blocks<S: Sample + Copy, M: Medium>(writer: &mut WavWriter<M>, blocks
 /// after each, until a call fails, and returns how many blocks were published.
 ///
 /// Its calls are the write and the flush of each of these blocks, all of which published it, then those
-/// of the next block, if there is one, which didn't, and the end. One of these flushes has published exactly the samples
-/// of the blocks, if there are some; and whatever sectors keep what was written since the medium was
+/// of the next block, if there is one, which didn't, and the end. One of these flushes has published exactly the
+/// samples of the blocks, if there are some; and whatever sectors keep what was written since the medium was
 /// flushed, what is left counts, and has lost no sample that a flush has published. The medium must
 /// be new: its place is 0, and nothing has been written to it yet.
 pub fn record_checkpoints<M: Source + Medium>(

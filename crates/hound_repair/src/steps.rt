@@ -647,7 +647,8 @@ impl Damage {
     // The same, once the data length is synced.
     fn effect_after(&self, number: u32) -> Option<Effect>
         requires { IsSoundDamage self.now }
-        ensures is { result ≡ nth (mending_rest self.now.head.data_start self.now.sizes.data_length self.now.held) number }
+        ensures is { result
+            ≡ nth (mending_rest self.now.head.data_start self.now.sizes.data_length self.now.held) number }
         ensures few { IfSome result (λ _. number ≤ 3) }
     {
         if !self.lacks_pad() {

@@ -1,5 +1,5 @@
-//! What the rows of `hound_rows` are made of: words, bytes, the line of a result, and readers and writers that do what a
-//! row says.
+//! What the rows of `hound_rows` are made of: words, bytes, the line of a result, and readers and writers that do
+//! what a row says.
 #![tactic(auto)]
 
 mod bytes;

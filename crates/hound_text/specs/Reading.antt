@@ -62,7 +62,8 @@ numbers_from place (b ∷ bytes) =
 -- numbers are the same.
 abbrev pub Leads : Place → List ℕ → List ℤ → Place → List ℕ → List ℤ → Type 0
 Leads place bytes numbers later rest more =
-    (tail : List ℕ) → before numbers (numbers_from place (bytes ++ tail)) ≡ before more (numbers_from later (rest ++ tail))
+    (tail : List ℕ) → before numbers (numbers_from place (bytes ++ tail))
+    ≡ before more (numbers_from later (rest ++ tail))
 
 -- no text that continues with these bytes says numbers
 abbrev pub Breaks : Place → List ℕ → Type 0

@@ -37,8 +37,10 @@ EndsEffect ok old new result = (after : Recorder) × (next : Result (Option Effe
 abbrev pub HasEnded : Bool → Recorder → Recorder → Result (Unit {0}) RecorderError → Type 0
 HasEnded ok old new result =
     ((old.task ≡ 0) × (new ≡ old) × (result ≡ Ok tt))
-    ⊎ ((0 < old.task) × (0 < old.has_rest) × (old.task ≡ 4 → ⊥) × (new ≡ record old { has_rest = 0 }) × (result ≡ Ok tt))
-    ⊎ ((old.task ≡ 4) × (0 < old.has_rest) × (new ≡ record old { task = 0; has_rest = 0 }) × (result ≡ Err NeedsCheckpoint))
+    ⊎ ((0 < old.task) × (0 < old.has_rest) × (old.task ≡ 4 → ⊥) × (new ≡ record old { has_rest = 0 })
+    × (result ≡ Ok tt))
+    ⊎ ((old.task ≡ 4) × (0 < old.has_rest) × (new ≡ record old { task = 0; has_rest = 0 })
+    × (result ≡ Err NeedsCheckpoint))
     ⊎ ((old.task ≡ 3) × (old.has_rest ≡ 0) × (r : Recorder) × Reports old.samples ok old r result
     × (new ≡ record r { task = (if ok then 0 else 4); has_rest = (if ok then 0 else 1) }))
     ⊎ ((0 < old.task) × (old.task ≡ 3 → ⊥) × (old.has_rest ≡ 0) × EndsEffect ok old new result)
@@ -80,7 +82,8 @@ GoesOn old new (Err error) = (0 < old.task) × (old.has_rest ≡ 0) × (r : Reco
     ⊎ (IsSaved old r × Places r old.samples (Err error) × (new ≡ r)))
 
 -- it continues unless something has failed
-abbrev pub ThenGoesOn : Result (Unit {0}) RecorderError → Recorder → Recorder → Result (Option Action) RecorderError → Type 0
+abbrev pub ThenGoesOn : Result (Unit {0}) RecorderError → Recorder → Recorder
+    → Result (Option Action) RecorderError → Type 0
 ThenGoesOn (Ok x) mid new result = GoesOn mid new result
 ThenGoesOn (Err error) mid new result = (result ≡ Err error) × (new ≡ mid)
 
@@ -114,4 +117,5 @@ TakesBlock samples end new (Err error) = (new ≡ end) × Places (saved_of end) 
 
 -- what the call for a block does
 abbrev pub AsksForBlock : Report → ℕ → Recorder → Recorder → Result (Unit {0}) RecorderError → Type 0
-AsksForBlock report samples old new result = (end : Recorder) × Abandons report old end × TakesBlock samples end new result
+AsksForBlock report samples old new result =
+    (end : Recorder) × Abandons report old end × TakesBlock samples end new result

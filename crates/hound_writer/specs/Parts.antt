@@ -152,7 +152,8 @@ pub record IsConsistent {W : Type 0} (kind : Ghosts W) (w : WriterState W)
   pub whole_buffered : length w.buffered % w.spec_ex.bytes_per_sample ≡ 0
   pub block : length w.buffered ≤ block_length
   pub room : IsLimit w.data_start w.bytes_written limit
-  pub at_most : WhereTells kind.tells (CountsAtMost w.spec_ex w.data_start w.bytes_written (kind.state w.medium).contents)
+  pub at_most : WhereTells kind.tells
+      (CountsAtMost w.spec_ex w.data_start w.bytes_written (kind.state w.medium).contents)
   pub place : WhereTells kind.tells
       (may_have_moved ≡ false → (kind.state w.medium).place ≡ w.data_start + w.bytes_written)
 
