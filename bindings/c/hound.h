@@ -54,11 +54,11 @@ enum {
     HOUND_OTHER_FORMAT = -3,     /* the samples are floats and the type is an integer, or vice versa */
     HOUND_TOO_WIDE = -4,         /* the samples are wider than the type, or a value than its bits */
     HOUND_NOT_WRITABLE = -5,     /* no call reads, writes, appends, repairs, encodes, decodes or scales
-                                    samples with these bits and bytes; hound_write_.., hound_size and
-                                    hound_header also return it where the channels or the rate are 0, or
-                                    where the bytes of a frame don't fit in 16 bits or those of a second in
-                                    32, and hound_sizes and a recorder where the channels are 0 or the data
-                                    begin before byte 20 */
+                                    samples with these bits and bytes; hound_write_.., hound_size,
+                                    hound_header and hound_recorder_begin also return it where the channels
+                                    or the rate are 0, or where the bytes of a frame don't fit in 16 bits or
+                                    those of a second in 32; hound_sizes and hound_recorder_resume where the
+                                    channels are 0 or the data begin before byte 20 */
     HOUND_TRUNCATED = -6,        /* the header counts a sample that isn't among the bytes of the file */
     HOUND_TOO_LONG = -7,         /* the sizes of the file would not fit in 32 bits */
     HOUND_UNFINISHED_FRAME = -8, /* the samples are no whole frames */
@@ -86,7 +86,7 @@ enum {
     HOUND_NEEDS_CHECKPOINT = -27, /* a block or a checkpoint of the recorder failed: the next request begins with
                                      a checkpoint */
     HOUND_SYNC_FAILED = -28,      /* a sync failed, after which it is unknown what is stored: the recorder or
-                                     the repairer has ended. A recording has the samples of its last checkpoint */
+                                     the repairer has ended. A recording has at least the samples of its last checkpoint */
     HOUND_IS_CUT_OFF = -29,       /* the recording was cut off, and the recorder may not mend it */
     HOUND_CHUNKS_FOLLOW = -30,    /* chunks or a tag follow the data, and the recorder may not overwrite them */
     HOUND_NOT_PERFORMED = -31     /* an effect other than a sync was reported as failed */
@@ -137,7 +137,7 @@ int32_t hound_info(const uint8_t *file, size_t length, hound_info_t *info) HOUND
      while ((code = hound_.._next(&machine, ..)) == 1) perform(&machine.effect);
 
    `perform` does what `kind` says, and sets `report`. Without a report the next call requests the same effect
-   again: so a program that was interrupted, and doesn't know whether an effect was done, just goes on with its
+   again: so a program that was interrupted, and doesn't know whether an effect was done, just continues its
    loop. Only a sync that was begun and may have failed has to be reported as failed. See record.c and repair.c. */
 enum {
     HOUND_NOTHING,     /* there is nothing to do */

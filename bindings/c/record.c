@@ -53,7 +53,7 @@ int main(int argc, char **argv) {
     if (code < 0) stop(hound_file_text(&file, code));
     hound_file_set_binary(0);
 #ifdef SIGPIPE
-    signal(SIGPIPE, SIG_IGN); /* the recording goes on where nobody reads what it prints */
+    signal(SIGPIPE, SIG_IGN); /* the recording continues where nobody reads what it prints */
 #endif
 
     size_t frame = (size_t)spec.bytes_per_sample * spec.channels, count, wanted, torn;

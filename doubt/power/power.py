@@ -73,8 +73,8 @@ SESSIONS = [
 WORDS = {"plain": [], "durable": ["durable"], "append": ["durable", "append"]}
 RECORD_C = os.path.join(tempfile.gettempdir(), f"record_c_{os.getpid()}")
 
-# A trial that has to find wrong states, since something is left out: syncs of the recorder, as strace is told, or three
-# of four flushes of the disk. The syncs of a new file: itself and its folder by `fsync`, the header by `fsync`,
+# A trial that has to find wrong states, since something is left out: syncs of the recorder, which strace fakes, or
+# three of four flushes of the disk. The syncs of a new file: itself and its folder by `fsync`, the header by `fsync`,
 # then by `fdatasync` in turn sizes and samples.
 Control = collections.namedtuple("Control", "fs sessions left_out")
 CONTROLS = {
@@ -302,7 +302,7 @@ def answer_of(data):
 
 
 def look(folder, system, size, states):
-    """Lets a machine look at these disks, and answers what it found in each."""
+    """Lets a machine look at these disks, and returns what it found in each."""
     disks, answers, initial = (os.path.join(folder, part) for part in ("disks", "answers", "initial"))
     with open(disks, "wb") as file:
         file.truncate(len(states) * size)

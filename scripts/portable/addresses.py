@@ -15,7 +15,7 @@ ADD, SUBTRACT, OR, EQUAL, UNEQUAL, IS_ZERO = 0x7C, 0x7D, 0x84, 0x51, 0x52, 0x50
 I64_LOAD, I64_STORE = 0x29, 0x37
 MASK = (1 << 64) - 1
 NOTHING = frozenset()
-# How many places at one beginning are told apart.
+# How many places at one beginning are distinguished.
 MOST = 12
 
 # What is done with addresses besides, and why it doesn't matter where memory is.

@@ -25,7 +25,7 @@ pub struct WavSpecEx {
 }
 
 impl WavSpec {
-    /// The header of a stream of unknown length, with the greatest sizes: for what has no place to go back
+    /// The header of a stream of unknown length, with the largest sizes: for what has no place to go back
     /// to, as a pipe. [`Sample::write`](crate::Sample::write) writes the samples after it.
     ///
     /// # Panics

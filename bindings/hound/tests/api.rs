@@ -133,7 +133,7 @@ fn the_bytes_are_those_of_the_format() {
     assert_eq!(hound::read_wave_header(&mut &file[..]).unwrap(), 52);
     assert_eq!(hound::read_wave_header(&mut &b"RIFF\xff\xff\xff\xffWAVEfmt "[..]).unwrap(), 0x1_0000_0007);
     assert!(matches!(hound::read_wave_header(&mut &file[..11]), Err(Error::IoError(_))));
-    // Of a stream both sizes are the greatest.
+    // Of a stream both sizes are the largest.
     for (bits_per_sample, length) in [(16, 44), (24, 68)] {
         let spec = WavSpec { bits_per_sample, ..MONO };
         let mut header = written::<i32>(spec, &[]);
@@ -182,7 +182,7 @@ fn floats_are_scaled_where_a_file_has_integers() {
 }
 
 #[test]
-fn each_type_is_read_and_refused() {
+fn each_type_is_read_or_rejected() {
     let file = written(MONO, &[300i16, -300]);
     let mut reader = WavReader::new(&file[..]).unwrap();
     assert!(matches!(reader.samples::<i8>().next(), Some(Err(Error::TooWide))));

@@ -572,14 +572,14 @@ def append(
     return writer._length
 
 
-def _repaired(file: disk.Medium, mode: int, durable: bool, refused: Optional[OSError] = None) -> _Repair:
+def _repaired(file: disk.Medium, mode: int, durable: bool, denied: Optional[OSError] = None) -> _Repair:
     """What a repairer of this mode finds in a file. Where the file is only read, and a part of it would have to be
     written, the error is why it may not be."""
     repairer, found, faults = _Repairer(), _Repair(), []
     _repairer_begin(file.size(), mode, ctypes.byref(repairer))
     while (code := _repairer_next(ctypes.byref(repairer), ctypes.byref(found))) == 1:
-        if refused and repairer.effect.kind != disk.READ:
-            raise refused
+        if denied and repairer.effect.kind != disk.READ:
+            raise denied
         try:
             disk.perform(repairer.effect, file, durable)
         except OSError as error:
@@ -662,9 +662,9 @@ def repair(
     with _named(path):
         if not isinstance(path, (str, os.PathLike)):
             return _repaired_object(path, mode)
-        file, refused = _opened_for_repair(path)
+        file, denied = _opened_for_repair(path)
         with file:
-            return _report_of(_repaired(file, mode, durable, refused))
+            return _report_of(_repaired(file, mode, durable, denied))
 
 
 def _repaired_copy(

@@ -89,7 +89,7 @@ both! {
         answers + &rest.by_ref().bytes().count().to_string()
     }
 
-    fn told(result: Result<()>) -> String {
+    fn shown(result: Result<()>) -> String {
         result.map_or_else(|error| format!("[{error}] "), |()| "Ok ".into())
     }
 
@@ -116,24 +116,24 @@ both! {
             for _ in 0..chooser.below(30) {
                 let sample = (chooser.next() >> (32 + chooser.below(32))) as i32;
                 answers += &match chooser.below(10) {
-                    0 => told(writer.write_sample(sample as i8)),
-                    1 => told(writer.write_sample(sample as i16)),
-                    2 => told(writer.write_sample(sample as f32)),
-                    3 => told(writer.write_sample(Own(sample as i16))),
-                    4 if !stores_torn && writer.len() % u32::from(channels) != 0 => told(Err(Error::UnfinishedSample)),
-                    4 => told(writer.flush()),
+                    0 => shown(writer.write_sample(sample as i8)),
+                    1 => shown(writer.write_sample(sample as i16)),
+                    2 => shown(writer.write_sample(sample as f32)),
+                    3 => shown(writer.write_sample(Own(sample as i16))),
+                    4 if !stores_torn && writer.len() % u32::from(channels) != 0 => shown(Err(Error::UnfinishedSample)),
+                    4 => shown(writer.flush()),
                     5 if bits == 16 => {
                         let count = chooser.below(5) as u32;
                         let mut batch = writer.get_i16_writer(count);
                         (0..count).for_each(|i| batch.write_sample(sample.wrapping_add(i as i32) as i16));
-                        told(batch.flush())
+                        shown(batch.flush())
                     }
-                    _ => (0..if is_long { 3000 } else { 3 }).map(|i| told(writer.write_sample(sample >> (i % 30)))).collect(),
+                    _ => (0..if is_long { 3000 } else { 3 }).map(|i| shown(writer.write_sample(sample >> (i % 30)))).collect(),
                 };
                 answers += &format!("{} {}; ", writer.len(), writer.duration());
             }
             if chooser.below(2) == 0 {
-                answers += &told(writer.finalize());
+                answers += &shown(writer.finalize());
             } else {
                 drop(writer);
             }
@@ -272,7 +272,7 @@ fn main() {
         } else if package == by_original(&file, true) {
             tally.same();
         } else if package == by_original(&file, false) {
-            tally.listed("seek after a refused sample, a torn one, or of 24 bits in four bytes");
+            tally.listed("seek after a rejected sample, a torn one, or of 24 bits in four bytes");
         } else if package == by_original(&plain, false) {
             tally.listed("an odd chunk, a fact chunk, or a fmt chunk of more than 40 bytes");
         } else {
@@ -296,7 +296,7 @@ fn main() {
         } else if package == padded(by_original(true)) {
             tally.listed("the pad byte after odd data");
         } else if package == padded(by_original(false)) {
-            tally.listed("an unfinished frame isn't stored, and a flush there goes on");
+            tally.listed("an unfinished frame isn't stored, and a flush there continues");
         } else if package == by_original(true).map(|(answers, _)| (answers, Vec::new())) {
             tally.listed("a spec that can't be written: nothing is");
         } else {
