@@ -69,7 +69,7 @@ pub struct Look {
 
 // Where one part leads.
 #[derive(Clone, Copy)]
-enum LookStep {
+pub(crate) enum LookStep {
     // To another part.
     Next(Stage),
 
@@ -323,7 +323,7 @@ fn take_header(length: u64, walk: HeadWalk, bytes: &[u8]) -> Result<LookStep, Re
 
 // Takes the bytes that a look asks for, fewer only at the end of the file, and returns where they
 // lead: to another part, or to what `repair` finds. At an error the look has ended.
-fn take_asked(look: Look, bytes: &[u8]) -> Result<LookStep, Rejection>
+pub(crate) fn take_asked(look: Look, bytes: &[u8]) -> Result<LookStep, Rejection>
     requires sound { IsSoundStage look.stage }
     ensures leads { (file : List ℕ) → IsLengthOf look.length file
         → IsAtStage (may_be_chunks look.rest) file look.stage → IsAsked look file bytes.now

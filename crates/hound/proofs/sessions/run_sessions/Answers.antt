@@ -27,7 +27,7 @@ returns-in-Err g c =
       canonical = λ _ _. tt;
       exact = λ _ _ _. tt;
       stops = λ modelled. (leave W c.args.spec_ex c.args.medium _ modelled
-          (λ m. g.met.M.Placed.bytes m modelled) (c.requires reported) c.args.sessions.now
+          (λ m. g.met.M.Placed.bytes m modelled) (c.requires modelled) c.args.sessions.now
           (Err c.in-Err.error) runs).stops;
     }
 
@@ -47,7 +47,7 @@ returns g c =
       on.ensures,
     )) in
     let left = λ (modelled : IsTrue W.tells). leave W c.args.spec_ex c.args.medium on.result.0 modelled
-    (λ m. g.met.M.Placed.bytes m modelled) (c.requires reported) c.args.sessions.now on.result.1 runs in
+    (λ m. g.met.M.Placed.bytes m modelled) (c.requires modelled) c.args.sessions.now on.result.1 runs in
     record {
       sessions = runs;
       returned = sessions_returned W c.args.spec_ex c.args.medium _

@@ -84,7 +84,7 @@ returns-in_err-medium-2 g c modelled =
     let seen = state c.in_ok-medium.medium in
     let mid = state c.go.new.self in
     let look = c.in_ok-medium.ensures.found modelled in
-    let went = c.go.ensures reported in
+    let went = c.go.ensures modelled in
     let puts = both old seen mid look.puts (record { stays = went.stays; flushed = went.flushed }) in
     let faults = went.faults ∙ no_fault c.go.result seen.faults c.in_default.not-Err ∙ look.faults in
     let e = c.in_err-medium-2.field-0.0 in
@@ -98,7 +98,7 @@ returns g c modelled =
     let seen = state c.in_ok-medium.medium in
     let mid = state c.go.new.self in
     let look = c.in_ok-medium.ensures.found modelled in
-    let went = c.go.ensures reported in
+    let went = c.go.ensures modelled in
     let puts = both old seen mid look.puts (record { stays = went.stays; flushed = went.flushed }) in
     let faults = went.faults ∙ no_fault c.go.result seen.faults c.in_default.not-Err ∙ look.faults in
     let done = c.in_ok-medium-2.ensures.repaired modelled in

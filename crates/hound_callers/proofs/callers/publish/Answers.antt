@@ -7,7 +7,7 @@ returns-clause-counted g c modelled s file known recorded =
     let state = g.M.Placed.state in
     let contents = (state c.flush.new.self.medium).contents in
     let (spec, start, whole, (calls, are, samples, count)) =
-    c.a_writer_holds_its_calls.ensures reported s file known c.args.writer.now recorded in
+    c.a_writer_holds_its_calls.ensures modelled s file known c.args.writer.now recorded in
     let all : c.len.result ≡ sample_count c.args.writer.now = search rules in
     let read = (c.in_ok-flush.ensures.checkpoints.publishes modelled).read whole in (
       calls,

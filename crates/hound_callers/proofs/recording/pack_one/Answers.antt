@@ -75,7 +75,7 @@ returns-in_default-Ok g c =
           (first.batch_memory, last, refl, takes, (last.batch_memory, refl)) refl finishes refl);
       exact = λ modelled. subst
           (λ v. (W.state end.result.0).contents ≡ canonical s (containers_of s (Whole v ∷ []))) back
-          (c.sessions_leave_one_file.ensures reported c.args.medium end.result.0 (c.requires.place modelled)
+          (c.sessions_leave_one_file.ensures modelled c.args.medium end.result.0 (c.requires.place modelled)
           c.requires.empty (omega arith)
           (inr (
             end.result.0,

@@ -11,7 +11,7 @@ returns-clause-same g c modelled whole =
     let accepts = c.in_ok-write_samples.ensures.accepts in
     always c.flush.result (λ each went.
     c.flush.ensures.checkpoints.accepted modelled ((accepts.file modelled).whole whole)
-    ∙ (c.a_block_is_its_samples.ensures reported c.args.samples.now c.args.writer.now
+    ∙ (c.a_block_is_its_samples.ensures modelled c.args.samples.now c.args.writer.now
     c.write_samples.new.self each whole accepts went).0)
 
 pub returns-clause-calls : goal.returns-clause-calls

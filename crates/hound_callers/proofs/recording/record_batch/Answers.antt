@@ -28,7 +28,7 @@ returns-clause-same g c modelled =
     let last = c.flush.new.self.0 in
     ok_same c.flush.result (accepted_samples W.state) data_length (accepted_samples W.state last)
     (data_length last) (search rules) (search rules) (λ x is whole each went.
-    c.a_batch_is_its_values.ensures reported first (batch_writer values) last each whole c.requires.1
+    c.a_batch_is_its_values.ensures modelled first (batch_writer values) last each whole c.requires.1
     c.in_ok-values.ensures.width c.loop-value.invariant.stays
     (subst (λ (x : List ℕ × Result (Unit {0}) Error).
     Accepts W (Ok (list x.0)) x.1 (batch_writer values) last)

@@ -14,7 +14,7 @@ returns g c = (
       let first = take c.publish_blocks-published.result c.args.blocks.now in
       let (more, stops, recorded) =
       c.publish_blocks-published.ensures.published s _ c.in-Ok.ensures.recorded in
-      let kept = c.what_a_loss_leaves.ensures reported keeps s _ _ _
+      let kept = c.what_a_loss_leaves.ensures modelled keeps s _ _ _
       (c.drop_into-durable.ensures.left s _ _ recorded) in (
         c.new.result,
         c.drop_into-durable.result,

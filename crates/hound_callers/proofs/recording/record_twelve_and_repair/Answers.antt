@@ -29,7 +29,7 @@ returns g c =
             medium,
             c.go.new.self,
             left,
-            λ modelled. ((c.go.ensures reported).stays, repairs modelled),
+            λ modelled. ((c.go.ensures modelled).stays, repairs modelled),
           ));
       none_lost = if_reported c.repair_to_end.result _ c.repair_to_end.ensures.repaired
           (λ done repairs modelled keeps.
@@ -39,7 +39,7 @@ returns g c =
             λ before after flush parts has_all.
                 c.a_repair_loses_no_published_sample.ensures s file kept.left.recorded.calls
                 (M.state medium) kept.promised before after flush false (M.state c.go.new.self)
-                (M.state done.0) done.1 parts has_all (inl (c.go.ensures reported).stays.contents)
+                (M.state done.0) done.1 parts has_all (inl (c.go.ensures modelled).stays.contents)
                 (repairs modelled) (λ looks here. absurd (false≢true looks)),
           ));
       err = if_rejected c.repair_to_end.result _ c.repair_to_end.ensures.repaired
@@ -47,6 +47,6 @@ returns g c =
             medium,
             c.go.new.self,
             left,
-            λ modelled. inr ((c.go.ensures reported).stays, not modelled),
+            λ modelled. inr ((c.go.ensures modelled).stays, not modelled),
           ));
     }

@@ -7,7 +7,7 @@ returns g c modelled keeps = (
   c.finalize_into-durable.result.0,
   c.new.ensures.within,
   sym c.into_inner-2.ensures,
-  c.what_a_loss_leaves.ensures reported keeps _ _ _ _
+  c.what_a_loss_leaves.ensures modelled keeps _ _ _ _
       (c.finalize_into-durable.ensures.left _ _ _ c.in-Ok.ensures),
 )
 

@@ -13,12 +13,12 @@ returns-in-Ok-perform_all-clause-repaired g c modelled =
     let state = g.M.Placed.state in
     subst (λ r. Repairs (may_be_chunks c.args.rest) (state c.args.medium) r (state c.perform_all.new.medium)) (sym c.repair.ensures)
     (done_by (may_be_chunks c.args.rest) g.M.Placed.keeps _ _ _ c.in-Ok.damage c.in-Ok.ensures.sound (c.in-Ok.ensures.finds modelled)
-    (g.met.M.Placed.bytes c.look_by_parts.new.source modelled) (c.in-Ok-perform_all.ensures reported))
+    (g.met.M.Placed.bytes c.look_by_parts.new.source modelled) (c.in-Ok-perform_all.ensures modelled))
 
 pub returns-in-Err-perform_all-clause-repaired : goal.returns-in-Err-perform_all-clause-repaired
 returns-in-Err-perform_all-clause-repaired g c modelled =
     stopped_by (may_be_chunks c.args.rest) g.M.Placed.keeps _ _ _ c.in-Ok.damage c.in-Ok.ensures.sound (c.in-Ok.ensures.finds modelled)
-    (g.met.M.Placed.bytes c.look_by_parts.new.source modelled) c.in-Err-perform_all.error (c.in-Err-perform_all.ensures reported)
+    (g.met.M.Placed.bytes c.look_by_parts.new.source modelled) c.in-Err-perform_all.error (c.in-Err-perform_all.ensures modelled)
 
 pub returns-in-Err-clause-moments : goal.returns-in-Err-clause-moments
 returns-in-Err-clause-moments g c modelled kept =
@@ -27,9 +27,9 @@ returns-in-Err-clause-moments g c modelled kept =
 pub returns-in-Ok-perform_all-clause-moments : goal.returns-in-Ok-perform_all-clause-moments
 returns-in-Ok-perform_all-clause-moments g c modelled kept =
     moments_by (may_be_chunks c.args.rest) g.M.Placed.keeps _ _ _ c.in-Ok.damage c.in-Ok.ensures.sound (c.in-Ok.ensures.finds modelled)
-    (g.met.M.Placed.bytes c.look_by_parts.new.source modelled) _ kept (g.met.M.Medium.replays c.look_by_parts.new.source modelled kept) (c.in-Ok-perform_all.ensures reported)
+    (g.met.M.Placed.bytes c.look_by_parts.new.source modelled) _ kept (g.met.M.Medium.replays c.look_by_parts.new.source modelled kept) (c.in-Ok-perform_all.ensures modelled)
 
 pub returns-in-Err-perform_all-clause-moments : goal.returns-in-Err-perform_all-clause-moments
 returns-in-Err-perform_all-clause-moments g c modelled kept =
     moments_by (may_be_chunks c.args.rest) g.M.Placed.keeps _ _ _ c.in-Ok.damage c.in-Ok.ensures.sound (c.in-Ok.ensures.finds modelled)
-    (g.met.M.Placed.bytes c.look_by_parts.new.source modelled) _ kept (g.met.M.Medium.replays c.look_by_parts.new.source modelled kept) (c.in-Err-perform_all.ensures reported)
+    (g.met.M.Placed.bytes c.look_by_parts.new.source modelled) _ kept (g.met.M.Medium.replays c.look_by_parts.new.source modelled kept) (c.in-Err-perform_all.ensures modelled)

@@ -23,7 +23,7 @@ invariant_of-self-in_err-go g c =
     let W = g.W.Placed in
     consistent_gone W _ _ _ _ _
     (consistent_patched W _ c.patch.new.medium _ _ _ c.patch.result c.self.invariant
-    c.patch.ensures.patches) (λ modelled. (c.in_err-go.ensures reported).stays.contents)
+    c.patch.ensures.patches) (λ modelled. (c.in_err-go.ensures modelled).stays.contents)
     (λ modelled is. absurd (true≢false is))
 
 pub invariant_of-self-2 : goal.invariant_of-self-2
@@ -31,8 +31,8 @@ invariant_of-self-2 g c =
     let W = g.W.Placed in
     consistent_gone W _ _ _ _ _
     (consistent_patched W _ c.patch.new.medium _ _ _ c.patch.result c.self.invariant
-    c.patch.ensures.patches) (λ modelled. (c.in_ok-go.ensures reported).stays.contents)
-    (λ modelled _. (c.in_ok-go.ensures reported).place)
+    c.patch.ensures.patches) (λ modelled. (c.in_ok-go.ensures modelled).stays.contents)
+    (λ modelled _. (c.in_ok-go.ensures modelled).place)
 
 pub returns-in_err-go-clause-patches : goal.returns-in_err-go-clause-patches
 returns-in_err-go-clause-patches g c tells =
