@@ -1,5 +1,5 @@
 // Recorders whose caller performs the effects, on a medium.
-ghost use Rattle.std.specs.Prelude.{◌≡◌, ◌⊎◌, ◌≤◌, ◌+◌, ℕ, List, [], ◌++◌, ◌∷◌, Bool, true, false, if◌then◌else◌, IfErr, IfOk, OnErr, OnOk, Result, drop, is_ok, length, take};
+ghost use Rattle.std.specs.Prelude.{◌≡◌, ◌⊎◌, ◌≤◌, ◌+◌, ℕ, List, [], ◌++◌, ◌∷◌, Bool, true, false, if◌then◌else◌, IfErr, IfOk, OnErr, OnOk, Result, drop, is_ok, length, slice_index_or, take};
 ghost use Rattle.std.specs.declared.io.Error.{Error as IoFault};
 ghost use Rattle.hound.specs.{Asked, Begun, Flushes, IsIoError, IsNotBegun, IsSaid, HasData, IsSynced, Known, Log, PutsAt, Repeats, Readable, Recorder, WavSpecEx, one_more, WhereKeeps, WhereTells, new_file, resumed_file, seen};
 ghost use Rattle.hound.specs.declared.Report.TheVariants.{Pending};
@@ -71,6 +71,7 @@ fn perform<M: Medium>(medium: &mut M, action: Action, block: &[u8], is_lost: boo
 // Whether the next report is lost: as the list says of the first ones, and then no longer.
 fn is_next_lost(lost: &[bool], made: &mut usize) -> bool
     requires { made.old ≤ length lost.now }
+    ensures listed { result ≡ slice_index_or lost.now made.old false }
     ensures within { made.new ≤ length lost.now }
     ensures counted { result ≡ true → made.new ≡ made.old + 1 }
     ensures grows { made.old ≤ made.new }
