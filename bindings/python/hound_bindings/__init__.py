@@ -115,9 +115,11 @@ class HoundError(ValueError):
 
 
 def _name_error(error: BaseException, file: Any) -> None:
-    """Gives an error the name of its file: of a path, or of an object that has one."""
+    """Gives an error that has no name that of its file: of a path, or of an object that has one."""
     name = file if isinstance(file, (str, os.PathLike)) else getattr(file, "name", None)
-    if isinstance(error, HoundError) and error.filename is None and isinstance(name, (str, os.PathLike)):
+    if isinstance(error, OSError) and error.errno is None:
+        return  # Its text has no place for a name.
+    if isinstance(error, (HoundError, OSError)) and error.filename is None and isinstance(name, (str, os.PathLike)):
         error.filename = os.fsdecode(name)
 
 
@@ -126,7 +128,7 @@ def _named(file: Any) -> Iterator[None]:
     """The errors of the context have the name of a file."""
     try:
         yield
-    except HoundError as error:
+    except (HoundError, OSError) as error:
         _name_error(error, file)
         raise
 
@@ -503,9 +505,12 @@ def _replaced(path: Path, durable: bool) -> Iterator[str]:
                 if os.path.exists(name):
                     shutil.copymode(name, part)
                 disk.replace(part, name, older)
-        except BaseException:
+        except BaseException as error:
             with contextlib.suppress(OSError):
                 os.unlink(part)
+            if isinstance(error, (HoundError, OSError)) and error.filename == part:
+                error.filename = None
+            _name_error(error, path)
             raise
         if durable:
             disk.sync(folder)
@@ -513,6 +518,7 @@ def _replaced(path: Path, durable: bool) -> Iterator[str]:
 
 def _write_to(file: Any, content: bytearray, durable: bool) -> None:
     """Writes all of this to an object or a device."""
+    disk.check_object(file)
     disk.put_next(file, content)
     file.flush()
     if durable:
@@ -540,16 +546,16 @@ def write(
     """
     with _named(path):
         content = to_bytes(samples, rate, channels, bits, bytes_per_sample, like=like, dither=dither)
-    if not isinstance(path, (str, os.PathLike)):
-        _write_to(path, content, durable)
-    elif os.path.exists(path) and not os.path.isfile(path):
-        with io.open(path, "wb") as device:
-            _write_to(device, content, durable)
-    else:
-        with _replaced(path, durable) as part, io.open(part, "xb", buffering=0) as file:
-            disk.put(file.fileno(), content, 0)
-            if durable:
-                disk.sync(file.fileno())
+        if not isinstance(path, (str, os.PathLike)):
+            _write_to(path, content, durable)
+        elif os.path.exists(path) and not os.path.isfile(path):
+            with io.open(path, "wb") as device:
+                _write_to(device, content, durable)
+        else:
+            with _replaced(path, durable) as part, io.open(part, "xb", buffering=0) as file:
+                disk.put(file.fileno(), content, 0)
+                if durable:
+                    disk.sync(file.fileno())
     return len(content)
 
 
@@ -692,7 +698,7 @@ from . import lost  # noqa: E402  isort: skip
 from .lost import guess  # noqa: E402
 
 
-def open(file: Union[Path, IO[bytes]], to_end: bool = False) -> Reader:  # noqa: A001
+def open(file: Union[Path, IO[bytes]], *, to_end: bool = False) -> Reader:  # noqa: A001
     """Opens a file that is read block by block: at a path, or what reads bytes, as a pipe does. With `to_end` it is a
     stream, whose header needn't know its length."""
-    return Reader(file, to_end)
+    return Reader(file, to_end=to_end)

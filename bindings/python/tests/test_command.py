@@ -146,7 +146,7 @@ class Command(Folder):
         for words in ("--dry-run",), ("--dry-run", "--to-end"):
             out = self.run_command("repair", *words, "x", status=1).decode().splitlines()
             self.assertEqual([line.split()[-1] for line in out], ["file", "x/a.wav", "x/c.wav", "x/y/b.WAV"])
-            self.assertEqual(self.said, b"hound-wav: x/e.wav: no RIFF tag found\n")
+            self.assertIn(b"hound-wav: x/e.wav: no RIFF tag found\nhound-wav: where a header is lost", self.said)
             self.assertEqual({name: self.content(name) for name in before}, before)
         out = self.run_command("repair", "--copy", "x", status=1)
         self.assertIn(b"x/a.wav  repaired: x/a.repaired.wav\n", out)
@@ -160,6 +160,17 @@ class Command(Folder):
         self.assertEqual(self.content("x/c.wav"), by_hand(b"\1\2" + CHUNK))
         self.leave_as("z/d.txt", b"")
         self.run_command("repair", "z", status=2)
+
+    def test_a_length_that_no_frames_have(self):
+        """Recorders that were cut off, and programs that write into a pipe, leave such a length."""
+        cut_off = by_hand(bytes(8), 0xFFFFFFFF)
+        self.leave_as("a.wav", cut_off)
+        self.assertIn(b" 0 frames, 0.000 s, cut off (4 frames are held)\n", self.run_command("info", "a.wav", status=1))
+        for words in ("--dry-run",), ("--copy",), ():
+            out = self.run_command("repair", *words, "a.wav", status=1 if words == ("--dry-run",) else 0)
+            self.assertRegex(out.splitlines()[1], rb"^cut off +4 +0.001  a.wav")
+            self.assertEqual((self.said, self.content("a.wav")), (b"", cut_off if words else by_hand(bytes(8))))
+        self.assertEqual(self.content("a.repaired.wav"), by_hand(bytes(8)))
 
     def test_repair_of_a_lost_header(self):
         data = b"".join(stored(sample, 16, False) for sample in tones(2, 5000, random.Random(1)))
