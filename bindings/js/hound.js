@@ -142,7 +142,7 @@ const TYPES = {
 };
 
 function integer(name, value, low, high) {
-  if (typeof value !== "number") throw new TypeError(`${name} is ${String(value)}, and not a number`);
+  if (typeof value !== "number") throw new TypeError(`${name} is ${typeof value === "string" ? `"${value}"` : String(value)}, and not a number`);
   if (!Number.isInteger(value) || value < low || value > high) throw new RangeError(`${name} is ${value}, and not an integer from ${low} to ${high}`);
   return value;
 }
