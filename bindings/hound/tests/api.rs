@@ -771,6 +771,8 @@ fn what_follows_the_counted_samples_is_overwritten_as_by_hound() {
     for rest in [&b"LIST\x04\0\0\0INFO"[..], &[4, 0, 5, 0, 6, 0, 7, 0], &[4]] {
         let longer = [&file[..], rest].concat();
         fs::write(&path, &longer).unwrap();
+        let writer = WavWriter::append(&path).unwrap();
+        drop(writer); // Nothing was appended.
         let mut writer = WavWriter::append(&path).unwrap();
         assert_eq!((writer.len(), fs::read(&path).unwrap()), (3, longer.clone()));
         writer.write_sample(9i16).unwrap();
