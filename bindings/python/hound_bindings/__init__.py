@@ -685,7 +685,7 @@ def _repaired_copy(
         if like is None:
             shutil.copyfile(path, part)
             return repair(part, durable, to_end)
-        found, start = None, lost.start_of(path, like.data_start) if skip is None else skip
+        found, start = None, lost.start_of(path, like.data_start) if skip is None else _integer("skip", skip, 0, sys.maxsize)
         for found in lost.recovered(path, part, like, start, durable):
             pass
         return lost.repair_of(found)

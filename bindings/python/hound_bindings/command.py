@@ -248,6 +248,8 @@ def _form_wanted(info: hound.Info, options: argparse.Namespace) -> hound.Info:
     channels = options.channels or info.channels
     if 1 not in (channels, info.channels) and channels != info.channels:
         raise _Wrong(f"{info.channels} channels aren't made {channels}: only one of all, or all of one")
+    if options.float and options.bits not in (None, 32):
+        raise _Wrong("floats have 32 bits")
     if options.float:
         return hound.Info(info.sample_rate, channels, 32, True)
     if options.bits:
@@ -333,6 +335,8 @@ def _recorded(writer: hound.Writer, every: float) -> int:
 def _opened_to_record(options: argparse.Namespace) -> hound.Writer:
     given = options.rate, options.channels, options.bits
     if options.append:
+        if options.overwrite:
+            raise _Wrong("a file is continued, or emptied: --append, or --overwrite")
         if any(given) or options.float:
             raise _Wrong("with --append the file says what its samples are")
         return hound.append_to(options.target, options.durable)
@@ -370,7 +374,7 @@ _positive = _from(1)
 
 def _file(text: str) -> str:
     if text == "-":
-        raise argparse.ArgumentTypeError("it has to be a file, whose sizes are written at the end")
+        raise argparse.ArgumentTypeError("it has to be a file, since its sizes are written at the end")
     return text
 
 
@@ -406,7 +410,7 @@ def _parser() -> argparse.ArgumentParser:
     add("--json", help="print a JSON object in a line for each file", **flag)
 
     add = command("repair", _repair, "repair files whose recording was cut off, in place: copy what can't be replaced, or use --copy")
-    add("files", nargs="+", metavar="FILE", help="or a folder, of whose .wav files a table is printed")
+    add("files", nargs="+", metavar="FILE", type=_file, help="or a folder, of whose .wav files a table is printed")
     add("--dry-run", help="only say what would be repaired: then damage is status 1", **flag)
     add("--to-end", help="take chunks after the data for samples, too", **flag)
     add("--copy", help="leave each damaged file as it is, and repair a copy NAME.repaired.wav", **flag)

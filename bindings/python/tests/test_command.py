@@ -12,6 +12,7 @@ import subprocess
 import sys
 import time
 import unittest
+import unittest.mock
 import wave
 
 import hound_bindings as hound
@@ -85,6 +86,12 @@ class Lost(Folder):
         self.fails(hound.Cause.NOT_WRITABLE, lambda: hound.repair(self.path, like=Info(8000, 1, 12)))
         self.assertRaises(TypeError, lambda: hound.repair(self.path, like="b.wav"))
         self.assertRaises(TypeError, lambda: hound.repair(io.BytesIO(), like=Info(8000, 1, 16)))
+        self.assertRaisesRegex(ValueError, "^skip is -1", lambda: hound.repair(self.path, like=Info(8000, 1, 16), skip=-1))
+        with unittest.mock.patch("os.pread", side_effect=lambda *_: os.close(-1)):
+            for more in dict(skip=0), {}:
+                with self.assertRaises(OSError) as caught:
+                    hound.repair(self.path, like=Info(8000, 1, 16), **more)
+                self.assertEqual(caught.exception.filename, self.path)
         self.fails(hound.Cause.NO_RIFF_TAG, lambda: hound.repair(self.path, copy=self.path + "2"))
         self.assertEqual(os.listdir(os.path.dirname(self.path)), ["a.wav"])
 
@@ -261,7 +268,7 @@ class Command(Folder):
         self.assertEqual(self.content("two.wav"), noisy)
         before = sorted(os.listdir(self.folder))
         self.leave_as("torn.wav", made_by_wave(SAMPLES)[:-3])
-        for words, status in ((["--rate", "48000"], 2), ([], 2), (["--channels", "3", "--overwrite"], 2), (["--bits", "12"], 2)):
+        for words, status in ((["--rate", "48000"], 2), ([], 2), (["--channels", "3", "--overwrite"], 2), (["--bits", "12"], 2), (["--overwrite", "--float", "--bits", "16"], 2)):
             content = self.content("b.wav")
             self.run_command("convert", "a.wav", "b.wav", *words, status=status)
             self.assertEqual(self.content("b.wav"), content)
@@ -281,7 +288,8 @@ class Command(Folder):
         self.run_command("record", "a.wav", "--append", given=bytes(7), status=1)
         self.assertEqual((hound.info(self.path).frames, b"last 3 bytes" in self.said), (101, True))
         self.run_command("record", "a.wav", *form[:-1], status=1)
-        self.run_command("record", "a.wav", "--append", "--rate", "8000", status=2)
+        for words in ("--rate", "8000"), ("--overwrite",):
+            self.run_command("record", "a.wav", "--append", *words, status=2)
         self.run_command("record", "b.wav", "--rate", "8000", status=2)
         self.run_command("record", "a.wav", "--append", "--checkpoint", "0", status=2)
         self.assertEqual(os.listdir(self.folder), ["a.wav"])
