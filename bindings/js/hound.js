@@ -517,7 +517,10 @@ async function performOn(handle, durable, effect, block) {
 
 /** Node's files, once the module is there, too. */
 async function files() {
-  const [fs] = await Promise.all([import(/* webpackIgnore: true */ "node:fs/promises"), ready()]);
+  const loaded = import(/* webpackIgnore: true */ "node:fs/promises").catch(() => {
+    throw new Error("files at a path are recorded and repaired in Node alone");
+  });
+  const [fs] = await Promise.all([loaded, ready()]);
   return fs;
 }
 
