@@ -123,7 +123,7 @@ def _info(options: argparse.Namespace) -> int:
             _print_json(file=name, **info._asdict(), seconds=info.duration, **(more or {}))
         else:
             held = f" ({found.frames} frames are held)" if found and found.state == hound.State.CUT_OFF else ""
-            print(f"{name}: {_form(info)}, {info.frames} frames, {info.duration:.3f} s{', ' if state else ''}{state or ''}{held}")
+            print(f"{name}: {_form(info)}, {info.frames} frames, {info.duration:.3f} s, {state or 'as its header says'}{held}")
         return found is None or found.state != hound.State.CUT_OFF
 
     return _each(_files_of(options.files), show, _failure(options))

@@ -129,6 +129,7 @@ class Command(Folder):
         self.assertEqual(self.run_command("info", "a.wav"), b"a.wav: 8000 Hz, 2 channels, 16 bits, 5 frames, 0.001 s, whole\n")
         self.assertIn(b"1 channel, 16 bits, 2 frames, 0.000 s, cut off (4 frames are held)", self.run_command("info", "b.wav", status=1))
         self.assertEqual(self.run_command("info", ".", status=1).count(b"\n"), 2)
+        self.assertIn(b"-: 8000 Hz, 2 channels, 16 bits, 5 frames, 0.001 s, as its header says\n", self.run_command("info", "-", given=whole))
         rows = self.run_command("info", "--json", "a.wav", "none.wav", "b.wav", "-", given=whole[:50], status=1).splitlines()
         first, second, third, last = map(json.loads, rows)
         self.assertEqual((first["frames"], first["seconds"], first["state"], third["frames_held"]), (5, 5 / 8000, "whole", 4))
