@@ -346,8 +346,8 @@ static inline const char *hound_error_text(int64_t code) {
     case HOUND_UNSUPPORTED: return "the format is neither PCM nor IEEE float";
     case HOUND_OTHER_FORMAT: return "the samples are floats and the type is an integer, or vice versa";
     case HOUND_TOO_WIDE: return "the samples are wider than the type, or a value than its bits";
-    case HOUND_NOT_WRITABLE: return "samples of this spec are not read or written";
-    case HOUND_TRUNCATED: return "the header counts a sample that the file does not hold (a stream of unknown length can be read to its end)";
+    case HOUND_NOT_WRITABLE: return "samples of this spec are not read or written (integers have 8, 16, 24 or 32 bits, floats 32)";
+    case HOUND_TRUNCATED: return "the header counts a sample that the file does not hold (a recording that was cut off can be repaired, a stream of unknown length can be read to its end)";
     case HOUND_TOO_LONG: return "the sizes of the file would not fit in 32 bits";
     case HOUND_UNFINISHED_FRAME: return "the samples are no whole frames";
     case HOUND_NO_ROOM: return "more bytes are needed than the capacity";
@@ -366,8 +366,8 @@ static inline const char *hound_error_text(int64_t code) {
     case HOUND_EX_SIZE: return "unexpected WAVEFORMATEX size";
     case HOUND_BITS_NOT_32: return "bits per sample is not 32";
     case HOUND_EXTENSIBLE_SIZE: return "unexpected WAVEFORMATEXTENSIBLE size";
-    case HOUND_DATA_LENGTH: return "data chunk length is not a multiple of sample size (a stream of unknown length can be read to its end)";
-    case HOUND_FRAME_LENGTH: return "invalid data chunk length (a stream of unknown length can be read to its end)";
+    case HOUND_DATA_LENGTH: return "data chunk length is not a multiple of sample size (a recording that was cut off can be repaired, a stream of unknown length can be read to its end)";
+    case HOUND_FRAME_LENGTH: return "invalid data chunk length (a recording that was cut off can be repaired, a stream of unknown length can be read to its end)";
     case HOUND_NEEDS_CHECKPOINT: return "a write failed or a checkpoint is not done, and no samples are written before one is";
     case HOUND_SYNC_FAILED: return "a sync failed, and it is unknown what is stored";
     case HOUND_IS_CUT_OFF: return "the recording was cut off, and has to be repaired first";

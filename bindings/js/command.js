@@ -1,14 +1,14 @@
 #!/usr/bin/env node
 // Looks at files, or repairs them in place.
 import { openAsBlob } from "node:fs";
-import { access } from "node:fs/promises";
+import { access, stat } from "node:fs/promises";
 import { findDamage, info, repairFile } from "./hound.js";
 
 const USAGE = `usage: hound_bindings info FILE..               says what each file is
        hound_bindings repair [--to-end] FILE..  repairs each in place: copy what you have only once
 
 With --to-end all that follows the header of the data is taken for samples.
-The status is 0 if all files could be read or repaired, 1 if one couldn't, and 2 after this text.`;
+The status is 0 if all files could be read or repaired, 1 if one couldn't, and 2 if the arguments are wrong.`;
 
 const number = (n) => n.toLocaleString("en");
 const counted = (n, what) => `${number(n)} ${what}${n === 1 ? "" : "s"}`;
@@ -23,11 +23,13 @@ function text({ state, frames, leftOver, sampleRate, channels, bitsPerSample, is
 /** What a file is; where it was cut off, and its header can be read, with what that counts. */
 async function look(path) {
   await access(path); // A Blob's error has no reason.
+  if ((await stat(path)).isDirectory()) throw new Error("it is a folder, and files are named here");
   const file = await openAsBlob(path), found = await findDamage(file), head = await info(file).catch(() => null);
   return `${text(found)}${found.state === "cutOff" && head ? `; the header counts ${counted(head.frames, "frame")}` : ""}`;
 }
 
 async function main([command, ...files]) {
+  if (command === "--help") return console.log(USAGE), 0;
   const toEnd = command === "repair" && files[0] === "--to-end" && files.shift() !== undefined;
   const work = { info: look, repair: async (path) => `found ${text(await repairFile(path, { toEnd }))}` }[command];
   if (!work || files.length === 0 || files.some((file) => file.startsWith("--"))) return console.error(USAGE), 2;

@@ -67,7 +67,10 @@ impl From<proved::Error> for Error {
             TooLong | NoRoom | NeedsCheckpoint | SyncFailed | NotPerformed => {
                 io::Error::new(io::ErrorKind::Other, error).into()
             }
+            // Its text for these, without what hound_bindings says beside it.
             BitsNot8Or16 => Error::FormatError("bits per sample is not 8 or 16"),
+            DataLength => Error::FormatError("data chunk length is not a multiple of sample size"),
+            FrameLength => Error::FormatError("invalid data chunk length"),
             _ => Error::FormatError(error.text()),
         }
     }

@@ -70,7 +70,8 @@
 //! - What a writer that panicked was to do is done by the next call: a drop tries to write, and catches a second panic,
 //!   with which old versions of Rust end the program, as with hound.
 //! - The first call that writes to a file that is appended to cuts it off after the samples that its header counts.
-//!   Over another writer what follows them stays as far as it isn't overwritten, as with hound.
+//!   Over another writer what follows them stays as far as it isn't overwritten, as with hound. A drop before any other
+//!   call leaves the file as it is; hound writes its sizes then.
 //! - A file that its sizes can't count, which hound makes with wrong sizes, is an `IoError`. So is appending to one
 //!   that is shorter than its header counts (`UnexpectedEof`), if `seek` finds its length: hound counts zeros then.
 //! - A spec that can't be written is `Unsupported`; nothing is written, and an existing file stays as it is. hound

@@ -8,8 +8,8 @@ use std::{fs, iter, panic, path};
 /// Writes samples to a file, after its header, and the sizes into the header.
 ///
 /// The channels of a frame follow one another, and a file holds whole frames. Samples are buffered:
-/// `flush` writes them and the sizes, `finalize` does so and ends the file. A drop does it too, but its
-/// errors aren't seen, and neither are its panics.
+/// `flush` writes them and the sizes, `finalize` does so and ends the file. A drop does it too where there was a sample,
+/// but its errors aren't seen, and neither are its panics.
 pub struct WavWriter<W: Write + Seek> {
     pub(crate) core: Core<W>,
     batch: Vec<i16>,
@@ -31,6 +31,7 @@ pub(crate) struct Core<W> {
     // The containers: the first `waiting` bytes, which are less than a frame, unless a write failed.
     bytes: Vec<u8>,
     waiting: usize,
+    is_begun: bool, // whether anything of the file was to be written
 }
 
 impl<W: Write + Seek> Core<W> {
@@ -103,6 +104,7 @@ impl<W: Write + Seek> Core<W> {
         let whole = length - length % self.frame;
         if whole > 0 {
             self.recorder.write((whole / self.width) as u64)?;
+            self.is_begun = true;
             self.recorder.run(&mut self.medium, &self.bytes[..whole])??;
             self.bytes.copy_within(whole..length, 0);
         }
@@ -120,6 +122,7 @@ impl<W: Write + Seek> Core<W> {
 
     // Writes the sizes that count all samples that are written.
     fn checkpoint(&mut self) -> Result<()> {
+        self.is_begun = true;
         self.recorder.checkpoint();
         Ok(self.recorder.run(&mut self.medium, &[])??)
     }
@@ -238,6 +241,7 @@ impl<W: Write + Seek> WavWriter<W> {
                 unused: 32 - u32::from(spec_ex.spec.bits_per_sample.clamp(1, 32)),
                 bytes: Vec::new(),
                 waiting: 0,
+                is_begun: false,
             },
             batch: Vec::new(),
             finalized: false,
@@ -314,7 +318,9 @@ impl<W: Write + Seek> WavWriter<W> {
 
 impl<W: Write + Seek> Drop for WavWriter<W> {
     fn drop(&mut self) {
-        if !self.finalized {
+        // A file that was opened to append to, and nothing was, stays as it is.
+        let has_work = self.core.is_begun || self.core.count + self.core.waiting > 0;
+        if !self.finalized && has_work {
             // A panic of the writer, while another one unwinds, would end the program.
             let _ = panic::catch_unwind(panic::AssertUnwindSafe(|| self.core.publish(false)));
         }

@@ -205,6 +205,14 @@ fn each_type_is_read_or_rejected() {
     ));
     assert!(matches!(WavReader::new(&b"RIFX"[..]), Err(Error::FormatError("no RIFF tag found"))));
     assert_eq!(WavReader::new(&file[..43]).err().unwrap().to_string(), "Failed to read enough bytes.");
+    // The reasons of hound 3.5.1, without advice, where the data length counts a part of a sample or of a frame.
+    for (channels, length, reason) in
+        [(1, 3, "data chunk length is not a multiple of sample size"), (2, 6, "invalid data chunk length")]
+    {
+        let mut file = written(WavSpec { channels, ..MONO }, &[1i16; 4]);
+        file[40] = length;
+        assert!(matches!(WavReader::new(&file[..]), Err(Error::FormatError(text)) if text == reason));
+    }
 }
 
 #[test]
@@ -763,6 +771,8 @@ fn what_follows_the_counted_samples_is_overwritten_as_by_hound() {
     for rest in [&b"LIST\x04\0\0\0INFO"[..], &[4, 0, 5, 0, 6, 0, 7, 0], &[4]] {
         let longer = [&file[..], rest].concat();
         fs::write(&path, &longer).unwrap();
+        let writer = WavWriter::append(&path).unwrap();
+        drop(writer); // Nothing was appended.
         let mut writer = WavWriter::append(&path).unwrap();
         assert_eq!((writer.len(), fs::read(&path).unwrap()), (3, longer.clone()));
         writer.write_sample(9i16).unwrap();

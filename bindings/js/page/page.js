@@ -426,7 +426,7 @@ function summary({ found, says }) {
 async function listed(file, isCurrent) {
   const seen = await judged(file, false).catch((error) => ({ error }));
   if (!isCurrent()) return null;
-  const cells = ["", seen.error ? "" : time(lengthOfTime(seen.found)), seen.error ? seen.error.message : summary(seen)].map((text) => Object.assign(document.createElement("td"), { textContent: text }));
+  const cells = ["", seen.error ? "" : time(lengthOfTime(seen.found)), seen.error ? `${seen.error.message}: look at it` : summary(seen)].map((text) => Object.assign(document.createElement("td"), { textContent: text }));
   const row = document.createElement("tr"), button = Object.assign(document.createElement("button"), { type: "button", textContent: file.name, onclick: () => open(file) });
   cells[0].append(button);
   row.append(...cells);

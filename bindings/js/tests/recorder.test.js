@@ -219,4 +219,6 @@ test("the command says what files are, and repairs them", async () => {
   assert.equal(run("repair", "--to-end", cut)[1], `${cut}: found cut off, 6 frames (0.001 s), ${spec}`);
   for (const words of [[], ["info"], ["repair", "--to-end"], ["info", "--to-end", take], ["show", take], ["repair", "--help"]]) assert.deepEqual(run(...words).slice(0, 2), [2, ""]);
   assert.match(run("info", path.join(folder, "none.wav"))[2], /none\.wav: .*(ENOENT|no such file)/i);
+  assert.deepEqual(run("info", folder), [1, "", `${folder}: it is a folder, and files are named here\n`]);
+  assert.deepEqual(run("--help"), [0, run()[2], ""]);
 });

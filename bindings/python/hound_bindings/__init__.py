@@ -64,8 +64,8 @@ class Cause(enum.IntEnum):
     UNSUPPORTED = 2, "the format is neither PCM nor IEEE float"
     OTHER_FORMAT = 3, "the samples are floats and the type is an integer, or vice versa"
     TOO_WIDE = 4, "the samples are wider than the type, or a value than its bits"
-    NOT_WRITABLE = 5, "samples of this spec are not read or written"
-    TRUNCATED = 6, "the header counts a sample that the file does not hold (a stream of unknown length can be read to its end)"
+    NOT_WRITABLE = 5, "samples of this spec are not read or written (integers have 8, 16, 24 or 32 bits, floats 32)"
+    TRUNCATED = 6, "the header counts a sample that the file does not hold (a recording that was cut off can be repaired, a stream of unknown length can be read to its end)"
     TOO_LONG = 7, "the sizes of the file would not fit in 32 bits"
     UNFINISHED_FRAME = 8, "the samples are no whole frames"
     NO_ROOM = 9, "more bytes are needed than the capacity"
@@ -84,8 +84,8 @@ class Cause(enum.IntEnum):
     EX_SIZE = 22, "unexpected WAVEFORMATEX size"
     BITS_NOT_32 = 23, "bits per sample is not 32"
     EXTENSIBLE_SIZE = 24, "unexpected WAVEFORMATEXTENSIBLE size"
-    DATA_LENGTH = 25, "data chunk length is not a multiple of sample size (a stream of unknown length can be read to its end)"
-    FRAME_LENGTH = 26, "invalid data chunk length (a stream of unknown length can be read to its end)"
+    DATA_LENGTH = 25, "data chunk length is not a multiple of sample size (a recording that was cut off can be repaired, a stream of unknown length can be read to its end)"
+    FRAME_LENGTH = 26, "invalid data chunk length (a recording that was cut off can be repaired, a stream of unknown length can be read to its end)"
     NEEDS_CHECKPOINT = 27, "a write failed or a checkpoint is not done, and no samples are written before one is"
     SYNC_FAILED = 28, "a sync failed, and it is unknown what is stored"
     IS_CUT_OFF = 29, "the recording was cut off, and has to be repaired first"
@@ -115,9 +115,11 @@ class HoundError(ValueError):
 
 
 def _name_error(error: BaseException, file: Any) -> None:
-    """Gives an error the name of its file: of a path, or of an object that has one."""
+    """Gives an error that has no name that of its file: of a path, or of an object that has one."""
     name = file if isinstance(file, (str, os.PathLike)) else getattr(file, "name", None)
-    if isinstance(error, HoundError) and error.filename is None and isinstance(name, (str, os.PathLike)):
+    if isinstance(error, OSError) and error.errno is None:
+        return  # Its text has no place for a name.
+    if isinstance(error, (HoundError, OSError)) and error.filename is None and isinstance(name, (str, os.PathLike)):
         error.filename = os.fsdecode(name)
 
 
@@ -126,7 +128,7 @@ def _named(file: Any) -> Iterator[None]:
     """The errors of the context have the name of a file."""
     try:
         yield
-    except HoundError as error:
+    except (HoundError, OSError) as error:
         _name_error(error, file)
         raise
 
@@ -503,9 +505,12 @@ def _replaced(path: Path, durable: bool) -> Iterator[str]:
                 if os.path.exists(name):
                     shutil.copymode(name, part)
                 disk.replace(part, name, older)
-        except BaseException:
+        except BaseException as error:
             with contextlib.suppress(OSError):
                 os.unlink(part)
+            if isinstance(error, (HoundError, OSError)) and error.filename == part:
+                error.filename = None
+            _name_error(error, path)
             raise
         if durable:
             disk.sync(folder)
@@ -513,6 +518,7 @@ def _replaced(path: Path, durable: bool) -> Iterator[str]:
 
 def _write_to(file: Any, content: bytearray, durable: bool) -> None:
     """Writes all of this to an object or a device."""
+    disk.check_object(file)
     disk.put_next(file, content)
     file.flush()
     if durable:
@@ -540,16 +546,16 @@ def write(
     """
     with _named(path):
         content = to_bytes(samples, rate, channels, bits, bytes_per_sample, like=like, dither=dither)
-    if not isinstance(path, (str, os.PathLike)):
-        _write_to(path, content, durable)
-    elif os.path.exists(path) and not os.path.isfile(path):
-        with io.open(path, "wb") as device:
-            _write_to(device, content, durable)
-    else:
-        with _replaced(path, durable) as part, io.open(part, "xb", buffering=0) as file:
-            disk.put(file.fileno(), content, 0)
-            if durable:
-                disk.sync(file.fileno())
+        if not isinstance(path, (str, os.PathLike)):
+            _write_to(path, content, durable)
+        elif os.path.exists(path) and not os.path.isfile(path):
+            with io.open(path, "wb") as device:
+                _write_to(device, content, durable)
+        else:
+            with _replaced(path, durable) as part, io.open(part, "xb", buffering=0) as file:
+                disk.put(file.fileno(), content, 0)
+                if durable:
+                    disk.sync(file.fileno())
     return len(content)
 
 
@@ -679,7 +685,7 @@ def _repaired_copy(
         if like is None:
             shutil.copyfile(path, part)
             return repair(part, durable, to_end)
-        found, start = None, lost.start_of(path, like.data_start) if skip is None else skip
+        found, start = None, lost.start_of(path, like.data_start) if skip is None else _integer("skip", skip, 0, sys.maxsize)
         for found in lost.recovered(path, part, like, start, durable):
             pass
         return lost.repair_of(found)
@@ -692,7 +698,7 @@ from . import lost  # noqa: E402  isort: skip
 from .lost import guess  # noqa: E402
 
 
-def open(file: Union[Path, IO[bytes]], to_end: bool = False) -> Reader:  # noqa: A001
+def open(file: Union[Path, IO[bytes]], *, to_end: bool = False) -> Reader:  # noqa: A001
     """Opens a file that is read block by block: at a path, or what reads bytes, as a pipe does. With `to_end` it is a
     stream, whose header needn't know its length."""
-    return Reader(file, to_end)
+    return Reader(file, to_end=to_end)

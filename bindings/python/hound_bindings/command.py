@@ -33,8 +33,8 @@ def _complain(sentence: str) -> None:
 
 
 def _sentence(error: Exception) -> str:
-    if isinstance(error, OSError) and error.strerror and error.filename:
-        return f"{error.filename}: {error.strerror}"
+    if isinstance(error, OSError) and error.strerror:
+        return f"{error.filename}: {error.strerror}" if error.filename else error.strerror
     return str(error)
 
 
@@ -104,10 +104,18 @@ def _form(info: hound.Info) -> str:
     return f"{info.sample_rate} Hz, {info.channels} channel{'s' * (info.channels != 1)}, {bits}"
 
 
+def _header_of(file: Any) -> hound.Info:
+    """What a header says; no frames where it counts none that are whole, as that of a stream does."""
+    if isinstance(file, str):
+        with contextlib.suppress(hound.HoundError):
+            return hound.info(file)
+    with hound.open(file, to_end=isinstance(file, str)) as reader:
+        return reader.info
+
+
 def _info(options: argparse.Namespace) -> int:
     def show(name: str) -> bool:
-        with hound.open(_source(name)) as reader:
-            info = reader.info
+        info = _header_of(_source(name))
         found = None if name == "-" else hound.find_damage(name)
         state = found and _STATES[found.state]
         if options.json:
@@ -115,7 +123,7 @@ def _info(options: argparse.Namespace) -> int:
             _print_json(file=name, **info._asdict(), seconds=info.duration, **(more or {}))
         else:
             held = f" ({found.frames} frames are held)" if found and found.state == hound.State.CUT_OFF else ""
-            print(f"{name}: {_form(info)}, {info.frames} frames, {info.duration:.3f} s{', ' if state else ''}{state or ''}{held}")
+            print(f"{name}: {_form(info)}, {info.frames} frames, {info.duration:.3f} s, {state or 'as its header says'}{held}")
         return found is None or found.state != hound.State.CUT_OFF
 
     return _each(_files_of(options.files), show, _failure(options))
@@ -167,16 +175,19 @@ def _recover(options: argparse.Namespace) -> int:
 def _repair(options: argparse.Namespace) -> int:
     if options.like or options.guess:
         return _recover(options)
-    names = _files_of(options.files)
+    names, unread = _files_of(options.files), []
 
     def repair(name: str) -> bool:
-        found = hound.find_damage(name)
+        try:
+            found = hound.find_damage(name)
+        except hound.HoundError:
+            unread.append(name)
+            raise
         is_damaged = found.state == hound.State.CUT_OFF or (options.to_end and found.state != hound.State.WHOLE)
         copy = hound._copy_name(name) if options.copy and is_damaged else None
         if is_damaged and not options.dry_run:
             found = hound.repair(name, options.durable, options.to_end, copy=copy)
-        info = hound.info(name)
-        seconds = found.frames / info.sample_rate if info.sample_rate else 0.0
+        seconds = _header_of(name)._replace(frames=found.frames).duration
         done = "" if options.dry_run or not is_damaged else f"repaired{f': {copy}' if copy else ''}"
         if options.json:
             _print_json(file=name, state=_STATES[found.state], frames=found.frames, seconds=seconds,
@@ -187,7 +198,10 @@ def _repair(options: argparse.Namespace) -> int:
 
     if not options.json:
         print(f"{'found':18}{'frames':>11}{'seconds':>12}  file")
-    return _each(names, repair, _failure(options))
+    status = _each(names, repair, _failure(options))
+    if unread and not options.json:
+        _complain("where a header is lost or damaged, --guess or --like makes a copy with a new one")
+    return status
 
 
 # cat and convert
@@ -210,7 +224,7 @@ def _is_whole(name: str, reader: hound.Reader) -> bool:
 
 def _cat(options: argparse.Namespace) -> int:
     def write(name: str) -> bool:
-        with hound.open(_source(name), options.to_end) as reader:
+        with hound.open(_source(name), to_end=options.to_end) as reader:
             for block in _blocks(name, reader, options.type):
                 sys.stdout.buffer.write(block)
         return _is_whole(name, reader)
@@ -234,6 +248,8 @@ def _form_wanted(info: hound.Info, options: argparse.Namespace) -> hound.Info:
     channels = options.channels or info.channels
     if 1 not in (channels, info.channels) and channels != info.channels:
         raise _Wrong(f"{info.channels} channels aren't made {channels}: only one of all, or all of one")
+    if options.float and options.bits not in (None, 32):
+        raise _Wrong("floats have 32 bits")
     if options.float:
         return hound.Info(info.sample_rate, channels, 32, True)
     if options.bits:
@@ -253,7 +269,7 @@ def _convert(options: argparse.Namespace) -> int:
         raise _Wrong("the rate isn't changed here: sox and ffmpeg resample")
     if os.path.exists(options.target) and not options.overwrite:
         raise _Wrong(f"{options.target} exists: --overwrite replaces it")
-    with hound.open(_source(options.source), options.to_end) as reader, hound._replaced(options.target, options.durable) as part:
+    with hound.open(_source(options.source), to_end=options.to_end) as reader, hound._replaced(options.target, options.durable) as part:
         info = reader.info
         wanted = _form_wanted(info, options)
         dither = options.seed if options.dither else 0
@@ -319,6 +335,8 @@ def _recorded(writer: hound.Writer, every: float) -> int:
 def _opened_to_record(options: argparse.Namespace) -> hound.Writer:
     given = options.rate, options.channels, options.bits
     if options.append:
+        if options.overwrite:
+            raise _Wrong("a file is continued, or emptied: --append, or --overwrite")
         if any(given) or options.float:
             raise _Wrong("with --append the file says what its samples are")
         return hound.append_to(options.target, options.durable)
@@ -356,7 +374,7 @@ _positive = _from(1)
 
 def _file(text: str) -> str:
     if text == "-":
-        raise argparse.ArgumentTypeError("it has to be a file, whose sizes are written at the end")
+        raise argparse.ArgumentTypeError("it has to be a file, since its sizes are written at the end")
     return text
 
 
@@ -392,7 +410,7 @@ def _parser() -> argparse.ArgumentParser:
     add("--json", help="print a JSON object in a line for each file", **flag)
 
     add = command("repair", _repair, "repair files whose recording was cut off, in place: copy what can't be replaced, or use --copy")
-    add("files", nargs="+", metavar="FILE", help="or a folder, of whose .wav files a table is printed")
+    add("files", nargs="+", metavar="FILE", type=_file, help="or a folder, of whose .wav files a table is printed")
     add("--dry-run", help="only say what would be repaired: then damage is status 1", **flag)
     add("--to-end", help="take chunks after the data for samples, too", **flag)
     add("--copy", help="leave each damaged file as it is, and repair a copy NAME.repaired.wav", **flag)
@@ -425,11 +443,11 @@ def _parser() -> argparse.ArgumentParser:
 
     add = command("record", _record, "record raw samples from standard input, as the file stores them: little-endian, those of 8 bits unsigned")
     add("target", metavar="OUT", type=_file, help="has all samples up to the last checkpoint if the program is killed; Ctrl-C ends it well")
-    add("--rate", type=_positive)
+    add("--rate", type=_positive, help="frames a second: needed, as --channels and --bits are, without --append")
     add("--channels", type=_positive)
     add("--bits", **form)
-    add("--float", help="with 32 bits", **flag)
-    add("--append", help="continue a file", **flag)
+    add("--float", help="floats, of 32 bits", **flag)
+    add("--append", help="continue a file, which says what its samples are", **flag)
     add("--overwrite", help="empty OUT if it is there", **flag)
     add("--durable", help="sync each checkpoint", **flag)
     add("--checkpoint", type=_seconds, default=1.0, metavar="SECONDS", help="make one so often (1)")

@@ -20,8 +20,8 @@ except ImportError:
     msvcrt = None  # type: ignore[assignment]
 
 __all__ = [
-    "CUT", "DONE", "Descriptor", "FAILED", "File", "Medium", "READ", "SYNC", "Stream", "WRITE", "WRITE_BLOCK", "folder_of",
-    "is_pipe", "perform", "put", "read_at", "replace", "sync", "sync_folder", "sync_once", "take",
+    "CUT", "DONE", "Descriptor", "FAILED", "File", "Medium", "READ", "SYNC", "Stream", "WRITE", "WRITE_BLOCK",
+    "check_object", "folder_of", "is_pipe", "perform", "put", "read_at", "replace", "sync", "sync_folder", "sync_once", "take",
 ]  # fmt: skip
 
 # The kinds of effects, and how one ended, made from hound.h by scripts/make_interface.
@@ -186,12 +186,21 @@ class Descriptor:
             sync(self.descriptor)
 
 
+def check_object(file: Any) -> None:
+    """A TypeError where it isn't an object of bytes."""
+    if isinstance(file, io.TextIOBase):
+        raise TypeError("the file is opened as text, and it has to read or write bytes")
+    if not (hasattr(file, "read") or hasattr(file, "write")):
+        raise TypeError(f"the file is of type {type(file).__name__}, and neither a path nor an object that reads or writes bytes")
+
+
 class Stream:
     """An object that reads, writes and seeks as a file does, from the place on where it is: as an io.BytesIO."""
 
     is_closed = False
 
     def __init__(self, file: Any) -> None:
+        check_object(file)
         if not file.seekable() or is_pipe(file):
             raise io.UnsupportedOperation("the file can't be sought in")
         self._file, self._start, self.path = file, int(file.tell()), getattr(file, "name", None)

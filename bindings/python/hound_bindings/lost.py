@@ -4,7 +4,7 @@ import math
 import os
 from typing import Any, Iterator, List, NamedTuple, Optional
 
-from . import Info, Path, Repair, State, _guess_data, _integer, conversion, disk, streams, to_bytes
+from . import Info, Path, Repair, State, _guess_data, _integer, _named, conversion, disk, streams, to_bytes
 from . import info as info_of
 
 __all__ = ["guess", "recovered"]
@@ -25,12 +25,18 @@ class Progress(NamedTuple):
     left_over: int
 
 
+def _read(file: Any, count: int, place: int) -> bytes:
+    """Bytes of a file, whose name an error has, and not that of its copy."""
+    with _named(file):
+        return disk.read_at(file.fileno(), count, place)
+
+
 def recovered(path: Path, part: Path, like: Info, skip: int, durable: bool) -> Iterator[Progress]:
     """Writes a new file of the samples that a file has from a byte on, in steps."""
     with io.open(path, "rb", buffering=0) as file, streams.create(part, like=like, durable=durable, exclusive=True) as writer:
         channels, spec = like.channels, conversion.spec_like(writer.info)
         size, place, left = channels * spec.bytes_per_sample, skip, 0
-        while content := disk.read_at(file.fileno(), max((1 << 20) // size, 1) * size, place):
+        while content := _read(file, max((1 << 20) // size, 1) * size, place):
             place, left = place + len(content), len(content) % size
             writer.write(streams.decoded(content, len(content) // size * channels, spec))
             yield Progress(place, writer.tell(), left)
@@ -46,7 +52,7 @@ def _some(path: Path, skip: int) -> List[bytes]:
     with io.open(path, "rb", buffering=0) as file:
         count = max((os.fstat(file.fileno()).st_size - skip) // _BLOCK_BYTES, 1)
         numbers = sorted({number * (count - 1) // (_BLOCKS - 1) for number in range(_BLOCKS)})
-        return [disk.read_at(file.fileno(), _BLOCK_BYTES, skip + number * _BLOCK_BYTES) for number in numbers]
+        return [_read(file, _BLOCK_BYTES, skip + number * _BLOCK_BYTES) for number in numbers]
 
 
 def _integers_of(block: bytes, form: Info) -> List[int]:
@@ -95,7 +101,7 @@ def start_of(path: Path, otherwise: int) -> int:
     """Where the samples of a file may begin whose header is damaged: after what looks like the header of its data, near its
     beginning, or otherwise there."""
     with io.open(path, "rb", buffering=0) as file:
-        front = disk.read_at(file.fileno(), _FRONT_BYTES, 0)
+        front = _read(file, _FRONT_BYTES, 0)
     with conversion.address(front) as place:
         return max(_guess_data(*place), 0) or otherwise
 

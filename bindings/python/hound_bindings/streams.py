@@ -116,10 +116,12 @@ class Reader(_OneAtATime):
     frames are all whole ones to its end, and `info.frames` is 0.
     """
 
-    def __init__(self, file: Union[Path, IO[bytes]], to_end: bool = False) -> None:
+    def __init__(self, file: Union[Path, IO[bytes]], *, to_end: bool = False) -> None:
         super().__init__()
         self._name, self._to_end = file, to_end
         self._is_own = isinstance(file, (str, os.PathLike))
+        if not self._is_own:
+            disk.check_object(file)
         source: Any = file
         self._source: Any = io.open(source, "rb", buffering=0) if self._is_own else source
         self._state = _Next(0, [])
@@ -489,8 +491,9 @@ def create(
                 disk.sync(file.descriptor)
             disk.put(file.descriptor, header[:length], 0)
             return Writer(file, spec, recorder, durable, dither)
-        except BaseException:
+        except BaseException as error:
             file.close()
+            _name_error(error, path)
             raise
 
 

@@ -12,6 +12,7 @@ import subprocess
 import sys
 import time
 import unittest
+import unittest.mock
 import wave
 
 import hound_bindings as hound
@@ -85,6 +86,12 @@ class Lost(Folder):
         self.fails(hound.Cause.NOT_WRITABLE, lambda: hound.repair(self.path, like=Info(8000, 1, 12)))
         self.assertRaises(TypeError, lambda: hound.repair(self.path, like="b.wav"))
         self.assertRaises(TypeError, lambda: hound.repair(io.BytesIO(), like=Info(8000, 1, 16)))
+        self.assertRaisesRegex(ValueError, "^skip is -1", lambda: hound.repair(self.path, like=Info(8000, 1, 16), skip=-1))
+        with unittest.mock.patch("os.pread", side_effect=lambda *_: os.close(-1)):
+            for more in dict(skip=0), {}:
+                with self.assertRaises(OSError) as caught:
+                    hound.repair(self.path, like=Info(8000, 1, 16), **more)
+                self.assertEqual(caught.exception.filename, self.path)
         self.fails(hound.Cause.NO_RIFF_TAG, lambda: hound.repair(self.path, copy=self.path + "2"))
         self.assertEqual(os.listdir(os.path.dirname(self.path)), ["a.wav"])
 
@@ -122,6 +129,7 @@ class Command(Folder):
         self.assertEqual(self.run_command("info", "a.wav"), b"a.wav: 8000 Hz, 2 channels, 16 bits, 5 frames, 0.001 s, whole\n")
         self.assertIn(b"1 channel, 16 bits, 2 frames, 0.000 s, cut off (4 frames are held)", self.run_command("info", "b.wav", status=1))
         self.assertEqual(self.run_command("info", ".", status=1).count(b"\n"), 2)
+        self.assertIn(b"-: 8000 Hz, 2 channels, 16 bits, 5 frames, 0.001 s, as its header says\n", self.run_command("info", "-", given=whole))
         rows = self.run_command("info", "--json", "a.wav", "none.wav", "b.wav", "-", given=whole[:50], status=1).splitlines()
         first, second, third, last = map(json.loads, rows)
         self.assertEqual((first["frames"], first["seconds"], first["state"], third["frames_held"]), (5, 5 / 8000, "whole", 4))
@@ -146,7 +154,7 @@ class Command(Folder):
         for words in ("--dry-run",), ("--dry-run", "--to-end"):
             out = self.run_command("repair", *words, "x", status=1).decode().splitlines()
             self.assertEqual([line.split()[-1] for line in out], ["file", "x/a.wav", "x/c.wav", "x/y/b.WAV"])
-            self.assertEqual(self.said, b"hound-wav: x/e.wav: no RIFF tag found\n")
+            self.assertIn(b"hound-wav: x/e.wav: no RIFF tag found\nhound-wav: where a header is lost", self.said)
             self.assertEqual({name: self.content(name) for name in before}, before)
         out = self.run_command("repair", "--copy", "x", status=1)
         self.assertIn(b"x/a.wav  repaired: x/a.repaired.wav\n", out)
@@ -160,6 +168,17 @@ class Command(Folder):
         self.assertEqual(self.content("x/c.wav"), by_hand(b"\1\2" + CHUNK))
         self.leave_as("z/d.txt", b"")
         self.run_command("repair", "z", status=2)
+
+    def test_a_length_that_no_frames_have(self):
+        """Recorders that were cut off, and programs that write into a pipe, leave such a length."""
+        cut_off = by_hand(bytes(8), 0xFFFFFFFF)
+        self.leave_as("a.wav", cut_off)
+        self.assertIn(b" 0 frames, 0.000 s, cut off (4 frames are held)\n", self.run_command("info", "a.wav", status=1))
+        for words in ("--dry-run",), ("--copy",), ():
+            out = self.run_command("repair", *words, "a.wav", status=1 if words == ("--dry-run",) else 0)
+            self.assertRegex(out.splitlines()[1], rb"^cut off +4 +0.001  a.wav")
+            self.assertEqual((self.said, self.content("a.wav")), (b"", cut_off if words else by_hand(bytes(8))))
+        self.assertEqual(self.content("a.repaired.wav"), by_hand(bytes(8)))
 
     def test_repair_of_a_lost_header(self):
         data = b"".join(stored(sample, 16, False) for sample in tones(2, 5000, random.Random(1)))
@@ -250,7 +269,7 @@ class Command(Folder):
         self.assertEqual(self.content("two.wav"), noisy)
         before = sorted(os.listdir(self.folder))
         self.leave_as("torn.wav", made_by_wave(SAMPLES)[:-3])
-        for words, status in ((["--rate", "48000"], 2), ([], 2), (["--channels", "3", "--overwrite"], 2), (["--bits", "12"], 2)):
+        for words, status in ((["--rate", "48000"], 2), ([], 2), (["--channels", "3", "--overwrite"], 2), (["--bits", "12"], 2), (["--overwrite", "--float", "--bits", "16"], 2)):
             content = self.content("b.wav")
             self.run_command("convert", "a.wav", "b.wav", *words, status=status)
             self.assertEqual(self.content("b.wav"), content)
@@ -270,7 +289,8 @@ class Command(Folder):
         self.run_command("record", "a.wav", "--append", given=bytes(7), status=1)
         self.assertEqual((hound.info(self.path).frames, b"last 3 bytes" in self.said), (101, True))
         self.run_command("record", "a.wav", *form[:-1], status=1)
-        self.run_command("record", "a.wav", "--append", "--rate", "8000", status=2)
+        for words in ("--rate", "8000"), ("--overwrite",):
+            self.run_command("record", "a.wav", "--append", *words, status=2)
         self.run_command("record", "b.wav", "--rate", "8000", status=2)
         self.run_command("record", "a.wav", "--append", "--checkpoint", "0", status=2)
         self.assertEqual(os.listdir(self.folder), ["a.wav"])

@@ -291,6 +291,11 @@ class Streams(Case):
         self.fails(Cause.FRAME_LENGTH, lambda: hound.open(io.BytesIO(by_hand(bytes(6), channels=2))))
         with self.assertRaises(FileNotFoundError):
             hound.open("none.wav")
+        for other, words in (io.StringIO("RIFF"), "is opened as text"), (b"RIFF", "is of type bytes"), (7, "is of type int"):
+            for call in (lambda: hound.open(other), lambda: hound.create(other, 8000, 1, 16), lambda: hound.write(other, SAMPLES, 8000)):
+                self.assertRaisesRegex(TypeError, words, call)
+        with self.assertRaises(TypeError):
+            hound.open("none.wav", "rb")  # This mode isn't taken for `to_end`.
 
     def test_arguments(self):
         source = io.BytesIO(made_by_wave(SAMPLES))
@@ -695,6 +700,17 @@ class Recordings(Case):
                     self.assertRaisesRegex(OSError, "none of the bytes", call)
             writer.write(SAMPLES)
         self.assertEqual(content_of(self.path), made_by_wave(SAMPLES))
+
+    def test_errors_of_the_system_name_the_file(self):
+        for call in (lambda: hound.create("/dev/full", 8000, 1, 16), lambda: hound.write("/dev/full", SAMPLES, 8000)):
+            self.assertRaisesRegex(OSError, "No space left on device: '/dev/full'$", call)
+        with hound.create(self.path, 8000, 2, 16) as writer:
+            with unittest.mock.patch("os.pwrite", side_effect=lambda *_: os.close(-1)):
+                for call in (lambda: writer.write(SAMPLES), writer.flush, lambda: hound.write(self.path + "2", SAMPLES, 8000)):
+                    self.assertRaisesRegex(OSError, f"Bad file descriptor: '{self.path}2?'$", call)
+        new = os.path.join(self.path + ".none", "b.wav")
+        for call in (lambda: hound.write(new, SAMPLES, 8000), lambda: hound.repair(self.path, copy=new)):
+            self.assertRaisesRegex(FileNotFoundError, f"No such file or directory: .*'{new}'$", call)
 
     def test_a_write_after_one_that_failed_publishes(self):
         writer = hound.create(self.path, 8000, 2, 16)

@@ -265,6 +265,18 @@ impl Walk {
     }
 
     /// A walk from the beginning of a stream, as programs write one into a pipe that don't know its length.
+    ///
+    /// ```no_run
+    /// # fn main() -> Result<(), Box<dyn std::error::Error>> {
+    /// let mut input = std::io::stdin().lock();
+    /// let spec = hound_bindings::Walk::of_stream().take_from(&mut input)??.spec;
+    /// let mut bytes = Vec::new();
+    /// std::io::Read::read_to_end(&mut input, &mut bytes)?;
+    /// let mut samples = vec![0i32; bytes.len() / usize::from(spec.bytes_per_sample)];
+    /// hound_bindings::decode(&spec, &bytes, &mut samples)?; // A torn frame at the end: see whole_frames.
+    /// # Ok(())
+    /// # }
+    /// ```
     pub fn of_stream() -> Walk {
         Walk { is_stream: true, ..Walk::default() }
     }
@@ -289,7 +301,8 @@ impl Walk {
         Walk::new().take_from(reader)
     }
 
-    /// The same of this walk, which takes nothing before.
+    /// Reads up to the data as [`over`](Walk::over) does, by this walk, which has taken nothing before: one
+    /// [`of_stream`](Walk::of_stream) takes any length.
     pub fn take_from<R: io::Read>(&mut self, reader: &mut R) -> io::Result<Result<Info>> {
         let (mut place, mut skipped) = (0, [0; 1024]);
         loop {

@@ -1,9 +1,9 @@
 //! The calls over small files.
 use hound_bindings::{
-    append_to, decode, decode_scaled, encode, encode_scaled, find_damage, from_f32, guess_data, header, info, read, read_into,
-    read_scaled, repair, repair_to_end, size, sizes, to_f32, value_16, value_24, value_32, value_8, whole_frames, write,
-    write_scaled, write_to, Allowed, Container, Error, Format, Kind, Medium, Mode, Next, Recorder, Repairer, Spec,
-    State, Walk, ERRORS,
+    append_to, decode, decode_scaled, encode, encode_scaled, find_damage, from_f32, guess_data, header, info, read,
+    read_into, read_scaled, repair, repair_to_end, size, sizes, to_f32, value_16, value_24, value_32, value_8,
+    whole_frames, write, write_scaled, write_to, Allowed, Container, Error, Format, Kind, Medium, Mode, Next, Recorder,
+    Repairer, Spec, State, Walk, ERRORS,
 };
 use std::panic::{catch_unwind, AssertUnwindSafe};
 use std::time::Duration;
