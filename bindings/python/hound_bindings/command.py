@@ -151,7 +151,7 @@ def _recover(options: argparse.Namespace) -> int:
     def recover(name: str) -> bool:
         if options.guess and _has_header(name):
             raise ValueError(f"{name}: its header isn't lost, so nothing is guessed")
-        guessed = hound.guess(name, options.skip, options.rate) if options.guess else None
+        guessed = hound.guess(name, options.skip, options.rate or 44100) if options.guess else None
         form, copy = guessed or options.like, hound._copy_name(name)
         skip = lost.start_of(name, form.data_start) if options.skip is None else options.skip
         found = None
@@ -173,6 +173,8 @@ def _recover(options: argparse.Namespace) -> int:
 
 
 def _repair(options: argparse.Namespace) -> int:
+    if options.rate and not options.guess:
+        raise _Wrong("--rate is that of --guess")
     if options.like or options.guess:
         return _recover(options)
     names, unread = _files_of(options.files), []
@@ -267,12 +269,14 @@ def _type_between(info: hound.Info, wanted: hound.Info, dither: int) -> Optional
 def _convert(options: argparse.Namespace) -> int:
     if options.rate:
         raise _Wrong("the rate isn't changed here: sox and ffmpeg resample")
+    if options.seed and not options.dither:
+        raise _Wrong("--seed is that of --dither")
     if os.path.exists(options.target) and not options.overwrite:
         raise _Wrong(f"{options.target} exists: --overwrite replaces it")
     with hound.open(_source(options.source), to_end=options.to_end) as reader, hound._replaced(options.target, options.durable) as part:
         info = reader.info
         wanted = _form_wanted(info, options)
-        dither = options.seed if options.dither else 0
+        dither = (options.seed or 1) if options.dither else 0
         dtype = _type_between(info, wanted, dither)
         with hound.create(part, like=wanted, exclusive=True, durable=options.durable, dither=dither) as writer:
             for block in _blocks(options.source, reader, dtype):
@@ -418,7 +422,7 @@ def _parser() -> argparse.ArgumentParser:
     add("--json", help="print a JSON object in a line for each file", **flag)
     add("--like", type=_form_of, metavar="RATE,CHANNELS,BITS[f]", help="for a lost header: copy such samples (f: floats) to NAME.repaired.wav")
     add("--guess", help="for a lost header: guess channels and bits by what would be smooth", **flag)
-    add("--rate", type=_positive, default=44100, help="the rate with --guess, since no guess finds it (44100)")
+    add("--rate", type=_positive, help="the rate with --guess, since no guess finds it (44100)")
     add("--skip", type=_from(0), metavar="BYTES", help="with --like and --guess: how many come before the samples (without it: those before what looks like their header, or of a usual one)")
 
     add = command("cat", _cat, "write raw samples to standard output: int16, int32 where they are wider, or float32")
@@ -436,7 +440,7 @@ def _parser() -> argparse.ArgumentParser:
     add("--float", help="floats of 32 bits", **flag)
     add("--channels", type=_positive, help="the mean of all as one, or one in all")
     add("--dither", help="add triangular noise before rounding", **flag)
-    add("--seed", type=_positive, default=1, help="of that noise (1)")
+    add("--seed", type=_positive, help="of that noise (1)")
     add("--rate", type=_positive, help="isn't changed: it is an error")
     add("--overwrite", help="replace OUT if it is there", **flag)
     add("--durable", help="sync what is written", **flag)

@@ -196,6 +196,7 @@ class Command(Folder):
         self.assertEqual(self.content("a.repaired.wav")[-100:], data[-100:])
         self.run_command("repair", "--guess", "a.repaired.wav", status=1)
         self.assertIn(b"its header isn't lost", self.said)
+        self.run_command("repair", "--rate", "8000", "a.wav", status=2)
         for words in ("--like", "8000,2"), ("--like", "a,b,c"), ("--like", "8000,0,16"), ("--guess", "--skip", "-1"), ("--guess", "--rate", "x"):
             self.run_command("repair", *words, "a.wav", status=2)
             self.assertIn(b" isn't ", self.said)
@@ -269,7 +270,7 @@ class Command(Folder):
         self.assertEqual(self.content("two.wav"), noisy)
         before = sorted(os.listdir(self.folder))
         self.leave_as("torn.wav", made_by_wave(SAMPLES)[:-3])
-        for words, status in ((["--rate", "48000"], 2), ([], 2), (["--channels", "3", "--overwrite"], 2), (["--bits", "12"], 2), (["--overwrite", "--float", "--bits", "16"], 2)):
+        for words, status in ((["--rate", "48000"], 2), (["--overwrite", "--seed", "3"], 2), ([], 2), (["--channels", "3", "--overwrite"], 2), (["--bits", "12"], 2), (["--overwrite", "--float", "--bits", "16"], 2)):
             content = self.content("b.wav")
             self.run_command("convert", "a.wav", "b.wav", *words, status=status)
             self.assertEqual(self.content("b.wav"), content)
