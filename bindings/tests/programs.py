@@ -111,7 +111,8 @@ def check_same(here, there):
         same("record", *shape, "--append", "--durable", data=DATA[: 55 * frame + frame - 1], status=int(frame > 1))
         for words in [], ["--float"], ["--to-end"]:
             same("cat", *words, data=here.contents())
-        same("cat", "--to-end", data=header + DATA[: 9 * frame] + b"\1" * (frame - 1), status=int(frame > 1))
+        stream = whole[: whole.index(b"data") + 8] + DATA[: 9 * frame] + b"\1" * (frame - 1)
+        same("cat", "--to-end", data=stream, status=int(frame > 1))
         same("cat", data=here.contents()[:-frame], status=1)
         same("record", *shape, "--overwrite", data=DATA[: 33 * frame])
     same("record", "none/take.wav", "44100", "1", "16", "9", status=1)
