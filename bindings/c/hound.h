@@ -108,7 +108,7 @@ typedef struct {
     uint16_t channels;
     uint16_t bits_per_sample;
     uint16_t bytes_per_sample; /* of a container; 0 where a spec is passed: as many as the bits need */
-    uint16_t sample_format;    /* HOUND_INT or HOUND_FLOAT; with another number no call takes it */
+    uint16_t sample_format;    /* HOUND_INT or HOUND_FLOAT; another number is an error wherever samples are read or written */
 } hound_spec;
 
 typedef struct {

@@ -13,7 +13,7 @@ use Rattle.hound_slices.specs.declared.error.CallError.{CallError}
 use Rattle.hound_slices.specs.declared.error.CallError.TheVariants.{Head, OtherFormat, TooWide, NotWritable, Truncated, TooLong, UnfinishedFrame, NoRoom}
 use Rattle.hound_slices.specs.declared.spec.HoundSpec.{HoundSpec}
 
--- The spec that C's is. A number that is no format gives a spec without bits, which no call takes.
+-- The spec that C's is. A number that is no format gives a spec without bits: no samples of it are read or written.
 abbrev pub spec_from_c : HoundSpec → WavSpecEx
 spec_from_c c = record {
   spec = record {

@@ -51,7 +51,7 @@ pub struct HoundRepair {
     pub unused: u32,
 }
 
-/// The spec that C's is: without bits, which no call takes, where C's has another number than those of the formats.
+/// The spec that C's is. Where its format is no number of one, it has no bits: no samples of it are read or written.
 pub fn spec_from_c(spec: HoundSpec) -> WavSpecEx
     ensures { result ≡ spec_from_c spec }
 {
