@@ -3,7 +3,7 @@ use Rattle.std.proofs.lemmas.Grind.{common_steps}
 use Rattle.std.proofs.Common.{◌≡◌, ℕ, ◌+◌, ◌≤◌, ◌<◌, inl, inr, true, false, List, [], ◌∷◌, ◌++◌, length, take, drop, slice_range, refl, sym, ap, ◌∙◌, subst, arith, take-append-drop, take_at, drop_at, length-append, length-take, length-drop, length-take-le, append_assoc, le-ltb, Option, Some, None, Ok, Err}
 use Rattle.std.proofs.lemmas.List.{drop-drop, take-take, drop-take}
 use Rattle.std.specs.Str.{bytes_eq}
-use Rattle.hound_number.specs.{number}
+use Rattle.hound_number.specs.{Account, number}
 use Rattle.hound_spec.specs.declared.spec.WavSpecEx.{WavSpecEx}
 use Rattle.hound_spec.specs.{greatest_u32, padded, riff_tag, wave_tag, fmt_tag, data_tag}
 use Rattle.hound_walk.specs.declared.cause.Cause.{Cause}
@@ -13,9 +13,9 @@ use Rattle.hound_walk.specs.Fmt.{fmt_len, fmt_of, fmt_said}
 use Rattle.hound_walk.specs.Grammar.{Rejected, front_fault, content_fault, chunk_fault, fmt_fault, spec_after, cut_fault, joined, Chunk, Head}
 use Rattle.hound_walk.proofs.WalkLemmas.{walked_more, head_from, same_tag}
 use Rattle.std.proofs.lemmas.Bool.{cases_lt}
-use Rattle.hound_walk.specs.Walking.{Walked, Rejects}
+use Rattle.hound_walk.specs.Walking.{CountsFailed, Walked, Rejects}
 use Rattle.hound_walk.specs.declared.cause.HeadError.{HeadError}
-use Rattle.hound_walk.specs.declared.cause.HeadError.TheVariants.{Rejected as Caused}
+use Rattle.hound_walk.specs.declared.cause.HeadError.TheVariants.{Failed, Rejected as Caused}
 use Rattle.hound_walk.specs.Parts.{Reaches, IsAt, IsAfter}
 use Rattle.hound_walk.specs.declared.parts.HeadWalk.{HeadWalk}
 
@@ -26,6 +26,12 @@ empty (y ∷ ys) e = absurd (omega (arith, e))
 -- what is known of the cause of an error
 pub rejects_at : (e : HeadError) (c : Cause) (P : Cause → Type 0) → e ≡ Caused c → Rejects e P → P c
 rejects_at e c P is r = subst (λ d. Rejects d P) is r
+
+-- an error of memory has a cause, since no read of it fails
+pub caused : (A : Type 0) (e : HeadError) (c : Cause) → (let a : Account (Unit {0}) = record { failures = 0; kept = tt } in
+    CountsFailed {Kept = Unit {0}} {A = A} (Some a) (Some a) (Err e)) → Rejects e (λ d. c ≡ d) → e ≡ Caused c
+caused A (Failed e) c same is = absurd (omega (arith, ap (λ (b : Account (Unit {0})). b.failures) same))
+caused A (Caused d) c same is = ap Caused (sym is)
 
 cut_at_end : (n : ℕ) (after : List ℕ) → length after < n → cut_fault n after ≡ Some Ended
 cut_at_end n after less = grind (arith, common_steps)

@@ -5,7 +5,7 @@ ghost use Rattle.hound_spec.specs.{greatest_u32, padded};
 ghost use Rattle.hound_spec.specs.declared.spec.WavSpecEx.{WavSpecEx};
 ghost use Rattle.hound_walk.specs.Fmt.{fmt_len, IsSoundSpec};
 ghost use Rattle.hound_walk.specs.Grammar.{Head, IsDataPlace, Rejected, data_fault};
-ghost use Rattle.hound_walk.specs.Walking.{IsSoundOption, Walked};
+ghost use Rattle.hound_walk.specs.Walking.{IsSoundOption, Rejects, Walked};
 ghost use Rattle.hound_walk.specs.Parts.{IsAhead, IsAt, IsAtPart, IsAfter, IsNearer, IsSoundStep, LeadsTo, part_bytes, part_start, part_length, parts_left};
 ghost use Rattle.hound_walk.specs.declared.parts.Part.TheVariants as kinds;
 
@@ -71,6 +71,17 @@ pub enum Step {
     Data(FileHead),
 }
 
+// The cause of an error of bytes in memory, where no read fails.
+#[inline(always)]
+fn cause_of(error: HeadError) -> Cause
+    ensures { Rejects error (λ cause. result ≡ cause) }
+{
+    match error {
+        HeadError::Rejected(cause) => cause,
+        HeadError::Failed(_) => Cause::Ended,
+    }
+}
+
 #[inline(always)]
 fn take_front(bytes: &[u8]) -> Result<Step, Cause>
     ensures leads { (file : List ℕ) → (bytes.now ≡ take 12 file) → LeadsTo file result }
@@ -85,8 +96,7 @@ fn take_front(bytes: &[u8]) -> Result<Step, Cause>
             taken: 0,
             part: Part::Header,
         })),
-        Err(HeadError::Rejected(cause)) => Err(cause),
-        Err(HeadError::Failed(_)) => unreachable!(),
+        Err(error) => Err(cause_of(error)),
     }
 }
 
@@ -162,8 +172,7 @@ fn take_fmt(taken: u32, chunk_len: u32, bytes: &[u8]) -> Result<Step, Cause>
             chunk_len,
             chunk_len.min(WAVEFORMATEXTENSIBLE_LENGTH),
         ))),
-        Err(HeadError::Rejected(cause)) => Err(cause),
-        Err(HeadError::Failed(_)) => unreachable!(),
+        Err(error) => Err(cause_of(error)),
     }
 }
 

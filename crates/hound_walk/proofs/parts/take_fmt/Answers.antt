@@ -1,7 +1,8 @@
 use Rattle.std.proofs.Common.{◌≡◌, ◌+◌, Err, arith, subst}
+use Rattle.hound_spec.specs.declared.spec.WavSpecEx.{WavSpecEx}
 use Rattle.hound_spec.specs.{padded}
 use Rattle.hound_walk.specs.Fmt.{fmt_len, fmt_of}
-use Rattle.hound_walk.proofs.PartLemmas.{rejects_at, reaches, passed_fmt, rejected_fmt, fmt_inside, chunk_inside}
+use Rattle.hound_walk.proofs.PartLemmas.{caused, rejects_at, reaches, passed_fmt, rejected_fmt, fmt_inside, chunk_inside}
 use Rattle.hound_walk.specs.Parts.{IsAfter}
 use Rattle.hound_walk.proofs.parts.take_fmt.Goals as goal
 
@@ -18,11 +19,12 @@ returns-in-Ok-clause-leads c = λ file found at is.
     (subst (λ n. IsAfter (padded len) n c.skip.result.part) c.min.ensures c.skip.ensures.part) c.skip.ensures.found c.skip.ensures.taken
     (λ none. omega (arith, none, fmt_inside file b t (fmt_len len) is enough (chunk_inside file size found t w four parts)))
 
-pub returns-in-Err-Rejected-clause-leads : goal.returns-in-Err-Rejected-clause-leads
-returns-in-Err-Rejected-clause-leads c = λ file found at is.
+pub returns-in-Err-clause-leads : goal.returns-in-Err-clause-leads
+returns-in-Err-clause-leads c = λ file found at is.
     let (w, limit, size, four, says, parts) = at in
     let len = c.args.chunk_len in
-    let cause = c.in-Err-Rejected.cause in
+    let e = c.in-Err.error in
+    let cause = c.cause_of.result in
     rejected_fmt file size c.args.bytes.now found c.args.taken len cause w four says parts limit is
-    (rejects_at c.in-Err-Rejected.field-0 cause (λ d. fmt_of len c.args.bytes.now ≡ Err d)
-    c.in-Err-Rejected.field-0-is c.in-Err-Rejected.ensures.gives)
+    (rejects_at e cause (λ d. fmt_of len c.args.bytes.now ≡ Err d)
+    (caused WavSpecEx e cause c.in-Err.ensures.failures c.cause_of.ensures) c.in-Err.ensures.gives)
