@@ -3,7 +3,6 @@
 
 mod error;
 mod header;
-mod laws;
 mod spec;
 
 pub use error::{Error, Result};
@@ -13,5 +12,4 @@ pub use header::{
     WAVEFORMATEX_LENGTH, WAVEFORMATEXTENSIBLE_LENGTH, header_length, header_of, riff_size,
     riff_size_fits,
 };
-pub use laws::{extensions_come_back, fields_come_back};
 pub use spec::{SampleFormat, WavSpec, WavSpecEx, is_pair};
