@@ -1,6 +1,6 @@
 -- The two sizes of a file, and what they leave.
 use Rattle.std.proofs.lemmas.Grind.{common_steps}
-use Rattle.std.proofs.Common.{◌≡◌, ℕ, ◌+◌, ◌^◌, ◌<◌, ◌≤◌, Bool, List, ◌++◌, length, take, drop, Result, Ok, Err, IsErr, OnOk, MatchResult, refl, sym, ◌∙◌, ap, arith, append_assoc, length-append, length-drop, length-take}
+use Rattle.std.proofs.Common.{◌≡◌, ℕ, ◌+◌, ◌^◌, ◌<◌, ◌≤◌, Bool, List, ◌++◌, length, take, drop, Result, Ok, Err, IsErr, OnOk, MatchResult, refl, subst, sym, ◌∙◌, ap, arith, append_assoc, length-append, length-drop, length-take}
 use Rattle.std.proofs.lemmas.Bool.{false≢true}
 use Rattle.std.proofs.lemmas.List.{drop_at, length-take-le, take_all, take_at}
 use Rattle.hound_number.specs.{number, bytes_of, mix, AreBytes}
@@ -15,6 +15,12 @@ use Rattle.hound_writer.specs.Parts.{HasSize, IsPatched, PutsAt, Patches}
 use Rattle.hound_writer.specs.Writer.{with_sizes, field}
 use Rattle.hound_writer.proofs.Heads.{in_parts}
 use Rattle.hound_writer.proofs.Sizes.{same_transitive, same_riff, field_riff, same_length, riff_length}
+
+-- bytes that are the same ones are written
+pub with_bytes : {T E : Type 0} {keeps : Bool} {at : ℕ} {a b : List ℕ} {r : Result T E} {old new : MediumState}
+    → a ≡ b → PutsAt keeps at a r old new → PutsAt keeps at b r old new
+with_bytes {T = T} {E = E} {keeps = keeps} {at = at} {r = r} {old = old} {new = new} is puts =
+    subst (λ l. PutsAt {T = T} {E = E} keeps at l r old new) is puts
 
 pub has_size : (p : ℕ) (contents : List ℕ) → 8 ≤ p → p + 4 ≤ length contents → AreBytes contents
     → HasSize p contents

@@ -16,7 +16,7 @@ pub(crate) struct Block {
     bytes: [u8; BLOCK_LENGTH],
 
     // How many bytes they have.
-    buffered: usize,
+    length: usize,
 }
 
 impl Model for Block {
@@ -25,9 +25,9 @@ impl Model for Block {
 
     ghost Value = { List ℕ };
 
-    ghost view = { λ block. take block.buffered block.bytes };
+    ghost view = { λ block. take block.length block.bytes };
 
-    ghost invariant = { λ block. block.buffered ≤ block_length };
+    ghost invariant = { λ block. block.length ≤ block_length };
 }
 
 impl Block {
@@ -37,7 +37,7 @@ impl Block {
     {
         Block {
             bytes: [0; BLOCK_LENGTH],
-            buffered: 0,
+            length: 0,
         }
     }
 
@@ -47,14 +47,14 @@ impl Block {
         ensures length { result ≡ length self.now }
         ensures within { result ≤ block_length }
     {
-        self.buffered
+        self.length
     }
 
     /// The buffered bytes.
     pub(crate) fn as_slice(&self) -> &[u8]
         ensures { result.now ≡ self.now }
     {
-        &self.bytes[..self.buffered]
+        &self.bytes[..self.length]
     }
 
     /// Appends a container of this many bytes, if there is room for four.
@@ -65,12 +65,12 @@ impl Block {
         ensures { self.new ≡ self.old ++ take width container }
     {
         let [a, b, c, d] = container;
-        let at = self.buffered;
+        let at = self.length;
         self.bytes[at] = a;
         self.bytes[at + 1] = b;
         self.bytes[at + 2] = c;
         self.bytes[at + 3] = d;
-        self.buffered = at + width;
+        self.length = at + width;
     }
 
     /// Appends containers, if there is room.
@@ -78,10 +78,10 @@ impl Block {
         requires { length self.old + length containers.now ≤ block_length }
         ensures { self.new ≡ self.old ++ containers.now }
     {
-        let at = self.buffered;
+        let at = self.length;
         let end = at + containers.len();
         self.bytes[at..end].copy_from_slice(containers);
-        self.buffered = end;
+        self.length = end;
     }
 
     /// Appends the containers of samples, each of which has one, if there is room.
@@ -93,16 +93,16 @@ impl Block {
         ensures { self.new ≡ self.old
             ++ joined_containers (λ s. S.container s bits width) samples.now }
     {
-        let at = self.buffered;
+        let at = self.length;
         let end = at + width as usize * samples.len();
         store_containers(&mut self.bytes[at..end], samples, bits, width);
-        self.buffered = end;
+        self.length = end;
     }
 
     /// Empties the block.
     pub(crate) fn clear(&mut self)
         ensures { self.new ≡ [] }
     {
-        self.buffered = 0;
+        self.length = 0;
     }
 }

@@ -23,7 +23,7 @@ use std::{fs, io};
 const FILE_BUFFER_SIZE: usize = 65536;
 
 // A writer to a file, which buffers bytes until there are many.
-fn buffered(alloc: Global, file: fs::File) -> Result<io::BufWriter<fs::File>>
+fn with_buffer(alloc: Global, file: fs::File) -> Result<io::BufWriter<fs::File>>
     ensures { IfErr result (λ e. e ≡ OutOfMemory) }
 {
     io::BufWriter::with_capacity(alloc, FILE_BUFFER_SIZE, file).or(Err(Error::OutOfMemory))
@@ -115,7 +115,7 @@ impl WavWriter<io::BufWriter<fs::File>> {
         ensures { BeginsFile spec_ex result }
     {
         let file = fs::create(rt, path)?;
-        let writer = buffered(alloc, file)?;
+        let writer = with_buffer(alloc, file)?;
         WavWriter::new_with_spec_ex(writer, spec_ex)
     }
 
@@ -139,7 +139,7 @@ impl WavWriter<io::BufWriter<fs::File>> {
         ensures reported { IfErr result IsFileError }
     {
         let (file, head) = open_until_data(rt, alloc, path)?;
-        let writer = buffered(alloc, file)?;
+        let writer = with_buffer(alloc, file)?;
         append_at(writer, head).map_err(|(_, error)| error)
     }
 }

@@ -1,21 +1,20 @@
-// A patch: the two sizes, in their fields.
+// Bytes at a place, and a patch: the two sizes, in their fields.
 ghost use Rattle.hound_medium.specs.{WhereKeeps, WhereTells};
 ghost use Rattle.std.specs.Prelude.{◌≡◌, ◌+◌, ◌≤◌, length, OnOk};
-ghost use Rattle.hound_number.specs.{bytes_of};
 ghost use Rattle.hound_writer.specs.{PatchesAtEach, PutsAt, Patches};
 
 use hound_medium::{Medium, put_all};
 use hound_number::le_u32;
 use std::io;
 
-// Writes a size into its field.
-fn put_size<M: Medium>(medium: &mut M, at: u64, size: u32) -> io::Result<()>
-    ensures { WhereTells M.tells (PutsAt M.keeps at (bytes_of 4 size) result (M.state medium.old)
+/// Writes bytes at a place, or stops at the first call of the medium that fails.
+#[inline(always)]
+pub fn put_at<M: Medium>(medium: &mut M, place: u64, bytes: &[u8]) -> io::Result<()>
+    ensures { WhereTells M.tells (PutsAt M.keeps place bytes.now result (M.state medium.old)
         (M.state medium.new)) }
 {
-    medium.go(at)?;
-    let bytes = le_u32(size);
-    put_all(medium, &bytes)
+    medium.go(place)?;
+    put_all(medium, bytes)
 }
 
 /// Writes both sizes, the RIFF size first, and flushes the medium, which is then after the data
@@ -37,7 +36,7 @@ pub fn patch<M: Medium>(
         (PatchesAtEach data_len_offset riff_size data_length result (M.state medium.old)
         (M.state medium.new)) }
 {
-    put_size(medium, 4, riff_size)?;
-    put_size(medium, data_len_offset, data_length)?;
+    put_at(medium, 4, &le_u32(riff_size))?;
+    put_at(medium, data_len_offset, &le_u32(data_length))?;
     medium.flush()
 }

@@ -4,6 +4,6 @@ use Rattle.hound_writer.proofs.block.Block.push.Goals as goal
 
 pub returns : goal.returns
 returns c =
-    four_stored c.self.inside.bytes c.self.inside.buffered c.args.width c.args.container
+    four_stored c.self.inside.bytes c.self.inside.length c.args.width c.args.container
     (search rules) (search rules) c.requires.width
     ∙ ap (λ l. l ++ take c.args.width c.args.container) c.self.view_is
