@@ -59,8 +59,8 @@ impl Sample for Twelve {
         self.0
     }
 
-    fn encode(self, bits: u16, byte_width: u16) -> Result<[u8; 4]> {
-        if bits != 16 || byte_width != 2 {
+    fn encode(self, bits: u16, width: u16) -> Result<[u8; 4]> {
+        if bits != 16 || width != 2 {
             return Err(Error::Unsupported);
         }
         if self.0 < -2048 || self.0 > 2047 {

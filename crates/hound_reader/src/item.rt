@@ -160,8 +160,8 @@ impl<R: io::Read, B: CountStart> CountingReader<'_, R, B> {
 
 impl<R: io::Read, B: CountStart> ContainerReader for CountingReader<'_, R, B> {
     #[inline(always)]
-    fn next_container(&mut self, bytes: u16) -> Option<[u8; 4]> {
-        match bytes {
+    fn next_container(&mut self, width: u16) -> Option<[u8; 4]> {
+        match width {
             1 => {
                 let [a] = self.next_array::<1>()?;
                 Some([a, 0, 0, 0])

@@ -32,15 +32,15 @@ pub trait Decode: Sized + Drop {
 
     /// Whether containers of a format, with these bytes and used bits, are decoded, or why not: the
     /// errors of [`Sample::read`](crate::Sample::read).
-    fn check(fmt: SampleFormat, bytes: u16, bits: u16) -> Result<()>
-        ensures check { result ≡ read_error (decode_rejection fmt bytes bits) }
-        ensures pair { IsOk result → IsPair fmt bits bytes };
+    fn check(fmt: SampleFormat, width: u16, bits: u16) -> Result<()>
+        ensures check { result ≡ read_error (decode_rejection fmt width bits) }
+        ensures pair { IsOk result → IsPair fmt bits width };
 
     /// The value of a container of this many bytes.
-    fn decode(container: &[u8], fmt: SampleFormat, bytes: u16, bits: u16) -> Self
-        requires decodes { decode_rejection fmt bytes bits ≡ None }
-        requires width { length container.now ≡ bytes }
-        ensures { result ≡ value fmt bytes bits container.now };
+    fn decode(container: &[u8], fmt: SampleFormat, width: u16, bits: u16) -> Self
+        requires decodes { decode_rejection fmt width bits ≡ None }
+        requires width { length container.now ≡ width }
+        ensures { result ≡ value fmt width bits container.now };
 }
 
 /// Whether a type of a format and of at most this many bytes reads samples, or why not.
@@ -49,20 +49,20 @@ pub(crate) fn check_type(
     format: SampleFormat,
     most: u16,
     fmt: SampleFormat,
-    bytes: u16,
+    width: u16,
     bits: u16,
 ) -> Result<()>
-    ensures int { format ≡ Int → result ≡ read_error (int_rejection most fmt bytes bits) }
-    ensures float { format ≡ Float → most ≡ 4 → result ≡ read_error (float_rejection fmt bytes bits) }
-    ensures pair { IsOk result → IsPair fmt bits bytes }
+    ensures int { format ≡ Int → result ≡ read_error (int_rejection most fmt width bits) }
+    ensures float { format ≡ Float → most ≡ 4 → result ≡ read_error (float_rejection fmt width bits) }
+    ensures pair { IsOk result → IsPair fmt bits width }
 {
-    if fmt == format && bytes <= most && is_pair(fmt, bits, bytes) {
+    if fmt == format && width <= most && is_pair(fmt, bits, width) {
         return Ok(());
     }
     if fmt != format {
         return Err(Error::InvalidSampleFormat);
     }
-    if bytes > most {
+    if width > most {
         return Err(Error::TooWide);
     }
     Err(Error::Unsupported)
@@ -73,18 +73,18 @@ pub(crate) fn check_type(
 pub(crate) fn read_container<S: Decode, R: io::Read>(
     reader: &mut R,
     fmt: SampleFormat,
-    bytes: u16,
+    width: u16,
     bits: u16,
 ) -> Result<S>
-    ensures reads { Reads (S.decode_rejection fmt bytes bits) (S.value fmt bytes bits) bytes
+    ensures reads { Reads (S.decode_rejection fmt width bits) (S.value fmt width bits) width
         (R.remaining reader.old) (R.remaining reader.new) result }
-    ensures untouched { IsSome (S.decode_rejection fmt bytes bits) → reader.new ≡ reader.old }
+    ensures untouched { IsSome (S.decode_rejection fmt width bits) → reader.new ≡ reader.old }
 {
-    S::check(fmt, bytes, bits)?;
+    S::check(fmt, width, bits)?;
     let mut container = [0; 4];
-    let container = &mut container[..bytes as usize];
+    let container = &mut container[..width as usize];
     match read_into(reader, container) {
-        Ok(()) => Ok(S::decode(container, fmt, bytes, bits)),
+        Ok(()) => Ok(S::decode(container, fmt, width, bits)),
         Err(error) => Err(Error::IoError(error.into())),
     }
 }
@@ -94,16 +94,16 @@ pub(crate) fn read_container<S: Decode, R: io::Read>(
 fn decode_container<S: Decode, R: ContainerReader>(
     reader: &mut R,
     fmt: SampleFormat,
-    bytes: u16,
+    width: u16,
     bits: u16,
 ) -> result::Result<S, SampleError>
-    requires decodes { S.decode_rejection fmt bytes bits ≡ None }
-    requires some { 1 ≤ bytes }
-    requires few { bytes ≤ 4 }
-    ensures { ReadsItem None (S.value fmt bytes bits) bytes (R.remaining reader.old) (R.remaining reader.new) result }
+    requires decodes { S.decode_rejection fmt width bits ≡ None }
+    requires some { 1 ≤ width }
+    requires few { width ≤ 4 }
+    ensures { ReadsItem None (S.value fmt width bits) width (R.remaining reader.old) (R.remaining reader.new) result }
 {
-    match reader.next_container(bytes) {
-        Some(container) => Ok(S::decode(&container[..bytes as usize], fmt, bytes, bits)),
+    match reader.next_container(width) {
+        Some(container) => Ok(S::decode(&container[..width as usize], fmt, width, bits)),
         None => Err(SampleError::Failed),
     }
 }
@@ -114,17 +114,17 @@ fn decode_container<S: Decode, R: ContainerReader>(
 pub(crate) fn decode_next<S: Decode, R: ContainerReader>(
     reader: &mut R,
     fmt: SampleFormat,
-    bytes: u16,
+    width: u16,
     bits: u16,
 ) -> result::Result<S, SampleError>
-    ensures item { ReadsItem (S.decode_rejection fmt bytes bits) (S.value fmt bytes bits) bytes
+    ensures item { ReadsItem (S.decode_rejection fmt width bits) (S.value fmt width bits) width
         (R.remaining reader.old) (R.remaining reader.new) result }
-    ensures untouched { IsSome (S.decode_rejection fmt bytes bits) → reader.new ≡ reader.old }
+    ensures untouched { IsSome (S.decode_rejection fmt width bits) → reader.new ≡ reader.old }
 {
-    if let Err(error) = S::check(fmt, bytes, bits) {
+    if let Err(error) = S::check(fmt, width, bits) {
         return Err(reason_of(error));
     }
-    match (bytes, bits) {
+    match (width, bits) {
         (1, _) => decode_container(reader, fmt, 1, 8),
         (2, _) => decode_container(reader, fmt, 2, 16),
         (3, _) => decode_container(reader, fmt, 3, 24),
@@ -159,17 +159,17 @@ pub(crate) fn decode_each<S: Decode>(
     from: &[u8],
     samples: &mut [S],
     fmt: SampleFormat,
-    bytes: u16,
+    width: u16,
     bits: u16,
 )
-    requires decodes { S.decode_rejection fmt bytes bits ≡ None }
-    requires whole { length from.now ≡ length samples.old * bytes }
-    ensures { samples.new ≡ map (S.value fmt bytes bits)
-        (containers bytes (length samples.old) from.now) }
+    requires decodes { S.decode_rejection fmt width bits ≡ None }
+    requires whole { length from.now ≡ length samples.old * width }
+    ensures { samples.new ≡ map (S.value fmt width bits)
+        (containers width (length samples.old) from.now) }
 {
-    let width = bytes as usize;
+    let size = width as usize;
     for i in 0..samples.len() {
-        samples[i] = S::decode(&from[i * width..(i + 1) * width], fmt, bytes, bits);
+        samples[i] = S::decode(&from[i * size..(i + 1) * size], fmt, width, bits);
     }
 }
 
@@ -180,29 +180,29 @@ fn read_through<S: Decode, R: io::Read>(
     samples: &mut [S],
     piece: &mut [u8],
     fmt: SampleFormat,
-    bytes: u16,
+    width: u16,
     bits: u16,
 ) -> (usize, Result<()>)
-    requires decodes { S.decode_rejection fmt bytes bits ≡ None }
-    requires some { 1 ≤ bytes }
-    requires few { bytes ≤ 4 }
+    requires decodes { S.decode_rejection fmt width bits ≡ None }
+    requires some { 1 ≤ width }
+    requires few { width ≤ 4 }
     requires room { 4 ≤ length piece.old }
-    ensures each { ReadsEach None (S.value fmt bytes bits) bytes
+    ensures each { ReadsEach None (S.value fmt width bits) width
         (items_of (take result.0 samples.new) result.1)
         (R.remaining reader.old) (R.remaining reader.new) }
     ensures front { FillsFront result.0 result.1 samples.old samples.new }
 {
-    let width = bytes as usize;
+    let size = width as usize;
     let mut done = 0;
     while done < samples.len() {
-        let wanted = (samples.len() - done).min(piece.len() / width);
-        let (taken, answer) = read_piece(reader, &mut piece[..wanted * width]);
-        let count = taken / width;
+        let wanted = (samples.len() - done).min(piece.len() / size);
+        let (taken, answer) = read_piece(reader, &mut piece[..wanted * size]);
+        let count = taken / size;
         decode_each(
-            &piece[..count * width],
+            &piece[..count * size],
             &mut samples[done..done + count],
             fmt,
-            bytes,
+            width,
             bits,
         );
         done += count;
@@ -219,21 +219,21 @@ fn read_pieces<S: Decode, R: io::Read>(
     reader: &mut R,
     samples: &mut [S],
     fmt: SampleFormat,
-    bytes: u16,
+    width: u16,
     bits: u16,
 ) -> (usize, Result<()>)
-    requires decodes { S.decode_rejection fmt bytes bits ≡ None }
-    requires some { 1 ≤ bytes }
-    requires few { bytes ≤ 4 }
-    ensures each { ReadsEach None (S.value fmt bytes bits) bytes
+    requires decodes { S.decode_rejection fmt width bits ≡ None }
+    requires some { 1 ≤ width }
+    requires few { width ≤ 4 }
+    ensures each { ReadsEach None (S.value fmt width bits) width
         (items_of (take result.0 samples.new) result.1)
         (R.remaining reader.old) (R.remaining reader.new) }
     ensures front { FillsFront result.0 result.1 samples.old samples.new }
 {
     if samples.len() <= SMALL_PIECE / 4 {
-        return read_through(reader, samples, &mut [0; SMALL_PIECE], fmt, bytes, bits);
+        return read_through(reader, samples, &mut [0; SMALL_PIECE], fmt, width, bits);
     }
-    read_through(reader, samples, &mut [0; PIECE], fmt, bytes, bits)
+    read_through(reader, samples, &mut [0; PIECE], fmt, width, bits)
 }
 
 /// Reads samples as [`Sample::read_many`](crate::Sample::read_many) does, with constant widths for
@@ -243,22 +243,22 @@ pub(crate) fn read_containers<S: Decode, R: io::Read>(
     reader: &mut R,
     samples: &mut [S],
     fmt: SampleFormat,
-    bytes: u16,
+    width: u16,
     bits: u16,
 ) -> (usize, Result<()>)
-    ensures each { ReadsEach (S.decode_rejection fmt bytes bits) (S.value fmt bytes bits) bytes
+    ensures each { ReadsEach (S.decode_rejection fmt width bits) (S.value fmt width bits) width
         (items_of (take result.0 samples.new) result.1)
         (R.remaining reader.old) (R.remaining reader.new) }
     ensures front { FillsFront result.0 result.1 samples.old samples.new }
-    ensures untouched { IsSome (S.decode_rejection fmt bytes bits) → reader.new ≡ reader.old }
+    ensures untouched { IsSome (S.decode_rejection fmt width bits) → reader.new ≡ reader.old }
 {
     if samples.is_empty() {
         return (0, Ok(()));
     }
-    if let Err(error) = S::check(fmt, bytes, bits) {
+    if let Err(error) = S::check(fmt, width, bits) {
         return (0, Err(error));
     }
-    match (bytes, bits) {
+    match (width, bits) {
         (1, _) => read_pieces(reader, samples, fmt, 1, 8),
         (2, _) => read_pieces(reader, samples, fmt, 2, 16),
         (3, _) => read_pieces(reader, samples, fmt, 3, 24),

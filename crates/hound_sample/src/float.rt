@@ -60,12 +60,12 @@ impl Decode for FloatBits {
     ghost value = { λ fmt bytes bits container. record { 0 = pattern container } };
 
     #[inline(always)]
-    fn check(fmt: SampleFormat, bytes: u16, bits: u16) -> Result<()> {
-        check_type(SampleFormat::Float, 4, fmt, bytes, bits)
+    fn check(fmt: SampleFormat, width: u16, bits: u16) -> Result<()> {
+        check_type(SampleFormat::Float, 4, fmt, width, bits)
     }
 
     #[inline(always)]
-    fn decode(container: &[u8], fmt: SampleFormat, bytes: u16, bits: u16) -> FloatBits {
+    fn decode(container: &[u8], fmt: SampleFormat, width: u16, bits: u16) -> FloatBits {
         FloatBits(u32_at(container, 0))
     }
 }
@@ -97,10 +97,10 @@ impl Sample for FloatBits {
     fn read_item<R: ContainerReader>(
         reader: &mut R,
         fmt: SampleFormat,
-        bytes: u16,
+        width: u16,
         bits: u16,
     ) -> result::Result<FloatBits, SampleError> {
-        decode_next(reader, fmt, bytes, bits)
+        decode_next(reader, fmt, width, bits)
     }
 
     #[inline(always)]
@@ -108,10 +108,10 @@ impl Sample for FloatBits {
         reader: &mut R,
         samples: &mut [FloatBits],
         fmt: SampleFormat,
-        bytes: u16,
+        width: u16,
         bits: u16,
     ) -> (usize, Result<()>) {
-        read_containers(reader, samples, fmt, bytes, bits)
+        read_containers(reader, samples, fmt, width, bits)
     }
 
     #[inline(always)]
@@ -124,8 +124,8 @@ impl Sample for FloatBits {
 
     #[inline(always)]
     #[tactic(auto, unfolding(crate::specs::Container::pattern_container))]
-    fn encode(self, bits: u16, byte_width: u16) -> Result<[u8; 4]> {
-        if bits == 32 && byte_width == 4 {
+    fn encode(self, bits: u16, width: u16) -> Result<[u8; 4]> {
+        if bits == 32 && width == 4 {
             return Ok(le_u32(self.0));
         }
         Err(Error::Unsupported)

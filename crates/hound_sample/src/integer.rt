@@ -48,22 +48,22 @@ fn encode_24_bits(x: i32) -> Result<[u8; 4]>
     Ok([low, middle, high, 0])
 }
 
-/// The container of an integer in the first `byte_width` bytes, and zeros after it.
+/// The container of an integer in the first `width` bytes, and zeros after it.
 #[inline(always)]
 #[tactic(auto, unfolding(crate::specs::Container::int_container))]
-pub(crate) fn encode_integer(x: i32, bits: u16, byte_width: u16) -> Result<[u8; 4]>
-    ensures { IsEncoded (int_container x bits byte_width) result }
+pub(crate) fn encode_integer(x: i32, bits: u16, width: u16) -> Result<[u8; 4]>
+    ensures { IsEncoded (int_container x bits width) result }
 {
-    if bits == 16 && byte_width == 2 {
+    if bits == 16 && width == 2 {
         return encode_16_bits(x);
     }
-    if bits == 24 && (byte_width == 3 || byte_width == 4) {
+    if bits == 24 && (width == 3 || width == 4) {
         return encode_24_bits(x);
     }
-    if bits == 32 && byte_width == 4 {
+    if bits == 32 && width == 4 {
         return Ok(le_i32(x));
     }
-    if bits == 8 && byte_width == 1 {
+    if bits == 8 && width == 1 {
         return encode_8_bits(x);
     }
     Err(Error::Unsupported)
@@ -84,12 +84,12 @@ impl Decode for i8 {
     ghost value = { λ fmt. int_meaning };
 
     #[inline(always)]
-    fn check(fmt: SampleFormat, bytes: u16, bits: u16) -> Result<()> {
-        check_type(SampleFormat::Int, 1, fmt, bytes, bits)
+    fn check(fmt: SampleFormat, width: u16, bits: u16) -> Result<()> {
+        check_type(SampleFormat::Int, 1, fmt, width, bits)
     }
 
     #[inline(always)]
-    fn decode(container: &[u8], fmt: SampleFormat, bytes: u16, bits: u16) -> i8 {
+    fn decode(container: &[u8], fmt: SampleFormat, width: u16, bits: u16) -> i8 {
         signed_from_u8(container[0])
     }
 }
@@ -100,13 +100,13 @@ impl Decode for i16 {
     ghost value = { λ fmt. int_meaning };
 
     #[inline(always)]
-    fn check(fmt: SampleFormat, bytes: u16, bits: u16) -> Result<()> {
-        check_type(SampleFormat::Int, 2, fmt, bytes, bits)
+    fn check(fmt: SampleFormat, width: u16, bits: u16) -> Result<()> {
+        check_type(SampleFormat::Int, 2, fmt, width, bits)
     }
 
     #[inline(always)]
-    fn decode(container: &[u8], fmt: SampleFormat, bytes: u16, bits: u16) -> i16 {
-        if bytes == 2 {
+    fn decode(container: &[u8], fmt: SampleFormat, width: u16, bits: u16) -> i16 {
+        if width == 2 {
             return i16_from_le([container[0], container[1]]);
         }
         signed_from_u8(container[0]) as i16
@@ -119,12 +119,12 @@ impl Decode for i32 {
     ghost value = { λ fmt. int_meaning };
 
     #[inline(always)]
-    fn check(fmt: SampleFormat, bytes: u16, bits: u16) -> Result<()> {
-        check_type(SampleFormat::Int, 4, fmt, bytes, bits)
+    fn check(fmt: SampleFormat, width: u16, bits: u16) -> Result<()> {
+        check_type(SampleFormat::Int, 4, fmt, width, bits)
     }
 
     #[inline(always)]
-    fn decode(container: &[u8], fmt: SampleFormat, bytes: u16, bits: u16) -> i32 {
+    fn decode(container: &[u8], fmt: SampleFormat, width: u16, bits: u16) -> i32 {
         match bits {
             16 => i16_from_le([container[0], container[1]]) as i32,
             24 => i24_from_le([container[0], container[1], container[2]]),

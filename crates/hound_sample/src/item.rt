@@ -65,15 +65,15 @@ pub fn error_of_sample(no_sample: SampleError, fault: &io::Error) -> Error
 
 /// A reader that takes whole containers, and saves the fault that cut one.
 pub trait ContainerReader: io::Read {
-    /// The next container, in the first `bytes` bytes, at most four.
+    /// The next container, in the first `width` bytes, at most four.
     ///
     /// There is none if a read failed or the input ended before it was whole: then the fault is
     /// saved, and fewer bytes were taken.
-    fn next_container(&mut self, bytes: u16) -> Option<[u8; 4]>
-        requires some { 1 ≤ bytes }
-        requires few { bytes ≤ 4 }
+    fn next_container(&mut self, width: u16) -> Option<[u8; 4]>
+        requires some { 1 ≤ width }
+        requires few { width ≤ 4 }
         ensures whole { IfSome result (λ container.
-            Consumes (Self.remaining self.old) (Self.remaining self.new) (take bytes container)) }
-        ensures part { result ≡ None → (taken : List ℕ) × (length taken < bytes)
+            Consumes (Self.remaining self.old) (Self.remaining self.new) (take width container)) }
+        ensures part { result ≡ None → (taken : List ℕ) × (length taken < width)
             × Consumes (Self.remaining self.old) (Self.remaining self.new) taken };
 }

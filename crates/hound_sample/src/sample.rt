@@ -88,14 +88,14 @@ pub trait Sample: Sized + Drop {
     fn read_item<R: ContainerReader>(
         reader: &mut R,
         fmt: SampleFormat,
-        bytes: u16,
+        width: u16,
         bits: u16,
     ) -> result::Result<Self, SampleError>
-        ensures item { ReadsItem (rejection fmt bytes bits) (meaning fmt bytes bits) bytes
+        ensures item { ReadsItem (rejection fmt width bits) (meaning fmt width bits) width
             (R.remaining reader.old) (R.remaining reader.new) result }
-        ensures untouched { IsSome (rejection fmt bytes bits) → reader.new ≡ reader.old }
+        ensures untouched { IsSome (rejection fmt width bits) → reader.new ≡ reader.old }
     {
-        Self::read(reader, fmt, bytes, bits).map_err(reason_of)
+        Self::read(reader, fmt, width, bits).map_err(reason_of)
     }
 
     /// Reads samples one after the other, until the slice is full or `read` returns an error (own).
@@ -107,17 +107,17 @@ pub trait Sample: Sized + Drop {
         reader: &mut R,
         samples: &mut [Self],
         fmt: SampleFormat,
-        bytes: u16,
+        width: u16,
         bits: u16,
     ) -> (usize, Result<()>)
-        ensures each { ReadsEach (rejection fmt bytes bits) (meaning fmt bytes bits) bytes
+        ensures each { ReadsEach (rejection fmt width bits) (meaning fmt width bits) width
             (items_of (take result.0 samples.new) result.1)
             (R.remaining reader.old) (R.remaining reader.new) }
         ensures front { FillsFront result.0 result.1 samples.old samples.new }
-        ensures untouched { IsSome (rejection fmt bytes bits) → reader.new ≡ reader.old }
+        ensures untouched { IsSome (rejection fmt width bits) → reader.new ≡ reader.old }
     {
         for i in 0..samples.len() {
-            match Self::read(reader, fmt, bytes, bits) {
+            match Self::read(reader, fmt, width, bits) {
                 Ok(sample) => samples[i] = sample,
                 Err(error) => return (i, Err(error)),
             }
@@ -131,10 +131,10 @@ pub trait Sample: Sized + Drop {
         requires { can_cast self }
         ensures { result ≡ cast_value self };
 
-    /// The container in the first `byte_width` bytes, and zeros after it, or the error of the
+    /// The container in the first `width` bytes, and zeros after it, or the error of the
     /// type: `Unsupported` or `TooWide`, and no other. A writer makes each sample's bytes by it.
-    fn encode(self, bits: u16, byte_width: u16) -> Result<[u8; 4]>
-        ensures { IsEncoded (container self bits byte_width) result };
+    fn encode(self, bits: u16, width: u16) -> Result<[u8; 4]>
+        ensures { IsEncoded (container self bits width) result };
 
     /// A law: a container has the requested number of bytes, from one to four.
     ghost in_width: { (v : Self) (bits width : ℕ) (c : List ℕ) → container v bits width ≡ Ok c →
@@ -163,10 +163,10 @@ impl<T: Integer> Sample for T {
     fn read_item<R: ContainerReader>(
         reader: &mut R,
         fmt: SampleFormat,
-        bytes: u16,
+        width: u16,
         bits: u16,
     ) -> result::Result<Self, SampleError> {
-        decode_next(reader, fmt, bytes, bits)
+        decode_next(reader, fmt, width, bits)
     }
 
     #[inline(always)]
@@ -174,10 +174,10 @@ impl<T: Integer> Sample for T {
         reader: &mut R,
         samples: &mut [Self],
         fmt: SampleFormat,
-        bytes: u16,
+        width: u16,
         bits: u16,
     ) -> (usize, Result<()>) {
-        read_containers(reader, samples, fmt, bytes, bits)
+        read_containers(reader, samples, fmt, width, bits)
     }
 
     #[inline(always)]
@@ -186,7 +186,7 @@ impl<T: Integer> Sample for T {
     }
 
     #[inline(always)]
-    fn encode(self, bits: u16, byte_width: u16) -> Result<[u8; 4]> {
-        encode_integer(self.to_i32(), bits, byte_width)
+    fn encode(self, bits: u16, width: u16) -> Result<[u8; 4]> {
+        encode_integer(self.to_i32(), bits, width)
     }
 }

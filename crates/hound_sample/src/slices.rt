@@ -126,20 +126,20 @@ pub fn decode_containers<S: Decode>(
     from: &[u8],
     samples: &mut [S],
     fmt: SampleFormat,
-    bytes: u16,
+    width: u16,
     bits: u16,
 )
-    requires decodes { S.decode_rejection fmt bytes bits ≡ None }
-    requires whole { length from.now ≡ length samples.old * bytes }
-    ensures { samples.new ≡ map (S.value fmt bytes bits)
-        (containers bytes (length samples.old) from.now) }
+    requires decodes { S.decode_rejection fmt width bits ≡ None }
+    requires whole { length from.now ≡ length samples.old * width }
+    ensures { samples.new ≡ map (S.value fmt width bits)
+        (containers width (length samples.old) from.now) }
 {
-    match (bytes, bits) {
+    match (width, bits) {
         (1, 8) => decode_each(from, samples, fmt, 1, 8),
         (2, 16) => decode_each(from, samples, fmt, 2, 16),
         (3, 24) => decode_each(from, samples, fmt, 3, 24),
         (4, 24) => decode_each(from, samples, fmt, 4, 24),
         (4, 32) => decode_each(from, samples, fmt, 4, 32),
-        _ => decode_each(from, samples, fmt, bytes, bits),
+        _ => decode_each(from, samples, fmt, width, bits),
     }
 }

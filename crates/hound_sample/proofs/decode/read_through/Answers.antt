@@ -27,7 +27,7 @@ count_all taken wanted width some all = grind (arith, common_steps, mul-div_canc
 
 pub returns-in-Err-clause-each : goal.returns-in-Err-clause-each
 returns-in-Err-clause-each g c =
-    let width = c.args.bytes in
+    let width = c.args.width in
     let meaning = g.S.Decode.value c.args.fmt width c.args.bits in
     let taken = c.read_piece-taken.result.0 in
     let piece = c.read_piece-taken.new.piece in

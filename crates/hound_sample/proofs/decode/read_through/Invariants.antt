@@ -8,7 +8,7 @@ invariant-loop-done g l = record {
   within : l.done ≤ length l.samples;
   same : length l.samples ≡ length l.fn.samples;
   rest : drop l.done l.samples ≡ drop l.done l.fn.samples;
-  each : ReadsEach None (g.S.Decode.value l.fmt l.bytes l.bits) l.bytes
+  each : ReadsEach None (g.S.Decode.value l.fmt l.width l.bits) l.width
       (map Ok (take l.done l.samples)) (g.R.Read.remaining l.fn.reader) (g.R.Read.remaining l.reader);
 }
 
