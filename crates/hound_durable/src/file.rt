@@ -1,7 +1,6 @@
 // Files on disk whose flush returns once the disk has the bytes, which contracts don't know.
 ghost use Rattle.std.specs.Prelude.{◌≡◌, false, IfErr};
 ghost use Rattle.std.proofs.lemmas.Bool.{false≢true};
-ghost use Rattle.hound_medium.specs.{unknown};
 
 use hound_medium::{Medium, Placed};
 use hound_spec::{Error, Result};
@@ -59,10 +58,6 @@ impl SyncedFile {
 }
 
 impl Placed for SyncedFile {
-    ghost tells = { false };
-
-    ghost state = { λ _. unknown };
-
     ghost bytes = { λ _ tells. Prim.absurd (false≢true tells) };
 
     fn go(&mut self, to: u64) -> io::Result<()> {

@@ -6,17 +6,12 @@ ghost use Rattle.std.specs.Io.Cursor.{cursor_position, cursor_inner, cursor_rema
 ghost use Rattle.std.specs.Io.KnownBytes.{ReadConsumes};
 ghost use Rattle.std.specs.IoError.{error_kind};
 ghost use Rattle.std.proofs.lemmas.Bool.{false≢true};
-ghost use Rattle.hound_medium.specs.State.{unknown};
 
 use crate::{Placed, Source};
 use std::io;
 use std::io::{AsBytes, Cursor, ErrorKind, Read, Seek, SeekFrom};
 
 impl<T: AsBytes + Drop> Placed for Cursor<T> {
-    ghost tells = { false };
-
-    ghost state = { λ _. unknown };
-
     ghost bytes = { λ _ tells. Prim.absurd (false≢true tells) };
 
     fn go(&mut self, to: u64) -> io::Result<()>

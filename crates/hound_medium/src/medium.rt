@@ -2,7 +2,7 @@
 // `put`.
 ghost use Rattle.std.specs.Prelude.{◌≡◌, ◌+◌, ◌<◌, ◌≤◌, Bool, IsTrue, false, length, drop, Some, IfOk};
 ghost use Rattle.hound_number.specs.{AreBytes};
-ghost use Rattle.hound_medium.specs.State.{overlay, MediumState, Goes, Shifts, Gets, Puts, Flushes, WhereTells, WhereKeeps, PutsAll, faults_after};
+ghost use Rattle.hound_medium.specs.State.{overlay, unknown, MediumState, Goes, Shifts, Gets, Puts, Flushes, WhereTells, WhereKeeps, PutsAll, faults_after};
 
 use std::io;
 
@@ -16,13 +16,13 @@ use std::io;
 /// at 0, where a writer has to begin; `go(0)` leads there again.
 pub trait Placed: Drop {
     /// `tells`: the medium's bytes are known to contracts, as for `Tape` and `Journal`, not files.
-    ghost tells: { Bool };
+    ghost tells: { Bool } = { false };
 
     /// `keeps`: it records every byte written, with its place, as `Journal` does.
     ghost keeps: { Bool } = { false };
 
-    /// The bytes, the place, the count of faults, and the recorded past.
-    ghost state: { Self → MediumState };
+    /// The bytes, the place, the count of faults, and the recorded past, if they are known.
+    ghost state: { Self → MediumState } = { λ _. unknown };
 
     /// Seeks to a place, counted from the beginning. One past the end is allowed; the bytes stay.
     fn go(&mut self, to: u64) -> io::Result<()>

@@ -1,7 +1,6 @@
 // Files on disk, repaired in place.
 ghost use Rattle.std.specs.Prelude.{◌≡◌, false, IfErr, IfOk};
 ghost use Rattle.std.proofs.lemmas.Bool.{false≢true};
-ghost use Rattle.hound_medium.specs.{unknown};
 ghost use Rattle.hound_walk.specs.{IsSoundSpec};
 ghost use Rattle.hound_writer.specs.{IsFileError};
 
@@ -23,10 +22,6 @@ struct FileInPlace {
 }
 
 impl Placed for FileInPlace {
-    ghost tells = { false };
-
-    ghost state = { λ _. unknown };
-
     ghost bytes = { λ _ tells. Prim.absurd (false≢true tells) };
 
     fn go(&mut self, to: u64) -> io::Result<()> {
