@@ -1,5 +1,5 @@
 -- What holds by the result of a call.
-use Rattle.std.proofs.Common.{◌≡◌, ℕ, ◌+◌, ◌/◌, ◌%◌, nat_le, Bool, true, false, List, length, Result, Ok, Err, OnOk, refl, subst, sym, ◌∙◌, ◌<◌, arith}
+use Rattle.std.proofs.Common.{◌≡◌, ℕ, ◌+◌, ◌/◌, ◌%◌, nat_le, Bool, true, false, List, length, Result, Ok, Err, OnOk, IsErr, IsErrAnd, is_ok, ap, refl, subst, sym, ◌∙◌, ◌<◌, arith}
 use Rattle.std.proofs.lemmas.Bool.{false≢true}
 use Rattle.std.specs.List.{concat}
 use Rattle.std.specs.declared.io.Error.{Error as IoFault}
@@ -11,6 +11,21 @@ use Rattle.hound_sample.specs.{Rejection}
 use Rattle.hound_writer.specs.Accepting.{AcceptAnswer, FitAnswer, IsIoError, IsPublishing, OnRejected, OnPublished, UnlessFailed, faults_reported, mark_of}
 use Rattle.hound_writer.specs.Parts.{IsPublishResult}
 use Rattle.hound_writer.specs.Writer.{WriterState, data_length, sample_count}
+
+-- an error is no Ok
+pub not_ok : {T E : Type 0} (r : Result T E) → IsErr r → is_ok r ≡ false
+not_ok (Ok x) err = absurd (false≢true err)
+not_ok (Err e) err = refl
+
+-- the error that `?` returns
+pub is_error : {T E : Type 0} (r : Result T E) (e : E) → IsErrAnd r (λ d. d ≡ e) → r ≡ Err e
+is_error (Ok x) e is = absurd is
+is_error (Err d) e is = ap Err is
+
+-- what holds of a call that was done
+pub where_done : {T E P : Type 0} (r : Result T E) → (is_ok r ≡ true → P) → OnOk r P
+where_done (Ok x) here = here refl
+where_done (Err e) here = tt
 
 pub on_rejected : {T P : Type 0} (answer : Result T Error) → P → OnRejected answer P
 on_rejected (Ok x) here = tt

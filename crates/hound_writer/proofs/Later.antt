@@ -1,6 +1,6 @@
 -- A call that continues once the buffered samples are written.
 use Rattle.std.proofs.lemmas.Grind.{common_steps}
-use Rattle.std.proofs.Common.{◌≡◌, ℕ, ◌+◌, ◌-◌, ◌≤◌, ◌%◌, Bool, true, false, IsTrue, Result, Err, IfErr, List, length, take, drop, refl, rules, ap, subst, arith}
+use Rattle.std.proofs.Common.{◌≡◌, ℕ, ◌+◌, ◌-◌, ◌≤◌, ◌%◌, Bool, true, false, IsTrue, Result, Ok, Err, IfErr, List, length, take, drop, refl, rules, ap, subst, arith}
 use Rattle.std.proofs.lemmas.List.{append-nil}
 use Rattle.std.specs.List.{concat}
 use Rattle.std.specs.declared.io.Error.{Error as IoFault}
@@ -11,7 +11,7 @@ use Rattle.hound_spec.specs.declared.error.Error.TheVariants.{IoError}
 use Rattle.hound_sample.specs.{Rejection}
 use Rattle.hound_sample.proofs.Many.{drop_further}
 use Rattle.hound_writer.specs.Accepting.{AcceptsBytes, Accepts, AddsAtEach, IsIoError, faults_reported}
-use Rattle.hound_writer.specs.Parts.{GoesOut, after_out, or_fault}
+use Rattle.hound_writer.specs.Parts.{GoesOut, after_out, as_error}
 use Rattle.hound_writer.specs.Writer.{Ghosts, Counts, WriterState, HasRoom, IsWhole, accepted_samples, data_length, data_end}
 use Rattle.hound_writer.proofs.Accepting.{not_rejected, room_fits}
 use Rattle.hound_writer.proofs.Answers.{accept_as, unless_then}
@@ -117,10 +117,10 @@ pub accepts_cut : {W : Type 0} (kind : Ghosts W) (far : ℕ)
     → AcceptsBytes kind bytes (Err (IoError e)) a b
 accepts_cut kind far a b bytes e out room whole = grind (arith, common_steps, room_fits, append-nil)
 
--- the result of a call that saves a fault is no other error
-pub kept_fails : (done : Bool) (fault : IoFault) → IfErr (or_fault done fault) IsIoError
-kept_fails true fault = tt
-kept_fails false fault = tt
+-- an error of the medium is an IoError
+pub kept_fails : (r : Result (Unit {0}) IoFault) → IfErr (as_error r) IsIoError
+kept_fails (Ok done) = tt
+kept_fails (Err fault) = tt
 
 -- bytes that reach no further than a place leave all the rest as it was
 pub goes_further : {W : Type 0} (kind : Ghosts W) (near far : ℕ)

@@ -4,7 +4,7 @@ pub use Rattle.hound_writer.specs.Appending.{AnswersAppend, AppendAnswer, Append
 unfoldable pub use Rattle.hound_writer.specs.Appending.{head_fault}
 pub use Rattle.hound_writer.specs.Batch.{IsSameFile, WritesToBatch, batch_bytes, batch_lender, batch_writer, remaining}
 pub use Rattle.hound_writer.specs.Beginning.{Begins, BeginsFile, HasBegun, IsNotBegun, PutsHeader}
-pub use Rattle.hound_writer.specs.Parts.{CountsAtMost, GoesAtEach, GoesOut, GoesToFile, HasSize, IsConsistent, IsLimit, IsPatched, IsPublishResult, Patches, PatchesAtEach, PutsAt, StaysAround, after_out, all_out, memory_bytes, of_fields, or_fault}
+pub use Rattle.hound_writer.specs.Parts.{CountsAtMost, GoesAtEach, GoesOut, GoesToFile, HasSize, IsConsistent, IsLimit, IsPatched, IsPublishResult, Patches, PatchesAtEach, PutsAt, StaysAround, after_out, all_out, as_error, memory_bytes, of_fields}
 pub use Rattle.hound_writer.specs.Calls.{AreKnown, Asked, Begun, Call, Does, Ends, Extends, HadData, HasSameCalls, IsKnown, IsSeen, Known, Lead, LeftBy, Opens, RecordedBy, Seen, appended, asked_by_all, found_in, handed_in, made, mark_seen, marked, new_file, publish, result_seen, returned, start_of, unseen, with_memory, write}
 unfoldable pub use Rattle.hound_writer.specs.Calls.{Left, Recorded}
 pub use Rattle.hound_writer.specs.Writer.{AreFrames, ChangesSizesOnly, Counts, Ghosts, HasHeader, HasRoom, HasSameSamples, IsBegun, IsCounted, IsPadded, IsSixteen, IsSound, IsValid, IsWhole, ReadsFirst, SameButSizes, WriterState, accepted_bytes, accepted_samples, block_length, data_end, data_length, field, padded_end, sample_count}

@@ -74,10 +74,10 @@ abbrev pub all_out : Bool → Result (Unit {0}) (Unit {0})
 all_out true = Ok tt
 all_out false = Err tt
 
--- the result of a call that was done, or else saved this fault of the medium
-abbrev pub or_fault : Bool → IoFault → Result (Unit {0}) Error
-or_fault true fault = Ok tt
-or_fault false fault = Err (IoError fault)
+-- the result of a call of the medium, as callers get it
+abbrev pub as_error : Result (Unit {0}) IoFault → Result (Unit {0}) Error
+as_error (Ok done) = Ok done
+as_error (Err fault) = Err (IoError fault)
 
 -- a writer over this medium once the buffered samples are written, or else as it was
 abbrev pub after_out : {W : Type 0} → Bool → W → WriterState W → WriterState W

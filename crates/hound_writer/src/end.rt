@@ -1,5 +1,5 @@
 // What is written at the end of the written data: bytes, or the containers of samples.
-ghost use Rattle.std.specs.Prelude.{◌≡◌, ◌≤◌, false, true, not, IsOk};
+ghost use Rattle.std.specs.Prelude.{◌≡◌, ◌≤◌, false, not, IsOk, is_ok};
 ghost use Rattle.hound_medium.specs.{PutsAll, WhereTells};
 ghost use Rattle.hound_sample.specs.{all_containers, joined_containers};
 ghost use Rattle.hound_writer.specs.{all_out, PutsAt, containers_in, sample_bytes};
@@ -11,35 +11,22 @@ use hound_sample::Sample;
 use hound_spec::WavSpecEx;
 use std::io;
 
-/// Writes bytes at the end of the written data, where the medium may be already. A fault is
-/// saved, and the medium may have moved then.
+/// Writes bytes at the end of the written data, where the medium may be already. It may have moved at
+/// an error.
 pub(crate) fn put_at_end<M: Medium>(
     medium: &mut M,
     may_have_moved: &mut bool,
-    fault: &mut io::Error,
     end: u64,
     bytes: &[u8],
-) -> bool
+) -> io::Result<()>
     requires { WhereTells M.tells (may_have_moved.old ≡ false → (M.state medium.old).place ≡ end) }
-    ensures puts { WhereTells M.tells (PutsAt M.keeps end bytes.now (all_out result)
+    ensures puts { WhereTells M.tells (PutsAt M.keeps end bytes.now (all_out (is_ok result))
         (M.state medium.old) (M.state medium.new)) }
-    ensures moved { may_have_moved.new ≡ not result }
+    ensures moved { may_have_moved.new ≡ not (is_ok result) }
 {
-    if let Err(error) = go_and_put(medium, *may_have_moved, end, bytes) {
-        return save_fault(error, may_have_moved, fault);
-    }
-    *may_have_moved = false;
-    true
-}
-
-// Saves the fault of a write, after which the medium may have moved; false, since not all is written.
-fn save_fault(error: io::Error, may_have_moved: &mut bool, fault: &mut io::Error) -> bool
-    ensures moved { may_have_moved.new ≡ true }
-    ensures not_all { result ≡ false }
-{
-    *may_have_moved = true;
-    *fault = error;
-    false
+    let result = go_and_put(medium, *may_have_moved, end, bytes);
+    *may_have_moved = result.is_err();
+    result
 }
 
 // Writes bytes at a place, where the medium may be already.
@@ -91,27 +78,23 @@ fn put_samples<M: Medium, S: Sample + Copy>(
 pub(crate) fn put_samples_at_end<M: Medium, S: Sample + Copy>(
     medium: &mut M,
     may_have_moved: &mut bool,
-    fault: &mut io::Error,
     end: u64,
     block: &mut Block,
     samples: &[S],
     spec_ex: WavSpecEx,
-) -> bool
+) -> io::Result<()>
     requires have { IsOk (containers_in S.container spec_ex samples.now) }
     requires some { 1 ≤ spec_ex.bytes_per_sample }
     requires width { spec_ex.bytes_per_sample ≤ 4 }
     requires in_place { WhereTells M.tells (may_have_moved.old ≡ false → (M.state medium.old).place ≡ end) }
     ensures puts { WhereTells M.tells
-        (PutsAt M.keeps end (sample_bytes S.container spec_ex samples.now) (all_out result)
+        (PutsAt M.keeps end (sample_bytes S.container spec_ex samples.now) (all_out (is_ok result))
         (M.state medium.old) (M.state medium.new)) }
-    ensures moved { may_have_moved.new ≡ not result }
+    ensures moved { may_have_moved.new ≡ not (is_ok result) }
 {
-    if !put_at_end(medium, may_have_moved, fault, end, &[]) {
-        return false;
-    }
+    put_at_end(medium, may_have_moved, end, &[])?;
     let bits = spec_ex.spec.bits_per_sample;
-    if let Err(error) = put_samples(medium, block, samples, bits, spec_ex.bytes_per_sample) {
-        return save_fault(error, may_have_moved, fault);
-    }
-    true
+    let result = put_samples(medium, block, samples, bits, spec_ex.bytes_per_sample);
+    *may_have_moved = result.is_err();
+    result
 }

@@ -80,12 +80,12 @@ fn publish_result(patched: io::Result<()>, are_frames: bool) -> Result<()>
 }
 
 impl<W: Medium> Output<W> {
-    ghost use Rattle.std.specs.Prelude.{◌≡◌, ◌+◌, ◌*◌, ◌-◌, ◌/◌, ◌%◌, ◌≤◌, ◌^◌, ◌↔◌, [], IsTrue, IsOk, Ok, OnOk, length, take};
+    ghost use Rattle.std.specs.Prelude.{◌≡◌, ◌+◌, ◌*◌, ◌-◌, ◌/◌, ◌%◌, ◌≤◌, ◌^◌, ◌↔◌, [], IsTrue, IsOk, Ok, is_ok, OnOk, length, take};
     ghost use Rattle.hound_spec.specs.{riff_size};
     ghost use Rattle.hound_medium.specs.{WhereTells, WhereKeeps};
     ghost use Rattle.hound_sample.specs.{answer_of};
     ghost use Rattle.hound_writer.specs.Accepting.{Accepts, AcceptsBytes, container_in, containers_in, sample_bytes};
-    ghost use Rattle.hound_writer.specs.Parts.{GoesOut, or_fault, of_fields, CountsAtMost, Patches, PatchesAtEach};
+    ghost use Rattle.hound_writer.specs.Parts.{GoesOut, as_error, of_fields, CountsAtMost, Patches, PatchesAtEach};
     ghost use Rattle.hound_writer.specs.Publishing.{PublishesTo, place_after};
     ghost use Rattle.hound_writer.specs.Writer.{AreFrames, HasRoom, block_length, IsPadded, IsSound, IsValid, data_end, data_length, padded_end, sample_count};
 
@@ -132,46 +132,38 @@ impl<W: Medium> Output<W> {
         self.data_bytes_written + self.block.len() as u32
     }
 
-    // Writes the buffered samples, and saves a fault: then all of them stay buffered.
+    // Writes the buffered samples; at an error all of them stay buffered.
     #[inline(never)]
-    fn put_block(&mut self, fault: &mut io::Error) -> bool
-        ensures { GoesOut W.Placed (data_end self.old) result self.old self.new }
+    fn put_block(&mut self) -> io::Result<()>
+        ensures { GoesOut W.Placed (data_end self.old) (is_ok result) self.old self.new }
     {
         if self.block.len() == 0 {
-            return true;
+            return Ok(());
         }
         let end = self.data_start + self.data_bytes_written as u64;
         let bytes = self.block.as_slice();
-        if !put_at_end(
-            &mut self.writer,
-            &mut self.may_have_moved,
-            fault,
-            end,
-            bytes,
-        ) {
-            return false;
-        }
+        put_at_end(&mut self.writer, &mut self.may_have_moved, end, bytes)?;
         self.data_bytes_written += self.block.len() as u32;
         self.block.clear();
         self.fast_path_limit = fast_path_limit_of(self.data_start, self.data_bytes_written);
-        true
+        Ok(())
     }
 
-    // Writes the pad byte after data of an odd length, once nothing is buffered, and saves a fault.
-    // The medium is then elsewhere than where the next sample goes.
-    fn put_pad(&mut self, fault: &mut io::Error) -> bool
+    // Writes the pad byte after data of an odd length, once nothing is buffered. The medium is then
+    // elsewhere than where the next sample goes.
+    fn put_pad(&mut self) -> io::Result<()>
         requires { self.old.buffered ≡ [] }
-        ensures goes { GoesOut W.Placed (padded_end self.old) result self.old self.new }
-        ensures padded { WhereTells W.tells (IsTrue result
-            → IsPadded self.new (W.state self.new.medium).contents) }
+        ensures goes { GoesOut W.Placed (padded_end self.old) (is_ok result) self.old self.new }
+        ensures padded { WhereTells W.tells (OnOk result
+            (IsPadded self.new (W.state self.new.medium).contents)) }
     {
         if self.data_bytes_written % 2 == 0 {
-            return true;
+            return Ok(());
         }
         let end = self.data_start + self.data_bytes_written as u64;
-        let is_put = put_at_end(&mut self.writer, &mut self.may_have_moved, fault, end, &[0]);
+        let result = put_at_end(&mut self.writer, &mut self.may_have_moved, end, &[0]);
         self.may_have_moved = true;
-        is_put
+        result
     }
 
     // Accepts whole containers that the block has room for.
@@ -204,11 +196,16 @@ impl<W: Medium> Output<W> {
             self.accept_in_block(&container[..width]);
             return Ok(());
         }
-        if !self.put_block(fault) {
-            return Err(SampleError::Failed);
+        match self.put_block() {
+            Ok(()) => {
+                self.accept_in_block(&container[..width]);
+                Ok(())
+            }
+            Err(error) => {
+                *fault = error;
+                Err(SampleError::Failed)
+            }
         }
-        self.accept_in_block(&container[..width]);
-        Ok(())
     }
 
     /// Accepts a sample, or returns why it doesn't, and saves a fault.
@@ -251,59 +248,50 @@ impl<W: Medium> Output<W> {
 
     // Writes samples, each of which has a container, with nothing buffered before them, and then
     // accepts them.
-    fn accept_samples_at_once<S: Sample + Copy>(
-        &mut self,
-        samples: &[S],
-        fault: &mut io::Error,
-    ) -> bool
+    fn accept_samples_at_once<S: Sample + Copy>(&mut self, samples: &[S]) -> io::Result<()>
         requires have { IsOk (containers_in S.container self.old.spec_ex samples.now) }
         requires room { HasRoom self.old
             (self.old.spec_ex.bytes_per_sample * length samples.now) }
         requires none_buffered { self.old.buffered ≡ [] }
         ensures { AcceptsBytes W.Placed
-            (sample_bytes S.container self.old.spec_ex samples.now) (or_fault result fault.new) self.old self.new }
+            (sample_bytes S.container self.old.spec_ex samples.now) (as_error result) self.old self.new }
     {
         let end = self.data_start + self.data_bytes_written as u64;
-        if !put_samples_at_end(
+        let result = put_samples_at_end(
             &mut self.writer,
             &mut self.may_have_moved,
-            fault,
             end,
             &mut self.block,
             samples,
             self.spec_ex,
-        ) {
-            self.block.clear();
-            return false;
-        }
+        );
         self.block.clear();
+        result?;
         self.data_bytes_written += samples.len() as u32 * self.spec_ex.bytes_per_sample as u32;
         self.fast_path_limit = fast_path_limit_of(self.data_start, self.data_bytes_written);
-        true
+        Ok(())
     }
 
     // Accepts samples, each of which has a container: in the block, which is written first if it
-    // has no room for them. A fault is saved, and none of them is accepted.
-    fn accept_encoded<S: Sample + Copy>(&mut self, samples: &[S], fault: &mut io::Error) -> bool
+    // has no room for them. At an error none of them is accepted.
+    fn accept_encoded<S: Sample + Copy>(&mut self, samples: &[S]) -> io::Result<()>
         requires have { IsOk (containers_in S.container self.old.spec_ex samples.now) }
         requires room { HasRoom self.old
             (self.old.spec_ex.bytes_per_sample * length samples.now) }
         ensures { AcceptsBytes W.Placed
-            (sample_bytes S.container self.old.spec_ex samples.now) (or_fault result fault.new) self.old self.new }
+            (sample_bytes S.container self.old.spec_ex samples.now) (as_error result) self.old self.new }
     {
         let num_bytes = samples.len() * self.spec_ex.bytes_per_sample as usize;
         if num_bytes <= BLOCK_LENGTH - self.block.len() {
             self.accept_samples_in_block(samples);
-            return true;
+            return Ok(());
         }
-        if !self.put_block(fault) {
-            return false;
-        }
+        self.put_block()?;
         if num_bytes > BLOCK_LENGTH {
-            return self.accept_samples_at_once(samples, fault);
+            return self.accept_samples_at_once(samples);
         }
         self.accept_samples_in_block(samples);
-        true
+        Ok(())
     }
 
     /// Accepts all samples or none, or returns why it doesn't, and saves a fault.
@@ -333,10 +321,13 @@ impl<W: Medium> Output<W> {
         if !self.has_room(samples.len() as u64 * width as u64) {
             return Err(SampleError::TooLong);
         }
-        if !self.accept_encoded(samples, fault) {
-            return Err(SampleError::Failed);
+        match self.accept_encoded(samples) {
+            Ok(()) => Ok(()),
+            Err(error) => {
+                *fault = error;
+                Err(SampleError::Failed)
+            }
         }
-        Ok(())
     }
 
     // Whether the accepted samples are whole frames.
@@ -384,15 +375,11 @@ impl<W: Medium> Output<W> {
 
     /// Publishes all accepted samples. The medium is then at their end if the writer continues, or
     /// else where the data begin.
-    pub(crate) fn publish_all(&mut self, continues: bool, fault: &mut io::Error) -> Result<()>
+    pub(crate) fn publish_all(&mut self, continues: bool) -> Result<()>
         ensures { PublishesTo W.Placed (place_after continues self.new) result self.old self.new }
     {
-        if !self.put_block(fault) {
-            return Err(Error::IoError(*fault));
-        }
-        if !self.put_pad(fault) {
-            return Err(Error::IoError(*fault));
-        }
+        self.put_block()?;
+        self.put_pad()?;
         let published = self.publish(continues);
         publish_result(published, self.are_frames())
     }

@@ -209,7 +209,7 @@ impl<W: Medium> WavWriter<W> {
         ensures marked { Extends W.Placed (λ _. marked publish (mark_of result)) self.old self.new }
         ensures returned { Extends W.Placed (λ _. returned publish result) self.old self.new }
     {
-        self.output.publish_all(true, &mut self.fault)
+        self.output.publish_all(true)
     }
 
     /// Publishes the accepted samples and closes the file. After a [`WavWriter::flush`] with
@@ -248,9 +248,9 @@ impl<W: Medium> WavWriter<W> {
     {
         let WavWriter {
             mut output,
-            mut fault,
+            fault: _,
         } = self;
-        let result = output.publish_all(false, &mut fault);
+        let result = output.publish_all(false);
         (output.into_medium(), result)
     }
 

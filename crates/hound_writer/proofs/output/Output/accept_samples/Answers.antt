@@ -40,22 +40,22 @@ returns-then-not-has_room g c =
     (sym c.have_containers.ensures ∙ c.if-not-have_containers.false)
     (λ room. false≢true (sym c.if-not-has_room.true ∙ fits.1 room)))
 
-pub returns-then-not-accept_encoded :
-    goal.returns-then-not-accept_encoded
-returns-then-not-accept_encoded g c =
+pub returns-in-Err :
+    goal.returns-in-Err
+returns-in-Err g c =
     let W = g.W.Placed in
     rw (← c.self.view_is)
-    (many_asked g.S.Sample.container g.met.S.Sample.in_width c.args.samples.now W _ _ _ c.self.invariant (Err (IoError c.accept_encoded.new.fault)) _
+    (many_asked g.S.Sample.container g.met.S.Sample.in_width c.args.samples.now W _ _ _ c.self.invariant (Err (IoError c.in-Err.error)) _
     (sym c.have_containers.ensures ∙ c.if-not-have_containers.false)
-    (rw (← c.self.view_is) at c.if-not-accept_encoded.ensures))
+    (rw (← c.self.view_is) at c.in-Err.ensures))
 
-pub returns : goal.returns
-returns g c =
+pub returns-in-Ok : goal.returns-in-Ok
+returns-in-Ok g c =
     let W = g.W.Placed in
     rw (← c.self.view_is)
     (many_asked g.S.Sample.container g.met.S.Sample.in_width c.args.samples.now W _ _ _ c.self.invariant (Ok tt) _
     (sym c.have_containers.ensures ∙ c.if-not-have_containers.false)
-    (rw (← c.self.view_is) at c.if-not-accept_encoded.ensures))
+    (rw (← c.self.view_is) at c.in-Ok.ensures))
 
 pub has_room-requires : goal.has_room-requires
 has_room-requires g c = grind (arith, common_steps)

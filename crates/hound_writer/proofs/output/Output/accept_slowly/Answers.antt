@@ -19,20 +19,20 @@ returns-then-not-has_room g c =
     absurd (false≢true (sym c.if-not-has_room.true
     ∙ c.has_room.ensures.room.1 (omega (arith, room, size, same)))))
 
-pub returns-then-not-put_block : goal.returns-then-not-put_block
-returns-then-not-put_block g c =
+pub returns-in-Err : goal.returns-in-Err
+returns-in-Err g c =
     let W = g.W.Placed in
     let w = c.args.self.now in
     let bytes = take w.spec_ex.bytes_per_sample c.args.container in
     let size : length bytes ≡ w.spec_ex.bytes_per_sample = search rules in
     let room = c.has_room.ensures.room.0 c.if-not-has_room.false in
-    accepts_cut W _ w _ bytes c.put_block.new.fault c.if-not-put_block.ensures
+    accepts_cut W _ w _ bytes c.in-Err.error c.in-Err.ensures
     (search (rules, room, size)) (one_whole _ _ size)
 
-pub returns : goal.returns
-returns g c =
+pub returns-in-Ok : goal.returns-in-Ok
+returns-in-Ok g c =
     let W = g.W.Placed in
-    let out = rw (← c.self.view_is) at c.if-not-put_block.ensures in
+    let out = rw (← c.self.view_is) at c.in-Ok.ensures in
     rw (← c.self.view_is)
     (accepts_later W _ _ _ _ (Ok tt) out tt
-    (rw out.value at c.accept_in_block-2.ensures))
+    (rw out.value at c.accept_in_block-in-Ok.ensures))
