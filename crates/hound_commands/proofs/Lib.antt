@@ -1,4 +1,3 @@
 pub mod Outputs
 pub mod PackAnswers
 pub mod ShowAnswers
-pub mod ShownAgain

@@ -4,9 +4,7 @@
 
 mod commands;
 mod failure;
-mod laws;
 mod packing;
 mod showing;
 
 pub use commands::{run, run_append};
-pub use laws::a_shown_file_is_packed_again;

@@ -4,8 +4,6 @@ ghost use Rattle.hound_commands.specs.Showing.{sample_lines, spec_line};
 ghost use Rattle.hound_text.specs.{words, integer_line, pattern_line};
 
 use hound::{SampleFormat, WavSpec, WavSpecEx};
-use hound_commands::a_shown_file_is_packed_again;
-use hound_text::lines_say_their_numbers;
 
 const MONO: WavSpec = WavSpec {
     channels: 1,
@@ -55,6 +53,4 @@ fn definitions_give_the_lines(_rt: HostRuntime) {
     the_lines_of_numbers();
     the_words_of_texts();
     the_lines_of_files();
-    lines_say_their_numbers();
-    a_shown_file_is_packed_again();
 }

@@ -2,12 +2,10 @@
 //! for its output.
 #![tactic(auto)]
 
-mod laws;
 mod lines;
 mod numbers;
 mod output;
 
-pub use laws::lines_say_their_numbers;
 pub use lines::Lines;
 pub use numbers::{Rejection, digits, read_numbers};
 pub use output::write_text;

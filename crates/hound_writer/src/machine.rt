@@ -33,14 +33,10 @@ impl Recorder {
         let mut saved = *self;
         saved.number = 0;
         saved.condition = 0;
-        match saved.place(samples) {
-            Ok(_) => {
-                self.samples = samples as u32;
-                self.task = 2;
-                Ok(())
-            }
-            Err(error) => Err(error),
-        }
+        saved.place(samples)?;
+        self.samples = samples as u32;
+        self.task = 2;
+        Ok(())
     }
 
     /// Asks for a checkpoint of all that is written. What was under way is reported; a checkpoint continues,
@@ -74,10 +70,8 @@ impl Recorder {
         let result = after.next_effect(false);
         *self = after;
         self.task = 0;
-        match result {
-            Ok(_) => Ok(()),
-            Err(error) => Err(error),
-        }
+        result?;
+        Ok(())
     }
 
     // Takes in how ended what was to do.

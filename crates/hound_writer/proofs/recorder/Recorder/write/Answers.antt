@@ -4,6 +4,7 @@ use Rattle.hound_writer.specs.Recorder.{Places}
 use Rattle.hound_writer.specs.declared.recorder.Recorder.{Recorder}
 use Rattle.hound_writer.specs.declared.recorder.RecorderError.{RecorderError}
 use Rattle.hound_writer.specs.declared.recorder.RecorderError.TheVariants.{NotWritable, UnfinishedFrame, TooLong, Truncated, CutOff, HasChunksAfterData, NeedsCheckpoint, SyncFailed}
+use Rattle.hound_writer.proofs.Answers.{is_error}
 use Rattle.hound_writer.proofs.recorder.Recorder.write.Goals as goal
 
 no_room : (samples : ℕ) (end : Recorder) (error : RecorderError) → Places (saved_of end) samples (Err error)
@@ -17,9 +18,9 @@ no_room samples end CutOff is = (refl, is)
 no_room samples end HasChunksAfterData is = (refl, is)
 no_room samples end NeedsCheckpoint is = (refl, is)
 
-pub returns-in-Err : goal.returns-in-Err
-returns-in-Err c = (
+pub returns-in_err-place : goal.returns-in_err-place
+returns-in_err-place c = rw (is_error _ _ c.from_residual.ensures.1) (
   c.give_up.new.self,
   (c.settle.new.self, c.settle.result, c.settle.ensures, c.give_up.ensures),
-  no_room c.args.samples c.give_up.new.self c.in-Err.error c.in-Err.ensures,
+  no_room c.args.samples c.give_up.new.self _ c.in_err-place.ensures,
 )
