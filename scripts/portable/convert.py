@@ -348,9 +348,14 @@ def exported(module, name, declaration):
     return "\n".join([f"{returned} {name}({parameters}) {{", *stack, last, "}", ""])
 
 
+def in_one_line(declaration):
+    return re.sub(r"\n +", " ", declaration[0])
+
+
 def converted(wasm, header):
     """The C file of a module that exports the functions of hound.h."""
     module = Module(wasm)
+    header = re.sub(r"(?m)^(int32_t|int64_t|void) hound_\w+\([^;]*;$", in_one_line, header)
     declarations = {found[2]: found[0] for found in re.finditer(r"(?m)^(int32_t|int64_t|void) (hound_\w+)\(.*;$", header)}
     need(set(declarations) == set(module.exports), "the exports are the functions of hound.h")
     take_guards_out(module)

@@ -65,7 +65,11 @@ class Cause(enum.IntEnum):
     OTHER_FORMAT = 3, "the samples are floats and the type is an integer, or vice versa"
     TOO_WIDE = 4, "the samples are wider than the type, or a value than its bits"
     NOT_WRITABLE = 5, "samples of this spec are not read or written (integers have 8, 16, 24 or 32 bits, floats 32)"
-    TRUNCATED = 6, "the header counts a sample that the file does not hold (a recording that was cut off can be repaired, a stream of unknown length can be read to its end)"
+    TRUNCATED = (
+        6,
+        "the header counts a sample that the file does not hold "
+        "(a recording that was cut off can be repaired, a stream of unknown length can be read to its end)",
+    )
     TOO_LONG = 7, "the sizes of the file would not fit in 32 bits"
     UNFINISHED_FRAME = 8, "the samples are no whole frames"
     NO_ROOM = 9, "more bytes are needed than the capacity"
@@ -84,8 +88,16 @@ class Cause(enum.IntEnum):
     EX_SIZE = 22, "unexpected WAVEFORMATEX size"
     BITS_NOT_32 = 23, "bits per sample is not 32"
     EXTENSIBLE_SIZE = 24, "unexpected WAVEFORMATEXTENSIBLE size"
-    DATA_LENGTH = 25, "data chunk length is not a multiple of sample size (a recording that was cut off can be repaired, a stream of unknown length can be read to its end)"
-    FRAME_LENGTH = 26, "invalid data chunk length (a recording that was cut off can be repaired, a stream of unknown length can be read to its end)"
+    DATA_LENGTH = (
+        25,
+        "data chunk length is not a multiple of sample size "
+        "(a recording that was cut off can be repaired, a stream of unknown length can be read to its end)",
+    )
+    FRAME_LENGTH = (
+        26,
+        "invalid data chunk length "
+        "(a recording that was cut off can be repaired, a stream of unknown length can be read to its end)",
+    )
     NEEDS_CHECKPOINT = 27, "a write failed or a checkpoint is not done, and no samples are written before one is"
     SYNC_FAILED = 28, "a sync failed, and it is unknown what is stored"
     IS_CUT_OFF = 29, "the recording was cut off, and has to be repaired first"

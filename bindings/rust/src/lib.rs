@@ -46,7 +46,9 @@ errors! {
     OtherFormat = -3, "the samples are floats and the type is an integer, or vice versa";
     TooWide = -4, "the samples are wider than the type, or a value than its bits";
     NotWritable = -5, "samples of this spec are not read or written (integers have 8, 16, 24 or 32 bits, floats 32)";
-    Truncated = -6, "the header counts a sample that the file does not hold (a recording that was cut off can be repaired, a stream of unknown length can be read to its end)";
+    Truncated = -6,
+        "the header counts a sample that the file does not hold \
+         (a recording that was cut off can be repaired, a stream of unknown length can be read to its end)";
     TooLong = -7, "the sizes of the file would not fit in 32 bits";
     UnfinishedFrame = -8, "the samples are no whole frames";
     NoRoom = -9, "more bytes are needed than the capacity";
@@ -65,8 +67,12 @@ errors! {
     ExSize = -22, "unexpected WAVEFORMATEX size";
     BitsNot32 = -23, "bits per sample is not 32";
     ExtensibleSize = -24, "unexpected WAVEFORMATEXTENSIBLE size";
-    DataLength = -25, "data chunk length is not a multiple of sample size (a recording that was cut off can be repaired, a stream of unknown length can be read to its end)";
-    FrameLength = -26, "invalid data chunk length (a recording that was cut off can be repaired, a stream of unknown length can be read to its end)";
+    DataLength = -25,
+        "data chunk length is not a multiple of sample size \
+         (a recording that was cut off can be repaired, a stream of unknown length can be read to its end)";
+    FrameLength = -26,
+        "invalid data chunk length \
+         (a recording that was cut off can be repaired, a stream of unknown length can be read to its end)";
     NeedsCheckpoint = -27, "a write failed or a checkpoint is not done, and no samples are written before one is";
     SyncFailed = -28, "a sync failed, and it is unknown what is stored";
     IsCutOff = -29, "the recording was cut off, and has to be repaired first";
