@@ -673,15 +673,15 @@ pub fn find_damage(file: &[u8]) -> Result<Repair> {
     Ok(Repair::from_c(found))
 }
 
-/// How many of so many bytes of a stream's samples are whole frames. `NotWritable` is returned where a frame of the spec has
-/// no byte, and `TooLong` from 2^63 on.
+/// How many of so many bytes of a stream's samples are whole frames. `NotWritable` is returned where a frame of the
+/// spec has no byte, and `TooLong` from 2^63 on.
 pub fn whole_frames(spec: &Spec, length: u64) -> Result<usize> {
     // SAFETY: as above.
     checked(unsafe { c::hound_whole_frames(&spec.to_c(), length) })
 }
 
-/// Where the data may begin in a file whose header is damaged: after the first "data" and a length that follow its first
-/// twelve bytes. `NoDataChunk` is returned where there is none. It is a guess, since samples may look like this.
+/// Where the data may begin in a file whose header is damaged: after the first "data" and a length that follow its
+/// first twelve bytes. `NoDataChunk` is returned where there is none. It is a guess, since samples may look like this.
 pub fn guess_data(file: &[u8]) -> Result<usize> {
     // SAFETY: as above.
     checked(unsafe { c::hound_guess_data(file.as_ptr(), file.len()) })
