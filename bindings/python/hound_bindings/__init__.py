@@ -1,15 +1,15 @@
 """WAV files, read, written, appended to and repaired by proved code.
 
 A file is a path, or an object that reads, writes and seeks as one does, such as an io.BytesIO, from the place on where
-it is; `info`, `read` and `read_into` take bytes, too. Samples are interleaved: `array.array`s, lists, or anything with a
-buffer, such as a numpy array; two dimensions are frames by channels. Integers are read and written as they are. Where
+it is; `info`, `read` and `read_into` take bytes, too. Samples are interleaved: `array.array`s, lists, or anything with
+a buffer, such as a numpy array; two dimensions are frames by channels. Integers are read and written as they are. Where
 floats are read from a file of integers, or written to one, their full scale is 1: they are the integers divided by
-2^(bits - 1). What is written is rounded to the nearest integer and clipped, which a RuntimeWarning counts; `dither` adds
-triangular noise of at most one step before that, and is the seed of its generator (True is 1).
+2^(bits - 1). What is written is rounded to the nearest integer and clipped, which a RuntimeWarning counts; `dither`
+adds triangular noise of at most one step before that, and is the seed of its generator (True is 1).
 
 A file that is recorded to, appended to, repaired or replaced is locked (`flock`; on Windows LockFileEx, until it is
-replaced): what another program, or a Writer of this one, has locked is a BlockingIOError. Programs without such locks may
-not change a file during a call. Of what is `durable` Windows syncs files, but no folders.
+replaced): what another program, or a Writer of this one, has locked is a BlockingIOError. Programs without such locks
+may not change a file during a call. Of what is `durable` Windows syncs files, but no folders.
 """
 import array
 import contextlib
@@ -40,7 +40,9 @@ Path = Union[str, "os.PathLike[str]"]
 File = Union[Path, IO[bytes], bytes, bytearray, memoryview, mmap.mmap]
 # A type of samples: its name, or a type or dtype of numpy.
 Dtype = Union[
-    Literal["int8", "int16", "int32", "float32", "float64", "i1", "i2", "i4", "f4", "f8", "float"], Type[Any], "_OfNumpy"
+    Literal["int8", "int16", "int32", "float32", "float64", "i1", "i2", "i4", "f4", "f8", "float"],
+    Type[Any],
+    "_OfNumpy",
 ]
 
 
@@ -433,7 +435,12 @@ def _check_like(like: Any) -> None:
 
 
 def _spec_of(
-    rate: Optional[int], channels: Optional[int], bits: Optional[int], width: int, is_float: Optional[bool], like: Optional[Info]
+    rate: Optional[int],
+    channels: Optional[int],
+    bits: Optional[int],
+    width: int,
+    is_float: Optional[bool],
+    like: Optional[Info],
 ) -> _Spec:
     """A spec of these numbers, and of those of `like` that aren't given."""
     _check_like(like)
@@ -453,7 +460,12 @@ def _spec_of(
 
 
 def _spec_for(
-    samples: "conversion.Given", rate: Optional[int], channels: Optional[int], bits: Optional[int], width: int, like: Optional[Info]
+    samples: "conversion.Given",
+    rate: Optional[int],
+    channels: Optional[int],
+    bits: Optional[int],
+    width: int,
+    like: Optional[Info],
 ) -> _Spec:
     """The spec of a file of these samples."""
     _check_like(like)
@@ -478,9 +490,9 @@ def to_bytes(
 ) -> bytearray:
     """Makes the bytes of a file, with what `like` says of one where it isn't given.
 
-    Without both, `bits` is the width of the samples, 16 for lists and int64 of integers. Floats are stored as float32 if
-    the file has 32 bits, and not an integer format by `like`; else they are scaled to integers. What doesn't fit is an
-    error.
+    Without both, `bits` is the width of the samples, 16 for lists and int64 of integers. Floats are stored as float32
+    if the file has 32 bits, and not an integer format by `like`; else they are scaled to integers. What doesn't fit is
+    an error.
     """
     with conversion.Given(samples) as given:
         spec = _spec_for(given, rate, channels, bits, bytes_per_sample, like)
@@ -577,12 +589,12 @@ def append(
     """Appends whole frames to a file, and returns its length.
 
     It is an `append_to`, one `write` and a `close`. So the samples are written first, then the sizes: whenever the
-    program is killed, the header counts only what is there, and `repair` finds the samples that were written (where frames
-    have one byte maybe a zero after them). At an error
-    the header counts what it did before, and the file is cut off after that; chunks that were to be overwritten are lost
-    then. If a signal handler raises, it is the same, or all samples are appended. With `durable` the samples survive a loss of power once this has returned; without, when
-    the system has written them. A recording that was cut off is an error, and so are chunks or a tag after the data,
-    unless they may be overwritten.
+    program is killed, the header counts only what is there, and `repair` finds the samples that were written (where
+    frames have one byte maybe a zero after them). At an error the header counts what it did before, and the file is cut
+    off after that; chunks that were to be overwritten are lost then. If a signal handler raises, it is the same, or all
+    samples are appended. With `durable` the samples survive a loss of power once this has returned; without, when the
+    system has written them. A recording that was cut off is an error, and so are chunks or a tag after the data, unless
+    they may be overwritten.
     """
     with conversion.Given(samples) as given, streams._append_to(path, durable, overwrite, dither) as writer:
         writer.write(given)
@@ -670,9 +682,9 @@ def repair(
     counts only what is there, and the file can be repaired again.
 
     With `copy` the file stays as it is, and a copy of this name, which must not be there, is repaired. With `like` the
-    header is taken for lost: a copy, without a name NAME.repaired.wav, has the header of such a file, and all whole frames
-    from byte `skip` on. If it isn't given, they begin after what looks like the header of the data near the beginning, or
-    else at byte `like.data_start`. `guess` makes such an Info.
+    header is taken for lost: a copy, without a name NAME.repaired.wav, has the header of such a file, and all whole
+    frames from byte `skip` on. If it isn't given, they begin after what looks like the header of the data near the
+    beginning, or else at byte `like.data_start`. `guess` makes such an Info.
     """
     if like is not None or copy is not None:
         return _repaired_copy(path, durable, to_end, copy, like, skip)
@@ -697,7 +709,11 @@ def _repaired_copy(
         if like is None:
             shutil.copyfile(path, part)
             return repair(part, durable, to_end)
-        found, start = None, lost.start_of(path, like.data_start) if skip is None else _integer("skip", skip, 0, sys.maxsize)
+        if skip is None:
+            start = lost.start_of(path, like.data_start)
+        else:
+            start = _integer("skip", skip, 0, sys.maxsize)
+        found = None
         for found in lost.recovered(path, part, like, start, durable):
             pass
         return lost.repair_of(found)
