@@ -296,7 +296,8 @@ class Streams(Case):
         self.fails(Cause.FRAME_LENGTH, lambda: hound.open(io.BytesIO(by_hand(bytes(6), channels=2))))
         with self.assertRaises(FileNotFoundError):
             hound.open("none.wav")
-        for other, words in (io.StringIO("RIFF"), "is opened as text"), (b"RIFF", "is of type bytes"), (7, "is of type int"):
+        others = (io.StringIO("RIFF"), "is opened as text"), (b"RIFF", "is of type bytes"), (7, "is of type int")
+        for other, words in others:
             for call in (
                 lambda: hound.open(other),
                 lambda: hound.create(other, 8000, 1, 16),
