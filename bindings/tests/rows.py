@@ -59,13 +59,13 @@ def modelled(data):
     source = model.Fed(data)
     try:
         reader = model.Reader(source)
-    except model.Refused as error:
+    except model.Rejected as error:
         return None, HEAD[str(error)]
     start, samples = source.took, []
     try:
         while (value := reader.next("i32")) is not None:
             samples.append(value)
-    except model.Refused as error:
+    except model.Rejected as error:
         return (reader.spec, start, reader.len, samples), ITEM[str(error)]
     return (reader.spec, start, reader.len, samples), None
 
@@ -128,7 +128,7 @@ def catted_by_model(data, as_floats):
                 out += struct.pack("<f", value / (1 << (bits - 1)))
             else:
                 out += value.to_bytes(2 if kind == "i16" else 4, "little", signed=kind != "f")
-    except model.Refused:
+    except model.Rejected:
         return 1, out
     return 0, out
 
@@ -200,7 +200,7 @@ def repaired_by_model(how, data):
     """What a repair finds and leaves, or the codes that its error may have; then all stays."""
     try:
         damage = model.Damage(data, how == "mend")
-    except model.Refused as error:
+    except model.Rejected as error:
         text = str(error)
         codes = {"Unsupported": {Cause.UNSUPPORTED, Cause.NOT_WRITABLE}, "TooLong": {Cause.TOO_LONG}}
         return codes.get(text) or {HEAD[text]}, data
