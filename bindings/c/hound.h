@@ -152,7 +152,7 @@ enum {
     HOUND_CUT          /* cut the file off at `place`, where it is longer than that */
 };
 
-/* How an effect ended. One of which a part isn't done has failed. */
+/* How an effect ended. One that was done only in part has failed. */
 enum { HOUND_PENDING, HOUND_DONE, HOUND_FAILED };
 
 enum { HOUND_EFFECT_BYTES = 40 };
@@ -166,7 +166,8 @@ typedef struct {
 } hound_effect;
 
 /* A walk to the data of a file that isn't in memory, or comes from a pipe. It begins as HOUND_WALK_BEGIN, and
-   requests one part after the other: no byte twice, none of the data, and of a chunk that it skips the last one. */
+   requests one part after the other: no byte twice, none of the data, and only the last byte of a chunk that it
+   skips. */
 typedef struct {
     hound_effect effect;
     hound_spec spec; /* the rest is for the calls */
@@ -180,13 +181,13 @@ typedef struct {
    stays as it is: with the report HOUND_PENDING that part is requested again. */
 int32_t hound_walk_next(hound_walk *walk, hound_info_t *info) HOUND_NONNULL;
 
-/* The same of a stream that doesn't know its length, as programs write one into a pipe: its header may count any
-   length, and `samples` is 0. The samples are all whole frames that follow. */
+/* The same for a stream whose length its writer didn't know, as for one in a pipe: its header may count any length, and
+   `samples` is 0. The samples are all whole frames that follow. */
 int32_t hound_walk_to_end(hound_walk *walk, hound_info_t *info) HOUND_NONNULL;
 
-/* Returns how many of the first `length` bytes of a stream's samples are whole frames: what is left over at its end is
-   a torn one. HOUND_NOT_WRITABLE means that a frame of the spec has no byte, HOUND_TOO_LONG that the length is 2^63 or
-   more. */
+/* Returns how many bytes the whole frames among the first `length` bytes of a stream's samples have: what is left over
+   at the end of the stream is a torn frame. HOUND_NOT_WRITABLE means that a frame of the spec has no byte,
+   HOUND_TOO_LONG that the length is 2^63 or more. */
 int64_t hound_whole_frames(const hound_spec *spec, uint64_t length) HOUND_NONNULL;
 
 /* Returns where the data may begin in a file whose header is damaged: after the first "data" and a length that follow
@@ -201,7 +202,7 @@ int64_t hound_read_i16(const uint8_t *file, size_t length, uint64_t first, int16
 int64_t hound_read_i32(const uint8_t *file, size_t length, uint64_t first, int32_t *out, size_t count) HOUND_NONNULL;
 int64_t hound_read_f32(const uint8_t *file, size_t length, uint64_t first, float *out, size_t count) HOUND_NONNULL;
 
-/* Returns how many bytes the file of so many samples has. */
+/* Returns the length in bytes of a file of so many samples. */
 int64_t hound_size(const hound_spec *spec, uint64_t samples) HOUND_NONNULL;
 
 /* Writes the header of the file of so many samples to the front of `out`, and returns its length, which
@@ -216,7 +217,8 @@ int64_t hound_sizes(const hound_spec *spec, uint64_t data_start, uint64_t sample
                     size_t capacity) HOUND_NONNULL;
 
 /* Writes the whole file of these samples to the front of `out`, and returns its length. The rest of
-   `out` stays. Each value must fit in the bits of the spec. A file of 0 samples is one to append to. */
+   `out` stays. A value that doesn't fit in the bits of the spec is HOUND_TOO_WIDE. A file of 0 samples can be
+   appended to. */
 int64_t hound_write_i16(const hound_spec *spec, const int16_t *samples, size_t count, uint8_t *out,
                         size_t capacity) HOUND_NONNULL;
 int64_t hound_write_i32(const hound_spec *spec, const int32_t *samples, size_t count, uint8_t *out,
@@ -227,7 +229,7 @@ int64_t hound_write_f32(const hound_spec *spec, const float *samples, size_t cou
 /* Appends whole frames to the file in the first `used` bytes, and returns its new length: it is a
    whole file after each call. What follows the samples that the header counts is overwritten: chunks,
    and also the samples of a recording that was cut off before its header counted them. Where a file
-   may have been cut off, call hound_repair before. */
+   may have been cut off, call hound_repair first. */
 int64_t hound_append_i16(uint8_t *file, size_t capacity, size_t used, const int16_t *samples,
                          size_t count) HOUND_NONNULL;
 int64_t hound_append_i32(uint8_t *file, size_t capacity, size_t used, const int32_t *samples,
@@ -240,13 +242,13 @@ int64_t hound_append_f32(uint8_t *file, size_t capacity, size_t used, const floa
    sizes are right, nothing is written. */
 int64_t hound_repair(uint8_t *file, size_t capacity, size_t used, hound_repair_t *found) HOUND_NONNULL;
 
-/* The same where all that follows the header of the data is samples, also what looks like chunks or a tag: for a
-   recording that was cut off, and that hound_repair takes for one with chunks after the data. It finds
-   HOUND_WHOLE or HOUND_CUT_OFF. */
+/* Repairs a file in which all that follows the header of the data is samples, also what looks like chunks or a tag:
+   a recording that was cut off, and that hound_repair takes for one with chunks after the data. It finds HOUND_WHOLE
+   or HOUND_CUT_OFF. */
 int64_t hound_repair_to_end(uint8_t *file, size_t capacity, size_t used, hound_repair_t *found) HOUND_NONNULL;
 
-/* Looks at a file as hound_repair does, and changes nothing of it. Returns 0, and reports in `found`
-   what hound_repair would, or the error that hound_repair returns, where that isn't HOUND_NO_ROOM. */
+/* Looks at a file as hound_repair does, and changes nothing of it. Returns 0, and reports in `found` what hound_repair
+   would report; or returns the error that hound_repair would, unless that is HOUND_NO_ROOM. */
 int32_t hound_find_damage(const uint8_t *file, size_t length, hound_repair_t *found) HOUND_NONNULL;
 
 /* A repairer of a file that the caller reads and writes. It begins with the length of the file, and looks at few
@@ -296,21 +298,21 @@ int64_t hound_encode_f32(const hound_spec *spec, const float *samples, size_t co
                          size_t capacity) HOUND_NONNULL;
 
 /* The integer of one container, whose bytes are the low ones of a number: its first byte is the lowest.
-   They are for a reader that takes no byte ahead; the other bytes of the number have no effect.
+   They are for a reader that reads no byte ahead; the other bytes of the number have no effect.
    _24 is for containers of three bytes and of four. */
 int32_t hound_value_8(uint32_t container);
 int32_t hound_value_16(uint32_t container);
 int32_t hound_value_24(uint32_t container);
 int32_t hound_value_32(uint32_t container);
 
-/* Integers of so many bits, from 1 to 32, as floats whose full scale is 1: each is divided by
-   2^(bits - 1). Returns how many. So any file of integers is read as floats, after hound_decode_i32 or
-   hound_read_i32; integers of up to 24 bits come back by hound_from_f32 as they were. */
+/* Converts integers of so many bits, from 1 to 32, to floats whose full scale is 1: each is divided by 2^(bits - 1).
+   Returns how many. So any file of integers can be read as floats, by hound_decode_i32 or hound_read_i32 and this;
+   integers of up to 24 bits are the same again after hound_from_f32. */
 int64_t hound_to_f32(const int32_t *samples, size_t count, uint16_t bits, float *out, size_t capacity) HOUND_NONNULL;
 
-/* Floats whose full scale is 1 as integers of so many bits: each is multiplied by 2^(bits - 1) and rounded
-   to the nearest integer, of two the even one. What the bits don't hold is clipped, and `clipped` counts
-   that; a NaN is 0. Returns how many samples there are in all. */
+/* Converts floats whose full scale is 1 to integers of so many bits: each is multiplied by 2^(bits - 1) and rounded to
+   the nearest integer, of two the even one. What the bits don't hold is clipped, and `clipped` counts such samples; a
+   NaN is 0. Returns how many samples there are in all. */
 int64_t hound_from_f32(const float *samples, size_t count, uint16_t bits, int32_t *out, size_t capacity,
                        uint64_t *clipped) HOUND_NONNULL;
 

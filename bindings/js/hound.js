@@ -232,7 +232,7 @@ function fileOf(file) {
 
 const sizeOf = (part) => part.size ?? part.length;
 
-/** A part of a file, as the file is: nothing of it is read. */
+/** A part of a file, of the same kind as the file; nothing of it is read. */
 const partOf = (file, from, to) => file instanceof Blob ? file.slice(from, to) : file.subarray(from, to);
 
 async function bytesOf(file, from, to) {
@@ -253,7 +253,7 @@ function joined(parts, isBlob) {
 }
 
 
-/** A walk, a repairer or a recorder. The memory of the instance has it only during a call. */
+/** A walk, a repairer or a recorder. It is in the memory of the instance only during a call. */
 class Machine {
   constructor(name) {
     this.bytes = new Uint8Array(LAYOUT[name].size);
@@ -302,7 +302,7 @@ async function performAll(machine, name, perform, found) {
   }
 }
 
-/** Reads parts of a file. Of a Blob the last page is kept, for many chunks that are short. */
+/** Returns what reads parts of a file. The last page that was read is kept, for many chunks that are short. */
 function readerOf(file) {
   const size = sizeOf(file);
   let from = 0, page = new Uint8Array(0);
@@ -376,7 +376,7 @@ function encode(type, spec, samples, out) {
  *
  * Without `type` it is the narrowest one from 16 bits on that reads the file. Integers are also read as floats, each
  * divided by 2^(bits - 1). Of a file that holds fewer frames than its header counts these are read, and a read that
- * starts after them is an error. With `toEnd` the file is a stream, whose header needn't know its length.
+ * starts after them is an error. With `toEnd` the file is read as a stream, whose header may count any length.
  */
 export async function read(file, { start = 0, frames = Infinity, type, planar = false, toEnd = false } = {}) {
   const given = fileOf(file), length = sizeOf(given);
@@ -523,7 +523,7 @@ class Overlay {
  * Repairs a file whose recording was cut off, and returns how it was found and the repaired file, in which only the two
  * sizes and a missing pad byte differ. A file that is whole, or that chunks or a tag follow, is returned as it is; with
  * `toEnd` all that follows the header of the data is taken for samples, also what looks like chunks. Where the header
- * is lost all that follows the first `skip` bytes is, and a header like that of another file comes before it.
+ * is lost, all that follows the first `skip` bytes is taken for samples, and a header as `like` says is put before it.
  */
 export async function repair(file, { toEnd = false, like, skip } = {}) {
   const whole = fileOf(file), spec = like && specFor({}, like);
@@ -562,7 +562,7 @@ async function cutAt(handle, place) {
   if ((await handle.stat()).size > place) await handle.truncate(place);
 }
 
-/** Performs an effect on a file of Node. What isn't durable isn't synced: the system has what was written. */
+/** Performs an effect on a file of Node. Without `durable` nothing is synced: the system has what was written. */
 async function performOn(handle, durable, effect, block) {
   switch (effect.kind) {
     case READ: return readAt(handle, effect);
@@ -595,7 +595,7 @@ export async function repairFile(path, { toEnd = false } = {}) {
   }
 }
 
-/** What a file of so many bytes, which is looked at, is appended to by. */
+/** The recorder that appends to a file of so many bytes, and its spec. */
 async function resumed(size, perform, allowed) {
   const { found } = await repairBy(size, FIND_DAMAGE, perform), recorder = new Machine("recorder");
   shared.bytes.set(found, FOUND);
@@ -687,7 +687,7 @@ async function syncFolder({ open, realpath }, path) {
   await folder.sync().finally(() => folder.close());
 }
 
-/** Records a new file at a path, in Node, in the place of one that is there unless that is to be an error. */
+/** Records to a file at a path, in Node. A file that is there is emptied; with `exclusive` it is an error. */
 export async function record(path, format, { durable = false, exclusive = false } = {}) {
   const spec = specFor({}, format ?? {}), recorder = new Machine("recorder");
   const { constants } = await files(), header = headerOf(spec, 0);
@@ -703,7 +703,7 @@ export async function record(path, format, { durable = false, exclusive = false 
   });
 }
 
-/** Records after the frames of a file at a path, in Node. What `append` rejects is an error. */
+/** Continues a recording at a path, in Node, after the frames of the file. What `append` rejects is an error. */
 export async function appendTo(path, { durable = false } = {}) {
   return recorderOf(path, "r+", durable, async (handle, syncName) => {
     if (durable) await handle.sync().then(syncName);
