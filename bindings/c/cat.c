@@ -43,7 +43,8 @@ static int64_t decode(const hound_spec *spec, const uint8_t *bytes, size_t lengt
     if (spec->sample_format == HOUND_FLOAT) return 4 * hound_decode_f32(spec, bytes, length, out.floats, BLOCK);
     if (spec->bits_per_sample <= 16 && !as_floats) return 2 * hound_decode_i16(spec, bytes, length, out.shorts, BLOCK);
     int64_t count = hound_decode_i32(spec, bytes, length, as_floats ? ints : out.ints, BLOCK);
-    return 4 * (count < 0 || !as_floats ? count : hound_to_f32(ints, (size_t)count, spec->bits_per_sample, out.floats, BLOCK));
+    if (count >= 0 && as_floats) count = hound_to_f32(ints, (size_t)count, spec->bits_per_sample, out.floats, BLOCK);
+    return 4 * count;
 }
 
 static int fail(const char *why) {
@@ -60,10 +61,12 @@ static int copy(const hound_info_t *info, int to_end, int as_floats) {
         size_t wanted = least(left, (size_t)hound_whole_frames(spec, BLOCK)), got = take(bytes, wanted);
         int64_t length = decode(spec, bytes, to_end ? (size_t)hound_whole_frames(spec, got) : got, as_floats);
         if (length < 0) return fail("these samples are not read");
-        if (fwrite(&out, 1, (size_t)length, stdout) != (size_t)length || (got < wanted && fflush(stdout))) return fail("writing failed");
+        if (fwrite(&out, 1, (size_t)length, stdout) != (size_t)length || (got < wanted && fflush(stdout)))
+            return fail("writing failed");
         if (got < wanted && ferror(stdin)) return fail("reading failed");
         if (got < wanted && !to_end) return fail(hound_error_text(HOUND_TRUNCATED));
-        if (got < wanted) return hound_whole_frames(spec, got) == (int64_t)got ? 0 : fail("the last bytes are no whole frame");
+        if (got < wanted)
+            return hound_whole_frames(spec, got) == (int64_t)got ? 0 : fail("the last bytes are no whole frame");
         left -= got;
     }
     return fflush(stdout) ? fail("writing failed") : 0;

@@ -86,7 +86,8 @@ enum {
     HOUND_NEEDS_CHECKPOINT = -27, /* a block or a checkpoint of the recorder failed: the next request begins with
                                      a checkpoint */
     HOUND_SYNC_FAILED = -28,      /* a sync failed, after which it is unknown what is stored: the recorder or
-                                     the repairer has ended. A recording has at least the samples of its last checkpoint */
+                                     the repairer has ended. A recording has at least the samples of its last
+                                     checkpoint */
     HOUND_IS_CUT_OFF = -29,       /* the recording was cut off, and the recorder may not mend it */
     HOUND_CHUNKS_FOLLOW = -30,    /* chunks or a tag follow the data, and the recorder may not overwrite them */
     HOUND_NOT_PERFORMED = -31     /* an effect other than a sync was reported as failed */
@@ -108,7 +109,8 @@ typedef struct {
     uint16_t channels;
     uint16_t bits_per_sample;
     uint16_t bytes_per_sample; /* of a container; 0 where a spec is passed: as many as the bits need */
-    uint16_t sample_format;    /* HOUND_INT or HOUND_FLOAT; another number is an error wherever samples are read or written */
+    uint16_t sample_format;    /* HOUND_INT or HOUND_FLOAT; another number is an error wherever samples are read
+                                  or written */
 } hound_spec;
 
 typedef struct {
@@ -150,7 +152,7 @@ enum {
     HOUND_CUT          /* cut the file off at `place`, where it is longer than that */
 };
 
-/* How an effect ended. One of which a part isn't done has failed. */
+/* How an effect ended. One that was done only in part has failed. */
 enum { HOUND_PENDING, HOUND_DONE, HOUND_FAILED };
 
 enum { HOUND_EFFECT_BYTES = 40 };
@@ -164,7 +166,8 @@ typedef struct {
 } hound_effect;
 
 /* A walk to the data of a file that isn't in memory, or comes from a pipe. It begins as HOUND_WALK_BEGIN, and
-   requests one part after the other: no byte twice, none of the data, and of a chunk that it skips the last one. */
+   requests one part after the other: no byte twice, none of the data, and only the last byte of a chunk that it
+   skips. */
 typedef struct {
     hound_effect effect;
     hound_spec spec; /* the rest is for the calls */
@@ -174,20 +177,21 @@ typedef struct {
 #define HOUND_WALK_BEGIN {{0, 0, 0, 0, {0}}, {0, 0, 0, 0, 0}, 0, 0, 0}
 
 /* Returns 1 for the next part; 0 if the data begin after the last one, and then info is as hound_info has it; or
-   the error that hound_info returns. Where a read was reported as failed it returns HOUND_NOT_PERFORMED, and the walk stays
-   as it is: with the report HOUND_PENDING that part is requested again. */
+   the error that hound_info returns. Where a read was reported as failed it returns HOUND_NOT_PERFORMED, and the walk
+   stays as it is: with the report HOUND_PENDING that part is requested again. */
 int32_t hound_walk_next(hound_walk *walk, hound_info_t *info) HOUND_NONNULL;
 
-/* The same of a stream that doesn't know its length, as programs write one into a pipe: its header may count any length,
-   and `samples` is 0. The samples are all whole frames that follow. */
+/* The same for a stream whose length its writer didn't know, as for one in a pipe: its header may count any length, and
+   `samples` is 0. The samples are all whole frames that follow. */
 int32_t hound_walk_to_end(hound_walk *walk, hound_info_t *info) HOUND_NONNULL;
 
-/* Returns how many of the first `length` bytes of a stream's samples are whole frames: what is left over at its end is a
-   torn one. HOUND_NOT_WRITABLE means that a frame of the spec has no byte, HOUND_TOO_LONG that the length is 2^63 or more. */
+/* Returns how many bytes the whole frames among the first `length` bytes of a stream's samples have: what is left over
+   at the end of the stream is a torn frame. HOUND_NOT_WRITABLE means that a frame of the spec has no byte,
+   HOUND_TOO_LONG that the length is 2^63 or more. */
 int64_t hound_whole_frames(const hound_spec *spec, uint64_t length) HOUND_NONNULL;
 
-/* Returns where the data may begin in a file whose header is damaged: after the first "data" and a length that follow its
-   first twelve bytes, or HOUND_NO_DATA_CHUNK. It is a guess, since samples may look like this. */
+/* Returns where the data may begin in a file whose header is damaged: after the first "data" and a length that follow
+   its first twelve bytes, or HOUND_NO_DATA_CHUNK. It is a guess, since samples may look like this. */
 int64_t hound_guess_data(const uint8_t *file, size_t length) HOUND_NONNULL;
 
 /* Reads samples from number `first` on, counted from 0, and returns how many: as many as fit, as the
@@ -198,7 +202,7 @@ int64_t hound_read_i16(const uint8_t *file, size_t length, uint64_t first, int16
 int64_t hound_read_i32(const uint8_t *file, size_t length, uint64_t first, int32_t *out, size_t count) HOUND_NONNULL;
 int64_t hound_read_f32(const uint8_t *file, size_t length, uint64_t first, float *out, size_t count) HOUND_NONNULL;
 
-/* Returns how many bytes the file of so many samples has. */
+/* Returns the length in bytes of a file of so many samples. */
 int64_t hound_size(const hound_spec *spec, uint64_t samples) HOUND_NONNULL;
 
 /* Writes the header of the file of so many samples to the front of `out`, and returns its length, which
@@ -209,20 +213,27 @@ int64_t hound_header(const hound_spec *spec, uint64_t samples, uint8_t *out, siz
 /* Writes the two sizes of the file of so many samples whose data begin at `data_start`: the RIFF size,
    which is at byte 4 of a file, and the data length, which is in the four bytes before the data. Each
    has four bytes. Returns how many bytes that file has, with the pad byte after odd data. */
-int64_t hound_sizes(const hound_spec *spec, uint64_t data_start, uint64_t samples, uint8_t *out, size_t capacity) HOUND_NONNULL;
+int64_t hound_sizes(const hound_spec *spec, uint64_t data_start, uint64_t samples, uint8_t *out,
+                    size_t capacity) HOUND_NONNULL;
 
 /* Writes the whole file of these samples to the front of `out`, and returns its length. The rest of
-   `out` stays. Each value must fit in the bits of the spec. A file of 0 samples is one to append to. */
-int64_t hound_write_i16(const hound_spec *spec, const int16_t *samples, size_t count, uint8_t *out, size_t capacity) HOUND_NONNULL;
-int64_t hound_write_i32(const hound_spec *spec, const int32_t *samples, size_t count, uint8_t *out, size_t capacity) HOUND_NONNULL;
-int64_t hound_write_f32(const hound_spec *spec, const float *samples, size_t count, uint8_t *out, size_t capacity) HOUND_NONNULL;
+   `out` stays. A value that doesn't fit in the bits of the spec is HOUND_TOO_WIDE. A file of 0 samples can be
+   appended to. */
+int64_t hound_write_i16(const hound_spec *spec, const int16_t *samples, size_t count, uint8_t *out,
+                        size_t capacity) HOUND_NONNULL;
+int64_t hound_write_i32(const hound_spec *spec, const int32_t *samples, size_t count, uint8_t *out,
+                        size_t capacity) HOUND_NONNULL;
+int64_t hound_write_f32(const hound_spec *spec, const float *samples, size_t count, uint8_t *out,
+                        size_t capacity) HOUND_NONNULL;
 
 /* Appends whole frames to the file in the first `used` bytes, and returns its new length: it is a
    whole file after each call. What follows the samples that the header counts is overwritten: chunks,
    and also the samples of a recording that was cut off before its header counted them. Where a file
-   may have been cut off, call hound_repair before. */
-int64_t hound_append_i16(uint8_t *file, size_t capacity, size_t used, const int16_t *samples, size_t count) HOUND_NONNULL;
-int64_t hound_append_i32(uint8_t *file, size_t capacity, size_t used, const int32_t *samples, size_t count) HOUND_NONNULL;
+   may have been cut off, call hound_repair first. */
+int64_t hound_append_i16(uint8_t *file, size_t capacity, size_t used, const int16_t *samples,
+                         size_t count) HOUND_NONNULL;
+int64_t hound_append_i32(uint8_t *file, size_t capacity, size_t used, const int32_t *samples,
+                         size_t count) HOUND_NONNULL;
 int64_t hound_append_f32(uint8_t *file, size_t capacity, size_t used, const float *samples, size_t count) HOUND_NONNULL;
 
 /* Repairs the file in the first `used` bytes, and returns its length: where its recording was cut off,
@@ -231,13 +242,13 @@ int64_t hound_append_f32(uint8_t *file, size_t capacity, size_t used, const floa
    sizes are right, nothing is written. */
 int64_t hound_repair(uint8_t *file, size_t capacity, size_t used, hound_repair_t *found) HOUND_NONNULL;
 
-/* The same where all that follows the header of the data is samples, also what looks like chunks or a tag: for a
-   recording that was cut off, and that hound_repair takes for one with chunks after the data. It finds
-   HOUND_WHOLE or HOUND_CUT_OFF. */
+/* Repairs a file in which all that follows the header of the data is samples, also what looks like chunks or a tag:
+   a recording that was cut off, and that hound_repair takes for one with chunks after the data. It finds HOUND_WHOLE
+   or HOUND_CUT_OFF. */
 int64_t hound_repair_to_end(uint8_t *file, size_t capacity, size_t used, hound_repair_t *found) HOUND_NONNULL;
 
-/* Looks at a file as hound_repair does, and changes nothing of it. Returns 0, and reports in `found`
-   what hound_repair would, or the error that hound_repair returns, where that isn't HOUND_NO_ROOM. */
+/* Looks at a file as hound_repair does, and changes nothing of it. Returns 0, and reports in `found` what hound_repair
+   would report; or returns the error that hound_repair would, unless that is HOUND_NO_ROOM. */
 int32_t hound_find_damage(const uint8_t *file, size_t length, hound_repair_t *found) HOUND_NONNULL;
 
 /* A repairer of a file that the caller reads and writes. It begins with the length of the file, and looks at few
@@ -269,32 +280,41 @@ int32_t hound_repairer_next(hound_repairer *repairer, hound_repair_t *found) HOU
    are for streams, and for a file whose header is too long to be walked over for each block.
    Decoding returns how many samples, as many as fit and as the bytes hold; encoding returns how many
    bytes. The rate and the channels of the spec have no effect. */
-int64_t hound_decode_i8(const hound_spec *spec, const uint8_t *bytes, size_t length, int8_t *out, size_t count) HOUND_NONNULL;
-int64_t hound_decode_i16(const hound_spec *spec, const uint8_t *bytes, size_t length, int16_t *out, size_t count) HOUND_NONNULL;
-int64_t hound_decode_i32(const hound_spec *spec, const uint8_t *bytes, size_t length, int32_t *out, size_t count) HOUND_NONNULL;
-int64_t hound_decode_f32(const hound_spec *spec, const uint8_t *bytes, size_t length, float *out, size_t count) HOUND_NONNULL;
-int64_t hound_encode_i8(const hound_spec *spec, const int8_t *samples, size_t count, uint8_t *out, size_t capacity) HOUND_NONNULL;
-int64_t hound_encode_i16(const hound_spec *spec, const int16_t *samples, size_t count, uint8_t *out, size_t capacity) HOUND_NONNULL;
-int64_t hound_encode_i32(const hound_spec *spec, const int32_t *samples, size_t count, uint8_t *out, size_t capacity) HOUND_NONNULL;
-int64_t hound_encode_f32(const hound_spec *spec, const float *samples, size_t count, uint8_t *out, size_t capacity) HOUND_NONNULL;
+int64_t hound_decode_i8(const hound_spec *spec, const uint8_t *bytes, size_t length, int8_t *out,
+                        size_t count) HOUND_NONNULL;
+int64_t hound_decode_i16(const hound_spec *spec, const uint8_t *bytes, size_t length, int16_t *out,
+                         size_t count) HOUND_NONNULL;
+int64_t hound_decode_i32(const hound_spec *spec, const uint8_t *bytes, size_t length, int32_t *out,
+                         size_t count) HOUND_NONNULL;
+int64_t hound_decode_f32(const hound_spec *spec, const uint8_t *bytes, size_t length, float *out,
+                         size_t count) HOUND_NONNULL;
+int64_t hound_encode_i8(const hound_spec *spec, const int8_t *samples, size_t count, uint8_t *out,
+                        size_t capacity) HOUND_NONNULL;
+int64_t hound_encode_i16(const hound_spec *spec, const int16_t *samples, size_t count, uint8_t *out,
+                         size_t capacity) HOUND_NONNULL;
+int64_t hound_encode_i32(const hound_spec *spec, const int32_t *samples, size_t count, uint8_t *out,
+                         size_t capacity) HOUND_NONNULL;
+int64_t hound_encode_f32(const hound_spec *spec, const float *samples, size_t count, uint8_t *out,
+                         size_t capacity) HOUND_NONNULL;
 
 /* The integer of one container, whose bytes are the low ones of a number: its first byte is the lowest.
-   They are for a reader that takes no byte ahead; the other bytes of the number have no effect.
+   They are for a reader that reads no byte ahead; the other bytes of the number have no effect.
    _24 is for containers of three bytes and of four. */
 int32_t hound_value_8(uint32_t container);
 int32_t hound_value_16(uint32_t container);
 int32_t hound_value_24(uint32_t container);
 int32_t hound_value_32(uint32_t container);
 
-/* Integers of so many bits, from 1 to 32, as floats whose full scale is 1: each is divided by
-   2^(bits - 1). Returns how many. So any file of integers is read as floats, after hound_decode_i32 or
-   hound_read_i32; integers of up to 24 bits come back by hound_from_f32 as they were. */
+/* Converts integers of so many bits, from 1 to 32, to floats whose full scale is 1: each is divided by 2^(bits - 1).
+   Returns how many. So any file of integers can be read as floats, by hound_decode_i32 or hound_read_i32 and this;
+   integers of up to 24 bits are the same again after hound_from_f32. */
 int64_t hound_to_f32(const int32_t *samples, size_t count, uint16_t bits, float *out, size_t capacity) HOUND_NONNULL;
 
-/* Floats whose full scale is 1 as integers of so many bits: each is multiplied by 2^(bits - 1) and rounded
-   to the nearest integer, of two the even one. What the bits don't hold is clipped, and `clipped` counts
-   that; a NaN is 0. Returns how many samples there are in all. */
-int64_t hound_from_f32(const float *samples, size_t count, uint16_t bits, int32_t *out, size_t capacity, uint64_t *clipped) HOUND_NONNULL;
+/* Converts floats whose full scale is 1 to integers of so many bits: each is multiplied by 2^(bits - 1) and rounded to
+   the nearest integer, of two the even one. What the bits don't hold is clipped, and `clipped` counts such samples; a
+   NaN is 0. Returns how many samples there are in all. */
+int64_t hound_from_f32(const float *samples, size_t count, uint16_t bits, int32_t *out, size_t capacity,
+                       uint64_t *clipped) HOUND_NONNULL;
 
 /* A recorder of a file that the caller writes, block by block. It says where the samples are written, and by which
    effects a checkpoint makes the header count them. Between checkpoints the header counts those of the last one, and
@@ -346,8 +366,11 @@ static inline const char *hound_error_text(int64_t code) {
     case HOUND_UNSUPPORTED: return "the format is neither PCM nor IEEE float";
     case HOUND_OTHER_FORMAT: return "the samples are floats and the type is an integer, or vice versa";
     case HOUND_TOO_WIDE: return "the samples are wider than the type, or a value than its bits";
-    case HOUND_NOT_WRITABLE: return "samples of this spec are not read or written (integers have 8, 16, 24 or 32 bits, floats 32)";
-    case HOUND_TRUNCATED: return "the header counts a sample that the file does not hold (a recording that was cut off can be repaired, a stream of unknown length can be read to its end)";
+    case HOUND_NOT_WRITABLE:
+        return "samples of this spec are not read or written (integers have 8, 16, 24 or 32 bits, floats 32)";
+    case HOUND_TRUNCATED:
+        return "the header counts a sample that the file does not hold "
+               "(a recording that was cut off can be repaired, a stream of unknown length can be read to its end)";
     case HOUND_TOO_LONG: return "the sizes of the file would not fit in 32 bits";
     case HOUND_UNFINISHED_FRAME: return "the samples are no whole frames";
     case HOUND_NO_ROOM: return "more bytes are needed than the capacity";
@@ -366,9 +389,14 @@ static inline const char *hound_error_text(int64_t code) {
     case HOUND_EX_SIZE: return "unexpected WAVEFORMATEX size";
     case HOUND_BITS_NOT_32: return "bits per sample is not 32";
     case HOUND_EXTENSIBLE_SIZE: return "unexpected WAVEFORMATEXTENSIBLE size";
-    case HOUND_DATA_LENGTH: return "data chunk length is not a multiple of sample size (a recording that was cut off can be repaired, a stream of unknown length can be read to its end)";
-    case HOUND_FRAME_LENGTH: return "invalid data chunk length (a recording that was cut off can be repaired, a stream of unknown length can be read to its end)";
-    case HOUND_NEEDS_CHECKPOINT: return "a write failed or a checkpoint is not done, and no samples are written before one is";
+    case HOUND_DATA_LENGTH:
+        return "data chunk length is not a multiple of sample size "
+               "(a recording that was cut off can be repaired, a stream of unknown length can be read to its end)";
+    case HOUND_FRAME_LENGTH:
+        return "invalid data chunk length "
+               "(a recording that was cut off can be repaired, a stream of unknown length can be read to its end)";
+    case HOUND_NEEDS_CHECKPOINT:
+        return "a write failed or a checkpoint is not done, and no samples are written before one is";
     case HOUND_SYNC_FAILED: return "a sync failed, and it is unknown what is stored";
     case HOUND_IS_CUT_OFF: return "the recording was cut off, and has to be repaired first";
     case HOUND_CHUNKS_FOLLOW: return "chunks or a tag follow the data, and would be overwritten";

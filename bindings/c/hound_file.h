@@ -1,17 +1,20 @@
-/* Recordings and repairs of files at a path, over hound.h: what record.c and repair.c share. The library says what is read
-   and written, and this performs it by the calls of POSIX or of Windows. Nothing of it is proved. All functions are static
-   and inline, so nothing else is linked; include it before the headers of the system.
+/* Recordings and repairs of files at a path, over hound.h: what record.c and repair.c share. The library says what is
+   read and written, and this performs it by the calls of POSIX or of Windows. Nothing of it is proved. All functions
+   are static and inline, so nothing else is linked; include it before the headers of the system.
 
      hound_file file;
      int32_t code = hound_file_create(&file, "take.wav", &spec, 0, 0);
-     while (code == 0 && ..) code = hound_file_write(&file, bytes, hound_encode_i16(&spec, samples, count, bytes, sizeof bytes) / 2);
+     while (code == 0 && ..) {
+         int64_t length = hound_encode_i16(&spec, samples, count, bytes, sizeof bytes);
+         code = length < 0 ? (int32_t)length : hound_file_write(&file, bytes, length / 2);
+     }
      if (code == 0) code = hound_file_checkpoint(&file);
      if (code < 0) puts(hound_file_text(&file, code));
      hound_file_close(&file);
 
-   A call returns 0 or an error of hound.h; hound_file_text has its sentence. Where the system failed the error isn't 0 and
-   `fault` is the errno. A hound_file is for one thread at a time. Windows syncs no folder: a loss of power there may take
-   the name of a new file. There a path is UTF-8, too, may be longer than 260, and takes 128 KB of stack. */
+   A call returns 0 or an error of hound.h; hound_file_text has its sentence. Where the system failed the error isn't 0
+   and `fault` is the errno. A hound_file is for one thread at a time. Windows syncs no folder: a loss of power there
+   may take the name of a new file. There a path is UTF-8, too, may be longer than 260, and takes 128 KB of stack. */
 #ifndef HOUND_FILE_H
 #define HOUND_FILE_H
 #ifndef _GNU_SOURCE
@@ -46,7 +49,8 @@ enum { HOUND_FILE_LETTERS = 32768 }; /* as many as a path has at most */
 static inline const wchar_t *hound_file_wide(const char *path, wchar_t *room) {
     wchar_t given[HOUND_FILE_LETTERS], *full = room + 6;
     DWORD length = 0, most = HOUND_FILE_LETTERS - 6;
-    if (MultiByteToWideChar(CP_UTF8, MB_ERR_INVALID_CHARS, path, -1, given, HOUND_FILE_LETTERS) > 0) length = GetFullPathNameW(given, most, full, NULL);
+    if (MultiByteToWideChar(CP_UTF8, MB_ERR_INVALID_CHARS, path, -1, given, HOUND_FILE_LETTERS) > 0)
+        length = GetFullPathNameW(given, most, full, NULL);
     if (length == 0 || length >= most) return errno = EINVAL, (const wchar_t *)NULL;
     if (length < MAX_PATH || full[2] == L'?' || full[2] == L'.') return full;
     if (full[0] != L'\\') return (const wchar_t *)memcpy(full - 4, L"\\\\?\\", 4 * sizeof *full);
@@ -98,16 +102,19 @@ static inline int hound_file_find(int descriptor, uint64_t *length, int *is_regu
 }
 /* Locks one byte that no file has, since others can't read what is locked. */
 static inline int hound_file_lock(int descriptor) {
+    DWORD how = LOCKFILE_EXCLUSIVE_LOCK | LOCKFILE_FAIL_IMMEDIATELY;
     OVERLAPPED place;
     memset(&place, 0, sizeof place);
     place.OffsetHigh = 1u << 30;
-    if (LockFileEx((HANDLE)_get_osfhandle(descriptor), LOCKFILE_EXCLUSIVE_LOCK | LOCKFILE_FAIL_IMMEDIATELY, 0, 1, 0, &place)) return 0;
+    if (LockFileEx((HANDLE)_get_osfhandle(descriptor), how, 0, 1, 0, &place)) return 0;
     errno = GetLastError() == ERROR_LOCK_VIOLATION ? EWOULDBLOCK : ENOLCK;
     return -1;
 }
 /* Standard input or output has bytes, and not lines. */
 static inline void hound_file_set_binary(int descriptor) { _setmode(descriptor, _O_BINARY); }
-static inline int64_t hound_file_next(int descriptor, void *out, size_t count) { return _read(descriptor, out, (unsigned)count); }
+static inline int64_t hound_file_next(int descriptor, void *out, size_t count) {
+    return _read(descriptor, out, (unsigned)count);
+}
 static inline void hound_file_wait(int descriptor) { (void)descriptor; }
 #else
 #include <poll.h>
@@ -124,7 +131,9 @@ static inline int64_t hound_file_put(int descriptor, const void *bytes, size_t c
 }
 static inline void hound_file_arguments(int *count, char ***arguments) { (void)count, (void)arguments; }
 static inline int hound_file_remove(const char *path) { return remove(path); }
-static inline int hound_file_open_at(const char *path, int flags) { return open(path, flags | O_RDWR | O_CLOEXEC, 0666); }
+static inline int hound_file_open_at(const char *path, int flags) {
+    return open(path, flags | O_RDWR | O_CLOEXEC, 0666);
+}
 static inline int hound_file_close_at(int descriptor) { return close(descriptor); }
 static inline int hound_file_resize(int descriptor, uint64_t length) { return ftruncate(descriptor, (off_t)length); }
 #ifdef F_FULLFSYNC /* by which alone macOS stores what was written */
@@ -189,7 +198,8 @@ static inline size_t hound_file_piece(size_t count) { return count < (1u << 30) 
 static inline int64_t hound_file_read_at(int descriptor, uint8_t *out, size_t count, uint64_t place) {
     size_t done = 0;
     for (;;) {
-        int64_t more = done < count ? hound_file_get(descriptor, out + done, hound_file_piece(count - done), place + done) : 0;
+        int64_t more =
+            done < count ? hound_file_get(descriptor, out + done, hound_file_piece(count - done), place + done) : 0;
         if (more > 0) done += (size_t)more;
         else if (more == 0) return (int64_t)done;
         else if (errno != EINTR) return -1;
@@ -221,9 +231,16 @@ static inline int hound_file_perform(hound_file *file, hound_effect *effect, con
     int64_t count = effect->length;
     int is_done = 0;
     switch (effect->kind) {
-    case HOUND_READ: is_done = (count = hound_file_read_at(file->descriptor, effect->bytes, effect->length, effect->place)) >= 0; break;
-    case HOUND_WRITE: is_done = hound_file_write_at(file->descriptor, effect->bytes, effect->length, effect->place) == 0; break;
-    case HOUND_WRITE_BLOCK: is_done = hound_file_write_at(file->descriptor, block, effect->length, effect->place) == 0; break;
+    case HOUND_READ:
+        count = hound_file_read_at(file->descriptor, effect->bytes, effect->length, effect->place);
+        is_done = count >= 0;
+        break;
+    case HOUND_WRITE:
+        is_done = hound_file_write_at(file->descriptor, effect->bytes, effect->length, effect->place) == 0;
+        break;
+    case HOUND_WRITE_BLOCK:
+        is_done = hound_file_write_at(file->descriptor, block, effect->length, effect->place) == 0;
+        break;
     case HOUND_SYNC: is_done = !file->is_durable || hound_file_sync(file->descriptor) == 0; break;
     case HOUND_CUT: is_done = hound_file_cut(file->descriptor, effect->place) == 0; break;
     }
@@ -238,7 +255,8 @@ static inline int32_t hound_file_finish(hound_file *file, const uint8_t *block) 
     int32_t code;
     file->fault = 0;
     while ((code = hound_recorder_next(&file->recorder)) == 1) {
-        int is_cut = file->recorder.effect.kind == HOUND_CUT, is_done = hound_file_perform(file, &file->recorder.effect, block);
+        int is_cut = file->recorder.effect.kind == HOUND_CUT,
+            is_done = hound_file_perform(file, &file->recorder.effect, block);
         if (is_cut) file->has_rest = !is_done;
     }
     return code;
@@ -271,12 +289,14 @@ static inline int32_t hound_file_open(hound_file *file, const char *path, int fl
     if (file->descriptor < 0 || hound_file_find(file->descriptor, length, &is_regular) < 0) file->fault = errno;
     else if (!is_regular) file->fault = ESPIPE;
     else if (hound_file_lock(file->descriptor) < 0 && errno == EWOULDBLOCK) file->fault = EWOULDBLOCK;
-    else if (is_durable && (hound_file_sync(file->descriptor) < 0 || hound_file_sync_folder(path) < 0)) file->fault = errno;
+    else if (is_durable && (hound_file_sync(file->descriptor) < 0 || hound_file_sync_folder(path) < 0))
+        file->fault = errno;
     return file->fault ? hound_file_give_up(file, path, is_made, HOUND_NOT_PERFORMED) : 0;
 }
 
 /* Begins a recording in a new file; one that exists is an error (EEXIST), or is emptied. */
-static inline int32_t hound_file_create(hound_file *file, const char *path, const hound_spec *spec, int is_durable, int is_emptied) {
+static inline int32_t hound_file_create(hound_file *file, const char *path, const hound_spec *spec, int is_durable,
+                                        int is_emptied) {
     uint8_t header[HOUND_HEADER_BYTES];
     uint64_t held;
     int64_t length = hound_header(spec, 0, header, sizeof header);
@@ -284,13 +304,16 @@ static inline int32_t hound_file_create(hound_file *file, const char *path, cons
     file->descriptor = -1, file->fault = 0, file->counted = 0;
     if (code == 0) code = hound_file_open(file, path, is_emptied ? O_CREAT : O_CREAT | O_EXCL, is_durable, &held);
     if (code < 0) return code;
-    if (hound_file_cut(file->descriptor, 0) == 0 && hound_file_write_at(file->descriptor, header, (size_t)length, 0) == 0) return 0;
+    if (hound_file_cut(file->descriptor, 0) == 0
+        && hound_file_write_at(file->descriptor, header, (size_t)length, 0) == 0)
+        return 0;
     file->fault = errno;
     return hound_file_give_up(file, path, !is_emptied, HOUND_NOT_PERFORMED);
 }
 
 /* Continues the recording in a file, as hound_recorder_resume does with what is allowed: nothing of it changes yet. */
-static inline int32_t hound_file_append(hound_file *file, const char *path, uint32_t allowed, int is_durable, hound_repair_t *found) {
+static inline int32_t hound_file_append(hound_file *file, const char *path, uint32_t allowed, int is_durable,
+                                        hound_repair_t *found) {
     uint64_t length = 0;
     int32_t code = hound_file_open(file, path, 0, is_durable, &length);
     if (code < 0) return code;
@@ -309,8 +332,8 @@ static inline int32_t hound_file_checkpoint(hound_file *file) {
     return code;
 }
 
-/* Writes a block of so many samples after the others, as hound_encode_.. gives them. Where that fails they are lost, and
-   the recording can go on, unless the error is HOUND_TOO_LONG or HOUND_SYNC_FAILED. */
+/* Writes a block of so many samples after the others, as hound_encode_.. gives them. Where that fails they are lost,
+   and the recording can go on, unless the error is HOUND_TOO_LONG or HOUND_SYNC_FAILED. */
 static inline int32_t hound_file_write(hound_file *file, const uint8_t *bytes, uint64_t samples) {
     int32_t code = hound_recorder_write(&file->recorder, samples);
     file->fault = 0;
@@ -335,7 +358,8 @@ static inline int32_t hound_file_repair(hound_file *file, const char *path, uint
     return hound_file_give_up(file, path, 0, code);
 }
 
-/* Reads so many bytes of standard input, a pipe or a terminal. Where these are fewer `fault` is 0 at the end, and else the errno. */
+/* Reads so many bytes of standard input, a pipe or a terminal. Where these are fewer `fault` is 0 at the end, and else
+   the errno. */
 static inline size_t hound_file_take(int descriptor, uint8_t *out, size_t count, int *fault) {
     size_t done = 0;
     *fault = 0;
@@ -343,7 +367,8 @@ static inline size_t hound_file_take(int descriptor, uint8_t *out, size_t count,
         int64_t more = hound_file_next(descriptor, out + done, hound_file_piece(count - done));
         if (more == 0) break;
         if (more > 0) done += (size_t)more;
-        else if (errno == EAGAIN || errno == EWOULDBLOCK) hound_file_wait(descriptor); /* another program made it non-blocking */
+        else if (errno == EAGAIN || errno == EWOULDBLOCK)
+            hound_file_wait(descriptor); /* another program made it non-blocking */
         else if (errno != EINTR) return *fault = errno, done;
     }
     return done;

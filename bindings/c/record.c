@@ -1,10 +1,11 @@
-/* Records PCM from standard input: little-endian, with 8 bits (unsigned), 16, 24 in three bytes, or 32, as from arecord.
-   After every so many frames a checkpoint makes the header count all samples, and prints how many they are. If the
-   program is killed, the file has those. A file that exists is rejected; --append continues after all that it holds,
-   and --overwrite empties it. No other program that asks for a lock (flock; LockFileEx on Windows), as repair.c does,
-   writes it meanwhile. With --durable a sync is an fsync (_commit): then the file has its checkpoints after a loss of
-   power, too, but Windows may lose the name of a new one. Without it a sync does nothing, since what was written is with
-   the system. After an error the program continues, and prints how many samples were lost; why, it says on standard error.
+/* Records PCM from standard input: little-endian, with 8 bits (unsigned), 16, 24 in three bytes, or 32, as from
+   arecord. After every so many frames a checkpoint makes the header count all samples, and prints how many they are. If
+   the program is killed, the file has those. A file that exists is rejected; --append continues after all that it
+   holds, and --overwrite empties it. No other program that asks for a lock (flock; LockFileEx on Windows), as repair.c
+   does, writes it meanwhile. With --durable a sync is an fsync (_commit): then the file has its checkpoints after a
+   loss of power, too, but Windows may lose the name of a new one. Without it a sync does nothing, since what was
+   written is with the system. After an error the program continues, and prints how many samples were lost; why, it says
+   on standard error.
      cc -Ibindings/c bindings/c/record.c bindings/lib/x86_64-linux/libhound_c.a -o record
      arecord -t raw -f S16_LE -r 48000 -c 2 | ./record take.wav 48000 2 16 240000 --durable */
 #include "hound_file.h"
@@ -47,7 +48,8 @@ int main(int argc, char **argv) {
     }
     uint64_t every = numbers[3], left = every; /* until the next checkpoint */
     if (argc < 6 || every == 0 || (is_appended && is_overwritten)) stop(usage);
-    hound_spec spec = {(uint32_t)numbers[0], (uint16_t)numbers[1], (uint16_t)numbers[2], (uint16_t)((numbers[2] + 7) / 8), HOUND_INT};
+    hound_spec spec = {(uint32_t)numbers[0], (uint16_t)numbers[1], (uint16_t)numbers[2],
+                       (uint16_t)((numbers[2] + 7) / 8), HOUND_INT};
     int32_t code = begin(argv[1], &spec, is_durable, is_appended, is_overwritten);
     if (file.fault == EEXIST) stop("the file exists: --append continues it, --overwrite empties it");
     if (code < 0) stop(hound_file_text(&file, code));
@@ -72,7 +74,8 @@ int main(int argc, char **argv) {
     } while (count == wanted && code != HOUND_TOO_LONG && code != HOUND_SYNC_FAILED);
     if (torn > 0) complain("the input ends within a frame, which isn't recorded");
     if (code == HOUND_TOO_LONG) complain("the file is as long as its header can count");
-    if (said(hound_file_close(&file)) < 0) fprintf(stderr, "record: the header counts only %lu samples: repair the file\n", samples_in(file.counted));
+    if (said(hound_file_close(&file)) < 0)
+        fprintf(stderr, "record: the header counts only %lu samples: repair the file\n", samples_in(file.counted));
     printf("recorded %lu samples\n", recorded());
     return !is_whole;
 }

@@ -15,8 +15,10 @@ const counted = (n, what) => `${number(n)} ${what}${n === 1 ? "" : "s"}`;
 const STATES = { whole: "whole", cutOff: "cut off", hasChunksAfterData: "chunks or a tag follow the sound" };
 
 function text({ state, frames, leftOver, sampleRate, channels, bitsPerSample, isFloat }) {
-  const seconds = sampleRate ? ` (${(frames / sampleRate).toFixed(3)} s)` : "", left = leftOver ? `, ${counted(leftOver, "byte")} left over` : "";
-  const spec = `${sampleRate} Hz, ${counted(channels, "channel")}, ${isFloat ? "floats" : "integers"} of ${bitsPerSample} bits`;
+  const seconds = sampleRate ? ` (${(frames / sampleRate).toFixed(3)} s)` : "";
+  const left = leftOver ? `, ${counted(leftOver, "byte")} left over` : "";
+  const type = `${isFloat ? "floats" : "integers"} of ${bitsPerSample} bits`;
+  const spec = `${sampleRate} Hz, ${counted(channels, "channel")}, ${type}`;
   return `${STATES[state]}, ${counted(frames, "frame")}${seconds}${left}, ${spec}`;
 }
 
@@ -25,7 +27,8 @@ async function look(path) {
   await access(path); // A Blob's error has no reason.
   if ((await stat(path)).isDirectory()) throw new Error("it is a folder, and files are named here");
   const file = await openAsBlob(path), found = await findDamage(file), head = await info(file).catch(() => null);
-  return `${text(found)}${found.state === "cutOff" && head ? `; the header counts ${counted(head.frames, "frame")}` : ""}`;
+  const counts = found.state === "cutOff" && head ? `; the header counts ${counted(head.frames, "frame")}` : "";
+  return text(found) + counts;
 }
 
 async function main([command, ...files]) {

@@ -11,7 +11,10 @@ async function after(name, given) {
   return loaded[name](...given);
 }
 
-for (const name of ["append", "appendTo", "findDamage", "guessStart", "info", "read", "record", "repair", "repairFile", "write"]) {
+const FUNCTIONS = [
+  "append", "appendTo", "findDamage", "guessStart", "info", "read", "record", "repair", "repairFile", "write",
+];
+for (const name of FUNCTIONS) {
   exports[name] = (...given) => loaded ? loaded[name](...given) : after(name, given.map(copied));
 }
 

@@ -67,8 +67,8 @@ export interface Format {
 }
 
 /**
- * Floats that are stored as integers are multiplied by 2^(bits - 1) and rounded, of two to the even one; a NaN is 0. What
- * the bits don't hold is clipped, as 1.0 is.
+ * Floats that are stored as integers are multiplied by 2^(bits - 1) and rounded, of two to the even one; a NaN is 0.
+ * What the bits don't hold is clipped, as 1.0 is.
  */
 export interface Clipping {
   /** It is called with how many samples are clipped, if any are; without it `console.warn` says so. */
@@ -95,25 +95,41 @@ export class HoundError extends Error {
 export function info(file: WavFile, options?: Stream): Promise<Info>;
 
 /**
- * Reads frames, and returns their samples: interleaved, or with `planar` an array for each channel. Without `type` it is
- * the narrowest one from 16 bits on that reads the file. With "float32" integers are divided by 2^(bits - 1), so their full
- * scale is 1; floats keep their bits. Of a file that holds fewer frames than its header counts these are read, and a read
- * that starts after them is an error.
+ * Reads frames, and returns their samples: interleaved, or with `planar` an array for each channel. Without `type` it
+ * is the narrowest one from 16 bits on that reads the file. With "float32" integers are divided by 2^(bits - 1), so
+ * their full scale is 1; floats keep their bits. Of a file that holds fewer frames than its header counts these are
+ * read, and a read that starts after them is an error.
  */
-export function read<T extends keyof Arrays>(file: WavFile, options: Part & { type: T; planar?: false }): Promise<Arrays[T]>;
-export function read<T extends keyof Arrays>(file: WavFile, options: Part & { type: T; planar: true }): Promise<Arrays[T][]>;
-export function read(file: WavFile, options?: Part & { planar?: false }): Promise<Int16Array | Int32Array | Float32Array>;
-export function read(file: WavFile, options: Part & { planar: true }): Promise<Int16Array[] | Int32Array[] | Float32Array[]>;
+export function read<T extends keyof Arrays>(
+  file: WavFile,
+  options: Part & { type: T; planar?: false },
+): Promise<Arrays[T]>;
+export function read<T extends keyof Arrays>(
+  file: WavFile,
+  options: Part & { type: T; planar: true },
+): Promise<Arrays[T][]>;
+export function read(
+  file: WavFile,
+  options?: Part & { planar?: false },
+): Promise<Int16Array | Int32Array | Float32Array>;
+export function read(
+  file: WavFile,
+  options: Part & { planar: true },
+): Promise<Int16Array[] | Int32Array[] | Float32Array[]>;
 
 /** Makes the file of these samples, as they are at the call. */
 export function write(samples: Samples, format: Format & Clipping): Promise<Uint8Array>;
 
 /**
  * Returns the file with whole frames appended after the samples that its header counts. A recording that was cut off is
- * an error, and so are chunks or a tag after the data, unless they may be overwritten. The samples are those of the call.
- * A Uint8Array is copied by each call: append many blocks to a Blob, of which no byte is copied.
+ * an error, and so are chunks or a tag after the data, unless they may be overwritten. The samples are those of the
+ * call. A Uint8Array is copied by each call: append many blocks to a Blob, of which no byte is copied.
  */
-export function append(file: Uint8Array | ArrayBuffer, samples: Samples, options?: { overwrite?: boolean } & Clipping): Promise<Uint8Array>;
+export function append(
+  file: Uint8Array | ArrayBuffer,
+  samples: Samples,
+  options?: { overwrite?: boolean } & Clipping,
+): Promise<Uint8Array>;
 export function append(file: Blob, samples: Samples, options?: { overwrite?: boolean } & Clipping): Promise<Blob>;
 
 export interface RepairOptions {
@@ -124,7 +140,7 @@ export interface RepairOptions {
   skip?: number;
 }
 
-/** Where the samples may begin in a file whose header is damaged: after what looks like the header of its data, or at 0. */
+/** Where samples may begin in a file whose header is damaged: after what looks like the header of its data, or at 0. */
 export function guessStart(file: WavFile): Promise<number>;
 
 /** Reports what `repair` would find, or fails as it would. */
@@ -133,8 +149,9 @@ export function findDamage(file: WavFile): Promise<Damage>;
 /**
  * Repairs a file whose recording was cut off, and returns how it was found and the repaired file, in which only the two
  * sizes and a missing pad byte differ. A file that is whole, or that chunks or a tag follow, is returned as it is; with
- * `toEnd` all that follows the header of the data is taken for samples, also what looks like chunks. Where the header is lost
- * all that follows the first `skip` bytes is, and a header like that of another file, or of this format, comes before it.
+ * `toEnd` all that follows the header of the data is taken for samples, also what looks like chunks. Where the header
+ * is lost all that follows the first `skip` bytes is, and a header like that of another file, or of this format, comes
+ * before it.
  *
  * A Blob of Node's `openAsBlob` is read when the result is: don't write that to the same path. `repairFile` does it.
  */
@@ -151,16 +168,20 @@ export function repairFile(path: string | URL, options?: { toEnd?: boolean }): P
  * Records a new file at a path, in Node, in the place of one that is there; with `exclusive` that is an error. With
  * `durable` the samples of a checkpoint survive a loss of power, without it a kill. Node has no locks.
  */
-export function record(path: string | URL, format: Format & { bitsPerSample: number }, options?: { durable?: boolean; exclusive?: boolean }): Promise<Recorder>;
+export function record(
+  path: string | URL,
+  format: Format & { bitsPerSample: number },
+  options?: { durable?: boolean; exclusive?: boolean },
+): Promise<Recorder>;
 
 /** Records after the frames of a file at a path, in Node. What `append` rejects is an error. */
 export function appendTo(path: string | URL, options?: { durable?: boolean }): Promise<Recorder>;
 
 /**
- * A file that is recorded. Calls are performed one after the other, in the order in which they are made. After an error a
- * block is in the file only if its `write` was fulfilled, and the next call makes a checkpoint first; after a sync that
- * failed each call is an error. Whenever the program is killed, the header counts only samples that were written, at least
- * those of the last checkpoint, and a repair finds the others.
+ * A file that is recorded. Calls are performed one after the other, in the order in which they are made. After an error
+ * a block is in the file only if its `write` was fulfilled, and the next call makes a checkpoint first; after a sync
+ * that failed each call is an error. Whenever the program is killed, the header counts only samples that were written,
+ * at least those of the last checkpoint, and a repair finds the others.
  */
 export interface Recorder {
   readonly spec: Readonly<Spec>;

@@ -1,8 +1,8 @@
 // WAV files, read, written, appended to and repaired by proved code: the exports of crates/hound_c in WebAssembly.
 //
-// A file is a Uint8Array, an ArrayBuffer, or a Blob, of which only what is needed is read. Samples are an interleaved typed
-// array, or an array of one for each channel. No call changes its arguments. A file must not change before the promise of
-// a call over it is settled; samples may.
+// A file is a Uint8Array, an ArrayBuffer, or a Blob, of which only what is needed is read. Samples are an interleaved
+// typed array, or an array of one for each channel. No call changes its arguments. A file must not change before the
+// promise of a call over it is settled; samples may.
 import { module } from "./module.js";
 
 // Each error, its code in hound.h without the sign, and its sentence there.
@@ -13,7 +13,11 @@ const ERRORS = {
   OTHER_FORMAT: [3, "the samples are floats and the type is an integer, or vice versa"],
   TOO_WIDE: [4, "the samples are wider than the type, or a value than its bits"],
   NOT_WRITABLE: [5, "samples of this spec are not read or written (integers have 8, 16, 24 or 32 bits, floats 32)"],
-  TRUNCATED: [6, "the header counts a sample that the file does not hold (a recording that was cut off can be repaired, a stream of unknown length can be read to its end)"],
+  TRUNCATED: [
+    6,
+    "the header counts a sample that the file does not hold " +
+      "(a recording that was cut off can be repaired, a stream of unknown length can be read to its end)",
+  ],
   TOO_LONG: [7, "the sizes of the file would not fit in 32 bits"],
   UNFINISHED_FRAME: [8, "the samples are no whole frames"],
   NO_ROOM: [9, "more bytes are needed than the capacity"],
@@ -32,8 +36,16 @@ const ERRORS = {
   EX_SIZE: [22, "unexpected WAVEFORMATEX size"],
   BITS_NOT_32: [23, "bits per sample is not 32"],
   EXTENSIBLE_SIZE: [24, "unexpected WAVEFORMATEXTENSIBLE size"],
-  DATA_LENGTH: [25, "data chunk length is not a multiple of sample size (a recording that was cut off can be repaired, a stream of unknown length can be read to its end)"],
-  FRAME_LENGTH: [26, "invalid data chunk length (a recording that was cut off can be repaired, a stream of unknown length can be read to its end)"],
+  DATA_LENGTH: [
+    25,
+    "data chunk length is not a multiple of sample size " +
+      "(a recording that was cut off can be repaired, a stream of unknown length can be read to its end)",
+  ],
+  FRAME_LENGTH: [
+    26,
+    "invalid data chunk length " +
+      "(a recording that was cut off can be repaired, a stream of unknown length can be read to its end)",
+  ],
   NEEDS_CHECKPOINT: [27, "a write failed or a checkpoint is not done, and no samples are written before one is"],
   SYNC_FAILED: [28, "a sync failed, and it is unknown what is stored"],
   IS_CUT_OFF: [29, "the recording was cut off, and has to be repaired first"],
@@ -65,11 +77,12 @@ const [FIND_DAMAGE, REPAIR, REPAIR_TO_END, OVERWRITE] = [0, 1, 2, 2];
 const LAYOUT = {
   spec: { sampleRate: 0, channels: 4, bitsPerSample: 6, bytesPerSample: 8, sampleFormat: 10, size: 12 },
   info: { spec: 0, samples: 12, dataStart: 16, size: 24 },
-  repair: { spec: 0, frames: 12, leftOver: 16, state: 20, dataStart: 24, length: 32, dataLength: 40, unused: 44, size: 48 },
+  repair: { spec: 0, frames: 12, leftOver: 16, state: 20, dataStart: 24, length: 32, dataLength: 40, unused: 44,
+    size: 48 },
   effect: { place: 0, length: 8, kind: 12, report: 14, bytes: 16, size: 56 },
   walk: { effect: 0, spec: 56, taken: 68, part: 72, fmtLength: 76, size: 80 },
-  repairer: { effect: 0, length: 56, place: 64, dataStart: 72, spec: 80, dataLength: 92, taken: 96, part: 100, fmtLength: 104,
-    number: 108, mode: 112, unused: 116, size: 120 },
+  repairer: { effect: 0, length: 56, place: 64, dataStart: 72, spec: 80, dataLength: 92, taken: 96, part: 100,
+    fmtLength: 104, number: 108, mode: 112, unused: 116, size: 120 },
   recorder: { effect: 0, dataStart: 56, dataLength: 64, number: 68, samples: 72, bytesPerSample: 76, channels: 78,
     condition: 80, task: 82, hasRest: 84, unused: 86, size: 88 },
 };
@@ -108,13 +121,21 @@ class Memory {
 
   putSpec(spec) {
     this.view.setUint32(SPEC + LAYOUT.spec.sampleRate, spec.sampleRate, true);
-    for (const name of ["channels", "bitsPerSample", "bytesPerSample"]) this.view.setUint16(SPEC + LAYOUT.spec[name], spec[name], true);
+    for (const name of ["channels", "bitsPerSample", "bytesPerSample"]) {
+      this.view.setUint16(SPEC + LAYOUT.spec[name], spec[name], true);
+    }
     this.view.setUint16(SPEC + LAYOUT.spec.sampleFormat, spec.isFloat ? FLOAT : INT, true);
   }
 
   specAt(place) {
-    const short = (name) => this.view.getUint16(place + LAYOUT.spec[name], true), [channels, bitsPerSample, bytesPerSample] = ["channels", "bitsPerSample", "bytesPerSample"].map(short);
-    return { sampleRate: this.view.getUint32(place + LAYOUT.spec.sampleRate, true), channels, bitsPerSample, bytesPerSample, isFloat: short("sampleFormat") === FLOAT };
+    const short = (name) => this.view.getUint16(place + LAYOUT.spec[name], true);
+    return {
+      sampleRate: this.view.getUint32(place + LAYOUT.spec.sampleRate, true),
+      channels: short("channels"),
+      bitsPerSample: short("bitsPerSample"),
+      bytesPerSample: short("bytesPerSample"),
+      isFloat: short("sampleFormat") === FLOAT,
+    };
   }
 }
 
@@ -142,29 +163,42 @@ const TYPES = {
 };
 
 function integer(name, value, low, high) {
-  if (typeof value !== "number") throw new TypeError(`${name} is ${typeof value === "string" ? `"${value}"` : String(value)}, and not a number`);
-  if (!Number.isInteger(value) || value < low || value > high) throw new RangeError(`${name} is ${value}, and not an integer from ${low} to ${high}`);
+  if (typeof value !== "number") {
+    const given = typeof value === "string" ? `"${value}"` : String(value);
+    throw new TypeError(`${name} is ${given}, and not a number`);
+  }
+  if (!Number.isInteger(value) || value < low || value > high) {
+    throw new RangeError(`${name} is ${value}, and not an integer from ${low} to ${high}`);
+  }
   return value;
 }
 
 function typeNamed(name) {
-  if (!Object.hasOwn(TYPES, name)) throw new TypeError(`type is ${String(name)}, and not one of ${Object.keys(TYPES).join(", ")}`);
+  if (!Object.hasOwn(TYPES, name)) {
+    throw new TypeError(`type is ${String(name)}, and not one of ${Object.keys(TYPES).join(", ")}`);
+  }
   return TYPES[name];
 }
 
 function typeOf(samples) {
   const type = Object.values(TYPES).find(({ array }) => samples instanceof array);
-  if (!type) throw new TypeError("samples is no Int8Array, Int16Array, Int32Array or Float32Array, and no array of these");
+  if (!type) {
+    throw new TypeError("samples is no Int8Array, Int16Array, Int32Array or Float32Array, and no array of these");
+  }
   return type;
 }
 
 /** An array by which samples are copied: by that of their type a NaN could get other bits. */
-const exact = (samples) => samples instanceof Float32Array ? new Int32Array(samples.buffer, samples.byteOffset, samples.length) : samples;
+function exact(samples) {
+  if (!(samples instanceof Float32Array)) return samples;
+  return new Int32Array(samples.buffer, samples.byteOffset, samples.length);
+}
 
-/** A copy of the samples that are given, interleaved, with their type, and the number of channels if each has an array. */
+/** A copy of the given samples, interleaved, with their type, and the number of channels if each has an array. */
 function taken(samples) {
   if (!Array.isArray(samples)) return { type: typeOf(samples), all: samples.slice() };
-  const type = typeOf(samples[0]), channels = samples.length, all = new type.array(channels * samples[0].length), out = exact(all);
+  const type = typeOf(samples[0]), channels = samples.length;
+  const all = new type.array(channels * samples[0].length), out = exact(all);
   samples.forEach((channel, i) => {
     if (typeOf(channel) !== type) throw new TypeError("samples has arrays of different types");
     if (channel.length !== samples[0].length) throw new RangeError("samples has arrays of different lengths");
@@ -185,7 +219,9 @@ function planarOf(all, channels) {
 }
 
 function checkChannels(given, channels) {
-  if (given !== undefined && given !== channels) throw new RangeError(`samples has ${given} arrays, and there are ${channels} channels`);
+  if (given !== undefined && given !== channels) {
+    throw new RangeError(`samples has ${given} arrays, and there are ${channels} channels`);
+  }
 }
 
 function fileOf(file) {
@@ -196,7 +232,7 @@ function fileOf(file) {
 
 const sizeOf = (part) => part.size ?? part.length;
 
-/** A part of a file, as the file is: nothing of it is read. */
+/** A part of a file, of the same kind as the file; nothing of it is read. */
 const partOf = (file, from, to) => file instanceof Blob ? file.slice(from, to) : file.subarray(from, to);
 
 async function bytesOf(file, from, to) {
@@ -217,7 +253,7 @@ function joined(parts, isBlob) {
 }
 
 
-/** A walk, a repairer or a recorder. The memory of the instance has it only during a call. */
+/** A walk, a repairer or a recorder. It is in the memory of the instance only during a call. */
 class Machine {
   constructor(name) {
     this.bytes = new Uint8Array(LAYOUT[name].size);
@@ -266,36 +302,41 @@ async function performAll(machine, name, perform, found) {
   }
 }
 
-/** Reads parts of a file. Of a Blob the last page is kept, for many chunks that are short. */
+/** Returns what reads parts of a file. The last page that was read is kept, for many chunks that are short. */
 function readerOf(file) {
   const size = sizeOf(file);
   let from = 0, page = new Uint8Array(0);
   return async ({ place, length }) => {
     const end = Math.min(place + length, size);
     if (place >= end) return page.subarray(0, 0);
-    if (place < from || end > from + page.length) [from, page] = [place, await bytesOf(file, place, Math.min(place + PAGE, size))];
+    if (place < from || end > from + page.length) {
+      [from, page] = [place, await bytesOf(file, place, Math.min(place + PAGE, size))];
+    }
     return page.subarray(place - from, end - from);
   };
 }
 
 /** Walks over what is before the data. Of a stream the length that its header counts isn't looked at. */
 function walkOver(file, toEnd) {
-  const size = sizeOf(file), readPart = ({ place, length }) => bytesOf(file, Math.min(place, size), Math.min(place + length, size));
+  const size = sizeOf(file);
+  const readPart = ({ place, length }) => bytesOf(file, Math.min(place, size), Math.min(place + length, size));
   return performAll(new Machine("walk"), toEnd ? "walk_to_end" : "walk_next", readPart, (code) => {
     checked(code);
-    const samples = shared.view.getUint32(FOUND + LAYOUT.info.samples, true), dataStart = Number(shared.view.getBigUint64(FOUND + LAYOUT.info.dataStart, true));
+    const samples = shared.view.getUint32(FOUND + LAYOUT.info.samples, true);
+    const dataStart = Number(shared.view.getBigUint64(FOUND + LAYOUT.info.dataStart, true));
     return { spec: shared.specAt(FOUND), samples, dataStart };
   });
 }
 
-/** What the header of a file says. The data needn't all be there. With `toEnd` the frames are all whole ones to its end. */
+/** What the header of a file says. The data may be missing. With `toEnd` the frames are all whole ones to its end. */
 export async function info(file, { toEnd = false } = {}) {
   const given = fileOf(file);
   await ready();
   const { spec, samples, dataStart } = await walkOver(given, toEnd), { channels, bytesPerSample } = spec;
   shared.putSpec(spec);
-  const held = toEnd ? checked(shared.call("whole_frames", shared.at(SPEC), sizeOf(given) - dataStart)) / (channels * bytesPerSample) : 0;
-  return { ...spec, frames: toEnd ? held : samples / channels, dataStart };
+  if (!toEnd) return { ...spec, frames: samples / channels, dataStart };
+  const held = checked(shared.call("whole_frames", shared.at(SPEC), sizeOf(given) - dataStart));
+  return { ...spec, frames: held / (channels * bytesPerSample), dataStart };
 }
 
 /** The type that is stored where samples of a type are read or written: floats may be scaled to integers. */
@@ -306,8 +347,11 @@ function decode(type, spec, bytes, out) {
   const stored = storedAs(type, spec);
   shared.putSpec(spec);
   shared.bytes.set(bytes, FIRST);
-  const count = checked(shared.call("decode_" + stored.call, shared.at(SPEC), shared.at(FIRST), bytes.length, shared.at(SECOND), out.length));
-  if (type !== stored) checked(shared.call("to_f32", shared.at(SECOND), count, spec.bitsPerSample, shared.at(FIRST), count));
+  const places = [shared.at(FIRST), bytes.length, shared.at(SECOND), out.length];
+  const count = checked(shared.call("decode_" + stored.call, shared.at(SPEC), ...places));
+  if (type !== stored) {
+    checked(shared.call("to_f32", shared.at(SECOND), count, spec.bitsPerSample, shared.at(FIRST), count));
+  }
   out.set(new type.array(shared.bytes.buffer, shared.at(type === stored ? SECOND : FIRST), count));
 }
 
@@ -317,7 +361,10 @@ function encode(type, spec, samples, out) {
   shared.putSpec(spec);
   new type.array(shared.bytes.buffer, shared.at(FIRST), count).set(samples);
   shared.view.setBigUint64(FOUND, 0n, true);
-  if (type !== stored) checked(shared.call("from_f32", shared.at(FIRST), count, spec.bitsPerSample, shared.at(SECOND), count, shared.at(FOUND)));
+  if (type !== stored) {
+    const places = [shared.at(SECOND), count, shared.at(FOUND)];
+    checked(shared.call("from_f32", shared.at(FIRST), count, spec.bitsPerSample, ...places));
+  }
   const [from, to] = type === stored ? [FIRST, SECOND] : [SECOND, FIRST];
   checked(shared.call("encode_" + stored.call, shared.at(SPEC), shared.at(from), count, shared.at(to), out.length));
   out.set(shared.bytes.subarray(to, to + out.length));
@@ -329,7 +376,7 @@ function encode(type, spec, samples, out) {
  *
  * Without `type` it is the narrowest one from 16 bits on that reads the file. Integers are also read as floats, each
  * divided by 2^(bits - 1). Of a file that holds fewer frames than its header counts these are read, and a read that
- * starts after them is an error. With `toEnd` the file is a stream, whose header needn't know its length.
+ * starts after them is an error. With `toEnd` the file is read as a stream, whose header may count any length.
  */
 export async function read(file, { start = 0, frames = Infinity, type, planar = false, toEnd = false } = {}) {
   const given = fileOf(file), length = sizeOf(given);
@@ -356,7 +403,8 @@ function widthOf(type, spec) {
   const stored = storedAs(type, spec);
   shared.putSpec(spec);
   new stored.array(shared.bytes.buffer, shared.at(FIRST), 1).fill(0);
-  return checked(shared.call("encode_" + stored.call, shared.at(SPEC), shared.at(FIRST), 1, shared.at(SECOND), BLOCK_BYTES));
+  const places = [shared.at(FIRST), 1, shared.at(SECOND), BLOCK_BYTES];
+  return checked(shared.call("encode_" + stored.call, shared.at(SPEC), ...places));
 }
 
 /** The containers of samples of a spec, and how many samples were clipped. */
@@ -364,7 +412,8 @@ function encoded(type, samples, spec) {
   const width = widthOf(type, spec), data = new Uint8Array(samples.length * width);
   let clipped = 0;
   for (let first = 0; first < samples.length; first += BLOCK) {
-    clipped += encode(type, spec, samples.subarray(first, first + BLOCK), data.subarray(first * width, (first + BLOCK) * width));
+    const part = data.subarray(first * width, (first + BLOCK) * width);
+    clipped += encode(type, spec, samples.subarray(first, first + BLOCK), part);
   }
   return { data, clipped };
 }
@@ -373,10 +422,12 @@ function warn(clipped) {
   console.warn(`hound_bindings: samples out of full scale were clipped: ${clipped}`);
 }
 
-/** The spec of a file of samples of a type. Floats are stored as integers where these have other bits, or it is said. */
+/** The spec of a file of samples of a type. Floats of other bits, or with `isFloat: false`, are stored as integers. */
 function specFor(type, { sampleRate, channels = 1, bitsPerSample, bytesPerSample = 0, isFloat }) {
   const bits = integer("bitsPerSample", bitsPerSample ?? type.bits, 1, 0xffff);
-  if (isFloat !== undefined && typeof isFloat !== "boolean") throw new TypeError(`isFloat is ${String(isFloat)}, and not a boolean`);
+  if (isFloat !== undefined && typeof isFloat !== "boolean") {
+    throw new TypeError(`isFloat is ${String(isFloat)}, and not a boolean`);
+  }
   return {
     sampleRate: integer("sampleRate", sampleRate, 1, 0xffffffff),
     channels: integer("channels", channels, 1, 0xffff),
@@ -395,12 +446,14 @@ function headerOf(spec, samples) {
 
 /** Makes the file of these samples. `bitsPerSample` is the width of the samples unless it is given. */
 export async function write(samples, { onClipped = warn, ...format } = {}) {
-  const { type, all, channels } = taken(samples), spec = specFor(type, { ...format, channels: format.channels ?? channels });
+  const { type, all, channels } = taken(samples);
+  const spec = specFor(type, { ...format, channels: format.channels ?? channels });
   checkChannels(channels, spec.channels);
   await ready();
   shared.putSpec(spec);
   const size = checked(shared.call("size", shared.at(SPEC), all.length)), header = headerOf(spec, all.length);
-  const { data, clipped } = encoded(type, all, spec), file = joined([header, data, new Uint8Array(size - header.length - data.length)], false);
+  const { data, clipped } = encoded(type, all, spec);
+  const file = joined([header, data, new Uint8Array(size - header.length - data.length)], false);
   if (clipped > 0) onClipped(clipped);
   return file;
 }
@@ -413,7 +466,8 @@ function repairBy(size, mode, perform) {
   repairer.call("repairer_begin", size, mode, shared.at(MACHINE));
   return performAll(repairer, "repairer_next", perform, (code) => {
     checked(code);
-    const [frames, leftOver, state, dataLength] = ["frames", "leftOver", "state", "dataLength"].map((name) => shared.view.getUint32(FOUND + LAYOUT.repair[name], true));
+    const number = (name) => shared.view.getUint32(FOUND + LAYOUT.repair[name], true);
+    const [frames, leftOver, state, dataLength] = ["frames", "leftOver", "state", "dataLength"].map(number);
     const dataStart = Number(shared.view.getBigUint64(FOUND + LAYOUT.repair.dataStart, true));
     const report = { state: STATES[state], frames, leftOver, ...shared.specAt(FOUND), dataStart, dataLength };
     return { report, found: shared.bytes.slice(FOUND, FOUND + LAYOUT.repair.size) };
@@ -428,7 +482,7 @@ export async function findDamage(file) {
   return report;
 }
 
-/** Where the samples may begin in a file whose header is damaged: after what looks like the header of its data, or at 0. */
+/** Where samples may begin in a file whose header is damaged: after what looks like the header of its data, or at 0. */
 export async function guessStart(file) {
   const given = fileOf(file);
   await ready();
@@ -449,7 +503,8 @@ class Overlay {
     return this.parts.flatMap((part) => {
       const place = start;
       start += sizeOf(part);
-      if (from <= place && place < start && start <= to) return [part]; // A part of a part of a part .. of a Blob would take long.
+      // A part of a part of a part .. of a Blob would take long.
+      if (from <= place && place < start && start <= to) return [part];
       return place < to && start > from ? [partOf(part, Math.max(from - place, 0), Math.min(to, start) - place)] : [];
     });
   }
@@ -458,15 +513,17 @@ class Overlay {
   perform({ kind, place, bytes }, block) {
     const given = kind === WRITE ? bytes.slice() : block;
     if (kind === CUT) this.parts = this.between(0, place);
-    if (kind === WRITE || kind === WRITE_BLOCK) this.parts = [...this.between(0, place), given, ...this.between(place + sizeOf(given), Infinity)];
+    if (kind === WRITE || kind === WRITE_BLOCK) {
+      this.parts = [...this.between(0, place), given, ...this.between(place + sizeOf(given), Infinity)];
+    }
   }
 }
 
 /**
  * Repairs a file whose recording was cut off, and returns how it was found and the repaired file, in which only the two
  * sizes and a missing pad byte differ. A file that is whole, or that chunks or a tag follow, is returned as it is; with
- * `toEnd` all that follows the header of the data is taken for samples, also what looks like chunks. Where the header is lost
- * all that follows the first `skip` bytes is, and a header like that of another file comes before it.
+ * `toEnd` all that follows the header of the data is taken for samples, also what looks like chunks. Where the header
+ * is lost, all that follows the first `skip` bytes is taken for samples, and a header as `like` says is put before it.
  */
 export async function repair(file, { toEnd = false, like, skip } = {}) {
   const whole = fileOf(file), spec = like && specFor({}, like);
@@ -478,7 +535,8 @@ export async function repair(file, { toEnd = false, like, skip } = {}) {
 
 async function repairedFile(given, mode) {
   const readPart = readerOf(given), repaired = new Overlay([given]);
-  const { report } = await repairBy(sizeOf(given), mode, (effect) => effect.kind === READ ? readPart(effect) : repaired.perform(effect));
+  const perform = (effect) => effect.kind === READ ? readPart(effect) : repaired.perform(effect);
+  const { report } = await repairBy(sizeOf(given), mode, perform);
   return { ...report, file: repaired.parts.length > 1 ? joined(repaired.parts, given instanceof Blob) : given };
 }
 
@@ -504,7 +562,7 @@ async function cutAt(handle, place) {
   if ((await handle.stat()).size > place) await handle.truncate(place);
 }
 
-/** Performs an effect on a file of Node. What isn't durable isn't synced: the system has what was written. */
+/** Performs an effect on a file of Node. Without `durable` nothing is synced: the system has what was written. */
 async function performOn(handle, durable, effect, block) {
   switch (effect.kind) {
     case READ: return readAt(handle, effect);
@@ -529,14 +587,15 @@ export async function repairFile(path, { toEnd = false } = {}) {
   const { open } = await files(), handle = await open(path, "r+");
   try {
     const { size } = await handle.stat();
-    const { report } = await repairBy(size, toEnd ? REPAIR_TO_END : REPAIR, (effect) => performOn(handle, true, effect));
+    const mode = toEnd ? REPAIR_TO_END : REPAIR;
+    const { report } = await repairBy(size, mode, (effect) => performOn(handle, true, effect));
     return report;
   } finally {
     await handle.close();
   }
 }
 
-/** What a file of so many bytes, which is looked at, is appended to by. */
+/** The recorder that appends to a file of so many bytes, and its spec. */
 async function resumed(size, perform, allowed) {
   const { found } = await repairBy(size, FIND_DAMAGE, perform), recorder = new Machine("recorder");
   shared.bytes.set(found, FOUND);
@@ -623,17 +682,19 @@ async function recorderOf(path, flags, durable, prepare) {
 /** Stores the name of a file, where the system opens folders. */
 async function syncFolder({ open, realpath }, path) {
   if (process.platform === "win32") return;
-  const { dirname } = await import(/* webpackIgnore: true */ "node:path"), folder = await open(dirname(await realpath(path)));
+  const { dirname } = await import(/* webpackIgnore: true */ "node:path");
+  const folder = await open(dirname(await realpath(path)));
   await folder.sync().finally(() => folder.close());
 }
 
-/** Records a new file at a path, in Node, in the place of one that is there unless that is to be an error. */
+/** Records to a file at a path, in Node. A file that is there is emptied; with `exclusive` it is an error. */
 export async function record(path, format, { durable = false, exclusive = false } = {}) {
   const spec = specFor({}, format ?? {}), recorder = new Machine("recorder");
   const { constants } = await files(), header = headerOf(spec, 0);
   checked(recorder.call("recorder_begin", shared.at(SPEC), shared.at(MACHINE)));
   spec.bytesPerSample = widthOf(spec.isFloat ? TYPES.float32 : TYPES.int32, spec);
-  return recorderOf(path, constants.O_RDWR | constants.O_CREAT | (exclusive ? constants.O_EXCL : 0), durable, async (handle, syncName) => {
+  const flags = constants.O_RDWR | constants.O_CREAT | (exclusive ? constants.O_EXCL : 0);
+  return recorderOf(path, flags, durable, async (handle, syncName) => {
     if (durable) await syncName();
     await handle.truncate(0);
     if (durable) await handle.sync();
@@ -642,7 +703,7 @@ export async function record(path, format, { durable = false, exclusive = false 
   });
 }
 
-/** Records after the frames of a file at a path, in Node. What `append` rejects is an error. */
+/** Continues a recording at a path, in Node, after the frames of the file. What `append` rejects is an error. */
 export async function appendTo(path, { durable = false } = {}) {
   return recorderOf(path, "r+", durable, async (handle, syncName) => {
     if (durable) await handle.sync().then(syncName);
@@ -666,7 +727,9 @@ function performOver(overlay, recorder, block) {
     and none is a Blob of a Blob of a Blob .. that can't be read. */
 function join(parts) {
   const isBlob = (part) => part instanceof Blob;
-  while (parts.slice(-2).filter(isBlob).length === 2 && parts.at(-2).size < 2 * parts.at(-1).size) parts.push(new Blob(parts.splice(-2)));
+  while (parts.slice(-2).filter(isBlob).length === 2 && parts.at(-2).size < 2 * parts.at(-1).size) {
+    parts.push(new Blob(parts.splice(-2)));
+  }
 }
 
 /**
@@ -677,7 +740,8 @@ function join(parts) {
 export async function append(file, samples, { overwrite = false, onClipped = warn } = {}) {
   const given = fileOf(file), { type, all, channels } = taken(samples), isBlob = given instanceof Blob;
   await ready();
-  const { recorder: before, spec, parts = [given] } = made.get(given) ?? await resumed(sizeOf(given), readerOf(given), overwrite ? OVERWRITE : 0);
+  const { recorder: before, spec, parts = [given] } =
+    made.get(given) ?? await resumed(sizeOf(given), readerOf(given), overwrite ? OVERWRITE : 0);
   checkChannels(channels, spec.channels);
   const recorder = new Machine("recorder"), overlay = new Overlay(parts), { data, clipped } = encoded(type, all, spec);
   recorder.bytes.set(before.bytes);

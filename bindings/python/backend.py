@@ -117,11 +117,13 @@ def manual(library):
 
     def printed(*words):
         command = [sys.executable, "-B", "-m", NAME, *words, "--help"]
-        return subprocess.run(command, env=environment, check=True, stdout=subprocess.PIPE, universal_newlines=True).stdout
+        run = subprocess.run(command, env=environment, check=True, stdout=subprocess.PIPE, universal_newlines=True)
+        return run.stdout
 
     parts = {"hound-wav": printed()}
     parts.update((f"hound-wav {name}", printed(name)) for name in re.findall(r"(?m)^    (\w+)  ", parts["hound-wav"]))
-    page = f'.TH HOUND-WAV 1 "" "{NAME} {VERSION}"\n.SH NAME\nhound-wav \\- reads, repairs, converts and records WAV files\n'
+    name = "hound-wav \\- reads, repairs, converts and records WAV files"
+    page = f'.TH HOUND-WAV 1 "" "{NAME} {VERSION}"\n.SH NAME\n{name}\n'
     for title, text in parts.items():
         text = text.replace("\\", "\\e").replace("-", "\\-")
         page += f'.SH "{title}"\n.nf\n' + re.sub("(?m)^(?=[.'])", r"\\&", text) + ".fi\n"
@@ -140,7 +142,8 @@ def build_wheel(wheel_directory, config_settings=None, metadata_directory=None):
             files[f"{NAME}/{os.path.basename(library)}"] = file.read()
         if system()[0] != "Windows":
             files[f"{NAME}-{VERSION}.data/data/share/man/man1/hound-wav.1"] = manual(library)
-    info, tags = f"{NAME}-{VERSION}.dist-info", "".join(f"Tag: py3-none-{one}\n" for one in tag.split("-")[2].split("."))
+    info = f"{NAME}-{VERSION}.dist-info"
+    tags = "".join(f"Tag: py3-none-{one}\n" for one in tag.split("-")[2].split("."))
     with open(LICENSE, "rb") as file:
         files[f"{info}/LICENSE"] = file.read()
     files[f"{info}/METADATA"] = METADATA.encode()

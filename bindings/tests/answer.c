@@ -1,7 +1,7 @@
 /* Answers the requests of requests.py, a line each: `memory SIZE HEX` says what is in memory, in its front; `CALL
    ARGUMENT..` makes a call over a copy of that, where @N is the address of its byte N, and #N a number of 16 bits. The
-   calls `walk_next` and `walk_to_end` are all such calls over a file. The answer is what the call returned, and a sum of all memory
-   after it.   answer < REQUESTS */
+   calls `walk_next` and `walk_to_end` are all such calls over a file. The answer is what the call returned, and a sum
+   of all memory after it.   answer < REQUESTS */
 #include "hound.h"
 #include "walked.h"
 #include <stdio.h>
@@ -27,13 +27,15 @@ static int64_t call(const char *name, const uint64_t *a) {
     if (!strcmp(name, "header")) return hound_header(AT(hound_spec, 0), a[1], AT(uint8_t, 2), a[3]);
     if (!strcmp(name, "sizes")) return hound_sizes(AT(hound_spec, 0), a[1], a[2], AT(uint8_t, 3), a[4]);
     if (!strcmp(name, "to_f32")) return hound_to_f32(AT(int32_t, 0), a[1], (uint16_t)a[2], AT(float, 3), a[4]);
-    if (!strcmp(name, "from_f32")) return hound_from_f32(AT(float, 0), a[1], (uint16_t)a[2], AT(int32_t, 3), a[4], AT(uint64_t, 5));
+    if (!strcmp(name, "from_f32"))
+        return hound_from_f32(AT(float, 0), a[1], (uint16_t)a[2], AT(int32_t, 3), a[4], AT(uint64_t, 5));
     if (!strcmp(name, "value_8")) return hound_value_8((uint32_t)a[0]);
     if (!strcmp(name, "value_16")) return hound_value_16((uint32_t)a[0]);
     if (!strcmp(name, "value_24")) return hound_value_24((uint32_t)a[0]);
     if (!strcmp(name, "value_32")) return hound_value_32((uint32_t)a[0]);
     if (!strcmp(name, "recorder_begin")) return hound_recorder_begin(AT(hound_spec, 0), AT(hound_recorder, 1));
-    if (!strcmp(name, "recorder_resume")) return hound_recorder_resume(AT(hound_repair_t, 0), (uint32_t)a[1], AT(hound_recorder, 2));
+    if (!strcmp(name, "recorder_resume"))
+        return hound_recorder_resume(AT(hound_repair_t, 0), (uint32_t)a[1], AT(hound_recorder, 2));
     if (!strcmp(name, "recorder_write")) return hound_recorder_write(AT(hound_recorder, 0), a[1]);
     if (!strcmp(name, "recorder_checkpoint")) return hound_recorder_checkpoint(AT(hound_recorder, 0)), 0;
     if (!strcmp(name, "recorder_next")) return hound_recorder_next(AT(hound_recorder, 0));
@@ -42,14 +44,19 @@ static int64_t call(const char *name, const uint64_t *a) {
     if (!strcmp(name, "size")) return hound_size(AT(hound_spec, 0), a[1]);
     if (!strcmp(name, "repair")) return hound_repair(AT(uint8_t, 0), a[1], a[2], AT(hound_repair_t, 3));
     if (!strcmp(name, "repair_to_end")) return hound_repair_to_end(AT(uint8_t, 0), a[1], a[2], AT(hound_repair_t, 3));
-#define CONTAINERS(suffix, type)                                                                                                  \
-    if (!strcmp(name, "decode_" #suffix)) return hound_decode_##suffix(AT(hound_spec, 0), AT(uint8_t, 1), a[2], AT(type, 3), a[4]); \
-    if (!strcmp(name, "encode_" #suffix)) return hound_encode_##suffix(AT(hound_spec, 0), AT(type, 1), a[2], AT(uint8_t, 3), a[4]);
-#define CALLS(suffix, type)                                                                                                       \
-    CONTAINERS(suffix, type)                                                                                                      \
-    if (!strcmp(name, "read_" #suffix)) return hound_read_##suffix(AT(uint8_t, 0), a[1], a[2], AT(type, 3), a[4]);                \
-    if (!strcmp(name, "write_" #suffix)) return hound_write_##suffix(AT(hound_spec, 0), AT(type, 1), a[2], AT(uint8_t, 3), a[4]); \
-    if (!strcmp(name, "append_" #suffix)) return hound_append_##suffix(AT(uint8_t, 0), a[1], a[2], AT(type, 3), a[4]);
+#define CONTAINERS(suffix, type)                                                                  \
+    if (!strcmp(name, "decode_" #suffix))                                                         \
+        return hound_decode_##suffix(AT(hound_spec, 0), AT(uint8_t, 1), a[2], AT(type, 3), a[4]); \
+    if (!strcmp(name, "encode_" #suffix))                                                         \
+        return hound_encode_##suffix(AT(hound_spec, 0), AT(type, 1), a[2], AT(uint8_t, 3), a[4]);
+#define CALLS(suffix, type)                                                                      \
+    CONTAINERS(suffix, type)                                                                     \
+    if (!strcmp(name, "read_" #suffix))                                                          \
+        return hound_read_##suffix(AT(uint8_t, 0), a[1], a[2], AT(type, 3), a[4]);               \
+    if (!strcmp(name, "write_" #suffix))                                                         \
+        return hound_write_##suffix(AT(hound_spec, 0), AT(type, 1), a[2], AT(uint8_t, 3), a[4]); \
+    if (!strcmp(name, "append_" #suffix))                                                        \
+        return hound_append_##suffix(AT(uint8_t, 0), a[1], a[2], AT(type, 3), a[4]);
     CONTAINERS(i8, int8_t)
     CALLS(i16, int16_t)
     CALLS(i32, int32_t)
@@ -72,7 +79,8 @@ int main(void) {
         }
         uint64_t arguments[6] = {0};
         for (int i = 0; i < 6 && (word = strtok(NULL, " \n")); i++)
-            arguments[i] = (*word == '@' ? (uintptr_t)memory : 0) + strtoull(word + (*word == '@' || *word == '#'), NULL, 10);
+            arguments[i] =
+                (*word == '@' ? (uintptr_t)memory : 0) + strtoull(word + (*word == '@' || *word == '#'), NULL, 10);
         memcpy(memory, before, size);
         int64_t result = call(name, arguments);
         uint32_t sum = 2166136261u; /* FNV-1a */

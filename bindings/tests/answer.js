@@ -9,8 +9,10 @@ const argument = (word) => (value[word[0]] ?? ((word) => BigInt.asIntN(64, BigIn
 
 // Reads the part that is requested by the effect at a place, and reports it.
 function readPart(file, used, effect) {
-  const view = new DataView(hound.memory.buffer), place = view.getBigUint64(effect, true), from = Number(place < used ? place : used);
-  const bytes = memory.subarray(Number(file) - start).slice(from, Math.min(from + view.getUint32(effect + 8, true), Number(used)));
+  const view = new DataView(hound.memory.buffer), place = view.getBigUint64(effect, true);
+  const from = Number(place < used ? place : used);
+  const to = Math.min(from + view.getUint32(effect + 8, true), Number(used));
+  const bytes = memory.subarray(Number(file) - start).slice(from, to);
   new Uint8Array(hound.memory.buffer).set(bytes, effect + 16);
   view.setUint32(effect + 8, bytes.length, true);
   view.setUint16(effect + 14, 1, true);
@@ -36,7 +38,8 @@ function repaired(file, used, mode, found) {
     const code = hound.hound_repairer_next(BigInt(repairer), found);
     if (code !== 1) return code < 0 ? code : length;
     const view = new DataView(hound.memory.buffer), all = new Uint8Array(hound.memory.buffer);
-    const [place, count, kind] = [Number(view.getBigUint64(repairer, true)), view.getUint32(repairer + 8, true), view.getUint16(repairer + 12, true)];
+    const place = Number(view.getBigUint64(repairer, true));
+    const count = view.getUint32(repairer + 8, true), kind = view.getUint16(repairer + 12, true);
     if (kind === 1) readPart(file, used, repairer);
     if (kind === 2) all.copyWithin(at + place, repairer + 16, repairer + 16 + count);
     if (kind === 2) length = Math.max(length, place + count);
@@ -44,7 +47,11 @@ function repaired(file, used, mode, found) {
   }
 }
 
-const own = { walk_next: walked(hound.hound_walk_next), walk_to_end: walked(hound.hound_walk_to_end), repairer: repaired };
+const own = {
+  walk_next: walked(hound.hound_walk_next),
+  walk_to_end: walked(hound.hound_walk_to_end),
+  repairer: repaired,
+};
 const answers = [];
 let before = new Uint8Array(0);
 for (const line of fs.readFileSync(0, "latin1").trimEnd().split("\n")) {

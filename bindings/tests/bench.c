@@ -67,9 +67,10 @@ static double ours(char kind, int bits, char how, size_t length) {
         }
     } else if (how == 'r') {
         for (int b = 0; b < BLOCKS; b++) {
-            int64_t n = kind == 'h'   ? hound_read_i16(file, length, (uint64_t)b * BLOCK, shorts_back + b * BLOCK, BLOCK)
-                        : kind == 'i' ? hound_read_i32(file, length, (uint64_t)b * BLOCK, ints_back + b * BLOCK, BLOCK)
-                                      : hound_read_f32(file, length, (uint64_t)b * BLOCK, floats_back + b * BLOCK, BLOCK);
+            uint64_t first = (uint64_t)b * BLOCK;
+            int64_t n = kind == 'h'   ? hound_read_i16(file, length, first, shorts_back + first, BLOCK)
+                        : kind == 'i' ? hound_read_i32(file, length, first, ints_back + first, BLOCK)
+                                      : hound_read_f32(file, length, first, floats_back + first, BLOCK);
             must(n == BLOCK, "reading");
         }
     } else if (how == 'w') {
@@ -78,7 +79,8 @@ static double ours(char kind, int bits, char how, size_t length) {
                                   : hound_write_f32(&spec, floats, ALL, file, sizeof file);
         must(n == (int64_t)length, "writing");
     } else {
-        int64_t n = kind == 'f' ? hound_write_f32(&spec, floats, 0, file, sizeof file) : hound_write_i32(&spec, ints, 0, file, sizeof file);
+        int64_t n = kind == 'f' ? hound_write_f32(&spec, floats, 0, file, sizeof file)
+                                : hound_write_i32(&spec, ints, 0, file, sizeof file);
         for (int b = 0; b < BLOCKS; b++) {
             n = kind == 'h'   ? hound_append_i16(file, sizeof file, (size_t)n, shorts + b * BLOCK, BLOCK)
                 : kind == 'i' ? hound_append_i32(file, sizeof file, (size_t)n, ints + b * BLOCK, BLOCK)
@@ -91,21 +93,29 @@ static double ours(char kind, int bits, char how, size_t length) {
 }
 
 static double theirs(char kind, int bits, char how, size_t length) {
-    memory m = {how == 'r' || how == 'd' ? file : other, how == 'r' || how == 'd' ? (sf_count_t)length : 0, sizeof other, 0};
-    SF_INFO info = {.samplerate = 44100, .channels = 2, .format = (bits > 16 || kind == 'f' ? SF_FORMAT_WAVEX : SF_FORMAT_WAV)
-        | (kind == 'f' ? SF_FORMAT_FLOAT : bits == 8 ? SF_FORMAT_PCM_U8 : bits == 16 ? SF_FORMAT_PCM_16 : bits == 24 ? SF_FORMAT_PCM_24 : SF_FORMAT_PCM_32)};
-    if (how == 'r' || how == 'd') info = (SF_INFO){0};
+    int from_file = how == 'r' || how == 'd';
+    memory m = {from_file ? file : other, from_file ? (sf_count_t)length : 0, sizeof other, 0};
+    int format = kind == 'f'  ? SF_FORMAT_FLOAT
+                 : bits == 8  ? SF_FORMAT_PCM_U8
+                 : bits == 16 ? SF_FORMAT_PCM_16
+                 : bits == 24 ? SF_FORMAT_PCM_24
+                              : SF_FORMAT_PCM_32;
+    format |= bits > 16 || kind == 'f' ? SF_FORMAT_WAVEX : SF_FORMAT_WAV;
+    SF_INFO info = {.samplerate = 44100, .channels = 2, .format = format};
+    if (from_file) info = (SF_INFO){0};
     double start = now();
-    SNDFILE *f = sf_open_virtual(&io, how == 'r' || how == 'd' ? SFM_READ : SFM_WRITE, &info, &m);
+    SNDFILE *f = sf_open_virtual(&io, from_file ? SFM_READ : SFM_WRITE, &info, &m);
     must(f != NULL, "libsndfile opens");
     for (int b = 0; b < BLOCKS; b++) {
         sf_count_t n;
-        if (how == 'r' || how == 'd')
-            n = kind == 'h' ? sf_read_short(f, shorts_back + b * BLOCK, BLOCK) : kind == 'i' ? sf_read_int(f, ints_back + b * BLOCK, BLOCK)
-                                                                                          : sf_read_float(f, floats_back + b * BLOCK, BLOCK);
+        if (from_file)
+            n = kind == 'h'   ? sf_read_short(f, shorts_back + b * BLOCK, BLOCK)
+                : kind == 'i' ? sf_read_int(f, ints_back + b * BLOCK, BLOCK)
+                              : sf_read_float(f, floats_back + b * BLOCK, BLOCK);
         else
-            n = kind == 'h' ? sf_write_short(f, shorts + b * BLOCK, BLOCK) : kind == 'i' ? sf_write_int(f, ints + b * BLOCK, BLOCK)
-                                                                                       : sf_write_float(f, floats + b * BLOCK, BLOCK);
+            n = kind == 'h'   ? sf_write_short(f, shorts + b * BLOCK, BLOCK)
+                : kind == 'i' ? sf_write_int(f, ints + b * BLOCK, BLOCK)
+                              : sf_write_float(f, floats + b * BLOCK, BLOCK);
         must(n == BLOCK, "libsndfile's block");
         if (how == 'a') {
             sf_command(f, SFC_UPDATE_HEADER_NOW, NULL, 0);
@@ -138,11 +148,17 @@ int main(void) {
                 if (a < best[0]) best[0] = a;
                 if (b < best[1]) best[1] = b;
             }
-            printf("%s %s %2d bits, %-8s %9.3f %11.3f %7.2f\n", kind == 'h' ? "i16" : kind == 'i' ? "i32" : "f32",
-                   *how == 'r' || *how == 'd' ? "from" : "to", bits, *how == 'r' ? "read" : *how == 'd' ? "decoded" : *how == 'w' ? "written" : "appended", best[0], best[1], best[0] / best[1]);
+            const char *type = kind == 'h' ? "i16" : kind == 'i' ? "i32" : "f32";
+            const char *direction = *how == 'r' || *how == 'd' ? "from" : "to";
+            const char *done = *how == 'r' ? "read" : *how == 'd' ? "decoded" : *how == 'w' ? "written" : "appended";
+            printf("%s %s %2d bits, %-8s %9.3f %11.3f %7.2f\n", type, direction, bits, done, best[0], best[1],
+                   best[0] / best[1]);
         }
         ours(kind, bits, 'r', length);
-        must(kind == 'h' ? !memcmp(shorts, shorts_back, sizeof shorts) : kind == 'i' ? !memcmp(ints, ints_back, sizeof ints) : !memcmp(floats, floats_back, sizeof floats), "what is read");
+        must(kind == 'h'   ? !memcmp(shorts, shorts_back, sizeof shorts)
+             : kind == 'i' ? !memcmp(ints, ints_back, sizeof ints)
+                           : !memcmp(floats, floats_back, sizeof floats),
+             "what is read");
     }
     return 0;
 }

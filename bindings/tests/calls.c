@@ -29,7 +29,9 @@ static int all_are(const uint8_t *bytes, int64_t from, size_t end, int value) {
     return 1;
 }
 
-static uint32_t le32(const uint8_t *p) { return p[0] | (uint32_t)p[1] << 8 | (uint32_t)p[2] << 16 | (uint32_t)p[3] << 24; }
+static uint32_t le32(const uint8_t *p) {
+    return p[0] | (uint32_t)p[1] << 8 | (uint32_t)p[2] << 16 | (uint32_t)p[3] << 24;
+}
 
 static void put32(uint8_t *p, uint32_t value) {
     for (int i = 0; i < 4; i++) p[i] = (uint8_t)(value >> 8 * i);
@@ -50,13 +52,15 @@ static const int32_t ints[4] = {2, -3, 5, -7};
 static const float reals[4] = {2, -3, 5, -7};
 /* One sample of 24 bits: the extensible header, three bytes, and a pad byte. */
 static const uint8_t one[72] = {
-    'R', 'I', 'F', 'F', 64, 0, 0, 0, 'W', 'A', 'V', 'E', 'f', 'm', 't', ' ', 40, 0, 0, 0, 0xfe, 0xff, 1, 0, 0x44, 0xac, 0, 0,
-    0xcc, 4, 2, 0, 3, 0, 24, 0, 22, 0, 24, 0, 1, 0, 0, 0, 1, 0, 0, 0, 0, 0, 0x10, 0, 0x80, 0, 0, 0xaa, 0, 0x38, 0x9b, 0x71,
+    'R', 'I', 'F', 'F', 64, 0, 0, 0, 'W', 'A', 'V', 'E',
+    'f', 'm', 't', ' ', 40, 0, 0, 0, 0xfe, 0xff, 1, 0, 0x44, 0xac, 0, 0, 0xcc, 4, 2, 0, 3, 0, 24, 0,
+    22, 0, 24, 0, 1, 0, 0, 0, 1, 0, 0, 0, 0, 0, 0x10, 0, 0x80, 0, 0, 0xaa, 0, 0x38, 0x9b, 0x71,
     'd', 'a', 't', 'a', 3, 0, 0, 0, 254, 255, 255, 0};
 
 /* The pairs of bits and bytes that are written, and how long their header is. */
 static const struct { uint16_t bits, bytes, format; size_t start; } kinds[] = {
-    {8, 1, HOUND_INT, 44}, {16, 2, HOUND_INT, 44}, {24, 3, HOUND_INT, 68}, {24, 4, HOUND_INT, 68}, {32, 4, HOUND_INT, 68}, {32, 4, HOUND_FLOAT, 68}};
+    {8, 1, HOUND_INT, 44}, {16, 2, HOUND_INT, 44}, {24, 3, HOUND_INT, 68},
+    {24, 4, HOUND_INT, 68}, {32, 4, HOUND_INT, 68}, {32, 4, HOUND_FLOAT, 68}};
 enum { KINDS = sizeof kinds / sizeof *kinds };
 
 static hound_spec spec_of(int kind, uint16_t channels) {
@@ -67,16 +71,19 @@ static hound_spec spec_of(int kind, uint16_t channels) {
 /* The calls of each type, 'h' i16, 'i' i32 and 'f' f32, over the four samples from one on. */
 static int takes(char type, int kind) { return (type == 'f') == (kinds[kind].format == HOUND_FLOAT); }
 static int64_t written(char type, const hound_spec *spec, size_t count, uint8_t *out, size_t capacity) {
-    return type == 'h' ? hound_write_i16(spec, shorts, count, out, capacity)
-         : type == 'i' ? hound_write_i32(spec, ints, count, out, capacity) : hound_write_f32(spec, reals, count, out, capacity);
+    return type == 'h'   ? hound_write_i16(spec, shorts, count, out, capacity)
+           : type == 'i' ? hound_write_i32(spec, ints, count, out, capacity)
+                         : hound_write_f32(spec, reals, count, out, capacity);
 }
 static int64_t appended(char type, uint8_t *file, size_t capacity, size_t used, size_t from, size_t count) {
-    return type == 'h' ? hound_append_i16(file, capacity, used, shorts + from, count)
-         : type == 'i' ? hound_append_i32(file, capacity, used, ints + from, count) : hound_append_f32(file, capacity, used, reals + from, count);
+    return type == 'h'   ? hound_append_i16(file, capacity, used, shorts + from, count)
+           : type == 'i' ? hound_append_i32(file, capacity, used, ints + from, count)
+                         : hound_append_f32(file, capacity, used, reals + from, count);
 }
 static int64_t encoded(char type, const hound_spec *spec, size_t count, uint8_t *out, size_t capacity) {
-    return type == 'h' ? hound_encode_i16(spec, shorts, count, out, capacity)
-         : type == 'i' ? hound_encode_i32(spec, ints, count, out, capacity) : hound_encode_f32(spec, reals, count, out, capacity);
+    return type == 'h'   ? hound_encode_i16(spec, shorts, count, out, capacity)
+           : type == 'i' ? hound_encode_i32(spec, ints, count, out, capacity)
+                         : hound_encode_f32(spec, reals, count, out, capacity);
 }
 
 static void reads(void) {
@@ -111,7 +118,8 @@ static void reads(void) {
 /* Which bits a PCM fmt chunk of each length takes, in whole bytes. */
 static void fmt_chunks(void) {
     for (uint8_t length = 16; length <= 40; length++) for (uint8_t bits = 8; bits <= 64; bits += 8) {
-        uint8_t file[20 + 40 + 8] = {'R', 'I', 'F', 'F', 0, 0, 0, 0, 'W', 'A', 'V', 'E', 'f', 'm', 't', ' ', length, 0, 0, 0, 1, 0, 1, 0, 100, 0, 0, 0};
+        uint8_t file[20 + 40 + 8] = {'R', 'I', 'F',    'F', 0, 0, 0, 0, 'W', 'A', 'V', 'E', 'f', 'm',
+                                     't', ' ', length, 0,   0, 0, 1, 0, 1,   0,   100, 0,   0,   0};
         put32(file + 28, 100u * bits / 8);
         file[32] = bits / 8;
         file[34] = bits;
@@ -138,20 +146,28 @@ static void writes(void) {
     spec.bits_per_sample = 12;
     must(hound_write_i16(&spec, shorts, 3, out, 80) == HOUND_NOT_WRITABLE, "12 bits");
     /* No channel, no rate, a frame of 131070 bytes, and 2^32 bytes a second. */
-    static const hound_spec none[] = {{44100, 0, 16, 0, HOUND_INT}, {0, 1, 16, 0, HOUND_INT}, {1, 65535, 16, 0, HOUND_INT}, {2147483648u, 1, 16, 0, HOUND_INT}};
+    static const hound_spec none[] = {{44100, 0, 16, 0, HOUND_INT},
+                                      {0, 1, 16, 0, HOUND_INT},
+                                      {1, 65535, 16, 0, HOUND_INT},
+                                      {2147483648u, 1, 16, 0, HOUND_INT}};
     for (int i = 0; i < 4; i++)
-        must(hound_write_i16(&none[i], shorts, 0, out, 80) == HOUND_NOT_WRITABLE && hound_size(&none[i], 0) == HOUND_NOT_WRITABLE, "a spec that isn't written");
+        must(hound_write_i16(&none[i], shorts, 0, out, 80) == HOUND_NOT_WRITABLE
+                 && hound_size(&none[i], 0) == HOUND_NOT_WRITABLE,
+             "a spec that isn't written");
     must(!memcmp(out, four, 52), "nothing is written for such a spec");
     hound_spec three = {44100, 1, 24, 0, HOUND_INT};
     int32_t small = -2;
     memset(out, 9, sizeof out);
-    must(hound_write_i32(&three, &small, 1, out, 80) == 72 && !memcmp(out, one, 72) && out[72] == 9, "an extensible header");
+    must(hound_write_i32(&three, &small, 1, out, 80) == 72 && !memcmp(out, one, 72) && out[72] == 9,
+         "an extensible header");
 }
 
 /* Files of each kind, written and appended to in memory of other bytes that is longer than they are: their own
    sizes, their pad byte, and the rest as it was; and what is found in them. */
 static void files_of_each_kind(void) {
-    for (int kind = 0; kind < KINDS; kind++) for (const char *type = "hif"; *type; type++) for (size_t n = 0; n < 4; n++) {
+    for (int kind = 0; kind < KINDS; kind++)
+        for (const char *type = "hif"; *type; type++)
+            for (size_t n = 0; n < 4; n++) {
         if (!takes(*type, kind)) continue;
         hound_spec spec = spec_of(kind, 1);
         size_t start = kinds[kind].start, width = kinds[kind].bytes;
@@ -164,19 +180,27 @@ static void files_of_each_kind(void) {
             uint8_t header[69], sizes[9];
             memset(header, 9, sizeof header);
             memset(sizes, 9, sizeof sizes);
-            must(hound_header(&spec, n, header, start - 1) == HOUND_NO_ROOM && hound_sizes(&spec, start, n, sizes, 7) == HOUND_NO_ROOM, "no room for a header");
+            must(hound_header(&spec, n, header, start - 1) == HOUND_NO_ROOM
+                     && hound_sizes(&spec, start, n, sizes, 7) == HOUND_NO_ROOM,
+                 "no room for a header");
             must(all_are(header, 0, sizeof header, 9) && all_are(sizes, 0, sizeof sizes, 9), "no room changes nothing");
-            must(hound_header(&spec, n, header, sizeof header) == (int64_t)start && !memcmp(header, file, start), "a header");
-            must(hound_sizes(&spec, start, n, sizes, sizeof sizes) == used && le32(sizes) == le32(file + 4) && le32(sizes + 4) == n * width, "two sizes");
-            must(all_are(header, (int64_t)start, sizeof header, 9) && sizes[8] == 9, "the rest after a header and sizes");
+            must(hound_header(&spec, n, header, sizeof header) == (int64_t)start && !memcmp(header, file, start),
+                 "a header");
+            must(hound_sizes(&spec, start, n, sizes, sizeof sizes) == used && le32(sizes) == le32(file + 4)
+                     && le32(sizes + 4) == n * width,
+                 "two sizes");
+            must(all_are(header, (int64_t)start, sizeof header, 9) && sizes[8] == 9,
+                 "the rest after a header and sizes");
             put32(file + 4, 0);
             used = appended(*type, file, sizeof file, (size_t)used, n, more);
             whole(file, used, start, (n + more) * width, "a file that was appended to");
             must(all_are(file, used, sizeof file, 9), "the rest after a file that was appended to");
             hound_info_t info;
-            must(hound_info(file, (size_t)used, &info) == 0 && !memcmp(&info.spec, &spec, sizeof spec), "the spec of a file");
+            must(hound_info(file, (size_t)used, &info) == 0 && !memcmp(&info.spec, &spec, sizeof spec),
+                 "the spec of a file");
             hound_info_t parted;
-            must(walked(hound_walk_next, file, (size_t)used, &parted) == 0 && !memcmp(&parted.spec, &spec, sizeof spec), "the spec, by parts");
+            must(walked(hound_walk_next, file, (size_t)used, &parted) == 0 && !memcmp(&parted.spec, &spec, sizeof spec),
+                 "the spec, by parts");
             must(parted.samples == n + more && parted.data_start == start, "the samples, by parts");
             must(info.samples == n + more && info.data_start == start, "the samples of a file");
             for (int cut = 0; cut < 2; cut++) {
@@ -184,16 +208,21 @@ static void files_of_each_kind(void) {
                 if (cut) put32(file + 4, 0);
                 must(hound_repair(file, (size_t)used, (size_t)used, &found) == used, "the length of a repaired file");
                 must(!memcmp(&found.spec, &spec, sizeof spec) && found.frames == n + more, "what a repair finds");
-                must(found.left_over == 0 && found.state == (cut ? HOUND_CUT_OFF : HOUND_WHOLE), "how a repair finds a file");
+                must(found.left_over == 0 && found.state == (cut ? HOUND_CUT_OFF : HOUND_WHOLE),
+                     "how a repair finds a file");
                 whole(file, used, start, (n + more) * width, "a repaired file");
             }
         }
         /* Containers that fill their memory, and one byte less. */
         uint8_t bytes[16], file[100];
         memset(bytes, 9, sizeof bytes);
-        must(n == 0 || (encoded(*type, &spec, n, bytes, n * width - 1) == HOUND_NO_ROOM && all_are(bytes, 0, sizeof bytes, 9)), "no room for containers");
+        must(n == 0
+                 || (encoded(*type, &spec, n, bytes, n * width - 1) == HOUND_NO_ROOM
+                     && all_are(bytes, 0, sizeof bytes, 9)),
+             "no room for containers");
         must(encoded(*type, &spec, n, bytes, n * width) == (int64_t)(n * width), "containers that fill their memory");
-        must(written(*type, &spec, n, file, sizeof file) > 0 && !memcmp(bytes, file + start, n * width), "the containers of a file");
+        must(written(*type, &spec, n, file, sizeof file) > 0 && !memcmp(bytes, file + start, n * width),
+             "the containers of a file");
         must(all_are(bytes, (int64_t)(n * width), sizeof bytes, 9), "the rest after containers");
     }
 }
@@ -215,15 +244,20 @@ static void errors_of_files(void) {
         hound_repair_t found;
         memset(&found, 7, sizeof found);
         for (size_t more = 1; more <= 3; more++) {
-            must(appended(*type, file, used, used + more, 0, 0) == HOUND_NO_ROOM, "an append where more is used than there is");
-            must(appended(*type, file, used, used + more, 0, 1) == HOUND_NO_ROOM, "an append where more is used than there is");
-            must(hound_repair(file, used, used + more, &found) == HOUND_NO_ROOM, "a repair where more is used than there is");
+            must(appended(*type, file, used, used + more, 0, 0) == HOUND_NO_ROOM,
+                 "an append where more is used than there is");
+            must(appended(*type, file, used, used + more, 0, 1) == HOUND_NO_ROOM,
+                 "an append where more is used than there is");
+            must(hound_repair(file, used, used + more, &found) == HOUND_NO_ROOM,
+                 "a repair where more is used than there is");
         }
         must(found.spec.sample_rate == 0x07070707 && found.state == 0x07070707, "what a failed repair reports");
         must(!memcmp(file, before, sizeof file), "an error changes no file");
         spec.channels = 2;
         must(hound_size(&spec, 3) == HOUND_UNFINISHED_FRAME, "the size of a torn frame");
-        must(written(*type, &spec, 3, file, sizeof file) == HOUND_UNFINISHED_FRAME && !memcmp(file, before, sizeof file), "a torn frame");
+        must(written(*type, &spec, 3, file, sizeof file) == HOUND_UNFINISHED_FRAME
+                 && !memcmp(file, before, sizeof file),
+             "a torn frame");
         used = (size_t)written(*type, &spec, 2, file, sizeof file);
         memcpy(before, file, sizeof file);
         must(appended(*type, file, sizeof file, used, 0, 1) == HOUND_UNFINISHED_FRAME, "half a frame more");
@@ -236,7 +270,8 @@ static void errors_of_files(void) {
    front, a header, the pad byte and the next header, the fields of the fmt chunk, the header of the data. */
 static const uint8_t listed[58] = {
     'R', 'I', 'F', 'F', 50, 0, 0, 0, 'W', 'A', 'V', 'E', 'L', 'I', 'S', 'T', 3, 0, 0, 0, 'a', 'b', 'c', 0,
-    'f', 'm', 't', ' ', 16, 0, 0, 0, 1, 0, 1, 0, 0x44, 0xac, 0, 0, 0x88, 0x58, 1, 0, 2, 0, 16, 0, 'd', 'a', 't', 'a', 2, 0, 0, 0, 7, 0};
+    'f', 'm', 't', ' ', 16, 0, 0, 0, 1, 0, 1, 0, 0x44, 0xac, 0, 0, 0x88, 0x58, 1, 0, 2, 0, 16, 0,
+    'd', 'a', 't', 'a', 2, 0, 0, 0, 7, 0};
 static const struct { uint64_t place; uint32_t length; } parts[] = {{0, 12}, {12, 8}, {23, 9}, {32, 16}, {48, 8}};
 enum { PARTS = sizeof parts / sizeof *parts };
 
@@ -246,10 +281,15 @@ static void walks(void) {
         hound_info_t info;
         memset(&info, 7, sizeof info);
         for (int i = 0; i < PARTS; i++) {
-            must(hound_walk_next(&walk, &info) == 1 && hound_walk_next(&walk, &info) == 1, "a step, and the same again");
-            must(walk.effect.kind == HOUND_READ && walk.effect.place == parts[i].place && walk.effect.length == parts[i].length, "the part that is asked for");
+            must(hound_walk_next(&walk, &info) == 1 && hound_walk_next(&walk, &info) == 1,
+                 "a step, and the same again");
+            must(walk.effect.kind == HOUND_READ && walk.effect.place == parts[i].place
+                     && walk.effect.length == parts[i].length,
+                 "the part that is asked for");
             walk.effect.report = HOUND_FAILED;
-            must(hound_walk_next(&walk, &info) == HOUND_NOT_PERFORMED && hound_walk_next(&walk, &info) == HOUND_NOT_PERFORMED, "a part that can't be read");
+            must(hound_walk_next(&walk, &info) == HOUND_NOT_PERFORMED
+                     && hound_walk_next(&walk, &info) == HOUND_NOT_PERFORMED,
+                 "a part that can't be read");
             walk.effect.report = HOUND_PENDING;
             must(hound_walk_next(&walk, &info) == 1, "a part that is requested again");
             read_part(listed, sizeof listed, &walk.effect);
@@ -257,12 +297,15 @@ static void walks(void) {
         }
         must(hound_walk_next(&walk, &info) == 0, "the last step");
         must(info.data_start == 56 && info.samples == 1 && info.spec.sample_rate == 44100, "what a walk finds");
-        must(info.spec.channels == 1 && info.spec.bits_per_sample == 16 && info.spec.bytes_per_sample == 2 && info.spec.sample_format == HOUND_INT, "the spec of a walk");
+        must(info.spec.channels == 1 && info.spec.bits_per_sample == 16 && info.spec.bytes_per_sample == 2
+                 && info.spec.sample_format == HOUND_INT,
+             "the spec of a walk");
     }
     for (size_t length = 0; length < 56; length++) {
         hound_info_t info;
         memset(&info, 7, sizeof info);
-        must(walked(hound_walk_next, listed, length, &info) == HOUND_ENDED && info.samples == 0x07070707, "a walk that ends early");
+        must(walked(hound_walk_next, listed, length, &info) == HOUND_ENDED && info.samples == 0x07070707,
+             "a walk that ends early");
     }
     uint8_t other[58];
     hound_info_t info;
@@ -276,7 +319,8 @@ static void walks(void) {
     put32(other + 16, 0xfffffff8);
     must(walked(hound_walk_next, other, sizeof other, &info) == HOUND_NO_DATA_CHUNK, "a chunk that ends past 32 bits");
     put32(other + 16, 0xfffffff7);
-    must(walked(hound_walk_next, other, sizeof other, &info) == HOUND_NO_DATA_CHUNK, "a chunk whose pad byte ends past 32 bits");
+    must(walked(hound_walk_next, other, sizeof other, &info) == HOUND_NO_DATA_CHUNK,
+         "a chunk whose pad byte ends past 32 bits");
     put32(other + 16, 0xfffffff6);
     must(walked(hound_walk_next, other, sizeof other, &info) == HOUND_ENDED, "a chunk that is longer than the file");
 }
@@ -297,13 +341,19 @@ static void streams(void) {
     }
     must(walked(hound_walk_next, file, 52, &info) == HOUND_DATA_LENGTH, "a length of no whole samples");
     must(walked(hound_walk_to_end, file, 43, &info) == HOUND_ENDED, "a stream without a whole header");
-    must(hound_whole_frames(&spec, 11) == 8 && hound_whole_frames(&spec, 3) == 0 && hound_whole_frames(&spec, 8) == 8, "whole frames");
-    must(hound_whole_frames(&spec, INT64_MAX) == INT64_MAX - 3 && hound_whole_frames(&spec, UINT64_MAX) == HOUND_TOO_LONG, "many of them");
-    must(hound_guess_data(file, 52) == 44 && hound_guess_data(file, 44) == 44 && hound_guess_data(file, 43) == HOUND_NO_DATA_CHUNK, "a guess");
+    must(hound_whole_frames(&spec, 11) == 8 && hound_whole_frames(&spec, 3) == 0 && hound_whole_frames(&spec, 8) == 8,
+         "whole frames");
+    must(hound_whole_frames(&spec, INT64_MAX) == INT64_MAX - 3
+             && hound_whole_frames(&spec, UINT64_MAX) == HOUND_TOO_LONG,
+         "many of them");
+    must(hound_guess_data(file, 52) == 44 && hound_guess_data(file, 44) == 44
+             && hound_guess_data(file, 43) == HOUND_NO_DATA_CHUNK,
+         "a guess");
     memset(file, 0, 36);
     must(hound_guess_data(file, 52) == 44, "a guess without anything before it");
     file[36] = 'D';
-    must(hound_guess_data(file, 52) == HOUND_NO_DATA_CHUNK && hound_guess_data(file, 0) == HOUND_NO_DATA_CHUNK, "nothing to guess by");
+    must(hound_guess_data(file, 52) == HOUND_NO_DATA_CHUNK && hound_guess_data(file, 0) == HOUND_NO_DATA_CHUNK,
+         "nothing to guess by");
     spec.channels = 0;
     must(hound_whole_frames(&spec, 8) == HOUND_NOT_WRITABLE, "frames of no channel");
     for (uint16_t format = 2; format != 0; format = (uint16_t)(format * 2)) {
@@ -313,25 +363,39 @@ static void streams(void) {
 }
 
 static void eight_bits(void) {
-    hound_spec spec = {8000, 1, 8, 0, HOUND_INT}, wide = {8000, 1, 16, 0, HOUND_INT}, real = {8000, 1, 32, 0, HOUND_FLOAT};
+    hound_spec spec = {8000, 1, 8, 0, HOUND_INT}, wide = {8000, 1, 16, 0, HOUND_INT},
+               real = {8000, 1, 32, 0, HOUND_FLOAT};
     const int8_t samples[4] = {-128, -1, 0, 127};
     const uint8_t bytes[4] = {0, 127, 128, 255}, wider[8] = {0x80, 0xff, 0xff, 0xff, 0, 0, 127, 0};
     uint8_t out[9];
     int8_t back[5] = {9, 9, 9, 9, 9};
     memset(out, 9, sizeof out);
-    must(hound_encode_i8(&spec, samples, 4, out, 9) == 4 && !memcmp(out, bytes, 4) && out[4] == 9, "8 bits from -128 on are bytes from 0 on");
+    must(hound_encode_i8(&spec, samples, 4, out, 9) == 4 && !memcmp(out, bytes, 4) && out[4] == 9,
+         "8 bits from -128 on are bytes from 0 on");
     must(hound_encode_i8(&wide, samples, 4, out, 8) == 8 && !memcmp(out, wider, 8) && out[8] == 9, "8 bits as 16");
-    must(hound_encode_i8(&wide, samples, 4, out, 7) == HOUND_NO_ROOM && hound_encode_i8(&real, samples, 1, out, 9) == HOUND_OTHER_FORMAT, "8 bits that don't fit");
-    must(hound_decode_i8(&spec, bytes, 4, back, 5) == 4 && !memcmp(back, samples, 4) && back[4] == 9, "8 bits, decoded");
-    must(hound_decode_i8(&wide, wider, 8, back, 5) == HOUND_TOO_WIDE && hound_decode_i8(&real, wider, 8, back, 5) == HOUND_OTHER_FORMAT && back[0] == -128, "what 8 bits don't hold");
+    must(hound_encode_i8(&wide, samples, 4, out, 7) == HOUND_NO_ROOM
+             && hound_encode_i8(&real, samples, 1, out, 9) == HOUND_OTHER_FORMAT,
+         "8 bits that don't fit");
+    must(hound_decode_i8(&spec, bytes, 4, back, 5) == 4 && !memcmp(back, samples, 4) && back[4] == 9,
+         "8 bits, decoded");
+    must(hound_decode_i8(&wide, wider, 8, back, 5) == HOUND_TOO_WIDE
+             && hound_decode_i8(&real, wider, 8, back, 5) == HOUND_OTHER_FORMAT && back[0] == -128,
+         "what 8 bits don't hold");
 }
 
 /* One container at a time: the lowest value, the highest, some between, and bytes that have no effect. */
 static void values(void) {
-    must(hound_value_8(0) == -128 && hound_value_8(0x80) == 0 && hound_value_8(0xffffffff) == 127 && hound_value_8(0x100) == -128, "8 bits");
-    must(hound_value_16(0x8000) == -32768 && hound_value_16(0xffff7fff) == 32767 && hound_value_16(0x1fffd) == -3, "16 bits");
-    must(hound_value_24(0x800000) == -8388608 && hound_value_24(0xff7fffff) == 8388607 && hound_value_24(0x1fffffd) == -3, "24 bits");
-    must(hound_value_32(0x80000000) == INT32_MIN && hound_value_32(0x7fffffff) == INT32_MAX && hound_value_32(0xfffffffd) == -3, "32 bits");
+    must(hound_value_8(0) == -128 && hound_value_8(0x80) == 0 && hound_value_8(0xffffffff) == 127
+             && hound_value_8(0x100) == -128,
+         "8 bits");
+    must(hound_value_16(0x8000) == -32768 && hound_value_16(0xffff7fff) == 32767 && hound_value_16(0x1fffd) == -3,
+         "16 bits");
+    must(hound_value_24(0x800000) == -8388608 && hound_value_24(0xff7fffff) == 8388607
+             && hound_value_24(0x1fffffd) == -3,
+         "24 bits");
+    must(hound_value_32(0x80000000) == INT32_MIN && hound_value_32(0x7fffffff) == INT32_MAX
+             && hound_value_32(0xfffffffd) == -3,
+         "32 bits");
 }
 
 /* Scales of 16 bits, 8 and 32: halves go to the even integer, and what is past full scale is clipped and counted. */
@@ -339,7 +403,8 @@ static void scales(void) {
     const int32_t values[5] = {16384, -32768, 32767, 0, 1};
     const float floats[5] = {0.5f, -1, 32767 / 32768.0f, 0, 1 / 32768.0f};
     float out[6] = {9, 9, 9, 9, 9, 9};
-    must(hound_to_f32(values, 5, 16, out, 6) == 5 && !memcmp(out, floats, sizeof floats) && out[5] == 9, "16 bits as floats");
+    must(hound_to_f32(values, 5, 16, out, 6) == 5 && !memcmp(out, floats, sizeof floats) && out[5] == 9,
+         "16 bits as floats");
     must(hound_to_f32(values + 4, 1, 8, out, 6) == 1 && out[0] == 1 / 128.0f, "8 bits as floats");
     const int32_t lowest = INT32_MIN;
     must(hound_to_f32(&lowest, 1, 32, out, 6) == 1 && out[0] == -1, "32 bits as floats");
@@ -348,15 +413,19 @@ static void scales(void) {
     int32_t back[10];
     uint64_t clipped = 77;
     memset(back, 9, sizeof back);
-    must(hound_from_f32(some, 9, 16, back, 10, &clipped) == 9 && !memcmp(back, integers, sizeof integers), "floats as 16 bits");
+    must(hound_from_f32(some, 9, 16, back, 10, &clipped) == 9 && !memcmp(back, integers, sizeof integers),
+         "floats as 16 bits");
     must(clipped == 3 && back[9] == 0x09090909, "what is clipped, and the rest");
     const uint32_t nan = 0x7fc00001;
     float number;
     memcpy(&number, &nan, sizeof number);
     must(hound_from_f32(&number, 1, 24, back, 10, &clipped) == 1 && back[0] == 0 && clipped == 0, "no number");
-    must(hound_from_f32(floats, 5, 16, back, 10, &clipped) == 5 && !memcmp(back, values, sizeof values) && clipped == 0, "what comes back");
+    must(hound_from_f32(floats, 5, 16, back, 10, &clipped) == 5 && !memcmp(back, values, sizeof values) && clipped == 0,
+         "what comes back");
     clipped = 77;
-    must(hound_to_f32(values, 5, 16, out, 4) == HOUND_NO_ROOM && hound_from_f32(some, 9, 16, back, 8, &clipped) == HOUND_NO_ROOM, "no room for scaled samples");
+    must(hound_to_f32(values, 5, 16, out, 4) == HOUND_NO_ROOM
+             && hound_from_f32(some, 9, 16, back, 8, &clipped) == HOUND_NO_ROOM,
+         "no room for scaled samples");
     for (int bits = 0; bits <= 33; bits += 33)
         must(hound_to_f32(values, 5, (uint16_t)bits, out, 6) == HOUND_NOT_WRITABLE
              && hound_from_f32(some, 9, (uint16_t)bits, back, 10, &clipped) == HOUND_NOT_WRITABLE, "no such bits");
@@ -368,15 +437,24 @@ static void sizes_of_none(void) {
     hound_spec spec = {44100, 2, 16, 0, HOUND_INT};
     uint8_t out[44];
     memset(out, 9, sizeof out);
-    must(hound_header(&spec, 3, out, 44) == HOUND_UNFINISHED_FRAME && hound_sizes(&spec, 44, 3, out, 44) == HOUND_UNFINISHED_FRAME, "half a frame");
-    must(hound_header(&spec, 2147483630, out, 44) == HOUND_TOO_LONG && hound_sizes(&spec, 44, 2147483630, out, 44) == HOUND_TOO_LONG, "past 32 bits");
-    must(hound_sizes(&spec, 4294967304, 0, out, 44) == HOUND_TOO_LONG && hound_sizes(&spec, UINT64_MAX, 0, out, 44) == HOUND_TOO_LONG, "data past 4 GiB");
+    must(hound_header(&spec, 3, out, 44) == HOUND_UNFINISHED_FRAME
+             && hound_sizes(&spec, 44, 3, out, 44) == HOUND_UNFINISHED_FRAME,
+         "half a frame");
+    must(hound_header(&spec, 2147483630, out, 44) == HOUND_TOO_LONG
+             && hound_sizes(&spec, 44, 2147483630, out, 44) == HOUND_TOO_LONG,
+         "past 32 bits");
+    must(hound_sizes(&spec, 4294967304, 0, out, 44) == HOUND_TOO_LONG
+             && hound_sizes(&spec, UINT64_MAX, 0, out, 44) == HOUND_TOO_LONG,
+         "data past 4 GiB");
     must(hound_sizes(&spec, 19, 0, out, 44) == HOUND_NOT_WRITABLE, "no file has its data there");
     spec.channels = 0;
-    must(hound_header(&spec, 0, out, 44) == HOUND_NOT_WRITABLE && hound_sizes(&spec, 44, 0, out, 44) == HOUND_NOT_WRITABLE, "no channel");
+    must(hound_header(&spec, 0, out, 44) == HOUND_NOT_WRITABLE
+             && hound_sizes(&spec, 44, 0, out, 44) == HOUND_NOT_WRITABLE,
+         "no channel");
     must(all_are(out, 0, sizeof out, 9), "an error writes nothing");
     spec.channels = 2;
-    must(hound_sizes(&spec, 4294967303, 0, out, 44) == 4294967303 && le32(out) == 4294967295 && le32(out + 4) == 0, "the last place of data");
+    must(hound_sizes(&spec, 4294967303, 0, out, 44) == 4294967303 && le32(out) == 4294967295 && le32(out + 4) == 0,
+         "the last place of data");
 }
 
 static hound_effect effect_of(uint16_t kind, uint64_t place, uint32_t length, uint32_t bytes) {
@@ -385,11 +463,12 @@ static hound_effect effect_of(uint16_t kind, uint64_t place, uint32_t length, ui
     return effect;
 }
 
-/* The effects of a checkpoint of so much data: a sync after a write that failed, a pad byte after an odd length, a sync,
-   the RIFF size, the data length, and a sync; returns how many they are. */
+/* The effects of a checkpoint of so much data: a sync after a write that failed, a pad byte after an odd length, a
+   sync, the RIFF size, the data length, and a sync; returns how many they are. */
 static int effects_of(uint64_t start, uint32_t data, int has_failed, hound_effect *out) {
     hound_effect sync = effect_of(HOUND_SYNC, 0, 0, 0), pad = effect_of(HOUND_WRITE, start + data, 1, 0);
-    hound_effect riff = effect_of(HOUND_WRITE, 4, 4, (uint32_t)(start - 8 + data + data % 2)), length = effect_of(HOUND_WRITE, start - 4, 4, data);
+    hound_effect riff = effect_of(HOUND_WRITE, 4, 4, (uint32_t)(start - 8 + data + data % 2)),
+                 length = effect_of(HOUND_WRITE, start - 4, 4, data);
     int count = 0;
     if (has_failed) out[count++] = sync;
     if (data % 2) out[count++] = pad;
@@ -430,7 +509,8 @@ static void recorders(void) {
         uint8_t file[100], whole_file[100];
         memset(&recorder, 9, sizeof recorder);
         memset(file, 0, sizeof file);
-        must(hound_recorder_begin(&spec, &recorder) == 0 && recorder.data_start == start && recorder.data_length == 0, "a recorder of a new file");
+        must(hound_recorder_begin(&spec, &recorder) == 0 && recorder.data_start == start && recorder.data_length == 0,
+             "a recorder of a new file");
         ends(&recorder, 0, "nothing is requested of a new recorder");
         must(hound_header(&spec, 0, file, sizeof file) == (int64_t)start, "its header");
         for (size_t n = 0, held = 0; held + n <= 4; held += n++) {
@@ -441,11 +521,13 @@ static void recorders(void) {
             must(requests(&recorder, &cut), "a block that failed is cut off");
             recorder.effect.report = n % 2 ? HOUND_FAILED : HOUND_DONE;
             ends(&recorder, HOUND_NEEDS_CHECKPOINT, "a block that failed");
-            must(recorder.data_length == held * width && hound_recorder_write(&recorder, n) == 0, "a block after one that failed");
+            must(recorder.data_length == held * width && hound_recorder_write(&recorder, n) == 0,
+                 "a block after one that failed");
             checkpoint(&recorder, file, 1, -1);
             must(requests(&recorder, &block), "a block after its checkpoint");
             if (n == 1) { /* It isn't reported, and another one is requested. */
-                must(hound_recorder_write(&recorder, n) == 0 && requests(&recorder, &cut), "a block that is given up is cut off");
+                must(hound_recorder_write(&recorder, n) == 0 && requests(&recorder, &cut),
+                     "a block that is given up is cut off");
                 recorder.effect.report = HOUND_DONE;
                 checkpoint(&recorder, file, 1, -1);
                 must(requests(&recorder, &block), "a block after one that was given up");
@@ -496,22 +578,34 @@ static void no_recorders(void) {
     found.data_length = 8, found.length = 65;
     must(hound_recorder_resume(&found, 3, &recorder) == HOUND_TRUNCATED, "a recorder of a file that lacks samples");
     found.length = 70, found.state = HOUND_CUT_OFF, found.frames = 3;
-    must(hound_recorder_resume(&found, HOUND_OVERWRITE, &recorder) == HOUND_IS_CUT_OFF, "a recorder over samples that aren't counted");
+    must(hound_recorder_resume(&found, HOUND_OVERWRITE, &recorder) == HOUND_IS_CUT_OFF,
+         "a recorder over samples that aren't counted");
     found.state = HOUND_HAS_CHUNKS_AFTER_DATA;
     must(hound_recorder_resume(&found, HOUND_MEND, &recorder) == HOUND_CHUNKS_FOLLOW, "a recorder over chunks");
     found.data_start = 19;
     must(hound_recorder_resume(&found, 3, &recorder) == HOUND_NOT_WRITABLE, "no file has its data there");
     must(!memcmp(&recorder, &before, sizeof before), "an error begins no recorder");
-    hound_repair_t byte = {{44100, 1, 8, 1, HOUND_INT}, 2, 0, HOUND_CUT_OFF, 44, 46, 1, 0}; /* another sample, and no pad byte */
-    must(hound_recorder_resume(&byte, 0, &recorder) == HOUND_IS_CUT_OFF && !memcmp(&recorder, &before, sizeof before), "a recorder over a sample");
+    /* Another sample, and no pad byte. */
+    hound_repair_t byte = {{44100, 1, 8, 1, HOUND_INT}, 2, 0, HOUND_CUT_OFF, 44, 46, 1, 0};
+    must(hound_recorder_resume(&byte, 0, &recorder) == HOUND_IS_CUT_OFF && !memcmp(&recorder, &before, sizeof before),
+         "a recorder over a sample");
     found.data_start = 58, found.length = 66, found.state = HOUND_WHOLE, found.frames = 2;
-    hound_effect block = effect_of(HOUND_WRITE_BLOCK, 66, 4, 0), cut = effect_of(HOUND_CUT, 66, 0, 0), after = effect_of(HOUND_CUT, 70, 0, 0);
-    must(hound_recorder_resume(&found, 0, &recorder) == 0 && hound_recorder_write(&recorder, 2) == 0 && requests(&recorder, &block), "a recorder that appends");
+    hound_effect block = effect_of(HOUND_WRITE_BLOCK, 66, 4, 0), cut = effect_of(HOUND_CUT, 66, 0, 0),
+                 after = effect_of(HOUND_CUT, 70, 0, 0);
+    must(hound_recorder_resume(&found, 0, &recorder) == 0 && hound_recorder_write(&recorder, 2) == 0
+             && requests(&recorder, &block),
+         "a recorder that appends");
     found.length = 76, found.state = HOUND_HAS_CHUNKS_AFTER_DATA;
-    must(hound_recorder_resume(&found, HOUND_OVERWRITE, &recorder) == 0 && hound_recorder_write(&recorder, 2) == 0 && requests(&recorder, &cut), "chunks are cut off");
+    must(hound_recorder_resume(&found, HOUND_OVERWRITE, &recorder) == 0 && hound_recorder_write(&recorder, 2) == 0
+             && requests(&recorder, &cut),
+         "chunks are cut off");
     found.length = 71, found.state = HOUND_CUT_OFF, found.frames = 3;
-    must(hound_recorder_resume(&found, HOUND_MEND, &recorder) == 0 && hound_recorder_write(&recorder, 2) == 0 && requests(&recorder, &after), "a recording that was cut off is continued");
-    must(hound_recorder_begin(&spec, &recorder) == 0 && hound_recorder_write(&recorder, 2147483628) == 0 && hound_recorder_next(&recorder) == 1, "as many samples as 32 bits count");
+    must(hound_recorder_resume(&found, HOUND_MEND, &recorder) == 0 && hound_recorder_write(&recorder, 2) == 0
+             && requests(&recorder, &after),
+         "a recording that was cut off is continued");
+    must(hound_recorder_begin(&spec, &recorder) == 0 && hound_recorder_write(&recorder, 2147483628) == 0
+             && hound_recorder_next(&recorder) == 1,
+         "as many samples as 32 bits count");
     must(recorder.effect.place == 44 && recorder.effect.length == 4294967256, "the block of them");
     must(hound_recorder_begin(&spec, &recorder) == 0 && hound_recorder_write(&recorder, 2147483630) == HOUND_TOO_LONG
              && hound_recorder_write(&recorder, UINT64_MAX - 1) == HOUND_TOO_LONG, "samples past 32 bits");
@@ -519,12 +613,15 @@ static void no_recorders(void) {
     ends(&recorder, 0, "an error requests nothing");
     recorder.data_start = 19, hound_recorder_checkpoint(&recorder);
     must(hound_recorder_write(&recorder, 0) == HOUND_NOT_WRITABLE, "a recorder that no call made");
-    hound_recorder_checkpoint(&recorder), ends(&recorder, HOUND_NOT_WRITABLE, "a checkpoint of a recorder that no call made");
+    hound_recorder_checkpoint(&recorder),
+        ends(&recorder, HOUND_NOT_WRITABLE, "a checkpoint of a recorder that no call made");
 }
 
 /* Repairs a file by its effects as by the call over all of it; and what isn't performed. */
 static void repairers(void) {
-    for (int kind = 0; kind < KINDS; kind++) for (size_t length = 0; length < 100; length++) for (uint32_t mode = HOUND_REPAIR; mode <= HOUND_REPAIR_TO_END; mode++) {
+    for (int kind = 0; kind < KINDS; kind++)
+        for (size_t length = 0; length < 100; length++)
+            for (uint32_t mode = HOUND_REPAIR; mode <= HOUND_REPAIR_TO_END; mode++) {
         hound_spec spec = spec_of(kind, 1);
         uint8_t file[101], same[101];
         char type = kinds[kind].format == HOUND_FLOAT ? 'f' : 'i';
@@ -535,12 +632,17 @@ static void repairers(void) {
         hound_repair_t found, whole, looked;
         memset(&found, 7, sizeof found), memset(&whole, 7, sizeof whole), memset(&looked, 7, sizeof looked);
         int64_t by_effects = repaired(file, length, mode, &found);
-        int64_t at_once = (mode == HOUND_REPAIR ? hound_repair : hound_repair_to_end)(same, sizeof same, length, &whole);
-        must(by_effects == at_once && !memcmp(file, same, sizeof same) && !memcmp(&found, &whole, sizeof found), "a repair by its effects");
-        must(mode == HOUND_REPAIR_TO_END || by_effects < 0 || found.state == HOUND_CUT_OFF || repaired(file, length, HOUND_FIND_DAMAGE, &looked) == (int64_t)length, "a look by its effects");
+        int64_t at_once =
+            (mode == HOUND_REPAIR ? hound_repair : hound_repair_to_end)(same, sizeof same, length, &whole);
+        must(by_effects == at_once && !memcmp(file, same, sizeof same) && !memcmp(&found, &whole, sizeof found),
+             "a repair by its effects");
+        must(mode == HOUND_REPAIR_TO_END || by_effects < 0 || found.state == HOUND_CUT_OFF
+                 || repaired(file, length, HOUND_FIND_DAMAGE, &looked) == (int64_t)length,
+             "a look by its effects");
     }
     /* The effects of a file that lacks a pad byte; each may fail. */
-    static const uint16_t order[] = {HOUND_SYNC, HOUND_WRITE, HOUND_SYNC, HOUND_WRITE, HOUND_SYNC, HOUND_WRITE, HOUND_SYNC};
+    static const uint16_t order[] = {HOUND_SYNC, HOUND_WRITE, HOUND_SYNC, HOUND_WRITE,
+                                     HOUND_SYNC, HOUND_WRITE, HOUND_SYNC};
     static const uint64_t places[] = {0, 40, 0, 47, 0, 4, 0};
     for (int fails = 0; fails < 8; fails++) {
         hound_spec spec = {44100, 1, 8, 1, HOUND_INT};
@@ -551,15 +653,20 @@ static void repairers(void) {
         must(hound_write_i16(&spec, three, 3, file, sizeof file) == 48, "three samples");
         file[4] = file[40] = 0;
         hound_repairer_begin(47, HOUND_REPAIR, &repairer);
-        while (hound_repairer_next(&repairer, &found) == 1 && repairer.effect.kind == HOUND_READ) read_part(file, 47, &repairer.effect);
+        while (hound_repairer_next(&repairer, &found) == 1 && repairer.effect.kind == HOUND_READ)
+            read_part(file, 47, &repairer.effect);
         for (int i = 0; i < 7; i++) {
-            must(hound_repairer_next(&repairer, &found) == 1 && repairer.effect.kind == order[i] && repairer.effect.place == places[i], "the effects of a repair");
+            must(hound_repairer_next(&repairer, &found) == 1 && repairer.effect.kind == order[i]
+                     && repairer.effect.place == places[i],
+                 "the effects of a repair");
             repairer.effect.report = i == fails ? HOUND_FAILED : HOUND_DONE;
             if (i == fails) break;
             must(hound_repairer_next(&repairer, &found) == (i < 6), "the next effect of a repair");
         }
         for (int i = 0; i < 2 && fails < 7; i++)
-            must(hound_repairer_next(&repairer, &found) == (order[fails] == HOUND_SYNC ? HOUND_SYNC_FAILED : HOUND_NOT_PERFORMED), "a repair after an effect that failed");
+            must(hound_repairer_next(&repairer, &found)
+                     == (order[fails] == HOUND_SYNC ? HOUND_SYNC_FAILED : HOUND_NOT_PERFORMED),
+                 "a repair after an effect that failed");
     }
 }
 
@@ -569,11 +676,13 @@ static void floats(void) {
     float samples[3], again[3];
     memcpy(samples, patterns, sizeof samples);
     uint8_t out[92];
-    must(hound_write_f32(&spec, samples, 2, out, 92) == 76 && hound_append_f32(out, 92, 76, samples + 2, 1) == 80, "floats");
+    must(hound_write_f32(&spec, samples, 2, out, 92) == 76 && hound_append_f32(out, 92, 76, samples + 2, 1) == 80,
+         "floats");
     must(hound_read_f32(out, 80, 0, again, 3) == 3, "reading floats");
     memcpy(back, again, sizeof back);
     must(!memcmp(back, patterns, sizeof back), "each pattern stays");
-    must(hound_encode_f32(&spec, samples, 3, out, 12) == 12 && hound_decode_f32(&spec, out, 12, again, 3) == 3, "coding floats");
+    must(hound_encode_f32(&spec, samples, 3, out, 12) == 12 && hound_decode_f32(&spec, out, 12, again, 3) == 3,
+         "coding floats");
     must(!memcmp(again, samples, sizeof again), "coded floats");
 }
 
@@ -592,9 +701,12 @@ static void repairs(void) {
     must(hound_write_i16(&spec, shorts, 1, odd, 46) == 46, "a byte and its pad byte");
     odd[4] = 0;
     odd[45] = 7;
-    must(hound_find_damage(odd, 45, &found) == 0 && found.state == HOUND_CUT_OFF && found.frames == 1, "a pad byte is missing");
+    must(hound_find_damage(odd, 45, &found) == 0 && found.state == HOUND_CUT_OFF && found.frames == 1,
+         "a pad byte is missing");
     memset(&found, 7, sizeof found);
-    must(hound_find_damage(odd, 43, &found) == HOUND_ENDED && hound_find_damage(four + 1, 51, &found) == HOUND_NO_RIFF_TAG, "no file");
+    must(hound_find_damage(odd, 43, &found) == HOUND_ENDED
+             && hound_find_damage(four + 1, 51, &found) == HOUND_NO_RIFF_TAG,
+         "no file");
     must(found.frames == 0x07070707 && found.state == 0x07070707, "what an error reports");
     must(hound_repair(odd, 45, 45, &found) == HOUND_NO_ROOM && odd[4] == 0, "no room for a pad byte");
     must(hound_repair(odd, 46, 45, &found) == 46 && odd[45] == 0 && odd[4] == 38, "a pad byte");
@@ -610,27 +722,34 @@ static void repairs_to_the_end(void) {
     memcpy(before + 52, chunk, sizeof chunk);
     memcpy(file, before, sizeof file);
     must(hound_repair(file, 64, 64, &found) == 64 && !memcmp(file, before, 64), "a file that a chunk follows stays");
-    must(found.state == HOUND_HAS_CHUNKS_AFTER_DATA && found.frames == 4 && found.left_over == 0, "a chunk after the data");
-    must(hound_repair_to_end(file, 64, 64, &found) == 64 && !memcmp(file + 44, before + 44, 20), "a chunk is taken for samples");
-    must(found.state == HOUND_CUT_OFF && found.frames == 10 && found.left_over == 0 && found.spec.bytes_per_sample == 2, "what a repair to the end finds");
+    must(found.state == HOUND_HAS_CHUNKS_AFTER_DATA && found.frames == 4 && found.left_over == 0,
+         "a chunk after the data");
+    must(hound_repair_to_end(file, 64, 64, &found) == 64 && !memcmp(file + 44, before + 44, 20),
+         "a chunk is taken for samples");
+    must(found.state == HOUND_CUT_OFF && found.frames == 10 && found.left_over == 0 && found.spec.bytes_per_sample == 2,
+         "what a repair to the end finds");
     whole(file, 64, 44, 20, "a file that was repaired to the end");
     must(hound_repair_to_end(file, 64, 64, &found) == 64 && found.state == HOUND_WHOLE, "a second repair to the end");
     file[22] = 2, file[32] = 4, put32(file + 28, 4 * 44100); /* two channels, and frames of four bytes */
-    must(hound_repair_to_end(file, 64, 63, &found) == 63 && found.frames == 4 && found.left_over == 3, "a torn frame at the end");
+    must(hound_repair_to_end(file, 64, 63, &found) == 63 && found.frames == 4 && found.left_over == 3,
+         "a torn frame at the end");
 
     hound_spec spec = {44100, 1, 8, 0, HOUND_INT};
     must(hound_write_i16(&spec, shorts, 1, before, 64) == 46, "a byte and its pad byte");
-    must(hound_repair_to_end(before, 46, 46, &found) == 46 && found.state == HOUND_WHOLE && found.frames == 1, "a pad byte is no sample");
+    must(hound_repair_to_end(before, 46, 46, &found) == 46 && found.state == HOUND_WHOLE && found.frames == 1,
+         "a pad byte is no sample");
     memcpy(before + 45, chunk, 10);
     memcpy(file, before, sizeof file);
     memset(&found, 7, sizeof found);
     must(hound_repair_to_end(file, 55, 55, &found) == HOUND_NO_ROOM, "a repair to the end without room for a pad byte");
-    must(hound_repair_to_end(file, 55, 56, &found) == HOUND_NO_ROOM, "a repair to the end where more is used than there is");
+    must(hound_repair_to_end(file, 55, 56, &found) == HOUND_NO_ROOM,
+         "a repair to the end where more is used than there is");
     must(hound_repair_to_end(file, 55, 43, &found) == HOUND_ENDED, "a repair to the end of a cut header");
     file[32] = 6, file[34] = 48, put32(file + 28, 6 * 44100); /* bits, in six bytes */
     must(hound_repair_to_end(file, 64, 55, &found) == HOUND_NOT_WRITABLE, "a repair to the end of 48 bits");
     file[32] = 1, file[34] = 8, put32(file + 28, 44100);
-    must(!memcmp(file, before, 64) && found.state == 0x07070707 && found.frames == 0x07070707, "an error of a repair to the end changes nothing");
+    must(!memcmp(file, before, 64) && found.state == 0x07070707 && found.frames == 0x07070707,
+         "an error of a repair to the end changes nothing");
     must(hound_repair_to_end(file, 64, 55, &found) == 56 && found.frames == 11, "a repair to the end of odd data");
     whole(file, 56, 44, 11, "odd data that were repaired to the end");
 }
@@ -642,19 +761,26 @@ static void sizes_of_32_bits(char type, int kind, uint8_t *file, const void *sil
     hound_spec spec = spec_of(kind, 1);
     size_t start = kinds[kind].start, width = kinds[kind].bytes;
     uint64_t most = (UINT32_MAX + (uint64_t)8 - start) / width, length = start + most * width;
-    must(hound_size(&spec, most) == (int64_t)length && hound_size(&spec, most + 1) == HOUND_TOO_LONG, "the longest file");
-    must(hound_size(&spec, (uint64_t)1 << 32) == HOUND_TOO_LONG && hound_size(&spec, UINT64_MAX) == HOUND_TOO_LONG, "more samples than 32 bits count");
-    int64_t code = type == 'h' ? hound_write_i16(&spec, silence, most + 1, file, room)
-                 : type == 'i' ? hound_write_i32(&spec, silence, most + 1, file, room) : hound_write_f32(&spec, silence, most + 1, file, room);
+    must(hound_size(&spec, most) == (int64_t)length && hound_size(&spec, most + 1) == HOUND_TOO_LONG,
+         "the longest file");
+    must(hound_size(&spec, (uint64_t)1 << 32) == HOUND_TOO_LONG && hound_size(&spec, UINT64_MAX) == HOUND_TOO_LONG,
+         "more samples than 32 bits count");
+    int64_t code = type == 'h'   ? hound_write_i16(&spec, silence, most + 1, file, room)
+                   : type == 'i' ? hound_write_i32(&spec, silence, most + 1, file, room)
+                                 : hound_write_f32(&spec, silence, most + 1, file, room);
     must(code == HOUND_TOO_LONG && file[0] == 0, "writing more than 32 bits count");
     must(written(type, &spec, 0, file, room) == (int64_t)start, "a file to append to");
     put32(file + start - 4, (uint32_t)((most - 1) * width));
     must(appended(type, file, room, length - width, 0, 2) == HOUND_TOO_LONG, "two samples where one has room");
-    must(le32(file + 4) == start - 8 && all_are(file, (int64_t)(length - width), room, 0), "sizes past 32 bits change nothing");
-    whole(file, appended(type, file, room, length - width, 1, 1), start, most * width, "the last sample of the longest file");
+    must(le32(file + 4) == start - 8 && all_are(file, (int64_t)(length - width), room, 0),
+         "sizes past 32 bits change nothing");
+    whole(file, appended(type, file, room, length - width, 1, 1), start, most * width,
+          "the last sample of the longest file");
     must(appended(type, file, room, length, 0, 1) == HOUND_TOO_LONG, "a sample after the longest file");
     int32_t back[2] = {0, 9};
-    if (type != 'f') must(hound_read_i32(file, length, most - 1, back, 2) == 1 && back[0] == -3 && back[1] == 9, "the last sample, read");
+    if (type != 'f')
+        must(hound_read_i32(file, length, most - 1, back, 2) == 1 && back[0] == -3 && back[1] == 9,
+             "the last sample, read");
     memset(file, 0, start);
     memset(file + length - width, 0, width);
 }
@@ -662,7 +788,8 @@ static void sizes_of_32_bits(char type, int kind, uint8_t *file, const void *sil
 
 static void long_files(void) {
     hound_spec bytes = spec_of(0, 1); /* of one byte, and a pad byte after an odd number of them */
-    must(hound_size(&bytes, 4294967258) == 4294967302 && hound_size(&bytes, 4294967259) == HOUND_TOO_LONG, "the longest file of 8 bits");
+    must(hound_size(&bytes, 4294967258) == 4294967302 && hound_size(&bytes, 4294967259) == HOUND_TOO_LONG,
+         "the longest file of 8 bits");
 #if SIZE_MAX > 0xffffffff
     size_t room = ((size_t)1 << 32) + 4096;
     uint8_t *file = mmap(NULL, room, PROT_READ | PROT_WRITE, MAP_PRIVATE | MAP_ANONYMOUS | MAP_NORESERVE, -1, 0);
@@ -676,8 +803,12 @@ static void long_files(void) {
     sizes_of_32_bits('f', 5, file, silence, room);
     hound_repair_t found;
     must(written('h', &bytes, 0, file, room) == 44, "a file of no samples");
-    must(hound_repair(file, room, room, &found) == HOUND_TOO_LONG && hound_repair_to_end(file, room, room, &found) == HOUND_TOO_LONG, "a repair past 32 bits");
-    must(hound_repair_to_end(file, room, 4294967303, &found) == HOUND_TOO_LONG && hound_repair_to_end(file, room, 4294967302, &found) == 4294967302, "the longest file that is repaired");
+    must(hound_repair(file, room, room, &found) == HOUND_TOO_LONG
+             && hound_repair_to_end(file, room, room, &found) == HOUND_TOO_LONG,
+         "a repair past 32 bits");
+    must(hound_repair_to_end(file, room, 4294967303, &found) == HOUND_TOO_LONG
+             && hound_repair_to_end(file, room, 4294967302, &found) == 4294967302,
+         "the longest file that is repaired");
     munmap(file, room);
     munmap(silence, room);
 #endif

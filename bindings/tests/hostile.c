@@ -37,7 +37,8 @@ int main(int argc, char **argv) {
         int64_t n = k == 5 ? hound_write_f32(&spec, (const float *)samples, channels * some(6), base, sizeof base)
                            : hound_write_i32(&spec, samples, channels * some(6), base, sizeof base);
         must(n >= 44 && n <= (int64_t)sizeof base, "a file");
-        for (uint32_t j = some(4); j > 0; j--) base[some(some(3) ? 48 : (uint32_t)n)] = (uint8_t)(some(2) ? some(256) : some(5));
+        for (uint32_t j = some(4); j > 0; j--)
+            base[some(some(3) ? 48 : (uint32_t)n)] = (uint8_t)(some(2) ? some(256) : some(5));
         size_t length = some(3) ? (size_t)n : some((uint32_t)n + 1);
         uint8_t *file = end - length;
         memcpy(file, base, length);
@@ -50,25 +51,32 @@ int main(int argc, char **argv) {
                           && parted.data_start == info.data_start), "the same head by parts");
         int32_t of_stream = walked(hound_walk_to_end, file, length, &parted);
         must(of_stream == (code == HOUND_DATA_LENGTH || code == HOUND_FRAME_LENGTH ? 0 : code), "a code of a stream");
-        must(of_stream < 0 || (hound_whole_frames(&parted.spec, length) <= (int64_t)length && parted.samples == 0), "a stream");
+        must(of_stream < 0 || (hound_whole_frames(&parted.spec, length) <= (int64_t)length && parted.samples == 0),
+             "a stream");
         int64_t guessed = hound_guess_data(file, length);
-        must(guessed == HOUND_NO_DATA_CHUNK || (guessed >= 20 && guessed <= (int64_t)length), "a place within the file");
+        must(guessed == HOUND_NO_DATA_CHUNK || (guessed >= 20 && guessed <= (int64_t)length),
+             "a place within the file");
         hound_walk any;
         for (size_t j = 0; j < sizeof any; j++) ((uint8_t *)&any)[j] = (uint8_t)some(some(2) ? 256 : 4);
         int32_t next = hound_walk_next(&any, &parted);
-        must(next <= 1 && next >= HOUND_NOT_PERFORMED && (next != 1 || any.effect.length <= HOUND_EFFECT_BYTES), "a step of any walk");
+        must(next <= 1 && next >= HOUND_NOT_PERFORMED && (next != 1 || any.effect.length <= HOUND_EFFECT_BYTES),
+             "a step of any walk");
         hound_repairer mender;
         hound_repair_t of_any;
         for (size_t j = 0; j < sizeof mender; j++) ((uint8_t *)&mender)[j] = (uint8_t)some(some(3) ? 4 : 256);
         next = hound_repairer_next(&mender, &of_any);
-        must(next <= 1 && next >= HOUND_NOT_PERFORMED && (next != 1 || mender.effect.length <= HOUND_EFFECT_BYTES), "a step of any repairer");
+        must(next <= 1 && next >= HOUND_NOT_PERFORMED && (next != 1 || mender.effect.length <= HOUND_EFFECT_BYTES),
+             "a step of any repairer");
         hound_recorder recorder;
         for (size_t j = 0; j < sizeof recorder; j++) ((uint8_t *)&recorder)[j] = (uint8_t)some(some(4) ? 3 : 256);
         if (some(2)) must(hound_recorder_write(&recorder, some(100)) <= 0, "a block of any recorder");
         else hound_recorder_checkpoint(&recorder);
         next = hound_recorder_next(&recorder);
-        must(next <= 1 && next >= HOUND_CHUNKS_FOLLOW && (next == 1) == (recorder.effect.kind != HOUND_NOTHING), "an effect of any recorder");
-        must(recorder.effect.kind != HOUND_WRITE_BLOCK || recorder.effect.place == recorder.data_start + recorder.data_length, "the place of a block");
+        must(next <= 1 && next >= HOUND_CHUNKS_FOLLOW && (next == 1) == (recorder.effect.kind != HOUND_NOTHING),
+             "an effect of any recorder");
+        must(recorder.effect.kind != HOUND_WRITE_BLOCK
+                 || recorder.effect.place == recorder.data_start + recorder.data_length,
+             "the place of a block");
         size_t room = some(40);
         int16_t *shorts = (int16_t *)(void *)(out_end - 2 * room);
         int32_t *ints = (int32_t *)(void *)(out_end - 4 * room);
@@ -99,14 +107,18 @@ int main(int argc, char **argv) {
         memcpy(base, file, length);
         int64_t mended = hound_repair(base, sizeof base, length, &repaired);
         must(looked == (mended < 0 ? mended : 0), "what is looked at is repaired");
-        must(looked < 0 || (!memcmp(&damage.spec, &repaired.spec, sizeof damage.spec) && damage.frames == repaired.frames
-                            && damage.left_over == repaired.left_over && damage.state == repaired.state), "the same damage");
+        must(looked < 0
+                 || (!memcmp(&damage.spec, &repaired.spec, sizeof damage.spec) && damage.frames == repaired.frames
+                     && damage.left_over == repaired.left_over && damage.state == repaired.state),
+             "the same damage");
         memcpy(base, file, length);
         must(hound_repair_to_end(base, sizeof base, length, &to_end) < 0 ? mended < 0 && !memcmp(copy, base, length)
                  : mended >= 0 && to_end.state != HOUND_HAS_CHUNKS_AFTER_DATA
-                       && (repaired.state == HOUND_HAS_CHUNKS_AFTER_DATA || !memcmp(&repaired, &to_end, sizeof to_end)), "a repair to the end");
+                       && (repaired.state == HOUND_HAS_CHUNKS_AFTER_DATA || !memcmp(&repaired, &to_end, sizeof to_end)),
+             "a repair to the end");
         uint32_t more = some(8);
-        int64_t grown = hound_append_i32(file, length, length, samples, more); /* fits only with nothing to add, or into a pad */
+        /* It fits only with nothing to add, or into a pad byte. */
+        int64_t grown = hound_append_i32(file, length, length, samples, more);
         if (grown < 0) must(!memcmp(copy, file, length), "an error changes nothing");
         else must((size_t)grown <= length && hound_info(file, (size_t)grown, &info) == 0, "what was appended to");
     }

@@ -13,12 +13,16 @@ const memory = new Uint8Array(exports.memory.buffer), view = new DataView(export
 const call = (name, ...words) => Number(exports["hound_" + name](...words.map(BigInt)));
 // The names of the codes, as hound.h has them.
 const header = fs.readFileSync(new URL("../c/hound.h", import.meta.url), "utf8");
-const names = new Map([...header.matchAll(/^ {4}HOUND_(\w+) = (-\d+)/gm)].map(([, name, code]) => [Number(code), name]));
+const coded = [...header.matchAll(/^ {4}HOUND_(\w+) = (-\d+)/gm)];
+const names = new Map(coded.map(([, name, code]) => [Number(code), name]));
 const tried = new Map();
 
 /** What a call of the package gives: its result, or its error's name. */
 async function given(what, promise) {
-  const result = await promise.catch((error) => { if (error instanceof hound.HoundError) return error.code; throw error; });
+  const result = await promise.catch((error) => {
+    if (error instanceof hound.HoundError) return error.code;
+    throw error;
+  });
   tried.set(what, (tried.get(what) ?? 0) + (typeof result !== "string"));
   return result;
 }
@@ -27,40 +31,59 @@ function must(holds, what, bytes, ...values) {
   if (!holds) throw new Error(`${what} differs for ${Buffer.from(bytes).toString("hex")}: ${JSON.stringify(values)}`);
 }
 
-const same = (a, b) => a === b || typeof a !== "string" && typeof b !== "string" && Buffer.compare(Buffer.from(a.buffer, a.byteOffset, a.byteLength), Buffer.from(b.buffer, b.byteOffset, b.byteLength)) === 0;
+const bytesAt = ({ buffer, byteOffset, byteLength }) => Buffer.from(buffer, byteOffset, byteLength);
+const same = (a, b) =>
+  a === b || typeof a !== "string" && typeof b !== "string" && bytesAt(a).equals(bytesAt(b));
 const bytesOf = async (one) => one instanceof Blob ? new Uint8Array(await one.arrayBuffer()) : one;
 const put = (bytes) => memory.fill(0, file).set(bytes, file);
 
 async function compare(bytes, kind) {
   put(bytes);
   const code = call("info", file, bytes.length, start), info = await given("info", hound.info(kind));
-  const [channels, bits, format] = [4, 6, 10].map((n) => view.getUint16(start + n, true)), counted = view.getUint32(start + 12, true);
-  if (code < 0) must(info === names.get(code), "info", bytes, info, code);
-  else must(info.frames * channels === counted && info.dataStart === Number(view.getBigUint64(start + 16, true)) && info.sampleRate === view.getUint32(start, true), "info", bytes, info);
+  const [channels, bits, format] = [4, 6, 10].map((n) => view.getUint16(start + n, true));
+  const counted = view.getUint32(start + 12, true);
+  if (code < 0) {
+    must(info === names.get(code), "info", bytes, info, code);
+  } else {
+    const isRead = info.frames * channels === counted && info.sampleRate === view.getUint32(start, true);
+    must(isRead && info.dataStart === Number(view.getBigUint64(start + 16, true)), "info", bytes, info);
+  }
 
   for (const [type, [array, suffix]] of Object.entries(ARRAYS)) {
     const isScaled = suffix === "f32" && code === 0 && format === 0; // Integers that are read as floats.
-    const count = call(isScaled ? "read_i32" : "read_" + suffix, file, bytes.length, 0, out, ROOM / 4), read = await given("read", hound.read(kind, { type }));
+    const count = call(isScaled ? "read_i32" : "read_" + suffix, file, bytes.length, 0, out, ROOM / 4);
+    const read = await given("read", hound.read(kind, { type }));
     if (isScaled && count > 0) exports.hound_to_f32(BigInt(out), BigInt(count), bits, BigInt(scaled), BigInt(count));
     const whole = count - count % channels;
-    const expected = count < 0 ? names.get(count) : count > 0 && whole === 0 ? "TRUNCATED" : new array(memory.buffer, isScaled ? scaled : out, whole);
+    const samples = () => new array(memory.buffer, isScaled ? scaled : out, whole);
+    const expected = count < 0 ? names.get(count) : count > 0 && whole === 0 ? "TRUNCATED" : samples();
     must(same(read, expected), "read", bytes, type, read, expected);
   }
 
   for (const [what, toEnd] of [["repair", false], ["repair_to_end", true]]) {
     put(bytes);
-    const found = await given(what, hound.repair(kind, { toEnd })), length = call(what, file, bytes.length + 1, bytes.length, start);
-    if (length < 0) must(found === names.get(length), what, bytes, found, length);
-    else must(found.frames === view.getUint32(start + 12, true) && found.leftOver === view.getUint32(start + 16, true) && same(await bytesOf(found.file), memory.subarray(file, file + length)), what, bytes, found);
+    const found = await given(what, hound.repair(kind, { toEnd }));
+    const length = call(what, file, bytes.length + 1, bytes.length, start);
+    if (length < 0) {
+      must(found === names.get(length), what, bytes, found, length);
+      continue;
+    }
+    const [frames, leftOver] = [12, 16].map((n) => view.getUint32(start + n, true));
+    const isFound = found.frames === frames && found.leftOver === leftOver;
+    const isSame = isFound && same(await bytesOf(found.file), memory.subarray(file, file + length));
+    must(isSame, what, bytes, found);
   }
 
   put(bytes);
-  const samples = new Int16Array(code < 0 || channels > 64 ? 0 : 2 * channels).fill(100), longer = await given("append", hound.append(kind, samples, { overwrite: true }));
+  const samples = new Int16Array(code < 0 || channels > 64 ? 0 : 2 * channels).fill(100);
+  const longer = await given("append", hound.append(kind, samples, { overwrite: true }));
   if (longer === "IS_CUT_OFF") return;
   new Int16Array(memory.buffer, out, samples.length).set(samples);
   const size = call("append_i16", file, bytes.length + MORE, bytes.length, out, samples.length);
   // Where two errors hold, either is returned.
-  must(size < 0 ? typeof longer === "string" : same(await bytesOf(longer), memory.subarray(file, file + size)), "append", bytes, longer, size);
+  const isSame = size < 0 ? typeof longer === "string" :
+    same(await bytesOf(longer), memory.subarray(file, file + size));
+  must(isSame, "append", bytes, longer, size);
 }
 
 let files = 0, last = "";
@@ -71,5 +94,8 @@ for (const line of fs.readFileSync(0, "latin1").split("\n")) {
   const bytes = new Uint8Array(Buffer.from(last, "hex"));
   await compare(bytes, files++ % 2 ? new Blob([bytes]) : bytes);
 }
-for (const what of ["info", "read", "repair", "repair_to_end", "append"]) must(tried.get(what) >= 50, what, [], tried.get(what));
-console.log(`package: ${files} files, and of these ${[...tried].map(([what, count]) => `${count} ${what}`).join(", ")} without an error`);
+for (const what of ["info", "read", "repair", "repair_to_end", "append"]) {
+  must(tried.get(what) >= 50, what, [], tried.get(what));
+}
+const counts = [...tried].map(([what, count]) => `${count} ${what}`).join(", ");
+console.log(`package: ${files} files, and of these ${counts} without an error`);

@@ -1,10 +1,11 @@
 #!/usr/bin/env python3
-"""The programs of bindings/c, compiled for another system or processor, beside those of this one: what they print, their
-status, and each file have to be the same, byte for byte. Then two of them at one file, one that is killed and whose file
-is repaired, how often a durable file is synced, a file of 3 GB, and other names. With --wrong their wrong versions for Windows have to be found.
+"""The programs of bindings/c, compiled for another system or processor, beside those of this one: what they print,
+their status, and each file have to be the same, byte for byte. Then two of them at one file, one that is killed and
+whose file is repaired, how often a durable file is synced, a file of 3 GB, and other names. With --wrong their wrong
+versions for Windows have to be found.
 
 usage: programs.py HERE THERE [RUN..]     (folders with cat, record and repair; there with .exe; RUN runs those)
-       programs.py --wrong HERE SCRATCH RUN LIBRARY COMPILER..     (the compiler's words, for programs of that library)"""
+       programs.py --wrong HERE SCRATCH RUN LIBRARY COMPILER..     (the compiler's words, to link that library)"""
 import os
 import random
 import shutil
@@ -25,9 +26,15 @@ DATA = b"\r\n\x1a" * 40 + random.Random(5).randbytes(4000)
 WRONG = {
     "standard input is a text": ("_setmode(descriptor, _O_BINARY)", "(void)descriptor"),
     "a file is a text": ("_O_RDWR | _O_BINARY", "_O_RDWR | _O_TEXT"),
-    "no lock": ("if (LockFileEx((HANDLE)_get_osfhandle(descriptor), LOCKFILE_EXCLUSIVE_LOCK | LOCKFILE_FAIL_IMMEDIATELY, 0, 1, 0, &place)) return 0;", "return 0;"),
-    "places of 32 bits": ("_lseeki64(descriptor, (__int64)place, SEEK_SET)", "_lseek(descriptor, (long)place, SEEK_SET)"),
-    "lengths of 32 bits": ("(uint64_t)about.st_size, *is_regular = (about.st_mode & _S_IFMT)", "(uint32_t)about.st_size & 0x7FFFFFFF, *is_regular = (about.st_mode & _S_IFMT)"),
+    "no lock": ("if (LockFileEx((HANDLE)_get_osfhandle(descriptor), how, 0, 1, 0, &place)) return 0;", "return 0;"),
+    "places of 32 bits": (
+        "_lseeki64(descriptor, (__int64)place, SEEK_SET)",
+        "_lseek(descriptor, (long)place, SEEK_SET)",
+    ),
+    "lengths of 32 bits": (
+        "(uint64_t)about.st_size, *is_regular = (about.st_mode & _S_IFMT)",
+        "(uint32_t)about.st_size & 0x7FFFFFFF, *is_regular = (about.st_mode & _S_IFMT)",
+    ),
     "nothing is synced": ("return _commit(descriptor);", "return (void)descriptor, 0;"),
     "nothing is cut off": ("_chsize_s(descriptor, (__int64)length)", "((void)length, (void)descriptor, 0)"),
     "paths of the code page": ("CP_UTF8, MB_ERR_INVALID_CHARS, path", "CP_ACP, 0, path"),
@@ -63,7 +70,8 @@ class Programs:
             file.write(contents)
 
     def begun(self, name, *words):
-        return subprocess.Popen([*self.words[name], *words], stdin=subprocess.PIPE, stdout=subprocess.PIPE, stderr=subprocess.PIPE, cwd=self.folder)
+        pipes = dict.fromkeys(("stdin", "stdout", "stderr"), subprocess.PIPE)
+        return subprocess.Popen([*self.words[name], *words], cwd=self.folder, **pipes)
 
     def ran(self, name, *words, data=b""):
         """The status, what is printed, and the file."""
@@ -89,7 +97,8 @@ def check_same(here, there):
     def same(name, *words, data=b"", status=0):
         nonlocal count
         wanted, got = here.ran(name, *words, data=data), there.ran(name, *words, data=data)
-        expect(f"{name} {' '.join(words)}: {wanted!r} here, and there {got!r}"[:2000], wanted == got and wanted[0] == status)
+        is_same = wanted == got and wanted[0] == status
+        expect(f"{name} {' '.join(words)}: {wanted!r} here, and there {got!r}"[:2000], is_same)
         count += 1
 
     for bits, channels, every in SHAPES:
@@ -124,9 +133,11 @@ def check_two(one):
     """Two programs at one file: the second one changes nothing."""
     os.remove(one.path)
     recorder = one.recording()
-    for name, words in ("record", ["8000", "2", "16", "9", "--append"]), ("record", ["8000", "2", "16", "9", "--overwrite"]), ("repair", []):
+    form = ["8000", "2", "16", "9"]
+    for name, words in ("record", [*form, "--append"]), ("record", [*form, "--overwrite"]), ("repair", []):
         status, output, said, _ = one.ran(name, "take.wav", *words, data=bytes(4000))
-        expect(f"{name} {words} isn't rejected: {status} {output!r} {said!r}", (status, output) == (1, b"") and LOCKED in said)
+        is_rejected = (status, output) == (1, b"") and LOCKED in said
+        expect(f"{name} {words} isn't rejected: {status} {output!r} {said!r}", is_rejected)
     recorder.communicate()
     expect("the first recorder lost samples", recorder.returncode == 0 and one.contents()[44:] == DATA)
     expect("a lock outlives its program", one.ran("repair", "take.wav")[0] == 0)
@@ -135,8 +146,10 @@ def check_two(one):
 def syncs(one):
     """How often the system stores the file of a durable recording."""
     log = one.path + ".log"
-    words = ["strace", "-f", "-y", "-qq", "-o", log, "-e", "trace=fsync", *one.words["record"], "take.wav", "8000", "2", "16", "100"]
-    subprocess.run([*words, "--overwrite", "--durable"], input=DATA, cwd=one.folder, stdout=subprocess.DEVNULL, stderr=subprocess.DEVNULL, timeout=20)
+    words = ["strace", "-f", "-y", "-qq", "-o", log, "-e", "trace=fsync", *one.words["record"], "take.wav"]
+    words += ["8000", "2", "16", "100", "--overwrite", "--durable"]
+    none = subprocess.DEVNULL
+    subprocess.run(words, input=DATA, cwd=one.folder, stdout=none, stderr=none, timeout=20)
     with open(log) as file:
         return file.read().count("take.wav>")
 
@@ -192,7 +205,8 @@ def check_names(here, there):
 def check(here, folder, scratch, run, ending=".exe"):
     """What was tried."""
     with tempfile.TemporaryDirectory(dir=scratch) as work:
-        one, other = Programs(here, os.path.join(work, "here")), Programs(folder, os.path.join(work, "there"), run, ending)
+        one = Programs(here, os.path.join(work, "here"))
+        other = Programs(folder, os.path.join(work, "there"), run, ending)
         # While a program runs, wine needs no seconds to start another; what it starts with the first has its output.
         with other.recording("first.wav") as first:
             count = check_same(one, other)
@@ -234,7 +248,9 @@ def main():
         if words[0] == "--wrong":
             check_wrong(words[1], words[2], words[3:4], words[4], words[5:])
         else:
-            print(f"programs: {check(words[0], words[1], None, words[2:])} runs of cat, record and repair are the same; two at one file, a kill, syncs, 3 GB, other names")
+            runs = check(words[0], words[1], None, words[2:])
+            tried = "two at one file, a kill, syncs, 3 GB, other names"
+            print(f"programs: {runs} runs of cat, record and repair are the same; {tried}")
     except Wrong as error:
         sys.exit(f"programs: {error}")
 

@@ -33,7 +33,8 @@ from interruptions import Interrupted, Interruption, in_threads  # noqa: E402
 
 # What every file holds, from its first sample on: bytes from 129 on, so that no zero, pad byte or tag is
 # among them, and each sample is negative (but those of 8 bits, which are positive).
-STREAM = random.Random(1).getrandbits(8 << 21).to_bytes(1 << 21, "little").translate(bytes(129 + byte % 127 for byte in range(256)))
+NO_ZEROS = bytes(129 + byte % 127 for byte in range(256))
+STREAM = random.Random(1).getrandbits(8 << 21).to_bytes(1 << 21, "little").translate(NO_ZEROS)
 LIST = b"LIST" + struct.pack("<I", 26) + b"INFOISFT" + struct.pack("<I", 14) + b"Lavf59.27.100\0"
 
 
@@ -274,7 +275,11 @@ def task(work, case, first, count):
 def record(work, path, case, first, count, times):
     """Records so many blocks, and prints how many frames each checkpoint has."""
     durable = "durable" in work
-    with hound.create(path, 44100, case.channels, 8 * case.width, durable) if "create" in work else hound.append_to(path, durable) as writer:
+    if "create" in work:
+        writer = hound.create(path, 44100, case.channels, 8 * case.width, durable)
+    else:
+        writer = hound.append_to(path, durable)
+    with writer:
         for end in range(first + count, first + count * times + 1, count):
             writer.write(samples_of(case, end - count, count))
             writer.flush()
@@ -314,7 +319,8 @@ TRIED = ["right"]  # The version of the package in the programs.
 
 def words(path, task, times=1, control=None):
     place = CASES.index(task.case)
-    return [sys.executable, "-S", __file__, "program", control or TRIED[0], task.work, path, str(place), str(task.first), str(task.count), str(times)]
+    numbers = map(str, (place, task.first, task.count, times))
+    return [sys.executable, "-S", __file__, "program", control or TRIED[0], task.work, path, *numbers]
 
 
 def leave(path, contents):
@@ -389,7 +395,8 @@ def each_call(folder, task, faults, names=None, control="right"):
                 when = f"signal=KILL:when={number}" if kind == "KILL" else f"error={kind}:when={number}{on}"
                 runs += 1
                 try:
-                    path, status, _ = traced(folder, task, control, "-e", f"trace={name}", "-e", f"inject={name}:{when}")
+                    injected = ["-e", f"trace={name}", "-e", f"inject={name}:{when}"]
+                    path, status, _ = traced(folder, task, control, *injected)
                     # A file that can't be closed may have all.
                     is_as_promised(path, task, status, what, not on and name != "close")
                 except Wrong as error:
@@ -398,8 +405,9 @@ def each_call(folder, task, faults, names=None, control="right"):
 
 
 def order(folder):
-    """The calls of an append to odd data that makes them odd again: the samples, and then a checkpoint, which writes the
-    pad byte and the sizes. One that is durable syncs between. Where chunks are cut off, a checkpoint follows that."""
+    """The calls of an append to odd data that makes them odd again: the samples, and then a checkpoint, which writes
+    the pad byte and the sizes. One that is durable syncs between. Where chunks are cut off, a checkpoint follows
+    that."""
     works = ("append", "durable", "durable overwrite")
     for case in CASES[1], CASES[5]:
         start = len(head(case, 0))
@@ -558,7 +566,8 @@ def interrupt_changes(folder, step):
             if work in ("overwrite", "repair"):  # The chunks may be cut off; a repair is done again.
                 look(path, case, 100, 151, f"{one}, interrupted at {at}, {interruption.place}", one.after)
             elif contents not in (one.before, one.done):
-                raise Wrong(f"{one}, interrupted at {at}, {interruption.place}: the file is neither the old nor the new one")
+                at_place = f"{one}, interrupted at {at}, {interruption.place}"
+                raise Wrong(f"{at_place}: the file is neither the old nor the new one")
             runs += 1
             if interruption.place is None:
                 break

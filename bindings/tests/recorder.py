@@ -1,7 +1,7 @@
 #!/usr/bin/env python3
 """Tries what bindings/c/record.c does at the edges of a recording: files that exist, a folder that can't be synced, two
-programs on one file, an output that nobody reads, an input without bytes yet or that ends within a frame, disks that are
-full, and files that can't be appended to. Each of its wrong versions has to be found.
+programs on one file, an output that nobody reads, an input without bytes yet or that ends within a frame, disks that
+are full, and files that can't be appended to. Each of its wrong versions has to be found.
 
 usage: recorder.py     (with cc; as root it also tries a folder that can't be read, and a disk that fills up)"""
 import os
@@ -22,26 +22,56 @@ DATA = bytes(range(1, 251)) * 16  # 1,000 whole frames of two channels with 16 b
 # Wrong versions of record.c: a part, and what is in its place.
 WRONG = {
     "a file that exists is emptied": ("is_emptied ? O_CREAT : O_CREAT | O_EXCL", "O_CREAT"),
-    "a file is emptied before its folder is synced": ("open(path, flags | O_RDWR | O_CLOEXEC, 0666)", "open(path, flags | O_RDWR | (flags ? O_TRUNC : 0), 0666)"),
-    "a file that isn't recorded to stays": ("give_up(file, path, is_made, HOUND_NOT_PERFORMED)", "give_up(file, path, 0, HOUND_NOT_PERFORMED)"),
-    "a file without a header stays": ("give_up(file, path, !is_emptied, HOUND_NOT_PERFORMED)", "give_up(file, path, 0, HOUND_NOT_PERFORMED)"),
+    "a file is emptied before its folder is synced": (
+        "open(path, flags | O_RDWR | O_CLOEXEC, 0666)",
+        "open(path, flags | O_RDWR | (flags ? O_TRUNC : 0), 0666)",
+    ),
+    "a file that isn't recorded to stays": (
+        "give_up(file, path, is_made, HOUND_NOT_PERFORMED)",
+        "give_up(file, path, 0, HOUND_NOT_PERFORMED)",
+    ),
+    "a file without a header stays": (
+        "give_up(file, path, !is_emptied, HOUND_NOT_PERFORMED)",
+        "give_up(file, path, 0, HOUND_NOT_PERFORMED)",
+    ),
     "no lock": ("flock(descriptor, LOCK_EX | LOCK_NB)", "0"),
     "an output that nobody reads ends it": ("signal(SIGPIPE, SIG_IGN);", ""),
     "an input without bytes yet is at its end": ("errno == EAGAIN || errno == EWOULDBLOCK", "0"),
-    "a torn frame isn't reported": ('if (torn > 0) complain("the input ends within a frame, which isn\'t recorded");', ""),
+    "a torn frame isn't reported": (
+        'if (torn > 0) complain("the input ends within a frame, which isn\'t recorded");',
+        "",
+    ),
     "a fault has no reason": ("if (code < 0 && file.fault) complain(hound_file_text(&file, code));", ""),
-    "another fault than the first is the reason": ("else if (file->fault == 0) file->fault = errno;", "else file->fault = errno;"),
-    "a rest of a block isn't reported": ('if (file.has_rest) complain("a part of a block that was lost stays in the file");', ""),
-    "a file is taken to count samples that no checkpoint counts": ("if (code == 0) file->counted = file->recorder.data_length;", "file->counted = file->recorder.data_length;"),
+    "another fault than the first is the reason": (
+        "else if (file->fault == 0) file->fault = errno;",
+        "else file->fault = errno;",
+    ),
+    "a rest of a block isn't reported": (
+        'if (file.has_rest) complain("a part of a block that was lost stays in the file");',
+        "",
+    ),
+    "a file is taken to count samples that no checkpoint counts": (
+        "if (code == 0) file->counted = file->recorder.data_length;",
+        "file->counted = file->recorder.data_length;",
+    ),
     "a device is taken for a file": ("S_ISREG(about.st_mode)", "1"),
-    "a rejected block isn't cut off": ("case HOUND_CUT: is_done = hound_file_cut(file->descriptor, effect->place) == 0;", "case HOUND_CUT: is_done = 1;"),
-    "a report is taken for done": ("effect->report = is_done ? HOUND_DONE : HOUND_FAILED;", "effect->report = HOUND_DONE;"),
+    "a rejected block isn't cut off": (
+        "case HOUND_CUT: is_done = hound_file_cut(file->descriptor, effect->place) == 0;",
+        "case HOUND_CUT: is_done = 1;",
+    ),
+    "a report is taken for done": (
+        "effect->report = is_done ? HOUND_DONE : HOUND_FAILED;",
+        "effect->report = HOUND_DONE;",
+    ),
     "a recording that was cut off is overwritten": ("HOUND_MEND, is_durable", "HOUND_OVERWRITE, is_durable"),
     "chunks after the data are overwritten": ("HOUND_MEND, is_durable", "HOUND_MEND | HOUND_OVERWRITE, is_durable"),
 }
 
 # A version that is right: of three reports two are lost, so that each effect is performed three times.
-LOST = ("effect->report = is_done ? HOUND_DONE : HOUND_FAILED;", "static int number; effect->report = !is_done ? HOUND_FAILED : ++number % 3 ? HOUND_PENDING : HOUND_DONE;")
+LOST = (
+    "effect->report = is_done ? HOUND_DONE : HOUND_FAILED;",
+    "static int number; effect->report = !is_done ? HOUND_FAILED : ++number % 3 ? HOUND_PENDING : HOUND_DONE;",
+)
 
 
 class Wrong(Exception):
@@ -91,8 +121,10 @@ def exists(record, path):
     before = contents_of(path)
     expect("it records over a file", is_rejected(run([record, path, *SHAPE]), b"the file exists"))
     expect("a file that is there changes", contents_of(path) == before)
-    expect("--overwrite fails", run([record, path, *SHAPE, "--overwrite"], DATA[:400]).returncode == 0 and counted_in(path) == 200)
-    expect("--append fails", run([record, path, *SHAPE, "--append"], DATA[400:800]).returncode == 0 and counted_in(path) == 400)
+    ran = run([record, path, *SHAPE, "--overwrite"], DATA[:400])
+    expect("--overwrite fails", ran.returncode == 0 and counted_in(path) == 200)
+    ran = run([record, path, *SHAPE, "--append"], DATA[400:800])
+    expect("--append fails", ran.returncode == 0 and counted_in(path) == 400)
 
 
 def folder_without_leave(record, path):
@@ -165,7 +197,8 @@ def slow_input(record, path):
 
 
 def cut_off(record, path):
-    """A recording that was killed: its header counts fewer frames than the file holds, and a part of one is at its end."""
+    """A recording that was killed: its header counts fewer frames than the file holds, and a part of one is at its
+    end."""
     run([record, path, *SHAPE], DATA[:400])
     with open(path, "ab") as file:
         file.write(DATA[400:803])
@@ -179,9 +212,20 @@ def torn_frame(record, path):
     expect("its whole frames aren't counted", counted_in(path) == len(DATA) // 2 - 2)
 
 
+def failing(path, injected):
+    """The words by which a call of the system on this file fails."""
+    call = injected.split(":")[0]
+    return ["strace", "-qq", "-o", "/dev/null", "-P", path, "-e", f"trace={call}", "-e", f"inject={injected}"]
+
+
 def limit(length):
     """No file may be longer."""
-    return lambda: (signal.signal(signal.SIGXFSZ, signal.SIG_IGN), resource.setrlimit(resource.RLIMIT_FSIZE, (length, length)))
+
+    def limited():
+        signal.signal(signal.SIGXFSZ, signal.SIG_IGN)
+        resource.setrlimit(resource.RLIMIT_FSIZE, (length, length))
+
+    return limited
 
 
 def full_disk(record, path):
@@ -197,8 +241,7 @@ def full_disk(record, path):
 
 def failing_cut(record, path):
     """The part of a block that is there can't be cut off."""
-    words = ["strace", "-qq", "-o", "/dev/null", "-P", path, "-e", "trace=ftruncate", "-e", "inject=ftruncate:error=EIO"]
-    ran = run([*words, record, path, *SHAPE], DATA[:1000], preexec_fn=limit(544))
+    ran = run([*failing(path, "ftruncate:error=EIO"), record, path, *SHAPE], DATA[:1000], preexec_fn=limit(544))
     expect("the first fault isn't said", ran.returncode == 1 and ran.stderr.startswith(b"record: File too large\n"))
     expect("what stays isn't said", b"record: a part of a block that was lost stays in the file\n" in ran.stderr)
     expect("the part isn't there", os.path.getsize(path) == 544 > 44 + 2 * counted_in(path))
@@ -206,9 +249,10 @@ def failing_cut(record, path):
 
 def failing_header(record, path):
     """No size of the header can be written after the first checkpoint, as on a disk that fails."""
-    ran = run(["strace", "-qq", "-o", "/dev/null", "-P", path, "-e", "trace=pwrite64", "-e", "inject=pwrite64:error=EIO:when=6+", record, path, *SHAPE])
+    ran = run([*failing(path, "pwrite64:error=EIO:when=6+"), record, path, *SHAPE])
     counted = counted_in(path)
-    expect("why samples aren't counted isn't said", ran.returncode == 1 and b"record: Input/output error\n" in ran.stderr)
+    is_said = b"record: Input/output error\n" in ran.stderr
+    expect("why samples aren't counted isn't said", ran.returncode == 1 and is_said)
     expect("how many are counted isn't said", b"record: the header counts only %d samples" % counted in ran.stderr)
 
 
@@ -224,11 +268,24 @@ def not_appended(record, path):
     os.mkfifo(path)
     for words in ["--append"], ["--overwrite"]:
         expect("a pipe is recorded to", is_rejected(run([record, path, *SHAPE, *words]), b"this is no regular file"))
-    expect("a device is recorded to", is_rejected(run([record, "/dev/null", *SHAPE, "--overwrite"]), b"this is no regular file"))
+    ran = run([record, "/dev/null", *SHAPE, "--overwrite"])
+    expect("a device is recorded to", is_rejected(ran, b"this is no regular file"))
     expect("a pipe isn't left", stat.S_ISFIFO(os.stat(path).st_mode))
 
 
-CHECKS = [exists, folder_without_leave, two_programs, closed_output, slow_input, cut_off, torn_frame, full_disk, failing_cut, failing_header, not_appended]
+CHECKS = [
+    exists,
+    folder_without_leave,
+    two_programs,
+    closed_output,
+    slow_input,
+    cut_off,
+    torn_frame,
+    full_disk,
+    failing_cut,
+    failing_header,
+    not_appended,
+]
 
 
 def first_failure(record):

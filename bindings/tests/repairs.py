@@ -1,8 +1,8 @@
 #!/usr/bin/env python3
-"""Repairs files by bindings/c/repair.c, or by the example `repair` of bindings/hound, beside the model of hound_rows and the
-Python package, which has to write and sync the same: those of the rows, and files that are cut off at each byte. Then each of its calls of the system is
-killed or fails, and from these calls the states are built that a loss of power may leave; each is repaired again. Wrong
-versions have to be found.
+"""Repairs files by bindings/c/repair.c, or by the example `repair` of bindings/hound, beside the model of hound_rows
+and the Python package, which has to write and sync the same: those of the rows, and files that are cut off at each
+byte. Then each of its calls of the system is killed or fails, and from these calls the states are built that a loss of
+power may leave; each is repaired again. Wrong versions have to be found.
 
 usage: repairs.py [cargo]     (with the package hound_bindings on the path, strace, and cc or cargo)"""
 import fcntl
@@ -31,34 +31,55 @@ STATES = dict(zip(("whole", "cut_off", "followed"), SAID))
 WRITES = ("write", "pwrite64")
 TAG = b"TAG" + bytes(125)
 # Wrong versions of it: a part, and what is in its place.
-SYNC, REPORT = "is_done = !file->is_durable || hound_file_sync(file->descriptor) == 0;", "effect->report = is_done ? HOUND_DONE : HOUND_FAILED;"
+SYNC = "is_done = !file->is_durable || hound_file_sync(file->descriptor) == 0;"
+REPORT = "effect->report = is_done ? HOUND_DONE : HOUND_FAILED;"
 MODE, BEGIN = "is_to_end ? HOUND_REPAIR_TO_END : HOUND_REPAIR", "hound_repairer_begin(length, mode, &repairer);"
 # A version that is right: of three reports two are lost, so that each effect is performed three times.
-LOST = REPORT, "static int number; effect->report = !is_done ? HOUND_FAILED : ++number % 3 ? HOUND_PENDING : HOUND_DONE;"
+LOST = (
+    REPORT,
+    "static int number; effect->report = !is_done ? HOUND_FAILED : ++number % 3 ? HOUND_PENDING : HOUND_DONE;",
+)
 WRONG = {
     "no sync": (SYNC, "is_done = 1;"),
     "a sync that fails is ignored": (SYNC, "is_done = (hound_file_sync(file->descriptor), 1);"),
     "a write that fails is ignored": (REPORT, "effect->report = HOUND_DONE;"),
-    "a write that is left out": ("is_done = hound_file_write_at(file->descriptor, effect->bytes, effect->length, effect->place) == 0;", "is_done = 1;"),
-    "a write at the end": ("pwrite(descriptor, bytes, count, (off_t)place)", "((void)place, lseek(descriptor, 0, SEEK_END), write(descriptor, bytes, count))"),
+    "a write that is left out": (
+        "is_done = hound_file_write_at(file->descriptor, effect->bytes, effect->length, effect->place) == 0;",
+        "is_done = 1;",
+    ),
+    "a write at the end": (
+        "pwrite(descriptor, bytes, count, (off_t)place)",
+        "((void)place, lseek(descriptor, 0, SEEK_END), write(descriptor, bytes, count))",
+    ),
     "a file is only looked at": (MODE, "HOUND_FIND_DAMAGE"),
     "--to-end without an effect": (MODE, "HOUND_REPAIR"),
     "a file with chunks after the data is written": (MODE, "HOUND_REPAIR_TO_END"),
     "a length that isn't the file's": (BEGIN, BEGIN.replace("length", "length + 1")),
-    "a short write isn't continued": ("if (more > 0) done += (size_t)more;\n        else if (more == 0) return errno = EIO, -1;", "if (more > 0) break;\n        else if (more == 0) return errno = EIO, -1;"),
-    "a read that fails is ignored": ("else if (more == 0) return (int64_t)done;\n        else if (errno != EINTR) return -1;", "else if (more == 0 || errno != EINTR) return (int64_t)done;"),
+    "a short write isn't continued": (
+        "if (more > 0) done += (size_t)more;\n        else if (more == 0) return errno = EIO, -1;",
+        "if (more > 0) break;\n        else if (more == 0) return errno = EIO, -1;",
+    ),
+    "a read that fails is ignored": (
+        "else if (more == 0) return (int64_t)done;\n        else if (errno != EINTR) return -1;",
+        "else if (more == 0 || errno != EINTR) return (int64_t)done;",
+    ),
     "an error ends with status 0": ('why), 1)); }', 'why), 0)); }'),
     "no lock": ("flock(descriptor, LOCK_EX | LOCK_NB)", "0"),
 }
 if IN_CARGO:
-    SYNC, WRITE, REPORT = "medium.sync()", "Kind::Write => write_at(medium, place, self.bytes()),", "Err(_) => self.failed(),"
-    BEGIN, WRITTEN = "hound_repairer_begin(length, mode as u32,", "Err(io::ErrorKind::WriteZero.into()),\n            Ok(more) => count += more,\n"
+    SYNC, REPORT = "medium.sync()", "Err(_) => self.failed(),"
+    WRITE = "Kind::Write => write_at(medium, place, self.bytes()),"
+    BEGIN = "hound_repairer_begin(length, mode as u32,"
+    WRITTEN = "Err(io::ErrorKind::WriteZero.into()),\n            Ok(more) => count += more,\n"
     INTERRUPTED = "            Err(error) if error.kind() == io::ErrorKind::Interrupted => {}\n"
     READ = "            Err(error) => return Err(error),\n        }\n    }\n    Ok(count)"
     WRONG = {
         "no sync": (SYNC, "Ok(())"),
         "a sync that fails is ignored": (SYNC, SYNC + ".or(Ok(()))"),
-        "a write that fails is ignored": (REPORT, REPORT.replace("Err(_)", "Err(_) if self.kind() == Kind::Read") + " Err(_) => self.done(),"),
+        "a write that fails is ignored": (
+            REPORT,
+            REPORT.replace("Err(_)", "Err(_) if self.kind() == Kind::Read") + " Err(_) => self.done(),",
+        ),
         "a write that is left out": (WRITE, "Kind::Write => Ok(()),"),
         "a write at another place": (WRITE, WRITE.replace("place", "place + 1")),
         "a file is only looked at": (BEGIN, BEGIN.replace("mode as u32", "mode as u32 * 0")),
@@ -77,7 +98,8 @@ def compiled(folder, text):
         copy = os.path.join(folder, "bindings")
         for part in "hound", "rust", "lib":
             ignored = shutil.ignore_patterns("target")
-            shutil.copytree(os.path.join(TOP, "bindings", part), os.path.join(copy, part), ignore=ignored, dirs_exist_ok=True)
+            source, target = os.path.join(TOP, "bindings", part), os.path.join(copy, part)
+            shutil.copytree(source, target, ignore=ignored, dirs_exist_ok=True)
         with open(os.path.join(copy, SOURCE), "w") as file:
             file.write(text)
         words = ["cargo", "build", "-q", "--offline", "--example", "repair", "--target-dir", copy]
@@ -206,8 +228,8 @@ def check_errors(program, path):
     return 7
 
 
-# What is killed, or whose calls fail: such a file, others with half frames or a pad byte that is missing, one with a head
-# of 6 pages, and one that ends as if with a chunk.
+# What is killed, or whose calls fail: such a file, others with half frames or a pad byte that is missing, one with a
+# head of 6 pages, and one that ends as if with a chunk.
 CALLED = [
     ("mend", CUT_OFF),
     ("mend", head(CASES[2], 300) + STREAM[: 3 * 1099]),
@@ -223,10 +245,11 @@ def traced(program, path, before, how, *options):
     writes, and all that strace says."""
     leave(path, before)
     log = path + ".log"
-    # Rust takes no notice of these where they fail: the sizes, the flags and the end of a file. A lock that can't be had
-    # since there are none is no error, either.
+    # Rust takes no notice of these where they fail: the sizes, the flags and the end of a file. A lock that can't be
+    # had since there are none is no error, either.
     options = ["-e", "trace=!statx,fcntl,close,flock", *options]
-    words = ["strace", "-qq", "-xx", "-o", log, "-P", path, *options, *(program if isinstance(program, list) else [program]), path, *WAYS[how]]
+    words = program if isinstance(program, list) else [program]
+    words = ["strace", "-qq", "-xx", "-o", log, "-P", path, *options, *words, path, *WAYS[how]]
     ran = ended(words)
     said = contents_of(log).decode()
     calls, at = [], 0
@@ -293,8 +316,8 @@ def check_calls(program, path, how, before):
 
 
 def check_losses(program, path, how, before):
-    """Builds from the calls what a loss of power may leave: any of the writes since the last sync. Of the file as it was
-    found only what its header counts was synced."""
+    """Builds from the calls what a loss of power may leave: any of the writes since the last sync. Of the file as it
+    was found only what its header counts was synced."""
     _, calls, _ = traced(program, path, before, how)
     start = before.index(b"data") + 8
     end = start + struct.unpack("<I", before[start - 4 : start])[0]
@@ -319,7 +342,8 @@ def check_same(program, path):
         made = []
         for one in program, [sys.executable, "-S", "-c", repair]:
             _, calls, _ = traced(one, path, before, how)
-            made.append([("write", *call[1:]) if call[0] in WRITES else call[0] for call in calls if call[0] in (*WRITES, "fsync", "ftruncate")])
+            changes = [call for call in calls if call[0] in (*WRITES, "fsync", "ftruncate")]
+            made.append([("write", *call[1:]) if call[0] in WRITES else call[0] for call in changes])
         if made[0] != made[1] or not made[0]:
             raise Wrong(f"the Python package makes other changes: {made}")
 

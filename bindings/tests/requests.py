@@ -34,7 +34,8 @@ def of_rows():
 
 def wav(bits, width, is_float, channels, data):
     """A file with a fmt chunk of 16 bytes."""
-    fmt = struct.pack("<HHIIHH", 3 if is_float else 1, channels, 44100, 44100 * channels * width, channels * width, bits)
+    rates = 44100, 44100 * channels * width, channels * width
+    fmt = struct.pack("<HHIIHH", 3 if is_float else 1, channels, *rates, bits)
     body = b"WAVEfmt \x10\0\0\0" + fmt + b"data" + struct.pack("<I", len(data)) + data + b"\0" * (len(data) % 2)
     return b"RIFF" + struct.pack("<I", len(body)) + body
 
@@ -66,14 +67,25 @@ def recorder(some):
 
 def effect(some):
     """An effect, and how it ended."""
-    return struct.pack("<QIHH40s", some.choice((0, 12, 44)), some.choice((0, 4, 8, 12, 40, 99)), some.randrange(7), some.randrange(4), some.randbytes(40))
+    place, length = some.choice((0, 12, 44)), some.choice((0, 4, 8, 12, 40, 99))
+    return struct.pack("<QIHH40s", place, length, some.randrange(7), some.randrange(4), some.randbytes(40))
 
 
 def repairer(some):
     """A repairer as C has it, also one that no call makes."""
     places = [some.choice((0, 44, 60, 200, 2**33, 2**64 - 1)) for _ in range(3)]
-    spec = struct.pack("<IHHHH", 44100, some.randrange(3), some.choice((8, 16, 24, 12)), some.randrange(4), some.randrange(2))
-    numbers = [some.choice((0, 1, 7, 16, 100, 2**32 - 1)), some.choice((0, 12, 24)), some.randrange(12), some.choice((16, 18, 40)), some.randrange(9), some.choice((0, 1, 2, 3, 2**16 + 1)), 0]
+    channels, bits = some.randrange(3), some.choice((8, 16, 24, 12))
+    width, is_float = some.randrange(4), some.randrange(2)
+    spec = struct.pack("<IHHHH", 44100, channels, bits, width, is_float)
+    numbers = [
+        some.choice((0, 1, 7, 16, 100, 2**32 - 1)),
+        some.choice((0, 12, 24)),
+        some.randrange(12),
+        some.choice((16, 18, 40)),
+        some.randrange(9),
+        some.choice((0, 1, 2, 3, 2**16 + 1)),
+        0,
+    ]
     return effect(some) + struct.pack("<QQQ", *places) + spec + struct.pack("<7I", *numbers)
 
 
@@ -81,16 +93,19 @@ def recorded(some, spec):
     """What is found of a file of this spec that has samples."""
     start, counted = some.choice((44, 44, 68, 20, 19, 2**33)), some.choice((0, 1, 6, 12, 2**31, 2**32 - 1))
     length = start + counted + some.choice((-1, 0, 0, 1, 2, 40))
-    return spec + struct.pack("<IIIQQII", counted // 2 + some.randrange(3), some.randrange(3), some.randrange(4), start, length, counted, 0)
+    frames, left_over, state = counted // 2 + some.randrange(3), some.randrange(3), some.randrange(4)
+    return spec + struct.pack("<IIIQQII", frames, left_over, state, start, length, counted, 0)
 
 
 def requests(file, some):
     """The calls over a file, with samples that mostly fit in the bits of a spec."""
     bits, width, is_float = some.choice(PAIRS)
     channels = some.randrange(1, 4)
-    spec = struct.pack("<IHHHH", some.choice((0, 8000, 44100, 2**32 - 1)) if some.random() < 0.2 else 44100, channels, bits, width, is_float)
+    rate = some.choice((0, 8000, 44100, 2**32 - 1)) if some.random() < 0.2 else 44100
+    spec = struct.pack("<IHHHH", rate, channels, bits, width, is_float)
     kept = max(0, min(32, bits if some.random() < 0.8 else 32) - 1)
-    size, used, few = len(file) + FILE + MORE, len(file), some.randrange(COUNT // channels) * channels + (some.random() < 0.1)
+    size, used = len(file) + FILE + MORE, len(file)
+    few = some.randrange(COUNT // channels) * channels + (some.random() < 0.1)
     for suffix, code, most in (("i8", "b", 7), ("i16", "h", 15), ("i32", "i", 31), ("f32", "I", 32)):
         low = 0 if suffix == "f32" else -(2 ** min(kept, most))
         high = 2**32 if suffix == "f32" else 2 ** min(kept, most)
@@ -107,7 +122,8 @@ def requests(file, some):
             yield f"find_damage @{FILE} {used} @{FOUND}"
             yield f"size @{SPEC} {some.choice((few, used, 2**31, 2**64 - 1))}"
             yield f"header @{SPEC} {some.choice((few, used, 2**31))} @{OUT} {some.choice((68, 67, 44, 43))}"
-            yield f"sizes @{SPEC} {some.choice((44, 68, 20, 19, used, 2**33))} {some.choice((few, used, 2**31))} @{OUT} {some.choice((8, 8, 7))}"
+            start, samples = some.choice((44, 68, 20, 19, used, 2**33)), some.choice((few, used, 2**31))
+            yield f"sizes @{SPEC} {start} {samples} @{OUT} {some.choice((8, 8, 7))}"
             for width in (8, 16, 24, 32):
                 yield f"value_{width} #{some.choice((0, 2 ** (width - 1), some.randrange(2**32)))}"
             yield f"recorder_begin @{SPEC} @{FOUND}"
@@ -130,7 +146,8 @@ def requests(file, some):
         if suffix == "i32":
             yield f"to_f32 @{SAMPLES} {few} #{some.choice((bits, 0, 33))} @{OUT} {some.choice((COUNT, few, 0))}"
         if suffix == "f32":
-            yield f"from_f32 @{SAMPLES} {few} #{some.choice((bits, 1, 33))} @{OUT} {some.choice((COUNT, few, 0))} @{FOUND}"
+            to, room = some.choice((bits, 1, 33)), some.choice((COUNT, few, 0))
+            yield f"from_f32 @{SAMPLES} {few} #{to} @{OUT} {room} @{FOUND}"
         for first, count in ((0, ROOM // 4), (some.randrange(9), some.randrange(9)), (2**33, 4)):
             yield f"read_{suffix} @{FILE} {used} {first} @{OUT} {count}"
         for capacity in capacities:

@@ -7,6 +7,7 @@ usage: rows.py [CAT RECORD]     (with the package hound_bindings on the path; CA
 record.c, compiled: then these files are piped through the one, too, and the other records beside the model)"""
 import array
 import ctypes
+import itertools
 import os
 import random
 import struct
@@ -43,7 +44,12 @@ REASONS = {
 }
 WORDS = {f"FormatError({text})": cause for text, cause in REASONS.items()}
 HEAD = {**WORDS, model.ENDED: Cause.ENDED, "Unsupported": Cause.UNSUPPORTED}
-ITEM = {"InvalidSampleFormat": Cause.OTHER_FORMAT, "TooWide": Cause.TOO_WIDE, "Unsupported": Cause.NOT_WRITABLE, model.ENDED: Cause.TRUNCATED}
+ITEM = {
+    "InvalidSampleFormat": Cause.OTHER_FORMAT,
+    "TooWide": Cause.TOO_WIDE,
+    "Unsupported": Cause.NOT_WRITABLE,
+    model.ENDED: Cause.TRUNCATED,
+}
 CODES = list(Cause)
 met = set()
 
@@ -53,13 +59,13 @@ def modelled(data):
     source = model.Fed(data)
     try:
         reader = model.Reader(source)
-    except model.Refused as error:
+    except model.Rejected as error:
         return None, HEAD[str(error)]
     start, samples = source.took, []
     try:
         while (value := reader.next("i32")) is not None:
             samples.append(value)
-    except model.Refused as error:
+    except model.Rejected as error:
         return (reader.spec, start, reader.len, samples), ITEM[str(error)]
     return (reader.spec, start, reader.len, samples), None
 
@@ -122,13 +128,14 @@ def catted_by_model(data, as_floats):
                 out += struct.pack("<f", value / (1 << (bits - 1)))
             else:
                 out += value.to_bytes(2 if kind == "i16" else 4, "little", signed=kind != "f")
-    except model.Refused:
+    except model.Rejected:
         return 1, out
     return 0, out
 
 
 def streamed_by_model(data):
-    """A stream of unknown length with this head, and the same whose header counts its whole frames; or what has no head."""
+    """A stream of unknown length with this head, and the same whose header counts its whole frames; or what has no
+    head."""
     wanted, cause = modelled(data)
     if wanted is None:
         return [] if cause in (Cause.DATA_LENGTH, Cause.FRAME_LENGTH) else [(data, data)]
@@ -136,7 +143,9 @@ def streamed_by_model(data):
     if not spec.is_pair():
         return []  # It is an error also where there is no sample.
     frames = (len(data) - start) // (spec.channels * spec.width) * spec.channels * spec.width
-    return [tuple(data[: start - 4] + struct.pack("<I", count) + data[start:end] for count, end in ((2**32 - 1, None), (frames, start + frames)))]
+    lengths = (2**32 - 1, None), (frames, start + frames)
+    head = data[: start - 4]
+    return [tuple(head + struct.pack("<I", count) + data[start:end] for count, end in lengths)]
 
 
 def check_cat(program, data):
@@ -156,10 +165,10 @@ def file_by_model(spec, data):
 
 
 def check_record(program):
-    """Records PCM with checkpoints, and continues it after its header was set back, as by a kill: each file, and what is
-    printed. A torn frame at the end of the input isn't recorded, and is an error."""
+    """Records PCM with checkpoints, and continues it after its header was set back, as by a kill: each file, and what
+    is printed. A torn frame at the end of the input isn't recorded, and is an error."""
     some, count = random.Random(3), 0
-    for bits, channels, every in [(bits, channels, every) for bits in (8, 16, 24, 32) for channels in (1, 2, 3) for every in (1, 7, 30000)]:
+    for bits, channels, every in itertools.product((8, 16, 24, 32), (1, 2, 3), (1, 7, 30000)):
         spec = model.Spec(channels, 44100, bits, bits // 8, False)
         frame, frames = channels * bits // 8, [some.randrange(3 * min(every, 20000) + 2) for _ in range(2)]
         data = some.randbytes(sum(frames) * frame)
@@ -167,13 +176,16 @@ def check_record(program):
         with tempfile.TemporaryDirectory() as folder:
             path, held = os.path.join(folder, "a.wav"), 0
             for piece, words in zip(pieces, ([], ["--append", "--durable"])):
-                run = subprocess.run([program, path, "44100", str(channels), str(bits), str(every), *words], input=piece + bytes(frame - 1), stdout=subprocess.PIPE, stderr=subprocess.PIPE)
+                words = [program, path, "44100", str(channels), str(bits), str(every), *words]
+                run = subprocess.run(words, input=piece + bytes(frame - 1), capture_output=True)
                 said = [held + n for n in range(every, len(piece) // frame + 1, every)]
                 held += len(piece) // frame
                 lines = [b"%d" % (n * channels) for n in said] + [b"recorded %d samples" % (held * channels), b""]
                 with open(path, "r+b") as file:
-                    if file.read() != file_by_model(spec, data[: held * frame]) or run.returncode != (frame > 1) or run.stdout.split(b"\n") != lines:
-                        sys.exit(f"rows: {program} records another file of {held} frames: {spec}, a checkpoint each {every}, {run}"[:600])
+                    wanted = file_by_model(spec, data[: held * frame]), frame > 1, lines
+                    if (file.read(), run.returncode, run.stdout.split(b"\n")) != wanted:
+                        recorded = f"{held} frames: {spec}, a checkpoint each {every}, {run}"
+                        sys.exit(f"rows: {program} records another file of {recorded}"[:600])
                     file.truncate(len(spec.header(0, 0)) + held * frame)  # no pad byte is there
                     file.seek(0)
                     file.write(spec.header(0, 0))
@@ -188,7 +200,7 @@ def repaired_by_model(how, data):
     """What a repair finds and leaves, or the codes that its error may have; then all stays."""
     try:
         damage = model.Damage(data, how == "mend")
-    except model.Refused as error:
+    except model.Rejected as error:
         text = str(error)
         codes = {"Unsupported": {Cause.UNSUPPORTED, Cause.NOT_WRITABLE}, "TooLong": {Cause.TOO_LONG}}
         return codes.get(text) or {HEAD[text]}, data
@@ -198,7 +210,8 @@ def repaired_by_model(how, data):
 # The calls of the C interface for the repairs of the rows.
 SIZE, POINTER = ctypes.c_size_t, ctypes.c_void_p
 REPAIRS = {
-    how: hound._function(name, POINTER, SIZE, SIZE, POINTER) for how, name in (("mend", "repair"), ("to_end", "repair_to_end"))
+    "mend": hound._function("repair", POINTER, SIZE, SIZE, POINTER),
+    "to_end": hound._function("repair_to_end", POINTER, SIZE, SIZE, POINTER),
 }
 APPEND = hound._function("append_i16", POINTER, SIZE, SIZE, POINTER, SIZE)
 
@@ -253,7 +266,8 @@ def other_codes():
             assert error.cause == cause, error
             met.add(cause)
     file = hound.to_bytes(array.array("h", [1]), 1)
-    with hound.conversion.address(file) as (address, capacity), hound.conversion.address(array.array("h", [1])) as (one, _):
+    samples = array.array("h", [1])
+    with hound.conversion.address(file) as (address, capacity), hound.conversion.address(samples) as (one, _):
         assert APPEND(address, capacity, capacity, one, 1) == -Cause.NO_ROOM
         met.add(Cause.NO_ROOM)
     check_reports()
@@ -282,7 +296,8 @@ def check_reports():
         (56, 2, [-Cause.CHUNKS_FOLLOW, -Cause.CHUNKS_FOLLOW, 0, 0]),
     ):
         found = hound._Repair(spec, (length - 44) // 2, 0, state, 44, length, 4)
-        resumed = [streams._recorder_resume(ctypes.byref(found), allowed, ctypes.byref(recorder)) for allowed in range(4)]
+        begun = ctypes.byref(found), ctypes.byref(recorder)
+        resumed = [streams._recorder_resume(begun[0], allowed, begun[1]) for allowed in range(4)]
         assert resumed == results, (length, state, resumed)
     repairer = hound._Repairer()
     hound._repairer_begin(len(file), hound._REPAIR, ctypes.byref(repairer))
@@ -298,7 +313,8 @@ def main():
     for data in files():
         wanted, got = modelled(data), found(data)
         if got != wanted:
-            sys.exit(f"rows: of {data[:80].hex()} .. ({len(data)} bytes) there is {str(got)[:300]} and not {str(wanted)[:300]}")
+            other = f"there is {str(got)[:300]} and not {str(wanted)[:300]}"
+            sys.exit(f"rows: of {data[:80].hex()} .. ({len(data)} bytes) {other}")
         if len(sys.argv) > 1:
             check_cat(sys.argv[1], data)
         count += 1
@@ -308,7 +324,8 @@ def main():
     missing = [cause.name for cause in CODES if cause not in met]
     if missing:
         sys.exit(f"rows: these codes weren't met: {' '.join(missing)}")
-    print(f"rows: {count} files read, {repairs} repaired and {recorded} recorded as the model says, and each of {len(CODES)} codes met")
+    done = f"{count} files read, {repairs} repaired and {recorded} recorded as the model says"
+    print(f"rows: {done}, and each of {len(CODES)} codes met")
 
 
 if __name__ == "__main__":

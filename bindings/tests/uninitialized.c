@@ -19,28 +19,29 @@ static void must(int holds, const char *what) {
     }
 }
 
-#define TRY(name, type)                                                                                                  \
-    static void try_##name(uint16_t bits, uint16_t bytes, uint16_t format, const type *samples) {                        \
-        hound_spec spec = {44100, 1, bits, bytes, format};                                                               \
-        uint8_t *file = fresh(ROOM), *containers = fresh(ROOM);                                                          \
-        type *back = fresh(2 * COUNT * sizeof *back), *decoded = fresh(COUNT * sizeof *decoded);                         \
-        hound_info_t *info = fresh(sizeof *info);                                                                        \
-        hound_repair_t *found = fresh(sizeof *found);                                                                    \
-        int64_t used = hound_write_##name(&spec, samples, COUNT, file, ROOM);                                            \
-        must(used > 0, "writing");                                                                                       \
-        used = hound_append_##name(file, ROOM, (size_t)used, samples, COUNT);                                            \
-        must(used > 0 && hound_info(file, (size_t)used, info) == 0 && info->samples == 2 * COUNT, "appending");          \
-        must(!memcmp(&info->spec, &spec, sizeof spec) && info->data_start <= 68, "info");                                \
-        must(hound_read_##name(file, (size_t)used, 0, back, 2 * COUNT) == 2 * COUNT, "reading");                         \
-        must(!memcmp(back, samples, COUNT * sizeof *back) && !memcmp(back + COUNT, samples, COUNT * sizeof *back), "the samples"); \
-        memset(file + info->data_start - 4, 0, 4);                                                                       \
-        must(hound_repair(file, ROOM, (size_t)used, found) == used && found->state == HOUND_CUT_OFF, "repairing");       \
-        must(found->frames == 2 * COUNT && found->left_over == 0 && found->spec.channels == 1, "what was repaired");     \
-        must(hound_encode_##name(&spec, samples, COUNT, containers, ROOM) == COUNT * bytes, "encoding");                 \
-        must(hound_decode_##name(&spec, containers, COUNT * bytes, decoded, COUNT) == COUNT, "decoding");                \
-        must(!memcmp(decoded, samples, COUNT * sizeof *decoded), "what is decoded");                                     \
-        must(fwrite(file, 1, (size_t)used, stdout) == (size_t)used, "each byte of the file");                            \
-        free(file), free(containers), free(back), free(decoded), free(info), free(found);                                \
+#define TRY(name, type)                                                                                              \
+    static void try_##name(uint16_t bits, uint16_t bytes, uint16_t format, const type *samples) {                    \
+        hound_spec spec = {44100, 1, bits, bytes, format};                                                           \
+        uint8_t *file = fresh(ROOM), *containers = fresh(ROOM);                                                      \
+        type *back = fresh(2 * COUNT * sizeof *back), *decoded = fresh(COUNT * sizeof *decoded);                     \
+        hound_info_t *info = fresh(sizeof *info);                                                                    \
+        hound_repair_t *found = fresh(sizeof *found);                                                                \
+        int64_t used = hound_write_##name(&spec, samples, COUNT, file, ROOM);                                        \
+        must(used > 0, "writing");                                                                                   \
+        used = hound_append_##name(file, ROOM, (size_t)used, samples, COUNT);                                        \
+        must(used > 0 && hound_info(file, (size_t)used, info) == 0 && info->samples == 2 * COUNT, "appending");      \
+        must(!memcmp(&info->spec, &spec, sizeof spec) && info->data_start <= 68, "info");                            \
+        must(hound_read_##name(file, (size_t)used, 0, back, 2 * COUNT) == 2 * COUNT, "reading");                     \
+        must(!memcmp(back, samples, COUNT * sizeof *back), "the samples");                                           \
+        must(!memcmp(back + COUNT, samples, COUNT * sizeof *back), "the samples that were appended");                \
+        memset(file + info->data_start - 4, 0, 4);                                                                   \
+        must(hound_repair(file, ROOM, (size_t)used, found) == used && found->state == HOUND_CUT_OFF, "repairing");   \
+        must(found->frames == 2 * COUNT && found->left_over == 0 && found->spec.channels == 1, "what was repaired"); \
+        must(hound_encode_##name(&spec, samples, COUNT, containers, ROOM) == COUNT * bytes, "encoding");             \
+        must(hound_decode_##name(&spec, containers, COUNT * bytes, decoded, COUNT) == COUNT, "decoding");            \
+        must(!memcmp(decoded, samples, COUNT * sizeof *decoded), "what is decoded");                                 \
+        must(fwrite(file, 1, (size_t)used, stdout) == (size_t)used, "each byte of the file");                        \
+        free(file), free(containers), free(back), free(decoded), free(info), free(found);                            \
     }
 TRY(i16, int16_t)
 TRY(i32, int32_t)

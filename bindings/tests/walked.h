@@ -42,7 +42,8 @@ static inline int64_t repaired(uint8_t *file, size_t used, uint32_t mode, hound_
         uint64_t end = effect->place + effect->length;
         must(effect->kind == HOUND_READ || mode != HOUND_FIND_DAMAGE, "looking writes nothing");
         if (effect->kind == HOUND_READ) read_part(file, used, effect);
-        if (effect->kind == HOUND_WRITE) must(end <= used + 1, "a place of the file"), memcpy(file + effect->place, effect->bytes, effect->length);
+        if (effect->kind == HOUND_WRITE)
+            must(end <= used + 1, "a place of the file"), memcpy(file + effect->place, effect->bytes, effect->length);
         if (effect->kind == HOUND_WRITE && end > length) length = end;
         effect->report = HOUND_DONE;
     }

@@ -1,5 +1,5 @@
-/* Wrong libraries, for scripts/try_bindings: linked between calls.c and hound_c (by the linker's --wrap), this does what
-   hound_c does, but for the fault that the environment variable FAULT names. calls.c must find each of them. */
+/* Wrong libraries, for scripts/try_bindings: linked between calls.c and hound_c (by the linker's --wrap), this does
+   what hound_c does, but for the fault that the environment variable FAULT names. calls.c must find each of them. */
 #include "hound.h"
 #include <stdlib.h>
 #include <string.h>
@@ -9,7 +9,10 @@ static int has(const char *fault) {
     return name && !strcmp(name, fault);
 }
 
-#define REAL(result, name, parameters) result __real_hound_##name parameters; result __wrap_hound_##name parameters; result __wrap_hound_##name parameters
+#define REAL(result, name, parameters)     \
+    result __real_hound_##name parameters; \
+    result __wrap_hound_##name parameters; \
+    result __wrap_hound_##name parameters
 static void report(hound_spec *spec) {
     if (has("floats are format 7") && spec->sample_format) spec->sample_format = 7;
     if (has("no width")) spec->bytes_per_sample = 0;
@@ -61,13 +64,16 @@ REAL(int32_t, walk_next, (hound_walk *walk, hound_info_t *info)) {
 REAL(int64_t, header, (const hound_spec *spec, uint64_t samples, uint8_t *out, size_t capacity)) {
     int64_t n = __real_hound_header(spec, samples, out, capacity);
     if (n > 0 && has("header without a RIFF size")) memset(out + 4, 0, 4);
-    return n == HOUND_UNFINISHED_FRAME && has("header of torn frames") ? __real_hound_header(spec, samples - 1, out, capacity) : n;
+    return n == HOUND_UNFINISHED_FRAME && has("header of torn frames")
+               ? __real_hound_header(spec, samples - 1, out, capacity)
+               : n;
 }
 
 REAL(int64_t, sizes, (const hound_spec *spec, uint64_t data_start, uint64_t samples, uint8_t *out, size_t capacity)) {
     int64_t n = __real_hound_sizes(spec, data_start, samples, out, capacity);
     uint8_t first[4];
-    if (n > 0 && has("sizes in the other order")) memcpy(first, out, 4), memcpy(out, out + 4, 4), memcpy(out + 4, first, 4);
+    if (n > 0 && has("sizes in the other order"))
+        memcpy(first, out, 4), memcpy(out, out + 4, 4), memcpy(out + 4, first, 4);
     return n > 0 && n % 2 == 0 && has("sizes without a pad byte") ? n - 1 : n;
 }
 
@@ -75,7 +81,8 @@ REAL(int64_t, to_f32, (const int32_t *samples, size_t count, uint16_t bits, floa
     return __real_hound_to_f32(samples, count, has("floats of 16 bits alone") && bits <= 32 ? 16 : bits, out, capacity);
 }
 
-REAL(int64_t, from_f32, (const float *samples, size_t count, uint16_t bits, int32_t *out, size_t capacity, uint64_t *clipped)) {
+REAL(int64_t, from_f32,
+     (const float *samples, size_t count, uint16_t bits, int32_t *out, size_t capacity, uint64_t *clipped)) {
     int64_t n = __real_hound_from_f32(samples, count, bits, out, capacity, clipped);
     if (n >= 0 && has("no clipped sample")) *clipped = 0;
     for (int64_t i = 0; i < n; i++) if (has("halves upwards") && samples[i] == 2.5f / 32768) out[i] = 3;
@@ -105,7 +112,9 @@ REAL(int64_t, size, (const hound_spec *spec, uint64_t samples)) {
 }
 
 REAL(int32_t, recorder_resume, (const hound_repair_t *found, uint32_t allowed, hound_recorder *recorder)) {
-    int32_t code = __real_hound_recorder_resume(found, has("chunks are overwritten") ? allowed | HOUND_OVERWRITE : has("what was cut off is mended") ? allowed | HOUND_MEND : allowed, recorder);
+    if (has("chunks are overwritten")) allowed |= HOUND_OVERWRITE;
+    if (has("what was cut off is mended")) allowed |= HOUND_MEND;
+    int32_t code = __real_hound_recorder_resume(found, allowed, recorder);
     if (code == 0 && has("appending from the first sample")) recorder->data_length = 0;
     if (code == 0 && has("what follows stays")) recorder->has_rest = 0;
     return code;
@@ -120,23 +129,32 @@ REAL(int32_t, recorder_write, (hound_recorder *recorder, uint64_t samples)) {
 
 REAL(int32_t, recorder_next, (hound_recorder *recorder)) {
     uint16_t *report = &recorder->effect.report;
-    if (recorder->effect.kind != HOUND_NOTHING && *report == HOUND_PENDING && has("a report that is lost counts as done")) *report = HOUND_DONE;
-    if (recorder->effect.kind == HOUND_WRITE_BLOCK && *report == HOUND_FAILED && has("a failed write counts")) *report = HOUND_DONE;
+    if (recorder->effect.kind != HOUND_NOTHING && *report == HOUND_PENDING
+        && has("a report that is lost counts as done"))
+        *report = HOUND_DONE;
+    if (recorder->effect.kind == HOUND_WRITE_BLOCK && *report == HOUND_FAILED && has("a failed write counts"))
+        *report = HOUND_DONE;
     if (recorder->condition == 2 && has("a failed sync is forgotten")) recorder->condition = 0;
-    if (recorder->number == 0 && recorder->condition == 1 && has("no sync after a failed write")) recorder->condition = 0;
+    if (recorder->number == 0 && recorder->condition == 1 && has("no sync after a failed write"))
+        recorder->condition = 0;
     int32_t code = __real_hound_recorder_next(recorder);
-    int is_left_out = (recorder->effect.kind == HOUND_CUT && has("no cut")) || (recorder->effect.length == 1 && has("no pad byte in a checkpoint"))
-        || (recorder->effect.kind == HOUND_SYNC && recorder->number < 3 && has("sizes before a sync"));
+    int is_left_out = (recorder->effect.kind == HOUND_CUT && has("no cut"))
+                      || (recorder->effect.length == 1 && has("no pad byte in a checkpoint"))
+                      || (recorder->effect.kind == HOUND_SYNC && recorder->number < 3 && has("sizes before a sync"));
     if (code == 1 && is_left_out) return *report = HOUND_DONE, __real_hound_recorder_next(recorder);
-    if (code == 1 && recorder->effect.kind == HOUND_WRITE_BLOCK && has("place of the header")) recorder->effect.place = recorder->data_start;
+    if (code == 1 && recorder->effect.kind == HOUND_WRITE_BLOCK && has("place of the header"))
+        recorder->effect.place = recorder->data_start;
     return code;
 }
 
 REAL(int32_t, repairer_next, (hound_repairer *repairer, hound_repair_t *found)) {
     uint16_t *report = &repairer->effect.report;
-    if (repairer->effect.kind > HOUND_READ && *report == HOUND_FAILED && has("a repair goes on after a failure")) *report = HOUND_DONE;
+    if (repairer->effect.kind > HOUND_READ && *report == HOUND_FAILED && has("a repair goes on after a failure"))
+        *report = HOUND_DONE;
     int32_t code = __real_hound_repairer_next(repairer, found);
-    int is_left_out = (repairer->effect.kind == HOUND_SYNC && has("a repair without syncs")) || (repairer->effect.length == 1 && repairer->effect.kind == HOUND_WRITE && has("a repair without a pad byte"));
+    int is_left_out =
+        (repairer->effect.kind == HOUND_SYNC && has("a repair without syncs"))
+        || (repairer->effect.length == 1 && repairer->effect.kind == HOUND_WRITE && has("a repair without a pad byte"));
     if (code == 1 && is_left_out) return *report = HOUND_DONE, __real_hound_repairer_next(repairer, found);
     if (code == 0 && has("a repair finds a frame more")) found->frames++;
     if (code == 0 && has("a repair finds another length")) found->length++;
@@ -148,30 +166,35 @@ static int is_odd(const uint8_t *file, size_t length) {
     return __real_hound_info(file, length, &info) == 0 && info.samples * info.spec.bytes_per_sample % 2 == 1;
 }
 
-#define CALLS(name, sample)                                                                                              \
-    REAL(int64_t, write_##name, (const hound_spec *spec, const sample *samples, size_t count, uint8_t *out, size_t capacity)) { \
-        int64_t n = __real_hound_write_##name(spec, samples, count, out, capacity);                                      \
-        if (n == HOUND_UNFINISHED_FRAME && has("write of torn frames")) return __real_hound_write_##name(spec, samples, count - 1, out, capacity); \
-        if (n == HOUND_TOO_LONG && has("write past 32 bits")) return (int64_t)(44 + 2 * count);                          \
-        if (n > 0 && has("write returns the capacity")) return (int64_t)capacity;                                        \
-        return n;                                                                                                        \
-    }                                                                                                                    \
-    REAL(int64_t, append_##name, (uint8_t *file, size_t capacity, size_t used, const sample *samples, size_t count)) {   \
-        if (has("append takes at most the capacity") && used > capacity) used = capacity;                                \
-        if (has("append of nothing") && count == 0 && used <= capacity) return (int64_t)used;                            \
-        int64_t n = __real_hound_append_##name(file, capacity, used, samples, count);                                    \
-        if (n == HOUND_TRUNCATED && has("append takes stale bytes")) return __real_hound_append_##name(file, capacity, capacity, samples, count); \
-        if (n == HOUND_UNFINISHED_FRAME && has("append of torn frames")) return __real_hound_append_##name(file, capacity, used, samples, count - 1); \
-        if (n == HOUND_TOO_LONG && has("append past 32 bits")) return (int64_t)used;                                     \
-        if (n < 0) return n;                                                                                             \
-        if (has("append leaves a RIFF size of 0")) memset(file + 4, 0, 4);                                               \
-        if (has("append leaves no pad byte") && is_odd(file, (size_t)n)) file[n - 1] = 9;                                \
-        if (has("append returns no pad byte") && is_odd(file, (size_t)n)) return n - 1;                                  \
-        return has("append returns the capacity") ? (int64_t)capacity : n;                                               \
-    }                                                                                                                    \
-    REAL(int64_t, encode_##name, (const hound_spec *spec, const sample *samples, size_t count, uint8_t *out, size_t capacity)) { \
-        int64_t n = __real_hound_encode_##name(spec, samples, count, out, capacity);                                     \
-        return n == (int64_t)capacity && has("encode that fills") ? INT64_MAX : n;                             \
+#define CALLS(name, sample)                                                                                            \
+    REAL(int64_t, write_##name,                                                                                        \
+         (const hound_spec *spec, const sample *samples, size_t count, uint8_t *out, size_t capacity)) {               \
+        int64_t n = __real_hound_write_##name(spec, samples, count, out, capacity);                                    \
+        if (n == HOUND_UNFINISHED_FRAME && has("write of torn frames"))                                                \
+            return __real_hound_write_##name(spec, samples, count - 1, out, capacity);                                 \
+        if (n == HOUND_TOO_LONG && has("write past 32 bits")) return (int64_t)(44 + 2 * count);                        \
+        if (n > 0 && has("write returns the capacity")) return (int64_t)capacity;                                      \
+        return n;                                                                                                      \
+    }                                                                                                                  \
+    REAL(int64_t, append_##name, (uint8_t *file, size_t capacity, size_t used, const sample *samples, size_t count)) { \
+        if (has("append takes at most the capacity") && used > capacity) used = capacity;                              \
+        if (has("append of nothing") && count == 0 && used <= capacity) return (int64_t)used;                          \
+        int64_t n = __real_hound_append_##name(file, capacity, used, samples, count);                                  \
+        if (n == HOUND_TRUNCATED && has("append takes stale bytes"))                                                   \
+            return __real_hound_append_##name(file, capacity, capacity, samples, count);                               \
+        if (n == HOUND_UNFINISHED_FRAME && has("append of torn frames"))                                               \
+            return __real_hound_append_##name(file, capacity, used, samples, count - 1);                               \
+        if (n == HOUND_TOO_LONG && has("append past 32 bits")) return (int64_t)used;                                   \
+        if (n < 0) return n;                                                                                           \
+        if (has("append leaves a RIFF size of 0")) memset(file + 4, 0, 4);                                             \
+        if (has("append leaves no pad byte") && is_odd(file, (size_t)n)) file[n - 1] = 9;                              \
+        if (has("append returns no pad byte") && is_odd(file, (size_t)n)) return n - 1;                                \
+        return has("append returns the capacity") ? (int64_t)capacity : n;                                             \
+    }                                                                                                                  \
+    REAL(int64_t, encode_##name,                                                                                       \
+         (const hound_spec *spec, const sample *samples, size_t count, uint8_t *out, size_t capacity)) {               \
+        int64_t n = __real_hound_encode_##name(spec, samples, count, out, capacity);                                   \
+        return n == (int64_t)capacity && has("encode that fills") ? INT64_MAX : n;                                     \
     }
 CALLS(i16, int16_t)
 CALLS(i32, int32_t)

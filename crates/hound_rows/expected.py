@@ -6,7 +6,7 @@ usage: python3 expected.py < stdin > stdout
 
 Each thing that a row speaks of has a class: a reader of bytes (Fed), the media (Tape, Journal), a
 file that is read (Reader) and one that is written (Writer). An error of the library is raised as
-`Refused`, with the words that a row has for it."""
+`Rejected`, with the words that a row has for it."""
 import math
 import re
 import struct
@@ -41,12 +41,12 @@ KNOWN_TAGS = [
 USAGE = b"usage: hound_tool pack CHANNELS RATE BITS | show | append FILE\n"
 
 
-class Refused(Exception):
+class Rejected(Exception):
     """An error of the library, in the words of a row."""
 
 
 def ill_formed(reason):
-    return Refused(f"FormatError({reason})")
+    return Rejected(f"FormatError({reason})")
 
 
 # Words of rows.
@@ -125,7 +125,7 @@ def answer_of(call):
     try:
         found = call()
         return "ok" if found is None else str(found)
-    except Refused as error:
+    except Rejected as error:
         return str(error)
 
 
@@ -182,12 +182,12 @@ def container(kind, value, bits, width):
     """The bytes of a sample."""
     pairs = {"f": PAIRS[4:], "own": PAIRS[1:2]}.get(kind, PAIRS)
     if (bits, width) not in pairs:
-        raise Refused("Unsupported")
+        raise Rejected("Unsupported")
     if kind == "f":
         return value.to_bytes(4, "little")
     half = 1 << ((12 if kind == "own" else bits) - 1)
     if not -half <= value < half:
-        raise Refused("TooWide")
+        raise Rejected("TooWide")
     if bits == 8:
         return bytes([value + 128])
     return value.to_bytes(bits // 8, "little", signed=True) + bytes(width - bits // 8)
@@ -204,13 +204,13 @@ READS = {
 
 
 def look_at_type(kind, spec):
-    """Refuses a type that can't have the samples of a spec."""
+    """Rejects a type that can't have the samples of a spec."""
     if spec.is_float != (kind == "f"):
-        raise Refused("InvalidSampleFormat")
+        raise Rejected("InvalidSampleFormat")
     if spec.width > READS[kind][-1][0]:
-        raise Refused("TooWide")
+        raise Rejected("TooWide")
     if (spec.width, spec.bits) not in READS[kind]:
-        raise Refused("Unsupported")
+        raise Rejected("Unsupported")
 
 
 def meaning(kind, data, bits):
@@ -291,7 +291,7 @@ class Fed:
                 self.stumble = None
         if stop is not None and end > stop:
             self.took = max(self.took, stop)
-            raise Refused(fault)
+            raise Rejected(fault)
         self.took = end
 
     def take(self, count):
@@ -331,7 +331,7 @@ class Tape:
 
     def shift(self, by):
         if not 0 <= self.place + by < 2**64:
-            raise Refused("IoError(InvalidInput)")
+            raise Rejected("IoError(InvalidInput)")
         self.place += by
 
     def get(self, count):
@@ -341,7 +341,7 @@ class Tape:
 
     def put(self, data):
         if self.place + len(data) >= 2**64:
-            raise Refused("IoError(OutOfMemory)")
+            raise Rejected("IoError(OutOfMemory)")
         end = self.place + len(data)
         if len(self.bytes) < end:
             self.bytes.extend(bytes(end - len(self.bytes)))
@@ -379,7 +379,7 @@ class Journal(Tape):
             self.calls.append(name)
         self.number += 1
         if self.fails[0] <= self.number <= self.fails[1]:
-            raise Refused("IoError(Other)")
+            raise Rejected("IoError(Other)")
 
     def go(self, to):
         self.call(f"go{to}")
@@ -437,7 +437,7 @@ class Source:
         while len(found) < count:
             got = self.medium.get(count - len(found))
             if not got:
-                raise Refused(ENDED)
+                raise Rejected(ENDED)
             found += got
             self.took += len(got)
         return found
@@ -478,7 +478,7 @@ def fmt_of(source, length):
     if bits == 0:
         raise ill_formed("bits per sample is 0")
     if tag not in (1, 3, 0xFFFE):
-        raise Refused("Unsupported")
+        raise Rejected("Unsupported")
     if not {1: length in (16, 18, 40), 3: length in (16, 18), 0xFFFE: length >= 40}[tag]:
         raise ill_formed("unexpected fmt chunk size")
     size = source.take(2) if length > 16 else b"\0\0"
@@ -497,7 +497,7 @@ def fmt_of(source, length):
         raise ill_formed("unexpected WAVEFORMATEXTENSIBLE size")
     valid, _, subformat = struct.unpack("<HI16s", source.take(22))
     if subformat not in (PCM, FLOAT):
-        raise Refused("Unsupported")
+        raise Rejected("Unsupported")
     source.skip(length - 40 + length % 2)
     return Spec(channels, rate, valid or bits, width, subformat == FLOAT)
 
@@ -536,10 +536,10 @@ class Reader:
         self.source = source
         self.spec, length = head_of(source)
         if length % self.spec.width != 0:
-            raise Refused(LENGTH_IS_TORN)
+            raise Rejected(LENGTH_IS_TORN)
         self.len = length // self.spec.width
         if self.len % self.spec.channels != 0:
-            raise Refused(FRAME_IS_TORN)
+            raise Rejected(FRAME_IS_TORN)
         # The samples that were counted, and the bytes that they took.
         self.count, self.moved = 0, 0
 
@@ -569,7 +569,7 @@ class Reader:
             while (value := self.next(kind)) is not None:
                 count += 1
                 total += count * value
-        except Refused as error:
+        except Rejected as error:
             return count, signed(total, 64), [str(error)]
         return count, signed(total, 64), []
 
@@ -579,7 +579,7 @@ class Reader:
         for at in range(len(samples)):
             try:
                 value = self.next(kind)
-            except Refused as error:
+            except Rejected as error:
                 return at, [str(error)]
             if value is None:
                 return at, []
@@ -619,7 +619,7 @@ class Writer:
     @staticmethod
     def begin(medium, spec):
         if not spec.is_writable():
-            raise Refused("Unsupported")
+            raise Rejected("Unsupported")
         header = spec.header(0, 0)
         put_all(medium, header)
         return Writer(medium, spec, len(header), 0)
@@ -629,11 +629,11 @@ class Writer:
         source = Source(medium)
         spec, length = head_of(source)
         if length % spec.width != 0:
-            raise Refused(LENGTH_IS_TORN)
+            raise Rejected(LENGTH_IS_TORN)
         if not spec.is_pair():
-            raise Refused("Unsupported")
+            raise Rejected("Unsupported")
         if length // spec.width % spec.channels != 0:
-            raise Refused(FRAME_IS_TORN)
+            raise Rejected(FRAME_IS_TORN)
         writer = Writer(medium, spec, source.took, length)
         writer.look_at_room(0)
         medium.go(source.took + length)
@@ -651,7 +651,7 @@ class Writer:
 
     def look_at_room(self, more):
         if self.size(self.length() + more) > GREATEST:
-            raise Refused("TooLong")
+            raise Rejected("TooLong")
 
     def is_sixteen(self):
         return self.spec.bits == 16 and not self.spec.is_float
@@ -715,7 +715,7 @@ class Writer:
 
     def look_at_frames(self):
         if self.len() % self.spec.channels != 0:
-            raise Refused("UnfinishedSample")
+            raise Rejected("UnfinishedSample")
 
     def flush(self):
         self.publish()
@@ -751,7 +751,7 @@ def row_fill(word, *options):
     fed = Fed(bytes_of(word), options_of(options))
     try:
         answer = ["ok", fed.take(4).hex()]
-    except Refused:
+    except Rejected:
         answer = ["failed" if fed.then == "fails" else "ended"]
     return [*answer, "left", str(len(fed.data) - fed.took)]
 
@@ -766,7 +766,7 @@ class Sink:
 
     def put(self, data):
         if len(self.bytes) >= self.room:
-            raise Refused(self.fault)
+            raise Rejected(self.fault)
         self.bytes += data[: self.takes]
         return min(self.takes, len(data))
 
@@ -866,13 +866,13 @@ def swept(options, run):
 
 
 def read(data, options, asks):
-    """The words of a reader of these bytes and of what it is asked, or of its refusal alone."""
+    """The words of a reader of these bytes and of what is requested of it, or of its error alone."""
     is_medium = "over" in options
     medium = Journal(data, options) if options.get("over") == "journal" else Tape(data)
     source = Source(medium) if is_medium else Fed(data, options)
     try:
         reader = Reader(source)
-    except Refused as error:
+    except Rejected as error:
         return [str(error)] if is_medium else [str(error), ":", "took", str(source.took)]
     items = [item for ask in asks for item in asked(reader, ask)]
     medium.ask({"fail": "1..0", "most": "max"})
@@ -933,7 +933,7 @@ def act(writer, word):
     kind, _, value = word.partition("=")
     if kind in ("batch", "dropped", "begin"):
         if not writer.is_sixteen():
-            raise Refused("Unsupported")
+            raise Rejected("Unsupported")
         if kind == "batch":
             writer.batch(values_of("i16", value))
         else:
@@ -983,7 +983,7 @@ def write(how, word, options, acts, end, first):
         else:
             spec = spec_of(word)
             writer = Writer.begin(medium, spec.with_default_width() if how == "new" else spec)
-    except Refused as error:
+    except Rejected as error:
         is_in_reach = "try" in how or "lent" in options
         seen = [":", *medium.words(), *moments()] if is_in_reach else []
         return [str(error), *seen], medium, None
@@ -1008,7 +1008,7 @@ def run_session(medium, word, steps, end):
     marks = [False] * len(steps)
     try:
         writer = Writer.append(medium) if word == "append" else Writer.begin(medium, spec_of(word))
-    except Refused as error:
+    except Rejected as error:
         return marks, str(error)
     for at, step in enumerate(steps):
         marks[at] = answer_of(lambda: act(writer, step)) in ("ok", "UnfinishedSample")
@@ -1026,7 +1026,7 @@ def reading_of(data):
             reader, field = Reader(fed), data[fed.took - 4 : fed.took]
             count, total, error = reader.sum("f" if reader.spec.is_float else "i32")
             words = [str(count), str(total), *error]
-        except Refused as error:
+        except Rejected as error:
             words, field = [str(error)], data[fed.took - 4 : fed.took]
         if len(words) > 1 or words[0] in (LENGTH_IS_TORN, FRAME_IS_TORN):
             words.insert(0, str(int.from_bytes(field, "little")))
@@ -1124,7 +1124,7 @@ class Damage:
         source = Source(Tape(data))
         self.spec, length = head_of(source)
         if not self.spec.is_pair():
-            raise Refused("Unsupported")
+            raise Rejected("Unsupported")
         self.start, frame = source.took, self.spec.channels * self.spec.width
         self.held = len(data) - self.start
         # Whole frames of an odd length, as the length says, have a pad byte, which is 0.
@@ -1133,7 +1133,7 @@ class Damage:
         self.length = self.frames * frame
         self.size = self.start - 8 + self.length + self.length % 2
         if self.size > GREATEST:
-            raise Refused("TooLong")
+            raise Rejected("TooLong")
         if (length, int.from_bytes(data[4:8], "little")) == (self.length, self.size):
             self.was = "whole"
         elif looks and is_followed(data[self.start :], length):
@@ -1179,7 +1179,7 @@ def begins_chunk(data):
 def repaired(data):
     try:
         return Damage(data, False).mend(data)
-    except Refused:
+    except Rejected:
         return data
 
 
@@ -1187,7 +1187,7 @@ def row_repair(how, word, *options):
     def run(data):
         try:
             found = Damage(data, how != "to_end")
-        except Refused as error:
+        except Rejected as error:
             return [str(error), ":", contents(data)], False
         return [*found.words(), ":", contents(data if how == "look" else found.mend(data))], True
 
@@ -1209,7 +1209,7 @@ def run_sessions(medium, spec, sessions):
         try:
             for step in steps:
                 act(writer, step)
-        except Refused:
+        except Rejected:
             writer.drop()
             raise
         writer.finalize()
@@ -1238,9 +1238,9 @@ def numbers_of(fed):
     *words, last = re.split("[ \t\r\n]+", text)
     for word in words if is_cut and re.fullmatch("-?0*[0-9]{0,9}", last) else [*words, last]:
         if word and not (re.fullmatch("-?[0-9]+", word) and -(2**31) <= int(word) < 2**31):
-            raise Refused("bad number")
+            raise Rejected("bad number")
     if is_cut:
-        raise Refused("IoError(Other)")
+        raise Rejected("IoError(Other)")
     return [int(word) for word in [*words, last] if word]
 
 
@@ -1281,8 +1281,8 @@ def row_tool(*words):
         for piece in pack(fields, fed) if name == "pack" else show(fed):
             output += piece
             if len(output) > room:
-                raise Refused("IoError(Other)")
-    except Refused as error:
+                raise Rejected("IoError(Other)")
+    except Rejected as error:
         line = line_of(str(error)).encode() + b"\n"
     return [str(int(line != b"")), ":", text_of(output[:room]), ":", text_of(line)]
 
@@ -1327,7 +1327,7 @@ def answer(line):
     name, *words = line.split(" ")
     try:
         return " ".join(ROWS[name](*words))
-    except Refused as error:
+    except Rejected as error:
         return str(error)
 
 

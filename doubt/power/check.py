@@ -38,7 +38,8 @@ def letters_of(sectors):
 
 def a_flush_covers_what_was_answered_before_it():
     log = disk.Log([write(0, "a"), write(1, "b"), answer(0), FLUSH, answer(1), write(0, "c"), answer(5), FLUSH])
-    for moment, kept, pending in [(3, {}, [0, 1]), (4, {0: "a"}, [1]), (7, {0: "a"}, [1, 5]), (8, {0: "c", 1: "b"}, [])]:
+    looks = [(3, {}, [0, 1]), (4, {0: "a"}, [1]), (7, {0: "a"}, [1, 5]), (8, {0: "c", 1: "b"}, [])]
+    for moment, kept, pending in looks:
         replay = disk.Disk([], log)
         replay.advance(moment)
         same((letters_of(replay.kept), list(replay.pending)), (kept, pending), f"the disk after {moment} entries")
@@ -67,7 +68,8 @@ def a_disk_is_built_and_its_log_is_kept(folder):
         file.truncate(9 * disk.SECTOR)
         disk.build(file, disk.SECTOR, {0: sector("a"), 1: sector("b"), 6: sector("c")})
     with open(path, "rb") as file:
-        same(file.read(), b"\0" * disk.SECTOR + sector("a") + sector("b") + b"\0" * 4 * disk.SECTOR + sector("c") + b"\0" * disk.SECTOR, "a disk")
+        zeros = b"\0" * disk.SECTOR
+        same(file.read(), zeros + sector("a") + sector("b") + 4 * zeros + sector("c") + zeros, "a disk")
     log = disk.Log([write(3, "ab"), answer(0), FLUSH])
     log.save(path)
     same(disk.Log.load(path).entries, log.entries, "a log that is read")
@@ -92,7 +94,9 @@ def a_write_is_answered_after_the_flush_that_came_meanwhile(folder):
         same(head[:8] + head[16:24], b"NBDMAGIC" + struct.pack(">Q", 2 * disk.SECTOR), "the disk's greeting")
 
         def asked(kind, number, data=b""):
-            return struct.pack(">IHH8sQI", 0x25609513, 0, kind, b"handle%2d" % kind, number * disk.SECTOR, disk.SECTOR if kind < 3 else 0) + data
+            length = disk.SECTOR if kind < 3 else 0
+            head = (0x25609513, 0, kind, b"handle%2d" % kind, number * disk.SECTOR, length)
+            return struct.pack(">IHH8sQI", *head) + data
 
         client.sendall(asked(1, 1, sector("b")) + asked(3, 0) + asked(0, 1))
         handles = []
@@ -101,11 +105,13 @@ def a_write_is_answered_after_the_flush_that_came_meanwhile(folder):
             handles.append(reply[8:16])
         same(handles, [b"handle 3", b"handle 0", b"handle 1"], "the order of answers")
     server.join(10)
-    same((server.fault, [kind for kind, _, _ in server.log.entries]), (None, [disk.WRITE, disk.FLUSH, disk.ANSWER]), "what the disk notes")
+    kinds = [kind for kind, _, _ in server.log.entries]
+    same((server.fault, kinds), (None, [disk.WRITE, disk.FLUSH, disk.ANSWER]), "what the disk notes")
 
 
 def wav(counted, samples):
-    head = b"RIFF" + struct.pack("<I", 36 + 2 * counted) + b"WAVEfmt " + struct.pack("<IHHIIHH", 16, 1, 1, 44100, 88200, 2, 16)
+    fmt = struct.pack("<IHHIIHH", 16, 1, 1, 44100, 88200, 2, 16)
+    head = b"RIFF" + struct.pack("<I", 36 + 2 * counted) + b"WAVEfmt " + fmt
     return head + b"data" + struct.pack(f"<I{len(samples)}h", 2 * counted, *samples)
 
 
@@ -123,13 +129,25 @@ def files_are_judged():
     ]:
         same(power.fault_of(data, least, most) is not None, is_wrong, f"a file of {data}")
     torn = wav(2, [0, 1, 2, 0])
-    for after, is_wrong in [(wav(4, [0, 1, 2, 0]), False), (torn, False), (wav(1, [0, 1, 2, 0]), True), (wav(3, [0, 1, 2, 0]), True), (wav(4, [0, 1, 2, 3]), True)]:
+    for after, is_wrong in [
+        (wav(4, [0, 1, 2, 0]), False),
+        (torn, False),
+        (wav(1, [0, 1, 2, 0]), True),
+        (wav(3, [0, 1, 2, 0]), True),
+        (wav(4, [0, 1, 2, 3]), True),
+    ]:
         same(power.fault_of_repair(torn, after, 2) is not None, is_wrong, f"a repair that leaves {after}")
 
 
 def what_is_expected():
-    sessions = [power.Session("r0", "durable", 3, 10), power.Session("r0", "append", 2, 5), power.Session("r1", "plain", 2, 4),
-                power.Session("r1", "append", 2, 4), power.Session("r2", "durable", 9, 9), power.Session("r2", "durable", 2, 3)]
+    sessions = [
+        power.Session("r0", "durable", 3, 10),
+        power.Session("r0", "append", 2, 5),
+        power.Session("r1", "plain", 2, 4),
+        power.Session("r1", "append", 2, 4),
+        power.Session("r2", "durable", 9, 9),
+        power.Session("r2", "durable", 2, 3),
+    ]
     marks = {0: [(1, None), (2, 10), (3, 20)], 1: [(4, None), (5, 25)], 2: [(6, None), (7, 4)], 3: [(8, None), (9, 12)],
              4: [(10, None), (11, 81)], 5: [(12, None), (13, 3)]}
     for moment, wanted in [

@@ -16,7 +16,8 @@ class NotHere(Exception):
 
 
 def kernel():
-    """A folder with a kernel and its modules: one that is installed, or its package, which is then fetched and unpacked."""
+    """A folder with a kernel and its modules: one that is installed, or its package, which is then fetched and
+    unpacked."""
     for folder in ["/", CACHE]:
         for image in glob.glob(os.path.join(folder, "boot", "vmlinuz-*-cloud-amd64")):
             version = image.split("vmlinuz-", 1)[1]
@@ -27,7 +28,8 @@ def kernel():
     if not package:
         raise NotHere(f"no kernel: the package {KERNEL} isn't known")
     with tempfile.TemporaryDirectory() as folder:
-        subprocess.run(["apt-get", "download", package[1]], cwd=folder, stdout=subprocess.DEVNULL, stderr=subprocess.DEVNULL)
+        words = ["apt-get", "download", package[1]]
+        subprocess.run(words, cwd=folder, stdout=subprocess.DEVNULL, stderr=subprocess.DEVNULL)
         fetched = glob.glob(os.path.join(folder, "*.deb"))
         if not fetched:
             raise NotHere(f"no kernel: the package {package[1]} can't be fetched")
@@ -36,7 +38,8 @@ def kernel():
 
 
 def modules(folder, version, names):
-    """The files of these modules and of what they need, those that come first at the front; one that is built in has none."""
+    """The files of these modules and of what they need, those that come first at the front; one that is built in has
+    none."""
     base = os.path.join(folder, "lib/modules", version)
     if not os.path.exists(os.path.join(base, "modules.dep")):
         subprocess.run(["busybox", "depmod", "-b", folder, version], check=True)
@@ -65,7 +68,8 @@ def copy_program(tree, path):
 
 
 def initial_files(path, kind_modules, programs, script):
-    """Writes the archive that the kernel begins with: these programs, and the script, run once the modules are there."""
+    """Writes the archive that the kernel begins with: these programs, and the script, run once the modules are
+    there."""
     folder, _, version = kernel()
     with tempfile.TemporaryDirectory() as tree:
         for name in ["bin", "dev", "proc", "sys", "disk", "tmp", "modules"]:
@@ -88,13 +92,16 @@ def initial_files(path, kind_modules, programs, script):
         os.chmod(init, 0o755)
         with open(path, "wb") as file:
             names = subprocess.run(["find", "."], cwd=tree, capture_output=True, check=True).stdout
-            subprocess.run(["busybox", "cpio", "-o", "-H", "newc"], cwd=tree, input=names, stdout=file, stderr=subprocess.DEVNULL, check=True)
+            words = ["busybox", "cpio", "-o", "-H", "newc"]
+            subprocess.run(words, cwd=tree, input=names, stdout=file, stderr=subprocess.DEVNULL, check=True)
 
 
 def start(initial, drives):
-    """Starts the machine, without hardware support, so that it is the same everywhere; what it says comes from its output."""
+    """Starts the machine, without hardware support, so that it is the same everywhere; what it says comes from its
+    output."""
     _, image, _ = kernel()
-    words = ["qemu-system-x86_64", "-accel", "tcg", "-cpu", "max", "-M", "q35", "-m", "256", "-nodefaults", "-no-user-config"]
+    words = ["qemu-system-x86_64", "-accel", "tcg", "-cpu", "max", "-M", "q35", "-m", "256"]
+    words += ["-nodefaults", "-no-user-config"]
     words += ["-display", "none", "-no-reboot", "-serial", "stdio", "-kernel", image, "-initrd", initial]
     words += ["-append", "console=ttyS0 panic=-1 quiet mitigations=off tsc=unstable no_timer_check", *drives]
     return subprocess.Popen(words, stdin=subprocess.DEVNULL, stdout=subprocess.PIPE, stderr=subprocess.STDOUT)

@@ -37,11 +37,17 @@ NOT_RUN = 3  # The status where something is missing.
 # How a file system is made, and checked: before each mount, as a machine does where there is no journal, or where a
 # mount fails. Whether the recording machine writes early, 0.1 seconds after a program has written, and not after 30
 # seconds as usual: on vfat it doesn't, since Linux may then leave a file's size out of a sync (`vfat-early`).
-FileSystem = collections.namedtuple("FileSystem", "kind mebibytes make modules before_mount if_it_fails is_early", defaults=["", "", True])
+FIELDS = "kind mebibytes make modules before_mount if_it_fails is_early"
+FileSystem = collections.namedtuple("FileSystem", FIELDS, defaults=["", "", True])
 VFAT = FileSystem("vfat", 40, "mkfs.vfat -F 32 -s 1", ["vfat", "nls_cp437", "nls_ascii", "nls_utf8"], "fsck.vfat -a -w")
 FILE_SYSTEMS = {
-    "ext4": FileSystem("ext4", 32, "mkfs.ext4 -q -F -b 4096 -J size=4 -E lazy_itable_init=0,lazy_journal_init=0,nodiscard", [],
-                       if_it_fails="e2fsck -fy"),
+    "ext4": FileSystem(
+        "ext4",
+        32,
+        "mkfs.ext4 -q -F -b 4096 -J size=4 -E lazy_itable_init=0,lazy_journal_init=0,nodiscard",
+        [],
+        if_it_fails="e2fsck -fy",
+    ),
     "vfat": VFAT._replace(is_early=False),
     "vfat-early": VFAT,
     "xfs": FileSystem("xfs", 320, "mkfs.xfs -q -K", ["xfs"]),
@@ -81,17 +87,26 @@ CONTROLS = {
     "no-sync": Control("ext4", ALONE, ["fsync:retval=0", "fdatasync:retval=0"]),
     "no-sync-of-samples": Control("ext4", ALONE, ["fsync:retval=0:when=3", "fdatasync:retval=0:when=2+2"]),
     "no-sync-of-sizes": Control("ext4", ALONE, ["fdatasync:retval=0:when=1+2"]),
-    "no-sync-of-folder": Control("vfat", [Session(f"r{number}", "durable", 5, 40) for number in range(20)], ["fsync:retval=0:when=2"]),
+    "no-sync-of-folder": Control(
+        "vfat",
+        [Session(f"r{number}", "durable", 5, 40) for number in range(20)],
+        ["fsync:retval=0:when=2"],
+    ),
     "deaf-disk": Control("ext4", ALONE, []),
 }
 # The same for record.c, which has no sync of the header, and calls `fsync` alone.
-LEFT_OUT_IN_C = {"no-sync": ["fsync:retval=0"], "no-sync-of-samples": ["fsync:retval=0:when=3+2"], "no-sync-of-sizes": ["fsync:retval=0:when=4+2"]}
+LEFT_OUT_IN_C = {
+    "no-sync": ["fsync:retval=0"],
+    "no-sync-of-samples": ["fsync:retval=0:when=3+2"],
+    "no-sync-of-sizes": ["fsync:retval=0:when=4+2"],
+}
 
 
 def words_of(session, file):
     """The recorder's words."""
     if os.path.exists(RECORD_C):
-        return [os.path.basename(RECORD_C), file, "44100", "1", "16", str(session.length), *("--" + word for word in WORDS[session.kind])]
+        words = ["--" + word for word in WORDS[session.kind]]
+        return [os.path.basename(RECORD_C), file, "44100", "1", "16", str(session.length), *words]
     return ["record", file, str(session.length), *WORDS[session.kind]]
 
 
@@ -99,7 +114,8 @@ def compile_record_c():
     """Compiles record.c, with the library that the packages take."""
     library = os.environ.get("HOUND_C_LIB") or os.path.join(TOP, "bindings/lib", os.uname().machine + "-linux")
     source, archive = os.path.join(TOP, "bindings/c/record.c"), os.path.join(library, "libhound_c.a")
-    subprocess.run([os.environ.get("CC", "cc"), "-O1", "-I" + os.path.dirname(source), source, archive, "-o", RECORD_C], check=True)
+    compiler = [os.environ.get("CC", "cc"), "-O1", "-I" + os.path.dirname(source)]
+    subprocess.run([*compiler, source, archive, "-o", RECORD_C], check=True)
 
 
 def fresh(path, system):
@@ -117,6 +133,8 @@ def script_of(sessions, system, size, left_out):
     recorder has said by then. The recorder stops while it is written. Another program writes a file beside it.
     The samples count up; a file that is appended to says how many it has."""
     early = "echo 5 > /proc/sys/vm/dirty_writeback_centisecs; echo 10 > /proc/sys/vm/dirty_expire_centisecs"
+    in_file, in_header = "$(stat -c %s $file) / 2 - 22", "$(od -A n -t u4 -j 40 -N 4 $file) / 2"
+    held = in_file if os.path.exists(RECORD_C) else in_header
     lines = [f"""
 mark() {{
     echo "mark $1 $2" | dd of=/dev/vda bs={SPARE} seek={size // SPARE} conv=sync,notrunc oflag=direct
@@ -124,7 +142,7 @@ mark() {{
 session() {{
     number=$1; last=$2; count=$3; file=$4; shift 4
     first=0
-    [ "$file" = - ] || first=$(({"$(stat -c %s $file) / 2 - 22" if os.path.exists(RECORD_C) else "$(od -A n -t u4 -j 40 -N 4 $file) / 2"}))
+    [ "$file" = - ] || first=$(({held}))
     tail -c +$((2 * first + 1)) /bin/samples | head -c $((2 * count)) > /tmp/given
     mark $number begun
     "$@" < /tmp/given > /tmp/lines &
@@ -143,7 +161,9 @@ session() {{
 mount -t {system.kind} /dev/vda /disk || echo guest: no mount
 mkfifo /tmp/lines
 ln -s /bin/hound_examples /bin/record # The name says which example runs.
-while usleep 20000; do dd if=/dev/urandom of=/disk/other bs=4096 count=25 {"" if system.is_early else "oflag=direct"} 2> /dev/null; done &
+while usleep 20000; do
+    dd if=/dev/urandom of=/disk/other bs=4096 count=25 {"" if system.is_early else "oflag=direct"} 2> /dev/null
+done &
 """]
     tracing = ["strace", "-o", "/dev/null", "-e", "trace=fsync,fdatasync"] if left_out else []
     for calls in left_out:
@@ -153,12 +173,14 @@ while usleep 20000; do dd if=/dev/urandom of=/disk/other bs=4096 count=25 {"" if
         file = "/disk/" + NAME.format(session.file)
         before = file if session.kind == "append" else "-"
         words = words_of(session, file)
-        lines.append(" ".join(["session", str(number), str(last), str(session.lots * session.length), before, *tracing, *words]))
+        numbers = [str(number), str(last), str(session.lots * session.length)]
+        lines.append(" ".join(["session", *numbers, before, *tracing, *words]))
     return "\n".join(lines)
 
 
 def record(folder, system, sessions, left_out):
-    """Lets a machine record on a new disk of this file system, and leaves in the folder what the disk was and its log."""
+    """Lets a machine record on a new disk of this file system, and leaves in the folder what the disk was and its
+    log."""
     image, used, initial, address = (os.path.join(folder, part) for part in ("image", "used", "initial", "socket"))
     size = fresh(image, system)
     subprocess.run(["cp", "--sparse=always", image, used], check=True)
@@ -218,7 +240,9 @@ def expected(sessions, marks, moment):
 
 
 def has_header(data):
-    return data is not None and len(data) >= HEADER and data[:4] == b"RIFF" and data[8:16] == b"WAVEfmt " and data[36:40] == b"data"
+    if data is None or len(data) < HEADER:
+        return False
+    return data[:4] == b"RIFF" and data[8:16] == b"WAVEfmt " and data[36:40] == b"data"
 
 
 def count_of(data):
@@ -260,7 +284,8 @@ def checks_of(system):
 
 def script_of_looks(system, size, count):
     """What the second machine does with each disk: it mounts it, gives the files, repairs them and gives them again."""
-    before, after = (f"{command} /dev/loop0 > /dev/null" if command else "true" for command in (system.before_mount, system.if_it_fails))
+    checks = system.before_mount, system.if_it_fails
+    before, after = (f"{command} /dev/loop0 > /dev/null" if command else "true" for command in checks)
     mount = f"mount -t {system.kind} /dev/loop0 /disk"
     return f"""
 files() {{
@@ -286,7 +311,8 @@ sync
 
 
 def answer_of(data):
-    """What the second machine says of a disk: its files by name before and after the repair, or None if it has no mount."""
+    """What the second machine says of a disk: its files by name before and after the repair, or None if it has no
+    mount."""
     if not data.startswith(b"mounted\n"):
         return None
     looks, at = [], len(b"mounted\n")
@@ -310,7 +336,8 @@ def look(folder, system, size, states):
             disk.build(file, number * size, sectors)
     with open(answers, "wb") as file:
         file.truncate(len(states) * SLOT)
-    guest.initial_files(initial, system.modules, [EXAMPLES, *checks_of(system)], script_of_looks(system, size, len(states)))
+    script = script_of_looks(system, size, len(states))
+    guest.initial_files(initial, system.modules, [EXAMPLES, *checks_of(system)], script)
     drives = []
     for path in (disks, answers):
         drives += ["-drive", f"file={path},format=raw,if=virtio,cache=unsafe"]
@@ -354,8 +381,10 @@ class Trial:
             replay.advance(moments[turn])
             how, lost = replay.lose(chances[turn])
             kept = {**replay.kept, **lost}
-            yield turn, moments[turn], how, {number: data for number, data in kept.items() if number * disk.SECTOR < self.size}
-            self.counts["writes that could be lost, at most"] = max(self.counts["writes that could be lost, at most"], len(replay.pending))
+            sectors = {number: data for number, data in kept.items() if number * disk.SECTOR < self.size}
+            yield turn, moments[turn], how, sectors
+            most = "writes that could be lost, at most"
+            self.counts[most] = max(self.counts[most], len(replay.pending))
 
     def judge(self, turn, moment, how, found):
         """Notes what is wrong with a state."""
@@ -364,22 +393,25 @@ class Trial:
         self.counts["disks that have no mount"] += found is None
         for file, bounds in expected(self.sessions, self.marks, moment).items():
             least, most = bounds or (0, 0)
-            fault = bounds and (fault_of(before.get(file), least, most) or fault_of_repair(before.get(file), after.get(file), least))
-            self.counts["files read"] += file in before
             pair = before.get(file), after.get(file)
-            self.counts["repairs that found more"] += all(map(has_header, pair)) and count_of(pair[1]) > count_of(pair[0])
+            fault = bounds and (fault_of(pair[0], least, most) or fault_of_repair(*pair, least))
+            self.counts["files read"] += file in before
+            found_more = all(map(has_header, pair)) and count_of(pair[1]) > count_of(pair[0])
+            self.counts["repairs that found more"] += found_more
             if fault:
                 where = f"{self.name}, entry {moment} of {len(self.log.entries)} ({how}), {file}.wav"
                 self.wrong.append((turn, f"{where}: {least} samples were published, and {fault}"))
 
     def run(self, seed, turns):
         batches, batch = [], []
-        with concurrent.futures.ThreadPoolExecutor(2) as pool, tempfile.TemporaryDirectory(prefix="hound_power_") as folder:
+        folders = tempfile.TemporaryDirectory(prefix="hound_power_")
+        with concurrent.futures.ThreadPoolExecutor(2) as pool, folders as folder:
             def begin():
                 place = os.path.join(folder, str(len(batches)))
                 os.mkdir(place)
                 states = [state[3] for state in batch]
-                batches.append(([state[:3] for state in batch], pool.submit(look, place, self.system, self.size, states)))
+                looked = pool.submit(look, place, self.system, self.size, states)
+                batches.append(([state[:3] for state in batch], looked))
 
             for state in self.states(seed, turns):
                 batch.append(state)
@@ -397,7 +429,8 @@ class Trial:
         turns = {turn for turn, _ in self.wrong}
         what = f"{self.name}, {self.control or 'nothing left out'}"
         counts = ", ".join(f"{name}: {count}" for name, count in self.counts.items() if name != "states")
-        print(f"power: {what}: {self.counts['states']} states, {len(turns)} wrong; {counts}; seed {seed}, {took:.0f} seconds", flush=True)
+        done = f"{self.counts['states']} states, {len(turns)} wrong; {counts}; seed {seed}, {took:.0f} seconds"
+        print(f"power: {what}: {done}", flush=True)
         if self.control:
             for _, words in self.wrong[:1]:
                 print(f"power: as it must be: {words}", flush=True)
@@ -408,14 +441,21 @@ class Trial:
                 for part in ("image", "log"):
                     shutil.copy(os.path.join(self.folder, part), kept)
             for turn, words in self.wrong[:20]:
-                print(f"power: wrong: {words}\n    again: doubt/faults power 1 {seed} --fs {self.name} --control none --log {kept} --turn {turn}", flush=True)
+                again = f"doubt/faults power 1 {seed} --fs {self.name} --control none --log {kept} --turn {turn}"
+                print(f"power: wrong: {words}\n    again: {again}", flush=True)
         return len(turns)
 
 
 def missing():
     """What isn't here, or None."""
-    programs = {"qemu-system-x86_64": "qemu-system-x86", "busybox": "busybox-static", "strace": "strace", "mkfs.ext4": "e2fsprogs",
-                "mkfs.vfat": "dosfstools", "mkfs.xfs": "xfsprogs"}
+    programs = {
+        "qemu-system-x86_64": "qemu-system-x86",
+        "busybox": "busybox-static",
+        "strace": "strace",
+        "mkfs.ext4": "e2fsprogs",
+        "mkfs.vfat": "dosfstools",
+        "mkfs.xfs": "xfsprogs",
+    }
     packages = sorted({package for program, package in programs.items() if not shutil.which(program)})
     if packages:
         return f"programs are missing: apt-get install --no-install-recommends {' '.join(packages)}"
@@ -443,7 +483,10 @@ def main():
         print(f"power: not run: {lacks}")
         sys.exit(NOT_RUN)
     names = [] if options.fs == "none" else options.fs.split(",")
-    controls = list(CONTROLS) if options.control is None else [] if options.control == "none" else options.control.split(",")
+    if options.control is None:
+        controls = list(CONTROLS)
+    else:
+        controls = [] if options.control == "none" else options.control.split(",")
     trials = [(name, None, options.states // len(names)) for name in names]
     trials += [(CONTROLS[control].fs, control, options.states // 5 // len(controls)) for control in controls]
     if options.c:
@@ -460,7 +503,9 @@ def main():
                 sys.exit(f"power: {name}, {control}: {fault}")
             wrong = trial.report(options.seed, time.time() - begun)
             failed = failed or (wrong > 0) == (control is None)
-    ended = "a state is wrong, or a control finds none" if failed else "no state is wrong but those of the controls, and each of these finds some"
+    ended = "no state is wrong but those of the controls, and each of these finds some"
+    if failed:
+        ended = "a state is wrong, or a control finds none"
     print(f"power: {ended}; {time.time() - since:.0f} seconds")
     sys.exit(failed)
 

@@ -1,14 +1,14 @@
-"""Follows the addresses in a module: what depends on where memory is. They may be moved by a number, loaded and stored at,
-passed on and compared for equality; what else is done with one is listed, and has to be in the table below.
+"""Follows the addresses in a module: what depends on where memory is. They may be moved by a number, loaded and stored
+at, passed on and compared for equality; what else is done with one is listed, and has to be in the table below.
 
-A value is a set of pairs: what an address begins at (a frame of a function, the constants, or a pointer that is passed to
-an export) and how far from it, if that is known; and the number of a constant. The values that frames hold are followed.
-All ways through a function are, and all functions, until nothing changes."""
+A value is a set of pairs: what an address begins at (a frame of a function, the constants, or a pointer that is passed
+to an export) and how far from it, if that is known; and the number of a constant. The values that frames hold are
+followed. All ways through a function are, and all functions, until nothing changes."""
 import re
 
 from module import (
-    BLOCK, BR, BR_IF, BR_TABLE, CALL, END, F32_CONST, F64_CONST, GLOBAL_GET, GLOBAL_SET, I32_CONST, I64_CONST, LOADS, LOCAL_GET, LOCAL_SET, LOCAL_TEE, LOOP,
-    MEMORY_COPY, MEMORY_FILL, OPERATORS, RETURN, SELECT, STORES, need,
+    BLOCK, BR, BR_IF, BR_TABLE, CALL, END, F32_CONST, F64_CONST, GLOBAL_GET, GLOBAL_SET, I32_CONST, I64_CONST, LOADS,
+    LOCAL_GET, LOCAL_SET, LOCAL_TEE, LOOP, MEMORY_COPY, MEMORY_FILL, OPERATORS, RETURN, SELECT, STORES, need,
 )  # fmt: skip
 
 ADD, SUBTRACT, OR, EQUAL, UNEQUAL, IS_ZERO = 0x7C, 0x7D, 0x84, 0x51, 0x52, 0x50
@@ -20,7 +20,7 @@ MOST = 12
 
 # What is done with addresses besides, and why it doesn't matter where memory is.
 ALLOWED = {
-    (SUBTRACT, "frame", "pointer"): "the distance of two arrays, which a loop over many samples looks at before it takes several at once",
+    (SUBTRACT, "frame", "pointer"): "the distance of two arrays, which a loop over many samples looks at first",
     (SUBTRACT, "frame", "constants"): "the same",
     (SUBTRACT, "frame", "frame/pointer"): "the same",
     (IS_ZERO, "pointer"): "no address is 0, here as in the module",
@@ -48,7 +48,9 @@ class Addresses:
         self.results = {function.number: NOTHING for function in module.functions}
         for name, parameters in re.findall(r"(?m)^(?:int\d+_t|void) (hound_\w+)\((.*?)\)(?: HOUND_NONNULL)?;", header):
             pointers = enumerate("*" in parameter for parameter in parameters.split(", "))
-            passed = [frozenset([(("pointer", name, place), 0)]) if is_pointer else NOTHING for place, is_pointer in pointers]
+            passed = [
+                frozenset([(("pointer", name, place), 0)]) if is_pointer else NOTHING for place, is_pointer in pointers
+            ]
             self.parameters[module.exports[name].number] = passed
         while self.has_changed:
             self.has_changed, self.found = False, set()
@@ -83,11 +85,13 @@ class Addresses:
                 is_known = place is not None and at is not None and count is not None
                 if other == begin and not (is_known and (at - place) & MASK >= count):
                     for target, start in to:
-                        self.join_into(self.frames, (target, (start + at - place) & MASK if is_known and start is not None else None), value)
+                        is_at = is_known and start is not None
+                        self.join_into(self.frames, (target, (start + at - place) & MASK if is_at else None), value)
 
 
 class Ways:
-    """All ways through a function: its locals, the stack of values, each with its number if it is one, and the open blocks."""
+    """All ways through a function: its locals, the stack of values, each with its number if it is one, and the open
+    blocks."""
 
     def __init__(self, whole, function):
         self.whole, self.function, self.heads, self.is_done = whole, function, {}, False
@@ -210,7 +214,8 @@ class Ways:
             return moved(first, None if number is None else -number)
         self.whole.use(code, *marked)
         if code == OR:
-            is_sum = number is not None and number < 16 and all(place is not None and place & 15 & number == 0 for _, place in first)
+            fits = number is not None and number < 16
+            is_sum = fits and all(place is not None and place & 15 & number == 0 for _, place in first)
             self.whole.must(is_sum, "an or that is no sum")
             return moved(first, number)
         return NOTHING

@@ -1,20 +1,20 @@
 #!/usr/bin/env python3
-"""Translates hound_c.wasm, the proved module for a memory of 64 bits, into one C99 file that has the functions of hound.h,
-for computers that bindings/lib has no library for. It is trusted: a mistake here is one in that file. So it only knows
-what that module has, and rejects everything else; module.py reads the module, and addresses.py looks that nothing in it
-depends on where memory is.
+"""Translates hound_c.wasm, the proved module for a memory of 64 bits, into one C99 file that has the functions of
+hound.h, for computers that bindings/lib has no library for. It is trusted: a mistake here is one in that file. So it
+only knows what that module has, and rejects everything else; module.py reads the module, and addresses.py looks that
+nothing in it depends on where memory is.
 
 usage: convert.py hound_c.wasm hound.h > hound_c.c     (prelude.c, beside it, begins the file)
 
 An address of the module is an address of the process. Of the module's own memory three things are left:
 - The constants. Each i64.const and each offset that points into them becomes an address in an array.
-- The stack. A function takes a frame of a fixed size, and none calls itself, so the greatest depth is known. Each function
-  of hound.h has an array of that size, and its end, `sp`, is passed to the functions that take a frame. The module's tests
-  for an overflow of its stack are left out, since there is room for the greatest depth.
+- The stack. A function takes a frame of a fixed size, and none calls itself, so the greatest depth is known. Each
+  function of hound.h has an array of that size, and its end, `sp`, is passed to the functions that take a frame. The
+  module's tests for an overflow of its stack are left out, since there is room for the greatest depth.
 - A flag, by which the module rejects calls after a trap. Here a trap ends the process.
 
-A value that is computed becomes a part of an expression, where it is used; one that reads a local or the memory is stored
-in a variable before that changes. A block becomes a label, and a branch a goto."""
+A value that is computed becomes a part of an expression, where it is used; one that reads a local or the memory is
+stored in a variable before that changes. A block becomes a label, and a branch a goto."""
 import hashlib
 import os
 import re
@@ -23,8 +23,9 @@ import sys
 
 import addresses
 from module import (
-    BLOCK, BR, BR_IF, BR_TABLE, CALL, END, F32_CONST, F64_CONST, GLOBAL_GET, GLOBAL_SET, I32_CONST, I32_EQZ, I64_ADD, I64_CONST, I64_GT_S, I64_LT_S, I64_SUB,
-    LOADS, LOCAL_GET, LOCAL_SET, LOCAL_TEE, LOOP, MEMORY_COPY, MEMORY_FILL, OPERATORS, RETURN, SELECT, SHIFTS, STORES, UNREACHABLE, Module, need,
+    BLOCK, BR, BR_IF, BR_TABLE, CALL, END, F32_CONST, F64_CONST, GLOBAL_GET, GLOBAL_SET, I32_CONST, I32_EQZ, I64_ADD,
+    I64_CONST, I64_GT_S, I64_LT_S, I64_SUB, LOADS, LOCAL_GET, LOCAL_SET, LOCAL_TEE, LOOP, MEMORY_COPY, MEMORY_FILL,
+    OPERATORS, RETURN, SELECT, SHIFTS, STORES, UNREACHABLE, Module, need,
 )  # fmt: skip
 
 C_TYPES = {"i": "uint32_t", "l": "uint64_t", "f": "float", "d": "double", "": "void"}
@@ -36,7 +37,8 @@ ENTER, LEAVE, TRAP = (CALL, 0), (CALL, 1), (CALL, 2)
 def take_guards_out(module):
     """Takes the flag out of the exports: each of them is a guarded call of another function."""
     enter, leave, trap = (function.code for function in module.functions[:3])
-    need(enter == [GET_FLAG, (LOCAL_SET, 0), (I32_CONST, 1), SET_FLAG, (LOCAL_GET, 0), (I32_CONST, 0), (0x47,)], "enter sets the flag")
+    entering = [GET_FLAG, (LOCAL_SET, 0), (I32_CONST, 1), SET_FLAG, (LOCAL_GET, 0), (I32_CONST, 0), (0x47,)]
+    need(enter == entering, "enter sets the flag")
     need(leave == [(I32_CONST, 0), SET_FLAG] and trap == [(UNREACHABLE,)], "leave clears it, and trap ends the process")
     guard = [(BLOCK,), ENTER, I32_EQZ, (BR_IF, 0), TRAP, (UNREACHABLE,), (END,)]
     for function in module.exports.values():
@@ -47,8 +49,9 @@ def take_guards_out(module):
 
 
 def take_frame_out(function):
-    """Notes how much of the stack a function takes, and takes the test for an overflow and the end out, where the frame is
-    given back. After that the frame of a function begins at `sp` less its size, and those that it calls get that as `sp`."""
+    """Notes how much of the stack a function takes, and takes the test for an overflow and the end out, where the frame
+    is given back. After that the frame of a function begins at `sp` less its size, and those that it calls get that as
+    `sp`."""
     code = function.code
     if GET_SP not in code:
         return
@@ -68,8 +71,10 @@ def take_frame_out(function):
 def take_frame(function, at):
     """The same of a function that takes a frame, whose size is subtracted from `sp` after this place."""
     code = function.code
-    (kind, function.frame), minus, (tee, local), is_taken = code[at + 1], code[at + 2], code[at + 3], code[at + 4] == SET_SP
-    need(kind == I64_CONST and function.frame % 16 == 0 and minus == I64_SUB and tee == LOCAL_TEE, "a frame is below sp")
+    (kind, function.frame), minus, (tee, local) = code[at + 1 : at + 4]
+    is_taken = code[at + 4] == SET_SP
+    is_size = kind == I64_CONST and function.frame % 16 == 0
+    need(is_size and minus == I64_SUB and tee == LOCAL_TEE, "a frame is below sp")
     test = at + 3
     if is_taken:
         test = next(place for place in range(at + 5, len(code)) if code[place] != (BLOCK,)) + 1
@@ -77,15 +82,19 @@ def take_frame(function, at):
         local = code[test][1]
     else:
         need(not any(one[0] == CALL for one in code), "a function that leaves sp as it is calls nothing")
-    need(code[test + 1 : test + 3] == [(I64_CONST, 16), I64_LT_S] and code[test + 3][0] == BR_IF, "a test branches to a trap")
+    is_test = code[test + 1 : test + 3] == [(I64_CONST, 16), I64_LT_S] and code[test + 3][0] == BR_IF
+    need(is_test, "a test branches to a trap")
     code[test : test + 4] = [(LOCAL_SET, local)]
-    need(not any(one in ((LOCAL_SET, local), (LOCAL_TEE, local)) for one in code[test + 1 :]), "the address of a frame stays")
+    is_set = any(one in ((LOCAL_SET, local), (LOCAL_TEE, local)) for one in code[test + 1 :])
+    need(not is_set, "the address of a frame stays")
     ends = [place for place in range(test, len(code)) if code[place] == SET_SP]
     need(len(ends) == is_taken, "a frame is given back in one place")
     for end in ends:
         last = [one[0] for one in code[end + 1 :]]
-        need(code[end - 3 : end] == [(LOCAL_GET, local), (I64_CONST, function.frame), I64_ADD], "all of a frame is given back")
-        need(last in ([], [LOCAL_GET], [RETURN, END, UNREACHABLE], [LOCAL_GET, RETURN, END, UNREACHABLE]) and code.count((RETURN,)) == last.count(RETURN), "it is given back at the end")
+        whole = [(LOCAL_GET, local), (I64_CONST, function.frame), I64_ADD]
+        need(code[end - 3 : end] == whole, "all of a frame is given back")
+        is_end = last in ([], [LOCAL_GET], [RETURN, END, UNREACHABLE], [LOCAL_GET, RETURN, END, UNREACHABLE])
+        need(is_end and code.count((RETURN,)) == last.count(RETURN), "it is given back at the end")
         del code[end - 3 : end + 1]
 
 
@@ -100,7 +109,8 @@ def depth_of(module, function, above=()):
 
 
 class Value:
-    """An expression in C: its type, what it reads (locals, "sp", "memory", "call"), and its number if it is a constant."""
+    """An expression in C: its type, what it reads (locals, "sp", "memory", "call"), and its number if it is a
+    constant."""
 
     def __init__(self, kind, text, reads=(), number=None):
         self.kind, self.text, self.reads, self.number = kind, text, frozenset(reads), number
@@ -117,12 +127,13 @@ class Value:
 
     def __str__(self):
         """As an operand."""
-        return self.alone if self.kind == "b" or re.fullmatch(r"\w+|\w+\([^()]*\)|\(-[^()]*\)", self.text) else f"({self.text})"
+        is_one = self.kind == "b" or re.fullmatch(r"\w+|\w+\([^()]*\)|\(-[^()]*\)", self.text)
+        return self.alone if is_one else f"({self.text})"
 
 
 class Translator:
-    """Translates a function: its lines of C, the values on the stack of the module's machine, and the open blocks, each with
-    its label, whether it is a loop, and the values below it."""
+    """Translates a function: its lines of C, the values on the stack of the module's machine, and the open blocks, each
+    with its label, whether it is a loop, and the values below it."""
 
     def __init__(self, module, function):
         self.module, self.function = module, function
@@ -156,11 +167,13 @@ class Translator:
         if code == I64_CONST and is_in_data:
             self.push("l", f"DATA({number - self.module.data_start})")
         elif code in (I32_CONST, I64_CONST):
-            need(not is_in_data and not self.module.is_in_data(-number % (1 << 64)), "only an i64.const is the address of a constant")
+            is_address = is_in_data or self.module.is_in_data(-number % (1 << 64))
+            need(not is_address, "only an i64.const is the address of a constant")
             digits, suffix = str(number) if number < 1 << 16 else hex(number), "u" if code == I32_CONST else "ull"
             self.push("i" if code == I32_CONST else "l", digits + suffix, number=number)
         elif number != number:
-            need(code == F64_CONST and struct.pack("<d", number) == struct.pack("<Q", 0x7FF8 << 48), "a NaN is the usual one")
+            is_usual = code == F64_CONST and struct.pack("<d", number) == struct.pack("<Q", 0x7FF8 << 48)
+            need(is_usual, "a NaN is the usual one")
             self.push("d", "f64_of(0x7ff8000000000000ull)", number=number)
         else:
             text = f"{number!r}{'f' if code == F32_CONST else ''}"
@@ -278,8 +291,10 @@ class Translator:
             self.write(f"if ({test.condition}) {self.branch(*immediate)}")
         elif code == BR_TABLE:
             self.table(*immediate)
+        elif code == BR:
+            self.write(self.branch(*immediate))
         else:
-            self.write({BR: lambda: self.branch(*immediate), RETURN: self.leave, UNREACHABLE: lambda: "TRAP();"}[code]())
+            self.write({RETURN: self.leave, UNREACHABLE: lambda: "TRAP();"}[code]())
         return code not in (BR, BR_TABLE, RETURN, UNREACHABLE)
 
     def translated(self):
@@ -293,19 +308,25 @@ class Translator:
         if not unreached and function.result:
             self.write(self.leave())
         text = "\n".join(self.lines)
-        text = re.sub(r"(?m)^(L\d+):;\n?", lambda label: label[0] if f"goto {label[1]};" in text else "", text).rstrip("\n")
+
+        def reached(label):
+            return label[0] if f"goto {label[1]};" in text else ""
+
+        text = re.sub(r"(?m)^(L\d+):;\n?", reached, text).rstrip("\n")
         text = THREE_STORES.sub(joined, text)
         declared = []
         for kind in "ilfd":
             own = range(len(function.parameters), len(function.locals))
-            names = [f"l{number} = 0" for number in own if function.locals[number] == kind and re.search(rf"\bl{number}\b", text)]
+            own = [number for number in own if function.locals[number] == kind]
+            names = [f"l{number} = 0" for number in own if re.search(rf"\bl{number}\b", text)]
             declared += [f"    {C_TYPES[kind]} {', '.join(names)};"] if names else []
         return "\n".join([f"/* {function.name} */", signature(function) + " {", *declared, text, "}", ""])
 
 
 # Three stores of a value's bytes: the first one, a higher one, and the second one.
 THREE_STORES = re.compile(
-    r"store8\((\w+)(?: \+ (\d+)ull)?, (\w+)\);\n    (store8\(\1 \+ (\d+)ull, \3 >> \d+\);)\n    store8\(\1 \+ (\d+)ull, \3 >> 8\);"
+    r"store8\((\w+)(?: \+ (\d+)ull)?, (\w+)\);\n    (store8\(\1 \+ (\d+)ull, \3 >> \d+\);)\n"
+    r"    store8\(\1 \+ (\d+)ull, \3 >> 8\);"
 )
 
 
@@ -318,7 +339,8 @@ def joined(found):
 
 
 def signature(function):
-    parameters = ["uint64_t sp"] * (function.depth > 0) + [f"{C_TYPES[kind]} l{number}" for number, kind in enumerate(function.parameters)]
+    parameters = ["uint64_t sp"] * (function.depth > 0)
+    parameters += [f"{C_TYPES[kind]} l{number}" for number, kind in enumerate(function.parameters)]
     return f"static {C_TYPES[function.result]} {function.name_in_c}({', '.join(parameters) or 'void'})"
 
 
@@ -330,16 +352,23 @@ def exported(module, name, declaration):
     for parameter in parameters.split(", "):
         word = re.search(r"\w+$", parameter)[0]
         is_narrow = re.search(r"int(16|32)_t ", parameter) and "*" not in parameter
-        arguments.append(f"(uint64_t)(uintptr_t){word}" if "*" in parameter else f"(uint32_t){word}" if is_narrow else word)
-    need("".join("i" if argument.startswith("(uint32_t)") else "l" for argument in arguments) == export.parameters, "arguments have the types of hound.h")
+        if "*" in parameter:
+            arguments.append(f"(uint64_t)(uintptr_t){word}")
+        else:
+            arguments.append(f"(uint32_t){word}" if is_narrow else word)
+    kinds = "".join("i" if argument.startswith("(uint32_t)") else "l" for argument in arguments)
+    need(kinds == export.parameters, "arguments have the types of hound.h")
     need(returned == {"i": "int32_t", "l": "int64_t", "": "void"}[export.result], "results have the types of hound.h")
     count = len(called.parameters)
-    need(export.code[:count] == [(LOCAL_GET, number) for number in range(count)] and export.code[count][0] == CALL, "arguments are passed on")
-    rest, result = export.code[count + 1 :], f"{called.name_in_c}({', '.join(['sp'] * (called.depth > 0) + arguments[:count])})"
+    passed = [(LOCAL_GET, number) for number in range(count)]
+    need(export.code[:count] == passed and export.code[count][0] == CALL, "arguments are passed on")
+    rest = export.code[count + 1 :]
+    result = f"{called.name_in_c}({', '.join(['sp'] * (called.depth > 0) + arguments[:count])})"
     if not export.result:
         need(not rest and not called.result, "nothing is returned")
     elif called.result:
-        need([code for code, _ in rest] == [LOCAL_SET, LOCAL_GET] and rest[0][1] == rest[1][1], "the result is returned")
+        is_result = [code for code, _ in rest] == [LOCAL_SET, LOCAL_GET] and rest[0][1] == rest[1][1]
+        need(is_result, "the result is returned")
     else:
         need(rest == [(LOCAL_GET, 0)] and not called.code, "or the first argument, and the call does nothing")
         result = arguments[0]
@@ -348,10 +377,16 @@ def exported(module, name, declaration):
     return "\n".join([f"{returned} {name}({parameters}) {{", *stack, last, "}", ""])
 
 
+def in_one_line(declaration):
+    return re.sub(r"\n +", " ", declaration[0])
+
+
 def converted(wasm, header):
     """The C file of a module that exports the functions of hound.h."""
     module = Module(wasm)
-    declarations = {found[2]: found[0] for found in re.finditer(r"(?m)^(int32_t|int64_t|void) (hound_\w+)\(.*;$", header)}
+    header = re.sub(r"(?m)^(int32_t|int64_t|void) hound_\w+\([^;]*;$", in_one_line, header)
+    form = r"(?m)^(int32_t|int64_t|void) (hound_\w+)\(.*;$"
+    declarations = {found[2]: found[0] for found in re.finditer(form, header)}
     need(set(declarations) == set(module.exports), "the exports are the functions of hound.h")
     take_guards_out(module)
     greatest = max(depth_of(module, function) for function in module.exports.values())
@@ -366,11 +401,18 @@ def converted(wasm, header):
     rows = [", ".join(map(str, module.data[first : first + 32])) for first in range(0, len(module.data), 32)]
     declared = re.sub(r"(?s) */\*.*?\*/|^static inline .*?^}$", "", header, flags=re.M)
     declared = re.sub(r"\n\s*\n", "\n", declared).strip()
-    for word, value in (("HEADER", declared), ("MODULE", hashlib.sha256(wasm).hexdigest()), ("GREATEST", greatest), ("LENGTH", len(module.data)), ("BYTES", ",\n    ".join(rows))):
+    for word, value in (
+        ("HEADER", declared),
+        ("MODULE", hashlib.sha256(wasm).hexdigest()),
+        ("GREATEST", greatest),
+        ("LENGTH", len(module.data)),
+        ("BYTES", ",\n    ".join(rows)),
+    ):
         text = text.replace(f"@{word}@", str(value))
     signatures = [signature(function) + ";" for function in reached]
     bodies = [Translator(module, function).translated() for function in reached]
-    return "\n".join([text, *signatures, "", *bodies, *(exported(module, name, declarations[name]) for name in declarations)])
+    exports = [exported(module, name, declarations[name]) for name in declarations]
+    return "\n".join([text, *signatures, "", *bodies, *exports])
 
 
 if __name__ == "__main__":

@@ -1,5 +1,5 @@
-"""Reads a WebAssembly module as hound_c.wasm is one: its functions, exports, globals and constants (WebAssembly 2.0 with
-memories of 64 bits, "Binary Format"). What that module doesn't have is rejected."""
+"""Reads a WebAssembly module as hound_c.wasm is one: its functions, exports, globals and constants (WebAssembly 2.0
+with memories of 64 bits, "Binary Format"). What that module doesn't have is rejected."""
 import re
 import struct
 import sys
@@ -104,7 +104,8 @@ STORES = {
     0x3D: ("l", "store16({}, (uint32_t)({}))"),  # i64.store16
     0x3E: ("l", "store32({}, (uint32_t)({}))"),  # i64.store32
 }
-UNREACHABLE, BLOCK, LOOP, END, BR, BR_IF, BR_TABLE, RETURN, CALL, SELECT = 0x00, 0x02, 0x03, 0x0B, 0x0C, 0x0D, 0x0E, 0x0F, 0x10, 0x1B
+UNREACHABLE, BLOCK, LOOP, END, BR, BR_IF, BR_TABLE = 0x00, 0x02, 0x03, 0x0B, 0x0C, 0x0D, 0x0E
+RETURN, CALL, SELECT = 0x0F, 0x10, 0x1B
 LOCAL_GET, LOCAL_SET, LOCAL_TEE, GLOBAL_GET, GLOBAL_SET = 0x20, 0x21, 0x22, 0x23, 0x24
 I32_CONST, I64_CONST, F32_CONST, F64_CONST, MEMORY_COPY, MEMORY_FILL = 0x41, 0x42, 0x43, 0x44, 0xFC0A, 0xFC0B
 I32_EQZ, I64_LT_S, I64_GT_S, I64_ADD, I64_SUB = (0x45,), (0x53,), (0x55,), (0x7C,), (0x7D,)
@@ -204,13 +205,24 @@ class Module:
     def __init__(self, data):
         reader = Reader(data)
         need(reader.take(8) == b"\0asm\1\0\0\0", "this is a module")
-        sections = {0: self.names, 1: self.signatures, 3: self.declarations, 5: self.memory, 6: self.variables, 7: self.public, 10: self.bodies, 11: self.contents}
+        sections = {
+            0: self.names,
+            1: self.signatures,
+            3: self.declarations,
+            5: self.memory,
+            6: self.variables,
+            7: self.public,
+            10: self.bodies,
+            11: self.contents,
+        }
         while reader.has_more():
             kind, section = reader.byte(), Reader(reader.part())
             if kind != 12:  # how many constants there are
                 need(kind in sections, "there are no imports, tables, elements, and no start function")
                 sections[kind](section)
-        need([one[:2] for one in self.globals] == [(0x7E, 1), (0x7F, 1), (0x7E, 0)] and self.globals[1][2] == 0, "the globals are those known")
+        kinds = [one[:2] for one in self.globals]
+        is_known = kinds == [(0x7E, 1), (0x7F, 1), (0x7E, 0)] and self.globals[1][2] == 0
+        need(is_known, "the globals are those known")
         self.stack_top = self.globals[0][2]
 
     def called_by(self, function):
@@ -227,10 +239,15 @@ class Module:
         def letters():
             return "".join(TYPES[kind] for kind in reader.list_of(reader.byte))
 
-        self.types = reader.list_of(lambda: (need(reader.byte() == 0x60, "types are of functions"), letters(), letters())[1:])
+        def type_of():
+            need(reader.byte() == 0x60, "types are of functions")
+            return letters(), letters()
+
+        self.types = reader.list_of(type_of)
 
     def declarations(self, reader):
-        self.functions = [Function(number, *self.types[kind]) for number, kind in enumerate(reader.list_of(reader.number))]
+        kinds = enumerate(reader.list_of(reader.number))
+        self.functions = [Function(number, *self.types[kind]) for number, kind in kinds]
 
     def memory(self, reader):
         need(reader.take(2) == b"\1\4", "there is one memory, with addresses of 64 bits")

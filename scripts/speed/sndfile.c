@@ -85,7 +85,12 @@ int main(int count_of_words, char **words) {
     SF_INFO info = {0};
     info.samplerate = 44100;
     info.channels = 1;
-    info.format = SF_FORMAT_WAV | (floats ? SF_FORMAT_FLOAT : bits == 8 ? SF_FORMAT_PCM_U8 : bits == 16 ? SF_FORMAT_PCM_16 : bits == 24 ? SF_FORMAT_PCM_24 : SF_FORMAT_PCM_32);
+    info.format = SF_FORMAT_WAV
+                  | (floats       ? SF_FORMAT_FLOAT
+                     : bits == 8  ? SF_FORMAT_PCM_U8
+                     : bits == 16 ? SF_FORMAT_PCM_16
+                     : bits == 24 ? SF_FORMAT_PCM_24
+                                  : SF_FORMAT_PCM_32);
     Memory memory = {malloc(count * width + 4096), 0, count * width + 4096, 0};
     memset(memory.bytes, 1, memory.capacity);
     short *shorts = malloc(count * sizeof *shorts);

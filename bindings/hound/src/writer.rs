@@ -8,8 +8,8 @@ use std::{fs, iter, panic, path};
 /// Writes samples to a file, after its header, and the sizes into the header.
 ///
 /// The channels of a frame follow one another, and a file holds whole frames. Samples are buffered:
-/// `flush` writes them and the sizes, `finalize` does so and ends the file. A drop does it too where there was a sample,
-/// but its errors aren't seen, and neither are its panics.
+/// `flush` writes them and the sizes, `finalize` does so and ends the file. A drop does it too where there was a
+/// sample, but its errors aren't seen, and neither are its panics.
 pub struct WavWriter<W: Write + Seek> {
     pub(crate) core: Core<W>,
     batch: Vec<i16>,

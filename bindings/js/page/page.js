@@ -2,20 +2,25 @@
 import { HoundError, guessStart, info, read, repair, write } from "../hound.js";
 
 const element = (id) => document.getElementById(id);
-const [drop, list, all, lost, said, busy, stop, result, save, choice, end, wave, place, axis, zoom, player, facts] =
-  ["drop", "list", "all", "lost", "said", "busy", "stop", "result", "save", "choice", "end", "wave", "place", "axis", "zoom", "player", "facts"].map(element);
-const [input, audio, canvas, progress, table] = ["input", "audio", "canvas", "progress", "tbody"].map((name) => document.querySelector(name));
+const [drop, list, all, lost, said, busy, stop, result, save, choice, end, wave, place, axis, zoom, player, facts] = [
+  "drop", "list", "all", "lost", "said", "busy", "stop", "result", "save", "choice", "end", "wave", "place", "axis",
+  "zoom", "player", "facts",
+].map(element);
+const [input, audio, canvas, progress, table] =
+  ["input", "audio", "canvas", "progress", "tbody"].map((name) => document.querySelector(name));
 
 // What is said of a file that can't be read, where hound.h's sentence is too short for somebody who knows no format.
 const CHOOSE = "Keep the file. Choose what was recorded, and listen.";
 const LOST = `Where its sound begins wasn't found, but sound may be in it. ${CHOOSE}`;
 const DAMAGED = `Its header is damaged, or of a kind that this page doesn't read. ${CHOOSE}`;
-const READS = `This page reads integers of 8, 16, 24 and 32 bits, and floats of 32 bits: an audio editor may read it. If its header is damaged: ${CHOOSE}`;
+const READS = "This page reads integers of 8, 16, 24 and 32 bits, and floats of 32 bits: an audio editor may read " +
+  `it. If its header is damaged: ${CHOOSE}`;
 const HINTS = {
   ENDED: LOST,
   NO_DATA_CHUNK: LOST,
   NO_FMT_CHUNK: LOST,
-  NO_RIFF_TAG: `It is no WAV file, or another kind of it (RF64, BW64, RIFX, a tag in front), which an audio editor may read. Or its beginning was lost: ${CHOOSE}`,
+  NO_RIFF_TAG: "It is no WAV file, or another kind of it (RF64, BW64, RIFX, a tag in front), which an audio editor " +
+    `may read. Or its beginning was lost: ${CHOOSE}`,
   NO_WAVE_TAG: `It is another RIFF file, or its beginning was lost: ${CHOOSE}`,
   UNSUPPORTED: `Its sound is compressed, and an audio editor may read it; or its header is damaged: ${CHOOSE}`,
   NOT_WRITABLE: READS,
@@ -26,11 +31,11 @@ const CARD = "Record nothing more on the card it came from: a recovery program m
 const FORMS = [[16, 2], [24, 3], [32, 4, true], [8, 1], [32, 4], [24, 4]]
   .map(([bitsPerSample, bytesPerSample, isFloat = false]) => ({ bitsPerSample, bytesPerSample, isFloat }));
 const RATES = [8000, 11025, 16000, 22050, 32000, 44100, 48000, 88200, 96000, 192000], CHANNELS = [1, 2, 4, 6, 8];
-// From how many places of a file a guess is made, of how many bytes each, what number of bytes all pairs of samples are a part of, and
-// from where on they are too rough to be sound.
+// From how many places of a file a guess is made, of how many bytes each, what number of bytes all pairs of samples are
+// a part of, and from where on they are too rough to be sound.
 const PLACES = 16, PART = 6144, COMMON = 24, NOISE = 0.8;
-// How many samples are read at once to be drawn, how many channels are drawn at most, how many frames are shown at least,
-// and how many samples a copy has at most.
+// How many samples are read at once to be drawn, how many channels are drawn at most, how many frames are shown at
+// least, and how many samples a copy has at most.
 const AT_ONCE = 1 << 20, LANES = 32, LEAST = 64, COPIED = 1 << 28;
 
 const number = (n) => n.toLocaleString("en");
@@ -49,16 +54,26 @@ function say(text, kind = "") {
 
 /** Why a file can't be read. */
 function failure(file, error) {
-  if (error.code === "ENDED" && file.size < LEAST) return `${file.name} ${file.size ? "ends before any sound" : "is empty"}. ${CARD}`;
+  if (error.code === "ENDED" && file.size < LEAST) {
+    return `${file.name} ${file.size ? "ends before any sound" : "is empty"}. ${CARD}`;
+  }
   const large = `it has ${number(file.size)} bytes. Keep it:`;
-  if (error.code === "TOO_LONG") return `${file.name} is too large for a WAV file: ${large} an audio editor may read it as RF64, or import it as raw data, if you know its rate, channels and bits.`;
-  if (error instanceof HoundError) return `${file.name} can't be read: ${error.message}.\n${HINTS[error.code] ?? DAMAGED}`;
-  if (error instanceof RangeError) return `${file.name} is too large for this browser: ${large} a newer one, or another one, may repair it.`;
+  if (error.code === "TOO_LONG") {
+    return `${file.name} is too large for a WAV file: ${large} an audio editor may read it as RF64, ` +
+      "or import it as raw data, if you know its rate, channels and bits.";
+  }
+  if (error instanceof HoundError) {
+    return `${file.name} can't be read: ${error.message}.\n${HINTS[error.code] ?? DAMAGED}`;
+  }
+  if (error instanceof RangeError) {
+    return `${file.name} is too large for this browser: ${large} a newer one, or another one, may repair it.`;
+  }
   return `${file.name} could not be read: ${error.message}`;
 }
 
 const lengthOfTime = ({ frames, sampleRate }) => sampleRate ? frames / sampleRate : 0;
-const framesOf = (found) => counted(found.frames, "frame") + (found.sampleRate ? ` (${time(lengthOfTime(found))})` : "");
+const framesOf = (found) =>
+  counted(found.frames, "frame") + (found.sampleRate ? ` (${time(lengthOfTime(found))})` : "");
 
 /** How many bytes follow the sound that the header counts, and whether they may be sound, too: they are more. */
 function claims(file, { dataStart, dataLength }) {
@@ -70,16 +85,23 @@ function claims(file, { dataStart, dataLength }) {
 function verdict(found, { rest, mayBeSound }, toEnd) {
   const { state, frames, leftOver } = found;
   if (state === "hasChunksAfterData") {
-    const [counts, what] = frames ? [`only ${framesOf(found)}`, "the rest of the recording"] : ["no sound", "the recording"];
-    if (mayBeSound) return [`The header counts ${counts}, but ${counted(rest, "byte")} follow. They may be ${what}: repair the file to its end, and listen.`, "cut"];
-    return ["Other data follow the sound, as a title or markers (chunks or a tag): it needs no repair. If a program rejects the file, export it from an audio editor.", "good"];
+    const counts = frames ? `only ${framesOf(found)}` : "no sound";
+    const what = frames ? "the rest of the recording" : "the recording";
+    if (!mayBeSound) {
+      return ["Other data follow the sound, as a title or markers (chunks or a tag): it needs no repair. " +
+        "If a program rejects the file, export it from an audio editor.", "good"];
+    }
+    return [`The header counts ${counts}, but ${counted(rest, "byte")} follow. They may be ${what}: ` +
+      "repair the file to its end, and listen.", "cut"];
   }
   if (frames === 0) return [`The file has a header and no sound: nothing can be brought back from it. ${CARD}`, "bad"];
   if (state === "whole") return ["The file is whole: both of its sizes are right. There is nothing to repair.", "good"];
-  const left = leftOver ? ` Of one more frame only ${counted(leftOver, "byte")} ${leftOver === 1 ? "is" : "are"} there.` : "";
+  const isThere = leftOver === 1 ? "is there" : "are there";
+  const left = leftOver ? ` Of one more frame only ${counted(leftOver, "byte")} ${isThere}.` : "";
   const cause = toEnd ? "All bytes up to the end are taken for sound." : "The recording was cut off.";
   const back = `${framesOf(found)} come${frames === 1 ? "s" : ""} back.${left}`;
-  return [`${cause} ${back}\nListen to its end: if silence, noise, a click or older sound is there, cut it off in an audio editor.`, "cut"];
+  return [`${cause} ${back}\nListen to its end: if silence, noise, a click or older sound is there, ` +
+    "cut it off in an audio editor.", "cut"];
 }
 
 /** The second choice where chunks or a tag follow the sound: what it is, and its button. */
@@ -87,29 +109,42 @@ function otherChoice({ rest, mayBeSound }, toEnd) {
   const back = "Back to the file as it was", repairs = "Repair to the end";
   if (toEnd && mayBeSound) return ["If it ends in a click now, chunks or a tag were there.", back];
   if (toEnd) return ["If it ends in noise now, chunks or a tag were there, and the file needs no repair.", back];
-  if (mayBeSound) return ["Chunks or a tag among them (a title, markers) become a click, which an audio editor can cut off.", repairs];
-  return [`Only if you hear that its end is missing: then it was cut off, and its last ${number(rest)} bytes only look like chunks or a tag.`, repairs];
+  if (mayBeSound) {
+    return ["Chunks or a tag among them (a title, markers) become a click, which an audio editor can cut off.",
+      repairs];
+  }
+  return ["Only if you hear that its end is missing: then it was cut off, " +
+    `and its last ${number(rest)} bytes only look like chunks or a tag.`, repairs];
 }
 
 /** The name of a file that is saved: `a repaired.wav` for `a.wav`, and `a repaired 2.wav` for that. */
-const repairedName = (name) => name.replace(/( repaired( \d+)?)?(\.wave?)?$/i, (_, again, count = 1) => ` repaired${again ? ` ${Number(count) + 1}` : ""}.wav`);
+function repairedName(name) {
+  const repaired = (_, again, count = 1) => ` repaired${again ? ` ${Number(count) + 1}` : ""}.wav`;
+  return name.replace(/( repaired( \d+)?)?(\.wave?)?$/i, repaired);
+}
 
 function formText({ bitsPerSample, bytesPerSample, isFloat }) {
-  return `${isFloat ? "floats" : "integers"} of ${bitsPerSample} bits${bytesPerSample * 8 === bitsPerSample ? "" : ` in ${bytesPerSample} bytes`}`;
+  const inBytes = bytesPerSample * 8 === bitsPerSample ? "" : ` in ${bytesPerSample} bytes`;
+  return `${isFloat ? "floats" : "integers"} of ${bitsPerSample} bits${inBytes}`;
 }
 
 /** The header's fields, with a hint for each that needs one. */
 function rows(file, { head, found, begins }) {
   const { sampleRate, channels } = found;
+  const duration = `${sampleRate ? `${time(lengthOfTime(found))}, ` : ""}${counted(found.frames, "frame")}`;
+  const counts = head ? `counts ${counted(head.frames, "frame")}` : "counts no whole frames";
+  const stays = found.leftOver === 1 ? "It stays" : "They stay";
   return [
     ["File", `${file.name}, ${counted(file.size, "byte")}`],
-    ["Duration", `${sampleRate ? `${time(lengthOfTime(found))}, ` : ""}${counted(found.frames, "frame")}`, "A frame has one sample of each channel."],
+    ["Duration", duration, "A frame has one sample of each channel."],
     ["Sample rate", `${number(sampleRate)} Hz`, sampleRate ? "Frames a second." : "It is lost: choose it."],
     ["Channels", number(channels), ...(channels > LANES ? [`The first ${LANES} are drawn.`] : [])],
     ["Samples", formText(found)],
     ["Sound begins", `at byte ${number(begins)}`],
-    ...(found.state === "cutOff" && head !== undefined ? [["Header", head ? `counts ${counted(head.frames, "frame")}` : "counts no whole frames", "The repaired file counts all whole frames that are there."]] : []),
-    ...(found.leftOver ? [["Left over", counted(found.leftOver, "byte"), `${found.leftOver === 1 ? "It stays" : "They stay"} in the file, after the last whole frame.`]] : []),
+    ...(found.state === "cutOff" && head !== undefined ?
+      [["Header", counts, "The repaired file counts all whole frames that are there."]] : []),
+    ...(found.leftOver ?
+      [["Left over", counted(found.leftOver, "byte"), `${stays} in the file, after the last whole frame.`]] : []),
   ];
 }
 
@@ -162,8 +197,11 @@ function draw({ columns, channels, low, high, scale }) {
 /** Writes the times under the waveform: at most one for each 100 pixels. */
 function drawAxis(from, seconds) {
   const most = Math.max(2, Math.floor(axis.clientWidth / 100));
-  const step = [1e-5, 2e-5, 5e-5, 1e-4, 2e-4, 5e-4, 0.001, 0.002, 0.005, 0.01, 0.02, 0.05, 0.1, 0.2, 0.5, 1, 2, 5, 10, 15, 30, 60, 120, 300, 600, 900, 1800, 3600, 7200, 18000, 36000, 86400]
-    .find((one) => seconds / one <= most) ?? seconds;
+  const steps = [
+    1e-5, 2e-5, 5e-5, 1e-4, 2e-4, 5e-4, 0.001, 0.002, 0.005, 0.01, 0.02, 0.05, 0.1, 0.2, 0.5, 1, 2, 5, 10, 15, 30,
+    60, 120, 300, 600, 900, 1800, 3600, 7200, 18000, 36000, 86400,
+  ];
+  const step = steps.find((one) => seconds / one <= most) ?? seconds;
   const digits = step < 1 ? Math.max(2, Math.ceil(-Math.log10(step))) : 0, marks = [];
   for (let i = Math.ceil(from / step); i * step < from + seconds && marks.length <= most; i++) {
     const mark = document.createElement("span"), share = (i * step - from) / seconds;
@@ -179,7 +217,8 @@ async function drawView() {
   const mine = ++drawings, { found, first, count } = shown;
   const { channels, isFloat, bitsPerSample } = found;
   const columns = Math.max(1, Math.min(count, Math.round(wave.clientWidth * devicePixelRatio)));
-  const low = new Float32Array(columns * channels).fill(Infinity), high = new Float32Array(columns * channels).fill(-Infinity);
+  const low = new Float32Array(columns * channels).fill(Infinity);
+  const high = new Float32Array(columns * channels).fill(-Infinity);
   const peaks = { columns, frames: count, channels, low, high, scale: isFloat ? 1 : 2 ** (1 - bitsPerSample) };
   const block = Math.max(1, Math.floor(AT_ONCE / channels));
   shown.peaks = peaks;
@@ -223,7 +262,8 @@ async function copied({ file, frames, channels, isFloat, bitsPerSample, sampleRa
   for (let first = 0; first < frames; first += block) {
     const part = await read(file, { start: first, frames: Math.min(block, frames - first) });
     if (!isCurrent()) return null;
-    samples.set(Int16Array.from(part, (value) => Math.max(-32768, Math.min(32767, Math.round(value * scale)))), first * channels);
+    const scaled = (value) => Math.max(-32768, Math.min(32767, Math.round(value * scale)));
+    samples.set(Int16Array.from(part, scaled), first * channels);
   }
   return new Blob([await write(samples, { sampleRate, channels })], { type: "audio/wav" });
 }
@@ -268,7 +308,8 @@ function play(found, isCurrent) {
     audio.onerror = null;
     if (!isCurrent()) return;
     player.hidden = false;
-    const { frames, channels } = found, tell = (rest) => { player.textContent = `This browser doesn't play such samples${rest}.`; };
+    const { frames, channels } = found;
+    const tell = (rest) => { player.textContent = `This browser doesn't play such samples${rest}.`; };
     if (frames * channels > COPIED) return tell(", and they are too many for a copy in 16 bits");
     tell(", so a copy in 16 bits is made");
     const copy = await copied(found, isCurrent).catch(() => null); // There is no memory for it.
@@ -284,8 +325,10 @@ function play(found, isCurrent) {
 /** What is found of a file, and what is said of that; `toEnd` is whether all of it is taken for sound. */
 async function judged(file, toEnd) {
   const head = await info(file).catch(() => null), left = await repair(file, { toEnd });
-  // If the header counts half a frame, and chunks or a tag seem to follow, nothing is read of the file unless it is repaired.
-  const isTorn = !head && left.state === "hasChunksAfterData", found = isTorn ? await repair(file, { toEnd: true }) : left;
+  // If the header counts half a frame, and chunks or a tag seem to follow, nothing is read of the file unless it is
+  // repaired.
+  const isTorn = !head && left.state === "hasChunksAfterData";
+  const found = isTorn ? await repair(file, { toEnd: true }) : left;
   const says = claims(file, found);
   return { head, found, begins: found.dataStart, says, words: verdict(found, says, toEnd || isTorn) };
 }
@@ -293,7 +336,10 @@ async function judged(file, toEnd) {
 /** The same of a file whose header is lost: all after so many bytes is sound like that. */
 async function judgedAs(file, { like, skip }) {
   const found = await repair(file, { like, skip });
-  return { found, begins: skip, words: [`${framesOf(found)} of that ${found.frames === 1 ? "is" : "are"} there. Listen: if it is noise, or too fast or slow, choose otherwise.`, "cut"] };
+  const areThere = found.frames === 1 ? "is there" : "are there";
+  const text = `${framesOf(found)} of that ${areThere}. ` +
+    "Listen: if it is noise, or too fast or slow, choose otherwise.";
+  return { found, begins: skip, words: [text, "cut"] };
 }
 
 /** How little samples are like those of the frame before: near 0 if they are smooth, 1 if they are noise or none. */
@@ -322,30 +368,38 @@ function isPaired(blocks) {
 
 /** The number of channels of samples, by what makes them smooth, and how rough they are then. */
 function channelsOf(blocks) {
-  const [best] = CHANNELS.map((channels) => ({ channels, rough: roughness(blocks, channels) })).sort((a, b) => a.rough - b.rough);
+  const some = CHANNELS.map((channels) => ({ channels, rough: roughness(blocks, channels) }));
+  const [best] = some.sort((a, b) => a.rough - b.rough);
   return best.channels === 1 && isPaired(blocks) ? { ...best, channels: 2 } : best;
 }
 
 /** What was recorded in a file whose header is lost, by what makes its samples smooth; nothing if nothing does. */
 async function guessed(file) {
   if (file.size < PLACES * LEAST) return null; // A few samples may be smooth by chance.
-  const places = Array.from({ length: PLACES }, (_, i) => COMMON * Math.floor(file.size * (i + 0.5) / PLACES / COMMON)), all = [];
+  const place = (_, i) => COMMON * Math.floor(file.size * (i + 0.5) / PLACES / COMMON);
+  const places = Array.from({ length: PLACES }, place), all = [];
   const parts = await Promise.all(places.map((from) => file.slice(from, from + PART).arrayBuffer()));
-  for (const form of FORMS.slice(0, -1)) { // The last one is as smooth as integers of 32 bits, which have the same sound.
+  // The last form is as smooth as integers of 32 bits, which have the same sound.
+  for (const form of FORMS.slice(0, -1)) {
     for (let skip = 0; skip < form.bytesPerSample; skip++) {
       const mono = { ...form, sampleRate: 1, channels: 1 }, blocks = [];
-      for (const part of parts) blocks.push(await read((await repair(part, { like: mono, skip: Math.min(skip, part.byteLength) })).file, { type: "float32" }));
+      for (const part of parts) {
+        const mended = await repair(part, { like: mono, skip: Math.min(skip, part.byteLength) });
+        blocks.push(await read(mended.file, { type: "float32" }));
+      }
       const { channels, rough } = channelsOf(blocks);
       all.push({ like: { ...form, channels, sampleRate: 48000 }, skip, rough });
     }
   }
-  const best = Math.min(...all.map(({ rough }) => rough)), guess = all.find(({ rough }) => rough < NOISE && rough <= 2 * best);
+  const best = Math.min(...all.map(({ rough }) => rough));
+  const guess = all.find(({ rough }) => rough < NOISE && rough <= 2 * best);
   return guess && inStep(file, guess);
 }
 
 /** Where the lost header was as long as a new one, channels begin after it. */
 async function inStep(file, { like, skip }) {
-  const { dataStart } = await repair(file.slice(0, 0), { like }), first = dataStart % (like.channels * like.bytesPerSample);
+  const { dataStart } = await repair(file.slice(0, 0), { like });
+  const first = dataStart % (like.channels * like.bytesPerSample);
   return { like, skip: first % like.bytesPerSample === skip ? first : skip };
 }
 
@@ -353,7 +407,8 @@ async function inStep(file, { like, skip }) {
 function offer(file, { like, skip }, text) {
   element("guess").textContent = text;
   const { form, channels, rate, skip: bytes } = lost.elements;
-  form.value = FORMS.findIndex((one) => ["bitsPerSample", "bytesPerSample", "isFloat"].every((name) => one[name] === like[name]));
+  const isSame = (one) => ["bitsPerSample", "bytesPerSample", "isFloat"].every((name) => one[name] === like[name]);
+  form.value = FORMS.findIndex(isSame);
   [channels.value, rate.value, bytes.value, bytes.max] = [like.channels, like.sampleRate, skip, file.size];
   lost.hidden = false;
   lost.onchange = () => {
@@ -364,12 +419,16 @@ function offer(file, { like, skip }, text) {
   };
 }
 
-/** Guesses what was recorded where a header can't be read, and offers other choices; or says that there is nothing to choose. */
+/** Guesses what was recorded where a header can't be read, and offers other choices; or says that there are none. */
 async function withoutHeader(file, error, isCurrent) {
   if (!(error instanceof HoundError) || error.code === "TOO_LONG" || file.size < LEAST) throw error;
   const guess = await guessed(file), start = await guessStart(file);
-  const given = { ...(guess ?? { like: { ...FORMS[0], channels: 2, sampleRate: 48000 }, skip: 0 }), ...(start > 0 && { skip: start }) };
-  const text = guess ? "This is a guess, by which samples are smooth; the rate can't be guessed. What was before the sound may be a click." : "No guess: nothing in it is smooth, as sound is, or it is too short.";
+  const usual = { like: { ...FORMS[0], channels: 2, sampleRate: 48000 }, skip: 0 };
+  const given = { ...(guess ?? usual), ...(start > 0 && { skip: start }) };
+  const text = guess ?
+    "This is a guess, by which samples are smooth; the rate can't be guessed. " +
+      "What was before the sound may be a click." :
+    "No guess: nothing in it is smooth, as sound is, or it is too short.";
   const seen = await judgedAs(file, given);
   if (isCurrent()) offer(file, given, text);
   return { ...seen, words: [failure(file, error), "bad"] };
@@ -383,7 +442,8 @@ function show(file, { found, says, words }, toEnd, isCurrent) {
   if (!audio.hidden) play(found, isCurrent);
   if (found.state === "cutOff" && found.frames) {
     const name = repairedName(file.name);
-    Object.assign(save, { href: urlOf(found.file), hidden: false, download: name, textContent: `Save the repaired file as ${name}` });
+    const textContent = `Save the repaired file as ${name}`;
+    Object.assign(save, { href: urlOf(found.file), hidden: false, download: name, textContent });
   }
   if (says && (toEnd || found.state === "hasChunksAfterData")) {
     [choice.firstChild.textContent, end.textContent] = otherChoice(says, toEnd);
@@ -396,17 +456,20 @@ function show(file, { found, says, words }, toEnd, isCurrent) {
   return look(0, found.frames);
 }
 
-/** Looks at a file; all of it is taken for sound with `toEnd`, and what it is after so many bytes is given by `like` and `skip`. */
+/** Looks at a file; with `toEnd` all of it is taken for sound, with `like` all after the first `skip` bytes. */
 async function open(file, { toEnd = false, like, skip } = {}) {
   const mine = ++turn, isCurrent = () => mine === turn;
   clear();
   if (!like) lost.hidden = true;
   say(`Looking at ${file.name}.`);
   try {
-    const seen = await (like ? judgedAs(file, { like, skip }) : judged(file, toEnd).catch((error) => withoutHeader(file, error, isCurrent)));
+    const orChosen = (error) => withoutHeader(file, error, isCurrent);
+    const seen = await (like ? judgedAs(file, { like, skip }) : judged(file, toEnd).catch(orChosen));
     if (!isCurrent()) return;
     showRows(rows(file, seen));
-    if (!like && seen.says && seen.found.sampleRate === 0) offer(file, { like: { ...seen.found, sampleRate: 48000 }, skip: seen.begins }, "Its rate is lost: choose one.");
+    if (!like && seen.says && seen.found.sampleRate === 0) {
+      offer(file, { like: { ...seen.found, sampleRate: 48000 }, skip: seen.begins }, "Its rate is lost: choose one.");
+    }
     await show(file, seen, toEnd, isCurrent);
   } catch (error) {
     if (!isCurrent()) return;
@@ -417,7 +480,9 @@ async function open(file, { toEnd = false, like, skip } = {}) {
 
 /** What a table says of a file, and whether it is repaired. */
 function summary({ found, says }) {
-  if (found.state === "hasChunksAfterData") return says.mayBeSound ? "may be cut off: look at it" : "other data follow the sound";
+  if (found.state === "hasChunksAfterData") {
+    return says.mayBeSound ? "may be cut off: look at it" : "other data follow the sound";
+  }
   if (found.frames === 0) return "no sound";
   return found.state === "whole" ? "whole" : "was cut off";
 }
@@ -426,8 +491,11 @@ function summary({ found, says }) {
 async function listed(file, isCurrent) {
   const seen = await judged(file, false).catch((error) => ({ error }));
   if (!isCurrent()) return null;
-  const cells = ["", seen.error ? "" : time(lengthOfTime(seen.found)), seen.error ? `${seen.error.message}: look at it` : summary(seen)].map((text) => Object.assign(document.createElement("td"), { textContent: text }));
-  const row = document.createElement("tr"), button = Object.assign(document.createElement("button"), { type: "button", textContent: file.name, onclick: () => open(file) });
+  const texts = seen.error ? ["", `${seen.error.message}: look at it`] :
+    [time(lengthOfTime(seen.found)), summary(seen)];
+  const cells = ["", ...texts].map((textContent) => Object.assign(document.createElement("td"), { textContent }));
+  const row = document.createElement("tr"), button = document.createElement("button");
+  Object.assign(button, { type: "button", textContent: file.name, onclick: () => open(file) });
   cells[0].append(button);
   row.append(...cells);
   table.append(row);
@@ -458,7 +526,9 @@ async function openAll(files) {
     if (!isCurrent()) return;
     if (one) repaired.push(one);
   }
-  const cutOff = repaired.length ? `${number(repaired.length)} ${repaired.length === 1 ? "was" : "were"} cut off and can be saved repaired` : "none can be repaired";
+  const were = repaired.length === 1 ? "was" : "were";
+  const cutOff = repaired.length ?
+    `${number(repaired.length)} ${were} cut off and can be saved repaired` : "none can be repaired";
   say(files.length ? `${counted(files.length, "file")}, of which ${cutOff}.` : "There are no WAV files in it.");
   all.hidden = repaired.length === 0;
   all.textContent = `Save ${counted(repaired.length, "repaired file")}`;
@@ -482,9 +552,13 @@ async function filesOf(folder) {
 const folderOf = (entry) => ({
   kind: "directory", name: entry.name,
   async *values() {
-    const reader = entry.createReader(), next = () => new Promise((resolve, reject) => reader.readEntries(resolve, reject));
+    const reader = entry.createReader();
+    const next = () => new Promise((resolve, reject) => reader.readEntries(resolve, reject));
+    const fileIn = (one) => new Promise((resolve, reject) => one.file(resolve, reject));
     for (let some; (some = await next()).length > 0;) {
-      for (const one of some) yield one.isDirectory ? folderOf(one) : { kind: "file", name: one.name, getFile: () => new Promise((resolve, reject) => one.file(resolve, reject)) };
+      for (const one of some) {
+        yield one.isDirectory ? folderOf(one) : { kind: "file", name: one.name, getFile: () => fileIn(one) };
+      }
     }
   },
 });
@@ -500,7 +574,9 @@ async function folderIn(item) {
 }
 
 async function openDropped({ items, files }) {
-  const given = [...files], folders = await Promise.all([...items].filter(({ kind }) => kind === "file").map(folderIn)); // All is gone after the first await.
+  // All is gone after the first await.
+  const given = [...files], kept = [...items].filter(({ kind }) => kind === "file").map(folderIn);
+  const folders = await Promise.all(kept);
   if (!folders.some((folder) => folder)) return openAll(given);
   const found = await Promise.all(folders.map((folder, i) => folder ? filesOf(folder) : [given[i]]));
   return openAll(found.flat());
@@ -530,7 +606,8 @@ function change(view) {
 
 audio.ontimeupdate = () => shown && showPlace();
 wave.onclick = (event) => {
-  if (audio.duration) audio.currentTime = audio.duration * (shown.first + pointedAt(event) * shown.count) / shown.found.frames;
+  if (!audio.duration) return;
+  audio.currentTime = audio.duration * (shown.first + pointedAt(event) * shown.count) / shown.found.frames;
 };
 wave.addEventListener("wheel", (event) => {
   if (!event.ctrlKey || zoom.hidden) return; // A pinch comes as this, too.

@@ -14,7 +14,8 @@ const u32 = (n) => [...u16(n), ...u16(n >>> 16)];
 /** A PCM file of these data, whose header may count others. */
 function byHand(data, { counted = data.length, after = [], riff, channels = 1, bits = 16, tag = 1 } = {}) {
   const frame = channels * Math.ceil(bits / 8);
-  const fmt = [...u32(16), ...u16(tag), ...u16(channels), ...u32(8000), ...u32(8000 * frame), ...u16(frame), ...u16(bits)];
+  const fmt =
+    [...u32(16), ...u16(tag), ...u16(channels), ...u32(8000), ...u32(8000 * frame), ...u16(frame), ...u16(bits)];
   const rest = [...text("WAVEfmt "), ...fmt, ...text("data"), ...u32(counted), ...data, ...after];
   return Uint8Array.from([...text("RIFF"), ...u32(riff ?? rest.length), ...rest]);
 }
@@ -101,19 +102,26 @@ test("integers are read as floats whose full scale is 1", async () => {
     [24, [0, 0, 64, 0, 0, 128, 1, 0, 0], [0.5, -1, 1 / 8388608]],
     [32, [0, 0, 0, 192, 0, 0, 0, 1], [-0.5, 1 / 128]],
   ]) {
-    for (const file of kinds(byHand(data, { bits }))) assert.deepEqual(await read(file, { type: "float32" }), Float32Array.from(floats));
+    for (const file of kinds(byHand(data, { bits }))) {
+      assert.deepEqual(await read(file, { type: "float32" }), Float32Array.from(floats));
+    }
   }
   await fails(read(byHand([0, 0, 0, 63], { bits: 32, tag: 3 }), { type: "int32" }), "OTHER_FORMAT");
 });
 
 test("floats are rounded to integers, of two to the even one, and what is clipped is counted", async () => {
   const floats = Float32Array.of(0.5, -1, 1, 2, -3, NaN, 0.5 / 32768, 1.5 / 32768, 2.5 / 32768), counts = [];
-  const onClipped = (count) => counts.push(count), data = [0, 64, 0, 128, 255, 127, 255, 127, 0, 128, 0, 0, 0, 0, 2, 0, 2, 0];
+  const onClipped = (count) => counts.push(count);
+  const data = [0, 64, 0, 128, 255, 127, 255, 127, 0, 128, 0, 0, 0, 0, 2, 0, 2, 0];
   assert.deepEqual(await write(floats, { sampleRate: 8000, bitsPerSample: 16, onClipped }), byHand(data));
-  for (const file of kinds(byHand([7, 0]))) assert.deepEqual(await bytes(await append(file, floats, { onClipped })), byHand([7, 0, ...data]));
+  for (const file of kinds(byHand([7, 0]))) {
+    assert.deepEqual(await bytes(await append(file, floats, { onClipped })), byHand([7, 0, ...data]));
+  }
   assert.deepEqual(counts, [3, 3, 3]);
-  assert.deepEqual(await write(Float32Array.of(0.5, -1), { sampleRate: 8000, bitsPerSample: 8, onClipped }), byHand([192, 0], { bits: 8 }));
-  assert.deepEqual([...(await write(Float32Array.of(0.5), { sampleRate: 8000, isFloat: false })).slice(-4)], [0, 0, 0, 64]);
+  const narrow = await write(Float32Array.of(0.5, -1), { sampleRate: 8000, bitsPerSample: 8, onClipped });
+  assert.deepEqual(narrow, byHand([192, 0], { bits: 8 }));
+  const wide = await write(Float32Array.of(0.5), { sampleRate: 8000, isFloat: false });
+  assert.deepEqual([...wide.slice(-4)], [0, 0, 0, 64]);
   const long = await write(new Float32Array(600001).fill(2), { sampleRate: 8000, bitsPerSample: 16, onClipped });
   assert.deepEqual([long.length, ...long.slice(-2)], [44 + 2 * 600001, 255, 127]);
   assert.deepEqual(counts, [3, 3, 3, 600001]);
@@ -124,28 +132,34 @@ test("without a call for it a warning says what is clipped", async (t) => {
   await write(Float32Array.of(0, 1), { sampleRate: 8000, bitsPerSample: 24 });
   await append(byHand([]), Float32Array.of(-2, 0.5));
   await write(Float32Array.of(2), { sampleRate: 8000 }); // A float is stored as it is.
-  assert.deepEqual(mock.calls.map((call) => call.arguments), Array(2).fill(["hound_bindings: samples out of full scale were clipped: 1"]));
+  const warning = "hound_bindings: samples out of full scale were clipped: 1";
+  assert.deepEqual(mock.calls.map((call) => call.arguments), Array(2).fill([warning]));
 });
 
 test("a file of 24 bits is the same by way of floats, with its spec", async () => {
   for (const bytesPerSample of [3, 4]) {
-    const samples = Int32Array.of(1, -1, 8388607, -8388608, 1234567, -7), file = await write(samples, { sampleRate: 48000, channels: 2, bitsPerSample: 24, bytesPerSample });
+    const samples = Int32Array.of(1, -1, 8388607, -8388608, 1234567, -7);
+    const file = await write(samples, { sampleRate: 48000, channels: 2, bitsPerSample: 24, bytesPerSample });
     assert.deepEqual(await write(await read(file, { type: "float32" }), await info(file)), file);
   }
 });
 
 test("each channel has an array, as Web Audio has them", async () => {
-  const file = byHand([1, 0, 2, 0, 3, 0, 4, 0], { channels: 2 }), [left, right] = [Int16Array.of(1, 3), Int16Array.of(2, 4)];
+  const file = byHand([1, 0, 2, 0, 3, 0, 4, 0], { channels: 2 });
+  const [left, right] = [Int16Array.of(1, 3), Int16Array.of(2, 4)];
   assert.deepEqual(await write([left, right], { sampleRate: 8000 }), file);
   for (const kind of kinds(file)) {
     assert.deepEqual(await read(kind, { planar: true }), [left, right]);
-    assert.deepEqual(await read(kind, { planar: true, type: "float32", start: 1 }), [Float32Array.of(3 / 32768), Float32Array.of(4 / 32768)]);
-    assert.deepEqual(await bytes(await append(kind, [Float32Array.of(0.5), Float32Array.of(-0.5)])), byHand([1, 0, 2, 0, 3, 0, 4, 0, 0, 64, 0, 192], { channels: 2 }));
+    const floats = await read(kind, { planar: true, type: "float32", start: 1 });
+    assert.deepEqual(floats, [Float32Array.of(3 / 32768), Float32Array.of(4 / 32768)]);
+    const longer = await append(kind, [Float32Array.of(0.5), Float32Array.of(-0.5)]);
+    assert.deepEqual(await bytes(longer), byHand([1, 0, 2, 0, 3, 0, 4, 0, 0, 64, 0, 192], { channels: 2 }));
   }
   const nan = new Float32Array(Uint8Array.of(1, 0, 128, 127, 0, 0, 128, 63).buffer); // A signalling NaN, and 1.
   const floats = await write([nan, nan], { sampleRate: 8000 });
   assert.deepEqual([...floats.slice(-16)], [1, 0, 128, 127, 1, 0, 128, 127, 0, 0, 128, 63, 0, 0, 128, 63]);
-  assert.deepEqual((await read(floats, { planar: true })).map(({ buffer }) => [...new Uint8Array(buffer)]), Array(2).fill([1, 0, 128, 127, 0, 0, 128, 63]));
+  const bits = (await read(floats, { planar: true })).map(({ buffer }) => [...new Uint8Array(buffer)]);
+  assert.deepEqual(bits, Array(2).fill([1, 0, 128, 127, 0, 0, 128, 63]));
 });
 
 test("an ArrayBuffer is taken for its bytes", async () => {
@@ -198,7 +212,8 @@ test("a file that was cut off is repaired", async () => {
     const cut = byHand(data, { channels: 2, counted, riff }), before = cut.slice();
     for (const file of kinds(cut)) {
       const { state, frames, leftOver, dataStart, dataLength } = await findDamage(file);
-      assert.deepEqual({ state, frames, leftOver, dataStart, dataLength }, { state: "cutOff", frames: 2, leftOver: 2, dataStart: 44, dataLength: counted });
+      const expected = { state: "cutOff", frames: 2, leftOver: 2, dataStart: 44, dataLength: counted };
+      assert.deepEqual({ state, frames, leftOver, dataStart, dataLength }, expected);
       const repaired = await repair(file);
       assert.deepEqual(await bytes(repaired.file), good);
       assert.deepEqual((await repair(repaired.file)).state, "whole");
@@ -236,7 +251,8 @@ test("with toEnd chunks and a tag are taken for samples", async () => {
     }
   }
   const odd = byHand([1], { bits: 8, after: LIST });
-  assert.deepEqual(await bytes((await repair(odd, { toEnd: true })).file), byHand([1, ...LIST], { bits: 8, after: [0] }));
+  const mended = await repair(odd, { toEnd: true });
+  assert.deepEqual(await bytes(mended.file), byHand([1, ...LIST], { bits: 8, after: [0] }));
   await fails(repair(byHand([1, 0], { channels: 0 }), { toEnd: true }), "ZERO_CHANNELS");
 });
 
@@ -250,12 +266,14 @@ test("a lost header is made like another one", async () => {
     }
   }
   const torn = await repair(Uint8Array.from([...data, 9]), { like });
-  assert.deepEqual([torn.frames, torn.leftOver, torn.file], [2, 1, byHand(data, { channels: 2, after: [9], riff: 44 })]);
+  const expected = byHand(data, { channels: 2, after: [9], riff: 44 });
+  assert.deepEqual([torn.frames, torn.leftOver, torn.file], [2, 1, expected]);
   const odd = await repair(Uint8Array.of(5, 6, 7), { like: { sampleRate: 8000, bitsPerSample: 8 } });
   assert.deepEqual(odd.file, byHand([5, 6, 7], { bits: 8, after: [0] }));
   assert.equal((await repair(new Uint8Array(2), { like, skip: 2 })).frames, 0);
   await assert.rejects(repair(Uint8Array.from(data), { like, skip: 9 }), { name: "RangeError", message: /^skip / });
-  await assert.rejects(repair(Uint8Array.from(data), { like: { sampleRate: 8000 } }), { name: "TypeError", message: /^bitsPerSample / });
+  const withoutBits = repair(Uint8Array.from(data), { like: { sampleRate: 8000 } });
+  await assert.rejects(withoutBits, { name: "TypeError", message: /^bitsPerSample / });
   await fails(repair(Uint8Array.from(data), { like: { sampleRate: 8000, bitsPerSample: 12 } }), "NOT_WRITABLE");
 });
 
@@ -281,13 +299,17 @@ test("an append overwrites only what it may", async () => {
     assert.deepEqual(await bytes(await append(file, one.subarray(1), { overwrite: true })), byHand([1, 0]));
   }
   for (const overwrite of [false, true]) {
-    for (const cut of [byHand([1, 0, 2, 0], { counted: 0 }), byHand([1, 0, 2, 0], { counted: 3 })]) await fails(append(cut, one, { overwrite }), "IS_CUT_OFF");
+    for (const counted of [0, 3]) {
+      await fails(append(byHand([1, 0, 2, 0], { counted }), one, { overwrite }), "IS_CUT_OFF");
+    }
     await fails(append(byHand([1, 0], { counted: 4 }), one, { overwrite }), "TRUNCATED");
   }
 });
 
 test("a byte after odd data that isn't 0 is a sample, and nothing is appended over it", async () => {
-  for (const file of kinds(byHand([1, 2, 3], { bits: 8, after: [4] }))) await fails(append(file, Int8Array.of(5)), "IS_CUT_OFF");
+  for (const file of kinds(byHand([1, 2, 3], { bits: 8, after: [4] }))) {
+    await fails(append(file, Int8Array.of(5)), "IS_CUT_OFF");
+  }
 });
 
 test("the samples that are written or appended are those of the call", async () => {
@@ -308,15 +330,18 @@ test("a Blob takes many appends, of which each copy can be read", async () => {
   const wanted = Int8Array.from([-127, ...Array.from({ length: 10000 }, (_, i) => [i % 100, -(i % 100), 3]).flat()]);
   assert.deepEqual(await read(file, { type: "int8" }), wanted);
   assert.equal((await repair(file)).state, "whole");
-  assert.deepEqual(await read(await append(middle, Int8Array.of(5)), { type: "int8" }), Int8Array.of(...wanted.subarray(0, 15001), 5));
+  const samples = await read(await append(middle, Int8Array.of(5)), { type: "int8" });
+  assert.deepEqual(samples, Int8Array.of(...wanted.subarray(0, 15001), 5));
 });
 
 test("a file at a path is repaired in place", async () => {
   const folder = await fs.mkdtemp(path.join(os.tmpdir(), "hound-")), name = path.join(folder, "a.wav");
   const whole = byHand([1, 2, 3], { bits: 8, after: [0] }), followed = byHand([1, 0], { after: LIST });
   const odd = [[byHand([1, 2, 3], { bits: 8, counted: 0, riff: 36 }), "cutOff", whole], [whole, "whole", whole]];
-  const long = byHand(Array(3e6).fill(5), { channels: 2, counted: 0 }), chunks = [followed, "hasChunksAfterData", followed];
-  for (const [before, state, after] of [...odd, [long, "cutOff", byHand(Array(3e6).fill(5), { channels: 2 })], chunks]) {
+  const long = byHand(Array(3e6).fill(5), { channels: 2, counted: 0 });
+  const chunks = [followed, "hasChunksAfterData", followed];
+  const repaired = [long, "cutOff", byHand(Array(3e6).fill(5), { channels: 2 })];
+  for (const [before, state, after] of [...odd, repaired, chunks]) {
     await fs.writeFile(name, before);
     assert.equal((await repairFile(name)).state, state);
     assert.ok((await fs.readFile(name)).equals(after));
@@ -343,7 +368,8 @@ test("errors have the sentences of hound.h", async () => {
     [byHand([1], { counted: 1 }), "FRAME_LENGTH", /./],
   ]) {
     for (const kind of kinds(Uint8Array.from(file))) {
-      await assert.rejects(info(kind), { name: "HoundError", ...(sentence instanceof RegExp ? {} : { code, message: sentence }) });
+      const expected = sentence instanceof RegExp ? {} : { code, message: sentence };
+      await assert.rejects(info(kind), { name: "HoundError", ...expected });
     }
   }
   await fails(write(Int32Array.of(128), { sampleRate: 8000, bitsPerSample: 8 }), "TOO_WIDE");
@@ -395,14 +421,16 @@ test("calls that are made at once don't disturb each other", async () => {
 });
 
 test("a file that fills a card of FAT32 is repaired", async () => {
-  const cut = byHand([], { channels: 2, counted: 0, riff: 0 }), folder = await fs.mkdtemp(path.join(os.tmpdir(), "hound-"));
+  const cut = byHand([], { channels: 2, counted: 0, riff: 0 });
+  const folder = await fs.mkdtemp(path.join(os.tmpdir(), "hound-"));
   const full = path.join(folder, "full.wav");
   await fs.writeFile(full, cut);
   await fs.truncate(full, 2 ** 32 - 1);
   const { state, frames, leftOver, file: repaired } = await repair(await openAsBlob(full));
   assert.deepEqual({ state, frames, leftOver }, { state: "cutOff", frames: (2 ** 32 - 48) / 4, leftOver: 3 });
   assert.equal(repaired.size, 2 ** 32 - 1);
-  assert.deepEqual(await bytes(repaired.slice(0, 44)), byHand([], { channels: 2, counted: 2 ** 32 - 48, riff: 2 ** 32 - 12 }));
+  const head = byHand([], { channels: 2, counted: 2 ** 32 - 48, riff: 2 ** 32 - 12 });
+  assert.deepEqual(await bytes(repaired.slice(0, 44)), head);
   await fs.rm(folder, { recursive: true });
   await fails(repair(new Counted(cut, 5e9)), "TOO_LONG");
 });

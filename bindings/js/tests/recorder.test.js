@@ -19,7 +19,8 @@ const block = (number) => Int16Array.from({ length: 6 }, (_, i) => 10 * number +
 function fileOf(blocks) {
   const data = blocks.flatMap((one) => [...one]), file = Buffer.alloc(44 + 2 * data.length);
   for (const [place, text] of [[0, "RIFF"], [8, "WAVEfmt "], [36, "data"]]) file.write(text, place, "latin1");
-  for (const [place, value] of [[4, file.length - 8], [16, 16], [24, 8000], [28, 32000], [40, 2 * data.length]]) file.writeUInt32LE(value, place);
+  const words = [[4, file.length - 8], [16, 16], [24, 8000], [28, 32000], [40, 2 * data.length]];
+  for (const [place, value] of words) file.writeUInt32LE(value, place);
   for (const [place, value] of [[20, 1], [22, 2], [32, 4], [34, 16]]) file.writeUInt16LE(value, place);
   data.forEach((sample, i) => file.writeInt16LE(sample, 44 + 2 * i));
   return file;
@@ -39,7 +40,9 @@ test("a checkpoint is what a reader finds, and a closed file is canonical", asyn
     await recorder.close();
     assert.deepEqual(await content(), fileOf([block(1), [16384, -16384]]));
     await recorder.close();
-    for (const call of [() => recorder.write(block(2)), () => recorder.flush()]) await assert.rejects(call(), { message: "the recorder is closed" });
+    for (const call of [() => recorder.write(block(2)), () => recorder.flush()]) {
+      await assert.rejects(call(), { message: "the recorder is closed" });
+    }
   }
 });
 
@@ -113,7 +116,8 @@ test("what is durable is synced before the header counts it, and what was writte
       return real(bytes, from, Math.min(length, 3), place);
     }, async () => {
       const recorder = await record(take, SPEC, { durable });
-      assert.equal(kinds(), durable ? "sync,truncate,sync,header" : "truncate,header"); // The first sync is the folder's.
+      // The first sync is the folder's.
+      assert.equal(kinds(), durable ? "sync,truncate,sync,header" : "truncate,header");
       calls.length = 0;
       await recorder.write(block(1));
       await recorder.flush();
@@ -157,7 +161,8 @@ test("after an error a block is in the file only if its write was fulfilled", as
         await tried(recorder.close(), () => { isClosed = true; });
       });
       const file = await content(), left = file.length < 44 ? 0 : (await read(file)).length / 6;
-      assert.ok(isClosed ? file.equals(fileOf(held)) : left >= stored && left <= held.length, `call ${number}: ${left} of ${stored} to ${held.length}`);
+      const holds = isClosed ? file.equals(fileOf(held)) : left >= stored && left <= held.length;
+      assert.ok(holds, `call ${number}: ${left} of ${stored} to ${held.length}`);
       if (number < calls) calls = Infinity; // There may be more of them where none fails.
       if (left) assert.deepEqual(await read(file), Int16Array.from(held.slice(0, left).flatMap((one) => [...one])));
     }
@@ -177,14 +182,16 @@ test("a program that is killed leaves what its header counts, and a repair inven
       fs.writeSync(1, (i + 500) + "\\n");
     }`;
   for (let round = 0; round < 12; round++) {
-    const child = spawn(process.execPath, ["--input-type=module", "-e", program], { stdio: ["ignore", "pipe", "inherit"] });
+    const words = ["--input-type=module", "-e", program];
+    const child = spawn(process.execPath, words, { stdio: ["ignore", "pipe", "inherit"] });
     let said = "";
     child.stdout.on("data", (part) => {
       if (said === "") setTimeout(() => child.kill("SIGKILL"), 3 * Math.random() + 20 * (round % 3));
       said += part;
     });
     await new Promise((resolve) => child.on("close", resolve));
-    const flushed = Number(said.trimEnd().split("\n").at(-1)), right = (samples) => samples.every((sample, i) => sample === i % 30000);
+    const flushed = Number(said.trimEnd().split("\n").at(-1));
+    const right = (samples) => samples.every((sample, i) => sample === i % 30000);
     const before = await read(await content());
     assert.ok(before.length >= flushed && flushed > 0 && right(before), `${before.length} of ${flushed}`);
     await repairFile(take);
@@ -195,29 +202,42 @@ test("a program that is killed leaves what its header counts, and a repair inven
 
 test("require gives the same, with the samples of the call", async () => {
   const program = `
-    const hound = require("../hound.cjs"), samples = Int16Array.of(7, 8), written = hound.write([samples], { sampleRate: 8000 });
+    const hound = require("../hound.cjs"), samples = Int16Array.of(7, 8);
+    const written = hound.write([samples], { sampleRate: 8000 });
     samples.fill(9);
     written.then(hound.read).then((read) => console.log(read.join(), Object.keys(hound).sort().join()));
-    hound.info(new ArrayBuffer(3)).catch((error) => console.log(error instanceof hound.HoundError, new Error() instanceof hound.HoundError, error.code));`;
-  const { stdout } = spawnSync(process.execPath, ["-e", program], { cwd: new URL(".", import.meta.url), encoding: "utf8" });
+    const isOne = (error) => error instanceof hound.HoundError;
+    hound.info(new ArrayBuffer(3)).catch((error) => console.log(isOne(error), isOne(new Error()), error.code));`;
+  const cwd = new URL(".", import.meta.url);
+  const { stdout } = spawnSync(process.execPath, ["-e", program], { cwd, encoding: "utf8" });
   const { default: _, ...all } = await import("../hound.js");
   assert.deepEqual(stdout.trimEnd().split("\n").sort(), [`7,8 ${Object.keys(all).sort()}`, "true false ENDED"]);
 });
 
 test("the command says what files are, and repairs them", async () => {
-  const cut = path.join(folder, "cut.wav"), other = path.join(folder, "other.txt"), command = new URL("../command.js", import.meta.url).pathname;
-  const run = (...words) => (({ status, stdout, stderr }) => [status, stdout, stderr])(spawnSync(process.execPath, [command, ...words], { encoding: "utf8" }));
+  const cut = path.join(folder, "cut.wav"), other = path.join(folder, "other.txt");
+  const command = new URL("../command.js", import.meta.url).pathname;
+  const run = (...words) => {
+    const { status, stdout, stderr } = spawnSync(process.execPath, [command, ...words], { encoding: "utf8" });
+    return [status, stdout, stderr];
+  };
   await fs.writeFile(take, fileOf([block(1)]));
   await fs.writeFile(cut, Buffer.concat([fileOf([block(1)]), Buffer.from([1, 2, 3, 4, 5])]));
   await fs.writeFile(other, "text");
   const spec = "8000 Hz, 2 channels, integers of 16 bits\n";
-  assert.deepEqual(run("info", take, cut), [0, `${take}: whole, 3 frames (0.000 s), ${spec}${cut}: cut off, 4 frames (0.001 s), 1 byte left over, ${spec.trim()}; the header counts 3 frames\n`, ""]);
-  assert.deepEqual(run("repair", other, cut), [1, `${cut}: found cut off, 4 frames (0.001 s), 1 byte left over, ${spec}`, `${other}: no RIFF tag found\n`]);
+  const whole = `${take}: whole, 3 frames (0.000 s), ${spec}`;
+  const found = "cut off, 4 frames (0.001 s), 1 byte left over";
+  const counts = `${cut}: ${found}, ${spec.trim()}; the header counts 3 frames\n`;
+  assert.deepEqual(run("info", take, cut), [0, whole + counts, ""]);
+  assert.deepEqual(run("repair", other, cut), [1, `${cut}: found ${found}, ${spec}`, `${other}: no RIFF tag found\n`]);
   assert.deepEqual(run("info", cut), [0, `${cut}: whole, 4 frames (0.001 s), 1 byte left over, ${spec}`, ""]);
   await fs.writeFile(cut, Buffer.concat([fileOf([block(1)]), Buffer.from("LIST\x04\0\0\0INFO", "latin1")]));
   assert.equal(run("repair", cut)[1], `${cut}: found chunks or a tag follow the sound, 3 frames (0.000 s), ${spec}`);
   assert.equal(run("repair", "--to-end", cut)[1], `${cut}: found cut off, 6 frames (0.001 s), ${spec}`);
-  for (const words of [[], ["info"], ["repair", "--to-end"], ["info", "--to-end", take], ["show", take], ["repair", "--help"]]) assert.deepEqual(run(...words).slice(0, 2), [2, ""]);
+  const uses = [
+    [], ["info"], ["repair", "--to-end"], ["info", "--to-end", take], ["show", take], ["repair", "--help"],
+  ];
+  for (const words of uses) assert.deepEqual(run(...words).slice(0, 2), [2, ""]);
   assert.match(run("info", path.join(folder, "none.wav"))[2], /none\.wav: .*(ENOENT|no such file)/i);
   assert.deepEqual(run("info", folder), [1, "", `${folder}: it is a folder, and files are named here\n`]);
   assert.deepEqual(run("--help"), [0, run()[2], ""]);

@@ -15,20 +15,22 @@ function whole(call, file) {
   const length = Number(hound[call](BigInt(start + PAGE), BigInt(file.length + 1), BigInt(file.length), BigInt(start)));
   if (length < 0) return length;
   const [frames, leftOver, state] = [12, 16, 20].map((n) => view.getUint32(n, true));
-  return { state: ["whole", "cutOff", "hasChunksAfterData"][state], frames, leftOver, file: memory.slice(PAGE, PAGE + length) };
+  const states = ["whole", "cutOff", "hasChunksAfterData"];
+  return { state: states[state], frames, leftOver, file: memory.slice(PAGE, PAGE + length) };
 }
 
 let seed = 1;
 const some = (n) => (seed = Math.imul(seed, 1664525) + 1013904223 >>> 0, Math.floor(seed / 2 ** 32 * n));
 const of = (...choices) => choices[some(choices.length)];
 
-/** Puts chunks into a file from a place on: mostly up to its end, and with tags that aren't known; some headers lie on two
-    pages. */
+/** Puts chunks into a file from a place on: mostly up to its end, and with tags that aren't known; some headers lie on
+    two pages. */
 function putChunks(file, place) {
   const view = new DataView(file.buffer);
   while (place + 8 <= file.length) {
     const left = file.length - place - 8, toPage = (2 * PAGE - 4 - (place + 8) % PAGE) % PAGE;
-    const length = of(some(300000), some(300000), toPage, toPage, left, some(6) ? left : of(0, 1, left - 1, left + 1, 2 ** 32 - 1));
+    const length =
+      of(some(300000), some(300000), toPage, toPage, left, some(6) ? left : of(0, 1, left - 1, left + 1, 2 ** 32 - 1));
     file.set(Buffer.from(some(20) ? of("abcd", "~ ~ ") : of("LIST", "a\0cd", "\x7fabc"), "latin1"), place);
     view.setUint32(place + 4, length, true);
     place += 8 + length + length % 2;
@@ -42,7 +44,9 @@ async function made() {
   const file = new Uint8Array(LONG + some(PAGE)).fill(of(0, 0, 65, 200)), view = new DataView(file.buffer);
   file.set(some(20) ? head : head.subarray(0, 20));
   const held = file.length - head.length, right = held - held % frame;
-  const length = of(0, 1, 6, some(held), held - some(200), held, held + 1, held - 128, 2 ** 32 - 1, right, some(held), some(held) | 1);
+  const length = of(
+    0, 1, 6, some(held), held - some(200), held, held + 1, held - 128, 2 ** 32 - 1, right, some(held), some(held) | 1,
+  );
   view.setUint32(head.length - 4, length, true);
   if (some(2)) view.setUint32(4, head.length - 8 + length + length % 2, true);
   if (some(4)) putChunks(file, head.length + length + of(length % 2, length % 2, 0));
@@ -55,15 +59,21 @@ test("parts and the whole give the same", async () => {
   for (let i = 0; i < FILES; i++) {
     const bytes = await made(), file = of(bytes, new Blob([bytes])), toEnd = i % 4 === 3;
     const expected = whole(toEnd ? "hound_repair_to_end" : "hound_repair", bytes);
-    const found = await repair(file, { toEnd }).catch((error) => error), looked = toEnd ? found : await findDamage(file).catch((error) => error);
+    const found = await repair(file, { toEnd }).catch((error) => error);
+    const looked = toEnd ? found : await findDamage(file).catch((error) => error);
     seen.set(expected.state ?? expected, 1 + (seen.get(expected.state ?? expected) ?? 0));
     if (typeof expected === "number") {
       assert.ok(found instanceof HoundError && looked instanceof HoundError && found.code === looked.code, `${found}`);
       continue;
     }
-    for (const name of ["state", "frames", "leftOver"]) assert.equal(found[name], expected[name]), assert.equal(looked[name], expected[name]);
+    for (const name of ["state", "frames", "leftOver"]) {
+      assert.equal(found[name], expected[name]);
+      assert.equal(looked[name], expected[name]);
+    }
     const left = file instanceof Blob ? new Uint8Array(await found.file.arrayBuffer()) : found.file;
     assert.ok(Buffer.compare(left, expected.file) === 0, `file ${i} is another one`);
   }
-  for (const state of ["whole", "cutOff", "hasChunksAfterData"]) assert.ok(seen.get(state) >= 20, `${state}: ${seen.get(state)}`);
+  for (const state of ["whole", "cutOff", "hasChunksAfterData"]) {
+    assert.ok(seen.get(state) >= 20, `${state}: ${seen.get(state)}`);
+  }
 });

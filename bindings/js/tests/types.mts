@@ -1,10 +1,12 @@
 // What hound.d.ts declares: `tsc` accepts this file, where each call has its arguments and its result.
-import { HoundError, append, appendTo, findDamage, info, read, record, repair, write, type Damage, type Info, type Recorder } from "../hound.js";
+import { HoundError, append, appendTo, findDamage, info, read, record, repair, write } from "../hound.js";
+import type { Damage, Info, Recorder } from "../hound.js";
 
 export async function uses(blob: Blob, bytes: Uint8Array): Promise<string> {
   const wide: Int32Array = await read(blob, { type: "int32", start: 1, frames: 2 });
   const any: Int16Array | Int32Array | Float32Array = await read(bytes);
-  const written: Uint8Array = await write(wide, { sampleRate: 8000, channels: 2, bitsPerSample: 24, bytesPerSample: 4 });
+  const four = { bitsPerSample: 24, bytesPerSample: 4 };
+  const written: Uint8Array = await write(wide, { sampleRate: 8000, channels: 2, ...four });
   const longer: Blob = await append(blob, any, { overwrite: true });
   const [left, right]: Float32Array[] = await read(new ArrayBuffer(44), { type: "float32", planar: true });
   await append(bytes, await read(blob, { planar: true }), { onClipped: (count: number) => count.toFixed() });
@@ -13,7 +15,8 @@ export async function uses(blob: Blob, bytes: Uint8Array): Promise<string> {
   const head: Info = await info(mended);
   await repair(mended, { like: head, skip: 44 });
   await write([left!, right!], { ...head, bitsPerSample: 16 });
-  const recorder: Recorder = await record("take.wav", { ...head, bitsPerSample: 24 }, { durable: true, exclusive: true });
+  const form = { ...head, bitsPerSample: 24 };
+  const recorder: Recorder = await record("take.wav", form, { durable: true, exclusive: true });
   await recorder.write([left!, right!], { onClipped: () => {} });
   await (await appendTo(new URL("file:///take.wav"), { durable: true })).close();
   // @ts-expect-error: without samples the bits are needed.

@@ -1,15 +1,15 @@
 """WAV files, read, written, appended to and repaired by proved code.
 
 A file is a path, or an object that reads, writes and seeks as one does, such as an io.BytesIO, from the place on where
-it is; `info`, `read` and `read_into` take bytes, too. Samples are interleaved: `array.array`s, lists, or anything with a
-buffer, such as a numpy array; two dimensions are frames by channels. Integers are read and written as they are. Where
+it is; `info`, `read` and `read_into` take bytes, too. Samples are interleaved: `array.array`s, lists, or anything with
+a buffer, such as a numpy array; two dimensions are frames by channels. Integers are read and written as they are. Where
 floats are read from a file of integers, or written to one, their full scale is 1: they are the integers divided by
-2^(bits - 1). What is written is rounded to the nearest integer and clipped, which a RuntimeWarning counts; `dither` adds
-triangular noise of at most one step before that, and is the seed of its generator (True is 1).
+2^(bits - 1). What is written is rounded to the nearest integer and clipped, which a RuntimeWarning counts; `dither`
+adds triangular noise of at most one step before that, and is the seed of its generator (True is 1).
 
 A file that is recorded to, appended to, repaired or replaced is locked (`flock`; on Windows LockFileEx, until it is
-replaced): what another program, or a Writer of this one, has locked is a BlockingIOError. Programs without such locks may
-not change a file during a call. Of what is `durable` Windows syncs files, but no folders.
+replaced): what another program, or a Writer of this one, has locked is a BlockingIOError. Programs without such locks
+may not change a file during a call. Of what is `durable` Windows syncs files, but no folders.
 """
 import array
 import contextlib
@@ -40,7 +40,9 @@ Path = Union[str, "os.PathLike[str]"]
 File = Union[Path, IO[bytes], bytes, bytearray, memoryview, mmap.mmap]
 # A type of samples: its name, or a type or dtype of numpy.
 Dtype = Union[
-    Literal["int8", "int16", "int32", "float32", "float64", "i1", "i2", "i4", "f4", "f8", "float"], Type[Any], "_OfNumpy"
+    Literal["int8", "int16", "int32", "float32", "float64", "i1", "i2", "i4", "f4", "f8", "float"],
+    Type[Any],
+    "_OfNumpy",
 ]
 
 
@@ -65,7 +67,11 @@ class Cause(enum.IntEnum):
     OTHER_FORMAT = 3, "the samples are floats and the type is an integer, or vice versa"
     TOO_WIDE = 4, "the samples are wider than the type, or a value than its bits"
     NOT_WRITABLE = 5, "samples of this spec are not read or written (integers have 8, 16, 24 or 32 bits, floats 32)"
-    TRUNCATED = 6, "the header counts a sample that the file does not hold (a recording that was cut off can be repaired, a stream of unknown length can be read to its end)"
+    TRUNCATED = (
+        6,
+        "the header counts a sample that the file does not hold "
+        "(a recording that was cut off can be repaired, a stream of unknown length can be read to its end)",
+    )
     TOO_LONG = 7, "the sizes of the file would not fit in 32 bits"
     UNFINISHED_FRAME = 8, "the samples are no whole frames"
     NO_ROOM = 9, "more bytes are needed than the capacity"
@@ -84,8 +90,16 @@ class Cause(enum.IntEnum):
     EX_SIZE = 22, "unexpected WAVEFORMATEX size"
     BITS_NOT_32 = 23, "bits per sample is not 32"
     EXTENSIBLE_SIZE = 24, "unexpected WAVEFORMATEXTENSIBLE size"
-    DATA_LENGTH = 25, "data chunk length is not a multiple of sample size (a recording that was cut off can be repaired, a stream of unknown length can be read to its end)"
-    FRAME_LENGTH = 26, "invalid data chunk length (a recording that was cut off can be repaired, a stream of unknown length can be read to its end)"
+    DATA_LENGTH = (
+        25,
+        "data chunk length is not a multiple of sample size "
+        "(a recording that was cut off can be repaired, a stream of unknown length can be read to its end)",
+    )
+    FRAME_LENGTH = (
+        26,
+        "invalid data chunk length "
+        "(a recording that was cut off can be repaired, a stream of unknown length can be read to its end)",
+    )
     NEEDS_CHECKPOINT = 27, "a write failed or a checkpoint is not done, and no samples are written before one is"
     SYNC_FAILED = 28, "a sync failed, and it is unknown what is stored"
     IS_CUT_OFF = 29, "the recording was cut off, and has to be repaired first"
@@ -115,7 +129,7 @@ class HoundError(ValueError):
 
 
 def _name_error(error: BaseException, file: Any) -> None:
-    """Gives an error that has no name that of its file: of a path, or of an object that has one."""
+    """Gives an error without a name that of its file: the path, or the name that an object has."""
     name = file if isinstance(file, (str, os.PathLike)) else getattr(file, "name", None)
     if isinstance(error, OSError) and error.errno is None:
         return  # Its text has no place for a name.
@@ -134,8 +148,8 @@ def _named(file: Any) -> Iterator[None]:
 
 
 class Info(NamedTuple):
-    """What the header of a file says, or is to say: then the first three will do. A `bytes_per_sample` of 0 is as many
-    as the bits need."""
+    """What the header of a file says. For a file to be written the first three fields are enough; a `bytes_per_sample`
+    of 0 stands for as many as the bits need."""
 
     sample_rate: int
     channels: int
@@ -316,7 +330,7 @@ def _info_from(found: _Info) -> Info:
 
 
 class _InMemory:
-    """A file whose bytes are in memory, at this address."""
+    """A file whose bytes are in memory, at an address."""
 
     def __init__(self, start: Any, length: int) -> None:
         self._place = start, length
@@ -324,12 +338,12 @@ class _InMemory:
         self.info = _info_from(self._found)
 
     def _read_from(self, start: int, frames: int, dtype: Optional[Dtype]) -> "array.array[Any]":
-        """The samples of at most so many frames (all for -1) from number `start` on."""
+        """The samples of at most so many frames (of all where it is -1) from number `start` on."""
         spec, channels = self._found.spec, self._found.spec.channels
         name = conversion.type_of(dtype, spec)
         kind = "i16" if name == "int8" else conversion.kind_of(name, spec)
         first = min(start, 1 << 32) * channels  # A file has fewer frames than that.
-        # The bytes may hold fewer than the header counts: then a read of one says so.
+        # The bytes may hold fewer samples than the header counts: then the read of one is the error.
         held = (self._place[1] - self._found.data_start) // spec.bytes_per_sample - first
         count = min(max(self._found.samples - first, 0), max(held, 1))
         if frames >= 0:
@@ -360,7 +374,7 @@ def _opened(file: File) -> Iterator[Any]:
 
 
 def info(file: File) -> Info:
-    """What the header of a file says. The data needn't all be there. An object that can seek stays where it is."""
+    """What the header of a file says. The data may be missing. An object that can seek stays where it is."""
     with _opened(file) as source:
         found: Info = source.info
         if isinstance(source, Reader):
@@ -372,7 +386,7 @@ def read_into(file: File, buffer: Any, start: int = 0) -> int:
     """Reads frames from number `start` on into a buffer, and returns how many there were.
 
     The buffer is filled as far as it has room for whole frames and the file holds them. Its type is
-    that of the samples; it is writable and contiguous.
+    that of the samples; it has to be writable and contiguous.
     """
     start = _integer("start", start, 0, sys.maxsize)
     with memoryview(buffer) as view:
@@ -393,7 +407,7 @@ def read_into(file: File, buffer: Any, start: int = 0) -> int:
 def read(
     file: File, start: int = 0, frames: int = -1, dtype: Optional[Dtype] = None, always_2d: bool = False
 ) -> Any:
-    """Reads frames from number `start` on, at most so many (all for -1), and returns their samples.
+    """Reads frames from number `start` on, at most so many (all where it is -1), and returns their samples.
 
     They are an `array.array` of interleaved samples; with `always_2d` a memoryview of frames by
     channels, which `numpy.asarray` takes. `dtype` is "int8", "int16", "int32", "float32" or "float64", or one of numpy;
@@ -421,7 +435,12 @@ def _check_like(like: Any) -> None:
 
 
 def _spec_of(
-    rate: Optional[int], channels: Optional[int], bits: Optional[int], width: int, is_float: Optional[bool], like: Optional[Info]
+    rate: Optional[int],
+    channels: Optional[int],
+    bits: Optional[int],
+    width: int,
+    is_float: Optional[bool],
+    like: Optional[Info],
 ) -> _Spec:
     """A spec of these numbers, and of those of `like` that aren't given."""
     _check_like(like)
@@ -441,7 +460,12 @@ def _spec_of(
 
 
 def _spec_for(
-    samples: "conversion.Given", rate: Optional[int], channels: Optional[int], bits: Optional[int], width: int, like: Optional[Info]
+    samples: "conversion.Given",
+    rate: Optional[int],
+    channels: Optional[int],
+    bits: Optional[int],
+    width: int,
+    like: Optional[Info],
 ) -> _Spec:
     """The spec of a file of these samples."""
     _check_like(like)
@@ -464,11 +488,11 @@ def to_bytes(
     like: Optional[Info] = None,
     dither: int = False,
 ) -> bytearray:
-    """Makes the bytes of a file, with what `like` says of one where it isn't given.
+    """Returns the bytes of a file of these samples. What isn't given is taken from `like`.
 
-    Without both, `bits` is the width of the samples, 16 for lists and int64 of integers. Floats are stored as float32 if
-    the file has 32 bits, and not an integer format by `like`; else they are scaled to integers. What doesn't fit is an
-    error.
+    Without `bits` and `like` integers are stored with their own width, or with 16 bits from a list or an array of
+    int64. Floats are stored as float32 if the file has 32 bits and `like` isn't of integers; else they are scaled to
+    integers. What doesn't fit is an error.
     """
     with conversion.Given(samples) as given:
         spec = _spec_for(given, rate, channels, bits, bytes_per_sample, like)
@@ -565,12 +589,12 @@ def append(
     """Appends whole frames to a file, and returns its length.
 
     It is an `append_to`, one `write` and a `close`. So the samples are written first, then the sizes: whenever the
-    program is killed, the header counts only what is there, and `repair` finds the samples that were written (where frames
-    have one byte maybe a zero after them). At an error
-    the header counts what it did before, and the file is cut off after that; chunks that were to be overwritten are lost
-    then. If a signal handler raises, it is the same, or all samples are appended. With `durable` the samples survive a loss of power once this has returned; without, when
-    the system has written them. A recording that was cut off is an error, and so are chunks or a tag after the data,
-    unless they may be overwritten.
+    program is killed, the header counts only what is there, and `repair` finds the samples that were written (and maybe
+    a zero after them, where frames have one byte). After an error the header counts what it did before, and the file is
+    cut off after that; chunks that were to be overwritten are lost then. If a signal handler raises, the same holds, or
+    all samples are appended. With `durable` the samples survive a loss of power once this has returned; without it,
+    once the system has written them. A recording that was cut off is an error, and so are chunks or a tag after the
+    data, unless they may be overwritten.
     """
     with conversion.Given(samples) as given, streams._append_to(path, durable, overwrite, dither) as writer:
         writer.write(given)
@@ -579,8 +603,8 @@ def append(
 
 
 def _repaired(file: disk.Medium, mode: int, durable: bool, denied: Optional[OSError] = None) -> _Repair:
-    """What a repairer of this mode finds in a file. Where the file is only read, and a part of it would have to be
-    written, the error is why it may not be."""
+    """What a repairer of this mode finds in a file. `denied` is why the file may only be read: it is the error where a
+    part of the file has to be written."""
     repairer, found, faults = _Repairer(), _Repair(), []
     _repairer_begin(file.size(), mode, ctypes.byref(repairer))
     while (code := _repairer_next(ctypes.byref(repairer), ctypes.byref(found))) == 1:
@@ -649,7 +673,7 @@ def repair(
     like: Optional[Info] = None,
     skip: Optional[int] = None,
 ) -> Repair:
-    """Repairs a file whose recording was cut off, in place, and says how it was found. Copy it first if it
+    """Repairs a file whose recording was cut off, in place, and returns how it was found. Copy it first if it
     is the only one: some recorders leave older sound at the end, which then counts.
 
     It writes the data length, a missing pad byte, and then the RIFF size; with `durable` it syncs before and after each
@@ -658,8 +682,8 @@ def repair(
     counts only what is there, and the file can be repaired again.
 
     With `copy` the file stays as it is, and a copy of this name, which must not be there, is repaired. With `like` the
-    header is taken for lost: a copy, without a name NAME.repaired.wav, has the header of such a file, and all whole frames
-    from byte `skip` on. If it isn't given, they begin after what looks like the header of the data near the beginning, or
+    header is taken for lost: a copy, by default NAME.repaired.wav, gets the header of such a file, and all whole frames
+    from byte `skip` on. Without `skip` they begin after what looks like the header of the data near the beginning, or
     else at byte `like.data_start`. `guess` makes such an Info.
     """
     if like is not None or copy is not None:
@@ -685,7 +709,11 @@ def _repaired_copy(
         if like is None:
             shutil.copyfile(path, part)
             return repair(part, durable, to_end)
-        found, start = None, lost.start_of(path, like.data_start) if skip is None else _integer("skip", skip, 0, sys.maxsize)
+        if skip is None:
+            start = lost.start_of(path, like.data_start)
+        else:
+            start = _integer("skip", skip, 0, sys.maxsize)
+        found = None
         for found in lost.recovered(path, part, like, start, durable):
             pass
         return lost.repair_of(found)
@@ -699,6 +727,6 @@ from .lost import guess  # noqa: E402
 
 
 def open(file: Union[Path, IO[bytes]], *, to_end: bool = False) -> Reader:  # noqa: A001
-    """Opens a file that is read block by block: at a path, or what reads bytes, as a pipe does. With `to_end` it is a
-    stream, whose header needn't know its length."""
+    """Opens a file that is read block by block: at a path, or an object that reads bytes, such as a pipe. With `to_end`
+    it is read as a stream, whose header may count any length."""
     return Reader(file, to_end=to_end)

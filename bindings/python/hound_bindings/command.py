@@ -1,5 +1,5 @@
-"""The command hound-wav, which is also `python -m hound_bindings`: what WAV files are, repairs, raw samples, other forms,
-and recordings from standard input."""
+"""The command hound-wav, which is also `python -m hound_bindings`: what WAV files are, repairs, raw samples, other
+forms, and recordings from standard input."""
 import argparse
 import array
 import contextlib
@@ -20,7 +20,11 @@ from . import conversion, lost, streams
 __all__ = ["main"]
 
 _STATUS = "It ends with status 0; 1 where a file is damaged or something failed; 2 where the arguments are wrong."
-_STATES = {hound.State.WHOLE: "whole", hound.State.CUT_OFF: "cut off", hound.State.HAS_CHUNKS_AFTER_DATA: "chunks after data"}
+_STATES = {
+    hound.State.WHOLE: "whole",
+    hound.State.CUT_OFF: "cut off",
+    hound.State.HAS_CHUNKS_AFTER_DATA: "chunks after data",
+}
 _BLOCK = 1 << 16
 
 
@@ -123,7 +127,8 @@ def _info(options: argparse.Namespace) -> int:
             _print_json(file=name, **info._asdict(), seconds=info.duration, **(more or {}))
         else:
             held = f" ({found.frames} frames are held)" if found and found.state == hound.State.CUT_OFF else ""
-            print(f"{name}: {_form(info)}, {info.frames} frames, {info.duration:.3f} s, {state or 'as its header says'}{held}")
+            said = (state or "as its header says") + held
+            print(f"{name}: {_form(info)}, {info.frames} frames, {info.duration:.3f} s, {said}")
         return found is None or found.state != hound.State.CUT_OFF
 
     return _each(_files_of(options.files), show, _failure(options))
@@ -273,7 +278,8 @@ def _convert(options: argparse.Namespace) -> int:
         raise _Wrong("--seed is that of --dither")
     if os.path.exists(options.target) and not options.overwrite:
         raise _Wrong(f"{options.target} exists: --overwrite replaces it")
-    with hound.open(_source(options.source), to_end=options.to_end) as reader, hound._replaced(options.target, options.durable) as part:
+    source, target = _source(options.source), options.target
+    with hound.open(source, to_end=options.to_end) as reader, hound._replaced(target, options.durable) as part:
         info = reader.info
         wanted = _form_wanted(info, options)
         dither = (options.seed or 1) if options.dither else 0
@@ -399,7 +405,8 @@ def _seconds(text: str) -> float:
 
 
 def _parser() -> argparse.ArgumentParser:
-    parser = argparse.ArgumentParser("hound-wav", description="Reads, repairs, converts and records WAV files.", epilog=_STATUS)
+    words = "Reads, repairs, converts and records WAV files."
+    parser = argparse.ArgumentParser("hound-wav", description=words, epilog=_STATUS)
     parser.add_argument("--version", action="version", version=f"hound-wav {hound.__version__}")
     commands = parser.add_subparsers(dest="command", required=True, metavar="COMMAND")
 
@@ -413,21 +420,28 @@ def _parser() -> argparse.ArgumentParser:
     add("files", nargs="+", metavar="FILE", help="or a folder, of whose .wav files all are meant; - is standard input")
     add("--json", help="print a JSON object in a line for each file", **flag)
 
-    add = command("repair", _repair, "repair files whose recording was cut off, in place: copy what can't be replaced, or use --copy")
+    words = "repair files whose recording was cut off, in place: copy what can't be replaced, or use --copy"
+    add = command("repair", _repair, words)
     add("files", nargs="+", metavar="FILE", type=_file, help="or a folder, of whose .wav files a table is printed")
     add("--dry-run", help="only say what would be repaired: then damage is status 1", **flag)
     add("--to-end", help="take chunks after the data for samples, too", **flag)
     add("--copy", help="leave each damaged file as it is, and repair a copy NAME.repaired.wav", **flag)
     add("--durable", help="sync what is written", **flag)
     add("--json", help="print a JSON object in a line for each file", **flag)
-    add("--like", type=_form_of, metavar="RATE,CHANNELS,BITS[f]", help="for a lost header: copy such samples (f: floats) to NAME.repaired.wav")
+    words = "for a lost header: copy such samples (f: floats) to NAME.repaired.wav"
+    add("--like", type=_form_of, metavar="RATE,CHANNELS,BITS[f]", help=words)
     add("--guess", help="for a lost header: guess channels and bits by what would be smooth", **flag)
     add("--rate", type=_positive, help="the rate with --guess, since no guess finds it (44100)")
-    add("--skip", type=_from(0), metavar="BYTES", help="with --like and --guess: how many come before the samples (without it: those before what looks like their header, or of a usual one)")
+    words = (
+        "with --like and --guess: how many come before the samples "
+        "(without it: those before what looks like their header, or of a usual one)"
+    )
+    add("--skip", type=_from(0), metavar="BYTES", help=words)
 
     add = command("cat", _cat, "write raw samples to standard output: int16, int32 where they are wider, or float32")
     add("files", nargs="+", metavar="FILE", help="- is standard input")
-    add("--type", choices=["int8", "int16", "int32", "float32", "float64"], help="of the samples; floats have the full scale 1")
+    dtypes = ["int8", "int16", "int32", "float32", "float64"]
+    add("--type", choices=dtypes, help="of the samples; floats have the full scale 1")
     stream = {"help": "read all that follows the header, as of a stream that doesn't know its length", **flag}
     add("--to-end", **stream)
 
@@ -445,8 +459,10 @@ def _parser() -> argparse.ArgumentParser:
     add("--overwrite", help="replace OUT if it is there", **flag)
     add("--durable", help="sync what is written", **flag)
 
-    add = command("record", _record, "record raw samples from standard input, as the file stores them: little-endian, those of 8 bits unsigned")
-    add("target", metavar="OUT", type=_file, help="has all samples up to the last checkpoint if the program is killed; Ctrl-C ends it well")
+    words = "record raw samples from standard input, as the file stores them: little-endian, those of 8 bits unsigned"
+    add = command("record", _record, words)
+    words = "has all samples up to the last checkpoint if the program is killed; Ctrl-C ends it well"
+    add("target", metavar="OUT", type=_file, help=words)
     add("--rate", type=_positive, help="frames a second: needed, as --channels and --bits are, without --append")
     add("--channels", type=_positive)
     add("--bits", **form)

@@ -11,8 +11,8 @@ from typing import Any, Callable, Dict, Iterator, List, NamedTuple, Optional, Tu
 from . import _POINTER, _SIZE, _SPARE, Cause, HoundError, Info, _checked, _function, _integer, _Spec
 
 __all__ = [
-    "CODES", "Given", "Scale", "TYPES", "address", "check_columns", "collected", "form_of", "kind_of", "noise_of", "shaped",
-    "spec_like", "type_of",
+    "CODES", "Given", "Scale", "TYPES", "address", "check_columns", "collected", "form_of", "kind_of", "noise_of",
+    "shaped", "spec_like", "type_of",
 ]  # fmt: skip
 
 
@@ -141,8 +141,8 @@ def _floats(integers: "array.array[int]", bits: int, dtype: str) -> "array.array
 def collected(
     count: int, dtype: str, spec: _Spec, kind: str, take: Callable[[int, Any, int], int]
 ) -> "array.array[Any]":
-    """At most so many samples of a file in a type. `take` decodes samples by calls of this kind: those from a number on,
-    to an address, at most so many, and returns how many there were."""
+    """At most so many samples of a file in a type. `take` decodes samples by calls of this kind: those from a number
+    on, to an address, at most so many, and returns how many there were."""
     if not _is_scaled(dtype, spec):
         samples = _taken(CODES[kind], 0, count, take)
         if dtype == "int8" and kind != "i8":
@@ -242,7 +242,11 @@ def _rounded(samples: "array.array[float]") -> "array.array[float]":
 
 
 # What makes a type of the library of another one.
-_CONVERSIONS: Dict[str, Any] = {"int8": lambda samples: array.array("h", samples), "int64": _narrowed, "float64": _rounded}
+_CONVERSIONS: Dict[str, Any] = {
+    "int8": lambda samples: array.array("h", samples),
+    "int64": _narrowed,
+    "float64": _rounded,
+}
 
 
 def _array_of(samples: Any) -> Any:

@@ -21,7 +21,8 @@ except ImportError:
 
 __all__ = [
     "CUT", "DONE", "Descriptor", "FAILED", "File", "Medium", "READ", "SYNC", "Stream", "WRITE", "WRITE_BLOCK",
-    "check_object", "folder_of", "is_pipe", "perform", "put", "read_at", "replace", "sync", "sync_folder", "sync_once", "take",
+    "check_object", "folder_of", "is_pipe", "perform", "put", "read_at", "replace", "sync", "sync_folder", "sync_once",
+    "take",
 ]  # fmt: skip
 
 # The kinds of effects, and how one ended, made from hound.h by scripts/make_interface.
@@ -191,7 +192,8 @@ def check_object(file: Any) -> None:
     if isinstance(file, io.TextIOBase):
         raise TypeError("the file is opened as text, and it has to read or write bytes")
     if not (hasattr(file, "read") or hasattr(file, "write")):
-        raise TypeError(f"the file is of type {type(file).__name__}, and neither a path nor an object that reads or writes bytes")
+        name = type(file).__name__
+        raise TypeError(f"the file is of type {name}, and neither a path nor an object that reads or writes bytes")
 
 
 class Stream:
@@ -250,12 +252,13 @@ def put_next(file: Any, content: Any) -> None:
 
 class File(Descriptor):
     """The file at a path, open and locked: no other program that uses this package records to it, appends to it
-    or repairs it, and no other `File` of this program is at it. Where the system has no locks for it, it isn't locked."""
+    or repairs it, and no other `File` of this program is at it. Where the system has no locks for it, it isn't
+    locked."""
 
     def __init__(self, path: Union[str, "os.PathLike[str]"], flags: int) -> None:
         self.path = path
-        # Where another file was renamed to the path before the lock, that one is opened. Some systems number a file anew
-        # each time, so that none seems to be at its path: there is a last attempt.
+        # Where another file was renamed to the path before the lock, that one is opened. Some systems number a file
+        # anew each time, so that none seems to be at its path: there is a last attempt.
         for is_last in (False,) * 9 + (True,):
             self.is_closed = False
             self._file = io.open(path, "rb", buffering=0, opener=lambda path, _: os.open(path, flags | _BINARY, 0o666))

@@ -13,7 +13,8 @@ _MOST = (1 << 63) - 1
 _FRONT_BYTES = 4096
 # Blocks of whole frames of each form, and how many.
 _BLOCK_BYTES, _BLOCKS = 4800, 16
-# The mean step of noise of full scale is a quarter of it. By turns the steps of a channel need as many bits, but for so many.
+# The mean step of noise of full scale is a quarter of it. By turns the steps of a channel need as many bits, but for so
+# many.
 _NOISE, _ALIKE = 0.2, 0.25
 
 
@@ -33,7 +34,8 @@ def _read(file: Any, count: int, place: int) -> bytes:
 
 def recovered(path: Path, part: Path, like: Info, skip: int, durable: bool) -> Iterator[Progress]:
     """Writes a new file of the samples that a file has from a byte on, in steps."""
-    with io.open(path, "rb", buffering=0) as file, streams.create(part, like=like, durable=durable, exclusive=True) as writer:
+    opened = io.open(path, "rb", buffering=0)
+    with opened as file, streams.create(part, like=like, durable=durable, exclusive=True) as writer:
         channels, spec = like.channels, conversion.spec_like(writer.info)
         size, place, left = channels * spec.bytes_per_sample, skip, 0
         while content := _read(file, max((1 << 20) // size, 1) * size, place):
@@ -58,7 +60,9 @@ def _some(path: Path, skip: int) -> List[bytes]:
 def _integers_of(block: bytes, form: Info) -> List[int]:
     spec = conversion.spec_like(form)
     samples = streams.decoded(block, len(block) // spec.bytes_per_sample, spec)
-    return [round(max(-8, min(sample, 8)) * 2**23) if sample == sample else 0 for sample in samples] if form.is_float else list(samples)
+    if not form.is_float:
+        return list(samples)
+    return [round(max(-8, min(sample, 8)) * 2**23) if sample == sample else 0 for sample in samples]
 
 
 def _steps_of(samples: List[int], bits: int) -> List[int]:
@@ -68,8 +72,8 @@ def _steps_of(samples: List[int], bits: int) -> List[int]:
 
 
 def _cost(blocks: List[bytes], form: Info) -> float:
-    """About how many bits the steps of a channel need for each byte. It is infinite where a channel is noise of full scale,
-    or its steps differ by turns, as those do that are from one channel to another."""
+    """About how many bits the steps of a channel need for each byte. It is infinite where a channel is noise of full
+    scale, or its steps differ by turns, as those do that are from one channel to another."""
     logs, count = 0.0, sum(len(_integers_of(block, form)) // form.channels for block in blocks)
     for channel in range(form.channels):
         size, turns = 0.0, [0.0, 0.0]
@@ -98,8 +102,8 @@ def usual_start() -> int:
 
 
 def start_of(path: Path, otherwise: int) -> int:
-    """Where the samples of a file may begin whose header is damaged: after what looks like the header of its data, near its
-    beginning, or otherwise there."""
+    """Where the samples of a file may begin whose header is damaged: after what looks like the header of its data, near
+    its beginning, or otherwise there."""
     with io.open(path, "rb", buffering=0) as file:
         front = _read(file, _FRONT_BYTES, 0)
     with conversion.address(front) as place:
@@ -107,10 +111,11 @@ def start_of(path: Path, otherwise: int) -> int:
 
 
 def guess(path: Path, skip: Optional[int] = None, rate: int = 44100) -> Info:
-    """Guesses what the samples of a file are whose header is lost: 8, 16, 24 or 32 bits, or floats, and one or two channels,
-    by how smooth some blocks are in each form. It may be wrong, and the rate isn't guessed: listen to what
+    """Guesses what the samples of a file are whose header is lost: 8, 16, 24 or 32 bits, or floats, and one or two
+    channels, by how smooth some blocks are in each form. It may be wrong, and the rate isn't guessed: listen to what
     `repair(path, like=guess(path))` makes of it. The samples begin at byte `skip`; without it after what looks like the
-    header of the data, or else after a header as long as that of a file with 16 bits. What is silent is a ValueError."""
+    header of the data, or else after a header as long as that of a file with 16 bits. What is silent is a
+    ValueError."""
     skip = start_of(path, usual_start()) if skip is None else _integer("skip", skip, 0, _MOST)
     blocks = _some(path, skip)
     widths = [(32, True)] if _are_floats(blocks) else [(bits, False) for bits in (8, 16, 24, 32)]

@@ -15,8 +15,9 @@ import weakref
 from typing import IO, Any, Callable, Iterator, List, NamedTuple, Optional, Tuple, TypeVar, Union
 
 from . import (
-    _FIND_DAMAGE, _HEADER_BYTES, _OVERWRITE, _POINTER, _SIZE, _SPARE, _U64, Cause, Dtype, HoundError, Info, Path, _checked, _Effect, _function,
-    _info_from, _integer, _name_error, _named, _Recorder, _repaired, _Spec, _spec_of, _walk_over, _whole_frames, conversion, disk,
+    _FIND_DAMAGE, _HEADER_BYTES, _OVERWRITE, _POINTER, _SIZE, _SPARE, _U64, Cause, Dtype, HoundError, Info, Path,
+    _checked, _Effect, _function, _info_from, _integer, _name_error, _named, _Recorder, _repaired, _Spec, _spec_of,
+    _walk_over, _whole_frames, conversion, disk,
 )  # fmt: skip
 
 __all__ = ["Reader", "Writer", "append_to", "create"]
@@ -346,8 +347,8 @@ class Writer(_OneAtATime):
 
     @_one_at_a_time
     def write(self, block: Any) -> None:
-        """Writes whole frames, as `hound_bindings.write` takes them. After a write that failed it makes a checkpoint first,
-        as `flush` does."""
+        """Writes whole frames, as `hound_bindings.write` takes them. After a write that failed it makes a checkpoint
+        first, as `flush` does."""
         self._check_open()
         with block if isinstance(block, conversion.Given) else conversion.Given(block, "block") as given:
             clipped = self._encoded(given)
@@ -392,8 +393,8 @@ class Writer(_OneAtATime):
         _checked(call(ctypes.byref(self._settled()), *arguments) or 0)
 
     def _settled(self) -> _Recorder:
-        """The recorder, with a report of its sync if one was begun. One that was cut off has failed: what it was to store
-        may be lost though the next one succeeds."""
+        """The recorder, with a report of its sync if one was begun. One that was cut off has failed: what it was to
+        store may be lost though the next one succeeds."""
         recorder: _Recorder = self._state.recorder
         synced = self._state.synced
         if synced:

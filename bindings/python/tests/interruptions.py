@@ -24,12 +24,20 @@ class Interruption:
     def __enter__(self):
         gc.disable()  # What is collected isn't interrupted.
         sys._getframe().f_trace_opcodes = True  # Python 3.12 looks for one such frame first.
+        sys.unraisablehook = self.report
         sys.settrace(self.tracer)
         return self
 
     def __exit__(self, *_):
         sys.settrace(None)
+        sys.unraisablehook = sys.__unraisablehook__
         gc.enable()
+
+    @staticmethod
+    def report(unraisable):
+        """A destructor passes no exception on: Python prints its traceback, which is of no use for an interruption."""
+        if unraisable.exc_type is not Interrupted:
+            sys.__unraisablehook__(unraisable)
 
     def trace(self, frame, event, argument):
         if not frame.f_code.co_filename.startswith(self.FOLDER):

@@ -34,7 +34,9 @@ class Backend(unittest.TestCase):
 
     def carried(self):
         """The file of bindings/lib that is taken, without a compiler."""
-        with compilers(), open(backend.shared_library(self.folder), "rb") as made, open(backend.carried_library(), "rb") as file:
+        with compilers():
+            path, carried = backend.shared_library(self.folder), backend.carried_library()
+        with open(path, "rb") as made, open(carried, "rb") as file:
             self.assertEqual(made.read(), file.read())
             return os.path.relpath(file.name, os.path.join(backend.BINDINGS, "lib"))
 
@@ -115,7 +117,8 @@ class Backend(unittest.TestCase):
             page = wheel.read(f"hound_bindings-{backend.VERSION}.data/data/share/man/man1/hound-wav.1").decode()
         modules = [name for name in os.listdir(os.path.join(backend.HERE, "hound_bindings")) if name.endswith(".py")]
         self.assertLessEqual({f"hound_bindings/{name}" for name in [*modules, "py.typed"]}, set(names))
-        self.assertLessEqual({f'.SH "hound-wav {name}"' for name in ("info", "repair", "cat", "convert", "record")}, set(page.split("\n")))
+        commands = ("info", "repair", "cat", "convert", "record")
+        self.assertLessEqual({f'.SH "hound-wav {name}"' for name in commands}, set(page.split("\n")))
         self.assertIn("\n  \\-\\-dry\\-run ", page)
         self.assertEqual(points, "[console_scripts]\nhound-wav = hound_bindings.command:main\n")
 

@@ -21,7 +21,11 @@ from test_files import CHUNK, by_hand
 from test_floats import WIDE, Folder, as_float32, nearest, silently, wave_of
 from test_streams import SAMPLES, content_of, made_by_wave
 
-FORMS = [(bits, is_float, channels) for bits, is_float in ((8, False), (16, False), (24, False), (32, False), (32, True)) for channels in (1, 2)]
+FORMS = [
+    (bits, is_float, channels)
+    for bits, is_float in ((8, False), (16, False), (24, False), (32, False), (32, True))
+    for channels in (1, 2)
+]
 
 
 def tones(channels, frames, some):
@@ -63,7 +67,8 @@ class Lost(Folder):
                 found = hound.repair(self.path, like=Info(8000, 1, bits), skip=skip)
                 self.assertEqual(found, (State.CUT_OFF, 300000, len(more)))
                 copy = self.path[:-4] + ".repaired.wav"
-                self.assertEqual(hound.read_with_info(copy), (array.array("h" if bits <= 16 else "i", values * 60000), hound.info(copy)))
+                samples = array.array("h" if bits <= 16 else "i", values * 60000)
+                self.assertEqual(hound.read_with_info(copy), (samples, hound.info(copy)))
                 self.assertEqual(hound.info(copy)[:5], (8000, 1, bits, False, 300000))
                 self.assertEqual(content_of(self.path), head + data + more)
                 self.assertRaises(FileExistsError, lambda: hound.repair(self.path, like=Info(8000, 1, bits)))
@@ -86,7 +91,8 @@ class Lost(Folder):
         self.fails(hound.Cause.NOT_WRITABLE, lambda: hound.repair(self.path, like=Info(8000, 1, 12)))
         self.assertRaises(TypeError, lambda: hound.repair(self.path, like="b.wav"))
         self.assertRaises(TypeError, lambda: hound.repair(io.BytesIO(), like=Info(8000, 1, 16)))
-        self.assertRaisesRegex(ValueError, "^skip is -1", lambda: hound.repair(self.path, like=Info(8000, 1, 16), skip=-1))
+        like = Info(8000, 1, 16)
+        self.assertRaisesRegex(ValueError, "^skip is -1", lambda: hound.repair(self.path, like=like, skip=-1))
         with unittest.mock.patch("os.pread", side_effect=lambda *_: os.close(-1)):
             for more in dict(skip=0), {}:
                 with self.assertRaises(OSError) as caught:
@@ -102,9 +108,11 @@ class Command(Folder):
         self.folder = os.path.dirname(self.path)
 
     def begun(self, *words, **more):
-        env = {**os.environ, "PYTHONPATH": os.path.dirname(os.path.dirname(hound.__file__)), "PYTHONIOENCODING": "utf-8:strict"}
+        package = os.path.dirname(os.path.dirname(hound.__file__))
+        env = {**os.environ, "PYTHONPATH": package, "PYTHONIOENCODING": "utf-8:strict"}
         words = [sys.executable, "-m", "hound_bindings", *words]
-        return subprocess.Popen(words, cwd=self.folder, env=env, stdout=subprocess.PIPE, stderr=subprocess.PIPE, stdin=subprocess.PIPE, **more)
+        pipes = dict.fromkeys(("stdin", "stdout", "stderr"), subprocess.PIPE)
+        return subprocess.Popen(words, cwd=self.folder, env=env, **pipes, **more)
 
     def run_command(self, *words, given=b"", status=0, **more):
         """What the command prints, with this status."""
@@ -126,13 +134,18 @@ class Command(Folder):
         whole, cut_off = made_by_wave(SAMPLES), by_hand(bytes(8), 4)
         self.leave_as("a.wav", whole)
         self.leave_as("b.wav", cut_off)
-        self.assertEqual(self.run_command("info", "a.wav"), b"a.wav: 8000 Hz, 2 channels, 16 bits, 5 frames, 0.001 s, whole\n")
-        self.assertIn(b"1 channel, 16 bits, 2 frames, 0.000 s, cut off (4 frames are held)", self.run_command("info", "b.wav", status=1))
+        form = b"8000 Hz, 2 channels, 16 bits, 5 frames, 0.001 s"
+        self.assertEqual(self.run_command("info", "a.wav"), b"a.wav: " + form + b", whole\n")
+        said = self.run_command("info", "b.wav", status=1)
+        self.assertIn(b"1 channel, 16 bits, 2 frames, 0.000 s, cut off (4 frames are held)", said)
         self.assertEqual(self.run_command("info", ".", status=1).count(b"\n"), 2)
-        self.assertIn(b"-: 8000 Hz, 2 channels, 16 bits, 5 frames, 0.001 s, as its header says\n", self.run_command("info", "-", given=whole))
-        rows = self.run_command("info", "--json", "a.wav", "none.wav", "b.wav", "-", given=whole[:50], status=1).splitlines()
+        said = self.run_command("info", "-", given=whole)
+        self.assertIn(b"-: " + form + b", as its header says\n", said)
+        names = ("a.wav", "none.wav", "b.wav", "-")
+        rows = self.run_command("info", "--json", *names, given=whole[:50], status=1).splitlines()
         first, second, third, last = map(json.loads, rows)
-        self.assertEqual((first["frames"], first["seconds"], first["state"], third["frames_held"]), (5, 5 / 8000, "whole", 4))
+        self.assertEqual((first["frames"], first["seconds"], first["state"]), (5, 5 / 8000, "whole"))
+        self.assertEqual(third["frames_held"], 4)
         self.assertEqual(second, {"file": "none.wav", "error": "none.wav: No such file or directory"})
         self.assertEqual((last["frames"], "state" in last), (5, False))
 
@@ -142,13 +155,20 @@ class Command(Folder):
             file.write(by_hand(bytes(8), 4))
         self.assertIn(b"\xff.wav", self.run_command("repair", "."))
         self.assertEqual(content_of(name), by_hand(bytes(8)))
-        self.run_command("record", "b.wav", "--rate", "8000", "--channels", "1", "--bits", "8", preexec_fn=lambda: os.close(0))
+        form = ("--rate", "8000", "--channels", "1", "--bits", "8")
+        self.run_command("record", "b.wav", *form, preexec_fn=lambda: os.close(0))
         self.assertEqual(hound.info(os.path.join(self.folder, "b.wav")).frames, 0)
         self.run_command("info", "b.wav", preexec_fn=lambda: os.close(1))
 
     def test_repair_of_a_folder(self):
         cut_off, followed = by_hand(bytes(8), 4), by_hand(b"\1\2", after=CHUNK)
-        before = {"x/a.wav": cut_off, "x/y/b.WAV": by_hand(bytes(2)), "x/c.wav": followed, "x/d.txt": b"text", "x/e.wav": b"RIFX" + bytes(60)}
+        before = {
+            "x/a.wav": cut_off,
+            "x/y/b.WAV": by_hand(bytes(2)),
+            "x/c.wav": followed,
+            "x/d.txt": b"text",
+            "x/e.wav": b"RIFX" + bytes(60),
+        }
         for name, content in before.items():
             self.leave_as(name, content)
         for words in ("--dry-run",), ("--dry-run", "--to-end"):
@@ -162,7 +182,8 @@ class Command(Folder):
         self.assertEqual(self.content("x/a.repaired.wav"), by_hand(bytes(8)))
         os.unlink(os.path.join(self.folder, "x/e.wav"))
         rows = list(map(json.loads, self.run_command("repair", "--json", "x").splitlines()))
-        self.assertEqual([(row["file"], row["repaired"]) for row in rows], [("x/a.repaired.wav", False), ("x/a.wav", True), ("x/c.wav", False), ("x/y/b.WAV", False)])
+        repaired = [("x/a.repaired.wav", False), ("x/a.wav", True), ("x/c.wav", False), ("x/y/b.WAV", False)]
+        self.assertEqual([(row["file"], row["repaired"]) for row in rows], repaired)
         self.assertEqual((self.content("x/a.wav"), self.content("x/c.wav")), (by_hand(bytes(8)), followed))
         self.run_command("repair", "--to-end", "x/c.wav")
         self.assertEqual(self.content("x/c.wav"), by_hand(b"\1\2" + CHUNK))
@@ -192,12 +213,14 @@ class Command(Folder):
         self.run_command("repair", "--guess", "a.wav", status=1)
         os.unlink(os.path.join(self.folder, "a.repaired.wav"))
         said = json.loads(self.run_command("repair", "--like", "8000,1,32f", "--skip", "0", "--json", "a.wav"))
-        self.assertEqual((said["copy"], said["frames"], said["is_float"], said["is_guess"]), ("a.repaired.wav", (44 + len(data)) // 4, True, False))
+        self.assertEqual((said["copy"], said["frames"]), ("a.repaired.wav", (44 + len(data)) // 4))
+        self.assertEqual((said["is_float"], said["is_guess"]), (True, False))
         self.assertEqual(self.content("a.repaired.wav")[-100:], data[-100:])
         self.run_command("repair", "--guess", "a.repaired.wav", status=1)
         self.assertIn(b"its header isn't lost", self.said)
         self.run_command("repair", "--rate", "8000", "a.wav", status=2)
-        for words in ("--like", "8000,2"), ("--like", "a,b,c"), ("--like", "8000,0,16"), ("--guess", "--skip", "-1"), ("--guess", "--rate", "x"):
+        no_forms = ("--like", "8000,2"), ("--like", "a,b,c"), ("--like", "8000,0,16")
+        for words in *no_forms, ("--guess", "--skip", "-1"), ("--guess", "--rate", "x"):
             self.run_command("repair", *words, "a.wav", status=2)
             self.assertIn(b" isn't ", self.said)
 
@@ -207,7 +230,8 @@ class Command(Folder):
             samples = array.array("h" if bits <= 16 else "i", values)
             self.assertEqual(self.run_command("cat", "a.wav"), samples.tobytes())
             exact = array.array("d", [value / 2 ** (bits - 1) for value in values])
-            self.assertEqual(self.run_command("cat", "--type", "float64", "-", given=self.content("a.wav")), exact.tobytes())
+            written = self.run_command("cat", "--type", "float64", "-", given=self.content("a.wav"))
+            self.assertEqual(written, exact.tobytes())
         stream = made_by_wave(SAMPLES)
         stream = stream[:40] + b"\xff" * 4 + stream[44:]
         self.assertEqual(self.run_command("cat", "--to-end", "-", given=stream), SAMPLES.tobytes())
@@ -254,15 +278,18 @@ class Command(Folder):
         self.run_command("convert", "a.wav", "f.wav", "--float")
         self.assertEqual(hound.read(os.path.join(self.folder, "f.wav"))[:3], array.array("f", [-1, 0.5, 3 / 256]))
         self.run_command("convert", "b.wav", "c.wav", "--channels", "2")
-        self.assertEqual(list(hound.read(os.path.join(self.folder, "c.wav"))), [-8192, -8192, 256, 256, 5 << 11, 5 << 11])
+        content = self.content("c.wav")
+        self.assertEqual(list(hound.read(content)), [-8192, -8192, 256, 256, 5 << 11, 5 << 11])
         some = random.Random(5)
         for bits in 24, 32:  # Each sample is rounded once: float32 would round those of 32 bits before.
-            values = [some.randrange(-(2**31), 2**31 - 2**16) >> 32 - bits for _ in range(500)] + [(3 << 15) + 1, (2001 << 15) + 1 >> 32 - bits]
+            values = [some.randrange(-(2**31), 2**31 - 2**16) >> 32 - bits for _ in range(500)]
+            values += [(3 << 15) + 1, (2001 << 15) + 1 >> 32 - bits]
             self.leave_as("w.wav", wave_of(bits, values))
             self.run_command("convert", "w.wav", "n.wav", "--float", "--overwrite")
-            self.assertEqual(list(hound.read(os.path.join(self.folder, "n.wav"))), as_float32(value / (1 << bits - 1) for value in values))
+            exact = [fractions.Fraction(value, 1 << bits - 1) for value in values]
+            self.assertEqual(list(hound.read(self.content("n.wav"))), as_float32(map(float, exact)))
             self.run_command("convert", "w.wav", "n.wav", "--bits", "16", "--overwrite")
-            self.assertEqual(list(hound.read(os.path.join(self.folder, "n.wav"))), [nearest(fractions.Fraction(value, 1 << bits - 1), 16) for value in values])
+            self.assertEqual(list(hound.read(self.content("n.wav"))), [nearest(value, 16) for value in exact])
         self.leave_as("one.wav", hound.to_bytes(array.array("f", [1.5, 0.5]), 8000))
         self.run_command("convert", "one.wav", "two.wav", "--bits", "16", "--dither", "--seed", "3")
         self.assertEqual(self.said, b"hound-wav: clipped samples: 1\n")
@@ -270,9 +297,16 @@ class Command(Folder):
         self.assertEqual(self.content("two.wav"), noisy)
         before = sorted(os.listdir(self.folder))
         self.leave_as("torn.wav", made_by_wave(SAMPLES)[:-3])
-        for words, status in ((["--rate", "48000"], 2), (["--overwrite", "--seed", "3"], 2), ([], 2), (["--channels", "3", "--overwrite"], 2), (["--bits", "12"], 2), (["--overwrite", "--float", "--bits", "16"], 2)):
+        for words in (
+            ["--rate", "48000"],
+            ["--overwrite", "--seed", "3"],
+            [],
+            ["--channels", "3", "--overwrite"],
+            ["--bits", "12"],
+            ["--overwrite", "--float", "--bits", "16"],
+        ):
             content = self.content("b.wav")
-            self.run_command("convert", "a.wav", "b.wav", *words, status=status)
+            self.run_command("convert", "a.wav", "b.wav", *words, status=2)
             self.assertEqual(self.content("b.wav"), content)
         self.run_command("convert", "torn.wav", "d.wav", status=1)
         self.run_command("convert", "a.wav", "-", status=2)
@@ -298,7 +332,8 @@ class Command(Folder):
 
     def test_checkpoints_and_the_end_by_a_signal(self):
         for number in signal.SIGINT, signal.SIGTERM, signal.SIGKILL:
-            running = self.begun("record", "a.wav", "--rate", "8000", "--channels", "2", "--bits", "16", "--overwrite", "--checkpoint", "0.05")
+            form = ("--rate", "8000", "--channels", "2", "--bits", "16")
+            running = self.begun("record", "a.wav", *form, "--overwrite", "--checkpoint", "0.05")
             for first, end, frames in (0, 9, 2), (9, 20, 5):
                 running.stdin.write(SAMPLES.tobytes()[first:end])
                 running.stdin.flush()
@@ -323,12 +358,17 @@ class Command(Folder):
         self.leave_as("a.wav", wave_of(16, [1] * 3000))
         for terminal in False, True:
             outer, inner = pty.openpty()
+            hurried = (
+                "import time, hound_bindings.command as c; t = time.monotonic; n = iter(range(99)); "
+                "time.monotonic = lambda: t() + 5 * next(n); c.main(['cat', 'a.wav'])"
+            )
             running = subprocess.Popen(
-                [sys.executable, "-c", "import time, hound_bindings.command as c; t = time.monotonic; n = iter(range(99)); "
-                 "time.monotonic = lambda: t() + 5 * next(n); c.main(['cat', 'a.wav'])"],
-                cwd=self.folder, env={**os.environ, "PYTHONPATH": os.path.dirname(os.path.dirname(hound.__file__))},
-                stdout=subprocess.PIPE, stderr=inner if terminal else subprocess.PIPE,
-            )  # fmt: skip
+                [sys.executable, "-c", hurried],
+                cwd=self.folder,
+                env={**os.environ, "PYTHONPATH": os.path.dirname(os.path.dirname(hound.__file__))},
+                stdout=subprocess.PIPE,
+                stderr=inner if terminal else subprocess.PIPE,
+            )
             out, said = running.communicate(timeout=60)
             os.close(inner)
             if terminal:

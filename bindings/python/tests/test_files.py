@@ -62,7 +62,12 @@ class Files(unittest.TestCase):
             self.assertEqual(other.readframes(3), samples.tobytes())
 
     def test_what_wave_writes_is_read(self):
-        for width, values in ((1, [0, 127, -128]), (2, [-32768, 5, 32767]), (3, [-8388608, 1, 8388607]), (4, [-(2**31), 7, 2**31 - 1])):
+        for width, values in (
+            (1, [0, 127, -128]),
+            (2, [-32768, 5, 32767]),
+            (3, [-8388608, 1, 8388607]),
+            (4, [-(2**31), 7, 2**31 - 1]),
+        ):
             top = 1 << (8 * width - 1)
             stored = b"".join((v + 128 if width == 1 else v % (2 * top)).to_bytes(width, "little") for v in values)
             with wave.open(self.path, "wb") as other:
@@ -405,7 +410,8 @@ class Files(unittest.TestCase):
             os.seteuid(65534)
         try:
             self.assertEqual(hound.repair(self.path), (State.WHOLE, 1, 0))
-            for call in (lambda: hound.write(self.path, array.array("h", [3]), 8000), lambda: hound.append(self.path, array.array("h", [3]))):
+            samples = array.array("h", [3])
+            for call in (lambda: hound.write(self.path, samples, 8000), lambda: hound.append(self.path, samples)):
                 self.assertRaises(PermissionError, call)
         finally:
             os.seteuid(user)
@@ -465,7 +471,11 @@ class Files(unittest.TestCase):
         self.assertEqual(hound.to_bytes((ctypes.c_int16 * 2)(-128, 5), 8000), sixteen)
         big = (ctypes.c_int16.__ctype_be__ * 2)()
         for other in array.array("B", [1]), array.array("H", [1]), array.array("Q", [1]), big, b"12":
-            for call in (lambda: hound.to_bytes(other, 8000), lambda: hound.append(self.path, other), lambda: hound.read_into(eight, other)):
+            for call in (
+                lambda: hound.to_bytes(other, 8000),
+                lambda: hound.append(self.path, other),
+                lambda: hound.read_into(eight, other),
+            ):
                 with self.assertRaisesRegex(TypeError, "int8, int16, int32, (int64, )?float32"):
                     call()
         for name in "uint8", "h", 16, int:
@@ -482,10 +492,12 @@ class Files(unittest.TestCase):
         self.assertEqual((back.shape, back.format), ((6, 2), "h"))
         self.assertEqual(back.tolist(), [[0, 1], [2, 3], [4, 5]] * 2)
         self.assertEqual(hound.read(self.path, 6, always_2d=True).shape, (0, 2))
-        self.assertEqual(hound.read(hound.to_bytes(array.array("b", [1]), 8000), dtype="int8", always_2d=True).tolist(), [[1]])
+        content = hound.to_bytes(array.array("b", [1]), 8000)
+        self.assertEqual(hound.read(content, dtype="int8", always_2d=True).tolist(), [[1]])
         self.assertEqual(hound.read_into(self.path, two_d(array.array("h", bytes(8)), 2)), 2)
         three = memoryview(bytearray(12)).cast("h", [1, 3, 2])
-        for other, words in ((two_d(samples, 3), "3 columns"), (two_d(samples, 1), "1 columns"), (three, "3 dimensions")):
+        others = (two_d(samples, 3), "3 columns"), (two_d(samples, 1), "1 columns"), (three, "3 dimensions")
+        for other, words in others:
             for name, call in (
                 ("samples", lambda: hound.to_bytes(other, 8000, channels=2)),
                 ("samples", lambda: hound.append(self.path, other)),

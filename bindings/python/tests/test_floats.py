@@ -1,5 +1,5 @@
-"""Floats whose full scale is 1, the spec that travels with samples, and files of objects. What is expected is computed by
-hand, by the module `wave`, or by fractions."""
+"""Floats whose full scale is 1, the spec that travels with samples, and files of objects. What is expected is computed
+by hand, by the module `wave`, or by fractions."""
 import array
 import contextlib
 import fractions
@@ -22,7 +22,12 @@ from interruptions import Interrupted, Interruption
 from test_files import by_hand, two_d
 from test_streams import SAMPLES, Case, content_of, made_by_wave
 
-WIDE = {8: [-128, -1, 0, 1, 127], 16: [-32768, -1, 0, 12345, 32767], 24: [-(2**23), -1, 0, 1234567, 2**23 - 1], 32: [-(2**31), -1, 0, 123456789, 2**31 - 1]}
+WIDE = {
+    8: [-128, -1, 0, 1, 127],
+    16: [-32768, -1, 0, 12345, 32767],
+    24: [-(2**23), -1, 0, 1234567, 2**23 - 1],
+    32: [-(2**31), -1, 0, 123456789, 2**31 - 1],
+}
 TOP = 32768.0
 
 
@@ -31,7 +36,8 @@ def wave_of(bits, values, channels=1):
     top, width, file = 1 << (bits - 1), bits // 8, io.BytesIO()
     with wave.open(file, "wb") as other:
         other.setparams((channels, width, 8000, 0, "NONE", ""))
-        other.writeframes(b"".join((value + 128 if width == 1 else value % (2 * top)).to_bytes(width, "little") for value in values))
+        stored = [value + 128 if width == 1 else value % (2 * top) for value in values]
+        other.writeframes(b"".join(value.to_bytes(width, "little") for value in stored))
     return file.getvalue()
 
 
@@ -74,7 +80,8 @@ class Floats(Folder):
                     file.seek(0)
                 self.assertEqual(hound.read(file, 1, dtype="float32"), array.array("f", as_float32(exact[1:])))
             with hound.open(self.path) as reader:
-                self.assertEqual([list(block) for block in reader.blocks(2, "float64")], [exact[:2], exact[2:4], exact[4:]])
+                blocks = [list(block) for block in reader.blocks(2, "float64")]
+                self.assertEqual(blocks, [exact[:2], exact[2:4], exact[4:]])
             block = array.array("f", bytes(8))
             self.assertEqual((hound.read_into(self.path, block, 3), list(block)), (2, as_float32(exact[3:])))
         floats = hound.to_bytes(array.array("f", [0.25, 3.5]), 8000)  # They stay as they are.
@@ -96,10 +103,12 @@ class Floats(Folder):
         some = random.Random(4)
         for bits in 8, 16, 24:
             step = 2.0 ** (1 - bits)
-            values = [some.uniform(-1, 1) for _ in range(500)] + [0.5 * step, 1.5 * step, 2.5 * step, -0.5 * step, -1.0, 1 - step]
+            values = [some.uniform(-1, 1) for _ in range(500)]
+            values += [0.5 * step, 1.5 * step, 2.5 * step, -0.5 * step, -1.0, 1 - step]
             for samples in array.array("f", values), array.array("d", values), values:
                 content = hound.to_bytes(samples, 8000, bits=bits)
-                self.assertEqual(list(hound.read(content, dtype="int32")), [nearest(sample, bits) for sample in samples])
+                rounded = [nearest(sample, bits) for sample in samples]
+                self.assertEqual(list(hound.read(content, dtype="int32")), rounded)
         every = array.array("d", [value / 2**31 for value in WIDE[32]])
         exact = hound.to_bytes(every, 8000, like=Info(8000, 1, 32))
         self.assertEqual(list(hound.read(exact)), WIDE[32])
@@ -124,8 +133,8 @@ class Floats(Folder):
         self.assertEqual(writer.clipped, 12)
 
     def test_dither(self):
-        """Its noise has a mean of 0, a variance of a sixth of a step, as that of two uniform numbers is, and is at most a
-        step; the error that is left after rounding is a quarter."""
+        """Its noise has a mean of 0, a variance of a sixth of a step, as that of two uniform numbers is, and is at most
+        a step; the error that is left after rounding is a quarter."""
         level, count = -100.3 / TOP, 40000
         for samples in array.array("f", [level] * count), array.array("d", [level] * count):
             first = hound.read(hound.to_bytes(samples, 8000, bits=16, dither=True))
@@ -213,7 +222,8 @@ class Floats(Folder):
 
     def test_spellings_of_types(self):
         content = made_by_wave(SAMPLES)
-        for name, code in ("i2", "h"), ("<i4", "i"), ("f4", "f"), ("<f8", "d"), ("float", "d"), (float, "d"), ("=f4", "f"):
+        names = ("i2", "h"), ("<i4", "i"), ("f4", "f"), ("<f8", "d"), ("float", "d"), (float, "d"), ("=f4", "f")
+        for name, code in names:
             self.assertEqual(hound.read(content, dtype=name).typecode, code)
         for name in ">f4", ">i2", "flot32", "int64", int, 4, ["f4"]:
             self.assertRaisesRegex(TypeError, "^dtype is ", lambda: hound.read(content, dtype=name))
@@ -231,7 +241,8 @@ class Floats(Folder):
             self.assertEqual(hound.to_bytes(back[::-1][::-1], 8000, bits=16), content)
         for dtype in numpy.dtype(">f4"), numpy.dtype(">i2"), numpy.uint8, numpy.int64:
             self.assertRaisesRegex(TypeError, "^dtype is ", lambda: hound.read(content, dtype=dtype))
-        self.assertEqual(hound.to_bytes(numpy.array([[2, -3]]), 8000), hound.to_bytes(array.array("h", [2, -3]), 8000, 2))
+        flat = hound.to_bytes(array.array("h", [2, -3]), 8000, 2)
+        self.assertEqual(hound.to_bytes(numpy.array([[2, -3]]), 8000), flat)
 
 
 class Specs(Folder):
@@ -269,7 +280,8 @@ class Specs(Folder):
             self.assertEqual(hound.info(hound.to_bytes([0.5, 0.25], like=info, **more)), wanted)
         self.assertEqual(hound.info(hound.to_bytes([0.5], 8000))[2:4], (32, True))
         self.assertEqual(hound.info(hound.to_bytes([5], 8000))[2:4], (16, False))
-        self.fails(Cause.OTHER_FORMAT, lambda: hound.to_bytes([5, 6], like=info._replace(is_float=True, bits_per_sample=32)))
+        floats = info._replace(is_float=True, bits_per_sample=32)
+        self.fails(Cause.OTHER_FORMAT, lambda: hound.to_bytes([5, 6], like=floats))
         self.assertRaisesRegex(TypeError, "^rate is None", lambda: hound.to_bytes([1]))
         self.assertRaisesRegex(TypeError, "^like is ", lambda: hound.to_bytes([1], like="a.wav"))
         self.assertRaisesRegex(TypeError, "^bits is None", lambda: hound.create(self.path, 8000, 1))
@@ -309,7 +321,8 @@ class Specs(Folder):
         ):
             with self.assertRaises(hound.HoundError) as caught:
                 call()
-            self.assertEqual((caught.exception.filename, str(caught.exception)), (name, f"{name}: {caught.exception.cause.sentence}"))
+            error = caught.exception
+            self.assertEqual((error.filename, str(error)), (name, f"{name}: {error.cause.sentence}"))
         with hound.create(self.path, 8000, 1, 8) as writer, self.assertRaises(hound.HoundError) as caught:
             writer.write([300])
         self.assertEqual(caught.exception.filename, self.path)
@@ -424,7 +437,11 @@ class Objects(Case):
         with open(outer, "wb", buffering=0) as pipe, open(inner, "rb") as source:
             hound.write(pipe, SAMPLES, 8000, 2)
             self.assertEqual(hound.read(source), SAMPLES)
-            for call in (lambda: hound.create(pipe, 8000, 2, 16), lambda: hound.append(source, SAMPLES), lambda: hound.repair(source)):
+            for call in (
+                lambda: hound.create(pipe, 8000, 2, 16),
+                lambda: hound.append(source, SAMPLES),
+                lambda: hound.repair(source),
+            ):
                 self.assertRaises(io.UnsupportedOperation, call)
         self.assertRaisesRegex(ValueError, "durable", lambda: hound.create(file, 8000, 2, 16, durable=True))
 

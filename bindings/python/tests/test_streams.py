@@ -30,7 +30,8 @@ def by_hand(data, chunk=b"", channels=2, bits=16, tag=1, counted=None):
     """The bytes of a file with these data, and maybe a chunk before its fmt chunk."""
     width = (bits + 7) // 8
     fmt = struct.pack("<IHHIIHH", 16, tag, channels, 8000, 8000 * channels * width, channels * width, bits)
-    rest = b"WAVE" + chunk + b"fmt " + fmt + b"data" + struct.pack("<I", len(data) if counted is None else counted) + data
+    length = struct.pack("<I", len(data) if counted is None else counted)
+    rest = b"WAVE" + chunk + b"fmt " + fmt + b"data" + length + data
     return b"RIFF" + struct.pack("<I", len(rest)) + rest
 
 
@@ -76,7 +77,8 @@ class Streams(Case):
                 file.write(made_by_wave(SAMPLES))
             with hound.open(path) as reader:
                 self.assertEqual(reader.info[:6], (8000, 2, 16, False, 5, 44))
-                self.assertEqual([list(block) for block in reader.blocks(2)], [[2, -3, 5, -7], [32767, -32768, 0, 1], [100, -100]])
+                blocks = [list(block) for block in reader.blocks(2)]
+                self.assertEqual(blocks, [[2, -3, 5, -7], [32767, -32768, 0, 1], [100, -100]])
                 self.assertEqual((len(reader.read()), reader.tell()), (0, 5))
                 reader.seek(3)
                 self.assertEqual(list(reader.read(1)), [0, 1])
@@ -106,15 +108,18 @@ class Streams(Case):
             for file in io.BytesIO(stream), Slow(stream):
                 with hound.open(file, to_end=True) as reader:
                     self.assertEqual((reader.info[:6], reader.info.frames), ((8000, 2, 16, False, 0, 44), 0))
-                    self.assertEqual((list(reader.read(2)), list(reader.read()), len(reader.read())), (list(SAMPLES[:4]), list(SAMPLES[4:]), 0))
+                    read = list(reader.read(2)), list(reader.read()), len(reader.read())
+                    self.assertEqual(read, (list(SAMPLES[:4]), list(SAMPLES[4:]), 0))
                     self.assertEqual((reader.tell(), reader.left_over), (5, 0))
             with hound.open(io.BytesIO(stream[:-3]), to_end=True) as reader:
-                self.assertEqual(([list(block) for block in reader.blocks(3)], reader.left_over), ([list(SAMPLES[:6]), list(SAMPLES[6:8])], 1))
+                blocks = [list(block) for block in reader.blocks(3)]
+                self.assertEqual((blocks, reader.left_over), ([list(SAMPLES[:6]), list(SAMPLES[6:8])], 1))
                 reader.seek(1)
                 self.assertEqual((list(reader.read(1)), reader.left_over), (list(SAMPLES[2:4]), 0))
                 reader.seek(100)
                 self.assertEqual(len(reader.read(1)), 0)
-        self.assertRaisesRegex(HoundError, "a stream of unknown length can be read to its end", lambda: hound.open(io.BytesIO(stream)))
+        words = "a stream of unknown length can be read to its end"
+        self.assertRaisesRegex(HoundError, words, lambda: hound.open(io.BytesIO(stream)))
         self.fails(Cause.NO_DATA_CHUNK, lambda: hound.open(io.BytesIO(stream.replace(b"data", b"DATA")), to_end=True))
 
     def test_a_pipe_is_read_no_byte_too_far(self):
@@ -291,8 +296,13 @@ class Streams(Case):
         self.fails(Cause.FRAME_LENGTH, lambda: hound.open(io.BytesIO(by_hand(bytes(6), channels=2))))
         with self.assertRaises(FileNotFoundError):
             hound.open("none.wav")
-        for other, words in (io.StringIO("RIFF"), "is opened as text"), (b"RIFF", "is of type bytes"), (7, "is of type int"):
-            for call in (lambda: hound.open(other), lambda: hound.create(other, 8000, 1, 16), lambda: hound.write(other, SAMPLES, 8000)):
+        others = (io.StringIO("RIFF"), "is opened as text"), (b"RIFF", "is of type bytes"), (7, "is of type int")
+        for other, words in others:
+            for call in (
+                lambda: hound.open(other),
+                lambda: hound.create(other, 8000, 1, 16),
+                lambda: hound.write(other, SAMPLES, 8000),
+            ):
                 self.assertRaisesRegex(TypeError, words, call)
         with self.assertRaises(TypeError):
             hound.open("none.wav", "rb")  # This mode isn't taken for `to_end`.
@@ -300,7 +310,12 @@ class Streams(Case):
     def test_arguments(self):
         source = io.BytesIO(made_by_wave(SAMPLES))
         reader = hound.open(source)
-        for call in (lambda: reader.read(-2), lambda: reader.seek(6), lambda: reader.seek(-1), lambda: next(reader.blocks(0))):
+        for call in (
+            lambda: reader.read(-2),
+            lambda: reader.seek(6),
+            lambda: reader.seek(-1),
+            lambda: next(reader.blocks(0)),
+        ):
             self.assertRaises(ValueError, call)
         for call in (lambda: reader.read(1.5), lambda: reader.read(dtype="int64"), lambda: reader.seek("0")):
             self.assertRaises(TypeError, call)
@@ -340,7 +355,11 @@ class Calls:
         return does()
 
     def __enter__(self):
-        put = lambda file, content, place: self.make(place, lambda: self.put(file, content, place), lambda: self.put(file, content[:3], place))
+        def put(file, content, place):
+            def part():
+                return self.put(file, content[:3], place)
+
+            return self.make(place, lambda: self.put(file, content, place), part)
         name = lambda file: "sync of the folder" if stat.S_ISDIR(os.fstat(file).st_mode) else "sync"
         sync = lambda file: self.make(name(file), lambda: self.sync(file), lambda: None)
         self.patches = [unittest.mock.patch("os.pwrite", put), unittest.mock.patch("os.fsync", sync)]
@@ -424,7 +443,8 @@ class Recordings(Case):
             self.fails(Cause.UNFINISHED_FRAME, lambda: writer.write(SAMPLES[:3]))
             self.fails(Cause.TOO_WIDE, lambda: writer.write(array.array("i", [1, 32768])))
             self.assertRaises(TypeError, lambda: writer.write(array.array("H", [1, 2])))
-            self.assertRaises(ValueError, lambda: writer.write(memoryview(array.array("i", [1, 2, 3])).cast("B").cast("i", [1, 3])))
+            three = memoryview(array.array("i", [1, 2, 3])).cast("B").cast("i", [1, 3])
+            self.assertRaises(ValueError, lambda: writer.write(three))
         self.assertEqual(content_of(self.path), made_by_wave(SAMPLES))
         for arguments in ((0, 2, 16), (8000, 0, 16), (8000, 2, 12), (8000, 65535, 16)):
             self.assertRaises(ValueError, lambda: hound.create(self.path, *arguments))
@@ -706,7 +726,11 @@ class Recordings(Case):
             self.assertRaisesRegex(OSError, "No space left on device: '/dev/full'$", call)
         with hound.create(self.path, 8000, 2, 16) as writer:
             with unittest.mock.patch("os.pwrite", side_effect=lambda *_: os.close(-1)):
-                for call in (lambda: writer.write(SAMPLES), writer.flush, lambda: hound.write(self.path + "2", SAMPLES, 8000)):
+                for call in (
+                    lambda: writer.write(SAMPLES),
+                    writer.flush,
+                    lambda: hound.write(self.path + "2", SAMPLES, 8000),
+                ):
                     self.assertRaisesRegex(OSError, f"Bad file descriptor: '{self.path}2?'$", call)
         new = os.path.join(self.path + ".none", "b.wav")
         for call in (lambda: hound.write(new, SAMPLES, 8000), lambda: hound.repair(self.path, copy=new)):

@@ -19,8 +19,8 @@ import unittest.mock
 # What the package may use of these modules.
 NAMES = {
     os: (
-        "O_CREAT O_EXCL O_RDONLY O_RDWR O_WRONLY PathLike SEEK_END SEEK_SET close environ fsdecode fspath fstat fsync ftruncate"
-        " getpid lseek name path read stat unlink write"
+        "O_CREAT O_EXCL O_RDONLY O_RDWR O_WRONLY PathLike SEEK_END SEEK_SET close environ fsdecode fspath fstat fsync"
+        " ftruncate getpid lseek name path read stat unlink write"
     ),
     mmap: "mmap",
 }
@@ -63,7 +63,8 @@ def replace(old, new):
 
 
 def lock_file(handle, flags, reserved, low, high, overlapped):
-    """What LockFileEx does with an OVERLAPPED of 32 bytes: the byte of hound_file.h is locked, for one handle, at once."""
+    """What LockFileEx does with an OVERLAPPED of 32 bytes: the byte of hound_file.h is locked, for one handle, at
+    once."""
     place = overlapped._obj
     asked = flags, reserved, low, high, place.place, type(place).place.offset, ctypes.sizeof(place)
     if asked != (3, 0, 1, 0, 1 << 62, 16, 32):
@@ -122,7 +123,8 @@ class Windows(test_streams.Case):
             with begin(self.path) as writer:
                 writer.write(SAMPLES)
                 for call in calls:
-                    with self.assertRaisesRegex(BlockingIOError, "another program records to, appends to or repairs this file"):
+                    words = "another program records to, appends to or repairs this file"
+                    with self.assertRaisesRegex(BlockingIOError, words):
                         call(self.path)
         self.assertEqual(content_of(self.path), made_by_wave(SAMPLES * 2))
 
@@ -164,7 +166,8 @@ class Windows(test_streams.Case):
         self.assertEqual(content_of(self.path), made_by_wave(SAMPLES))
 
     def test_writes_that_fail(self):
-        """An append leaves the file as it was, but for samples that aren't counted, and a recording has the other blocks."""
+        """An append leaves the file as it was, but for samples that aren't counted, and a recording has the other
+        blocks."""
         write, made = os.write, []
 
         def put(file, content):

@@ -1,4 +1,5 @@
-"""What a user's checker says of the package: `mypy --strict` has to find each error that is ignored here, and no other."""
+"""What a user's checker says of the package: `mypy --strict` has to find each error that is ignored here, and no
+other."""
 import io
 
 import hound_bindings as hound

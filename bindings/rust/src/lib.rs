@@ -46,7 +46,9 @@ errors! {
     OtherFormat = -3, "the samples are floats and the type is an integer, or vice versa";
     TooWide = -4, "the samples are wider than the type, or a value than its bits";
     NotWritable = -5, "samples of this spec are not read or written (integers have 8, 16, 24 or 32 bits, floats 32)";
-    Truncated = -6, "the header counts a sample that the file does not hold (a recording that was cut off can be repaired, a stream of unknown length can be read to its end)";
+    Truncated = -6,
+        "the header counts a sample that the file does not hold \
+         (a recording that was cut off can be repaired, a stream of unknown length can be read to its end)";
     TooLong = -7, "the sizes of the file would not fit in 32 bits";
     UnfinishedFrame = -8, "the samples are no whole frames";
     NoRoom = -9, "more bytes are needed than the capacity";
@@ -65,8 +67,12 @@ errors! {
     ExSize = -22, "unexpected WAVEFORMATEX size";
     BitsNot32 = -23, "bits per sample is not 32";
     ExtensibleSize = -24, "unexpected WAVEFORMATEXTENSIBLE size";
-    DataLength = -25, "data chunk length is not a multiple of sample size (a recording that was cut off can be repaired, a stream of unknown length can be read to its end)";
-    FrameLength = -26, "invalid data chunk length (a recording that was cut off can be repaired, a stream of unknown length can be read to its end)";
+    DataLength = -25,
+        "data chunk length is not a multiple of sample size \
+         (a recording that was cut off can be repaired, a stream of unknown length can be read to its end)";
+    FrameLength = -26,
+        "invalid data chunk length \
+         (a recording that was cut off can be repaired, a stream of unknown length can be read to its end)";
     NeedsCheckpoint = -27, "a write failed or a checkpoint is not done, and no samples are written before one is";
     SyncFailed = -28, "a sync failed, and it is unknown what is stored";
     IsCutOff = -29, "the recording was cut off, and has to be repaired first";
@@ -667,15 +673,15 @@ pub fn find_damage(file: &[u8]) -> Result<Repair> {
     Ok(Repair::from_c(found))
 }
 
-/// How many of so many bytes of a stream's samples are whole frames. `NotWritable` is returned where a frame of the spec has
-/// no byte, and `TooLong` from 2^63 on.
+/// How many of so many bytes of a stream's samples are whole frames. `NotWritable` is returned where a frame of the
+/// spec has no byte, and `TooLong` from 2^63 on.
 pub fn whole_frames(spec: &Spec, length: u64) -> Result<usize> {
     // SAFETY: as above.
     checked(unsafe { c::hound_whole_frames(&spec.to_c(), length) })
 }
 
-/// Where the data may begin in a file whose header is damaged: after the first "data" and a length that follow its first
-/// twelve bytes. `NoDataChunk` is returned where there is none. It is a guess, since samples may look like this.
+/// Where the data may begin in a file whose header is damaged: after the first "data" and a length that follow its
+/// first twelve bytes. `NoDataChunk` is returned where there is none. It is a guess, since samples may look like this.
 pub fn guess_data(file: &[u8]) -> Result<usize> {
     // SAFETY: as above.
     checked(unsafe { c::hound_guess_data(file.as_ptr(), file.len()) })

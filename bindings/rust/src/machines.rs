@@ -227,8 +227,8 @@ fn next<T>(code: i32, effect: &mut Effect, found: impl FnOnce() -> T) -> Result<
 }
 
 /// A walk to the data of a file that isn't in memory, or comes from a pipe. It requests one part of the file after the
-/// other, no byte twice, none of the data, and of a chunk that it skips the last byte alone. Of a stream the length that its
-/// header counts isn't looked at, and it finds 0 samples: they are all whole frames that follow.
+/// other, no byte twice, none of the data, and of a chunk that it skips the last byte alone. Of a stream the length
+/// that its header counts isn't looked at, and it finds 0 samples: they are all whole frames that follow.
 ///
 /// ```no_run
 /// # fn main() -> Result<(), Box<dyn std::error::Error>> {

@@ -6,14 +6,36 @@ use hound_bindings::{
     Repairer, Spec, State, Walk, ERRORS,
 };
 use std::panic::{catch_unwind, AssertUnwindSafe};
+use std::path::{Path, PathBuf};
 use std::time::Duration;
-use std::{io, mem};
+use std::{env, fs, io, mem, process};
 
 const MEND: Allowed = Allowed { mend: true, overwrite: false };
 const OVERWRITE: Allowed = Allowed { mend: false, overwrite: true };
 
 const SPEC: Spec =
     Spec { sample_rate: 44100, channels: 1, bits_per_sample: 16, bytes_per_sample: 0, format: Format::Int };
+
+/// A path of this test's own, whose file is removed afterwards, also where the test fails.
+struct OwnPath(PathBuf);
+
+impl OwnPath {
+    fn new(name: &str) -> OwnPath {
+        OwnPath(env::temp_dir().join(format!("hound-bindings-{name}-{}", process::id())))
+    }
+}
+
+impl AsRef<Path> for OwnPath {
+    fn as_ref(&self) -> &Path {
+        &self.0
+    }
+}
+
+impl Drop for OwnPath {
+    fn drop(&mut self) {
+        let _ = fs::remove_file(&self.0);
+    }
+}
 
 #[test]
 fn a_file_is_written_and_read() {
@@ -697,8 +719,8 @@ fn the_error_is_that_of_the_write_also_where_nothing_is_cut_off() {
 
 #[test]
 fn a_file_of_the_system_is_a_medium() {
-    let path = std::env::temp_dir().join(format!("hound-bindings-medium-{}", std::process::id()));
-    let mut file = std::fs::OpenOptions::new().read(true).write(true).create(true).truncate(true).open(&path).unwrap();
+    let path = OwnPath::new("medium");
+    let mut file = fs::OpenOptions::new().read(true).write(true).create(true).truncate(true).open(&path).unwrap();
     io::Write::write_all(&mut file, &write(&SPEC, &[2i16, 3, 5]).unwrap()[..49]).unwrap();
     let found = Repairer::new(49, Mode::Repair).run(&mut file).unwrap().unwrap();
     assert_eq!((found.state, found.frames, found.left_over), (State::CutOff, 2, 1));
@@ -709,10 +731,9 @@ fn a_file_of_the_system_is_a_medium() {
     recorder.run(&mut file, &[7, 0]).unwrap().unwrap();
     recorder.checkpoint();
     recorder.run(&mut file, &[]).unwrap().unwrap();
-    assert_eq!(std::fs::read(&path).unwrap(), write(&SPEC, &[2i16, 3, 7]).unwrap());
+    assert_eq!(fs::read(&path).unwrap(), write(&SPEC, &[2i16, 3, 7]).unwrap());
     file.cut(60).unwrap();
-    assert_eq!(std::fs::read(&path).unwrap().len(), 50);
-    std::fs::remove_file(&path).unwrap();
+    assert_eq!(fs::read(&path).unwrap().len(), 50);
 }
 
 #[test]
@@ -730,8 +751,8 @@ fn a_medium_without_a_call_fails() {
 
 #[test]
 fn a_file_that_is_open_is_locked_once() {
-    let path = std::env::temp_dir().join(format!("hound-bindings-{}", std::process::id()));
-    let open = || std::fs::OpenOptions::new().append(true).create(true).open(&path).unwrap();
+    let path = OwnPath::new("lock");
+    let open = || fs::OpenOptions::new().append(true).create(true).open(&path).unwrap();
     let file = open();
     hound_bindings::lock(&file).unwrap();
     assert_eq!(hound_bindings::lock(&file).is_ok(), !cfg!(windows));
@@ -741,5 +762,4 @@ fn a_file_that_is_open_is_locked_once() {
     }
     drop(file);
     hound_bindings::lock(&open()).unwrap();
-    std::fs::remove_file(&path).unwrap();
 }

@@ -1,4 +1,5 @@
-/* Loads the DLL that is its first argument, looks for the functions that the others name, and writes and reads by it. */
+/* Loads the DLL that is its first argument, looks for the functions that the others name, and writes and reads by it.
+   */
 #include "hound.h"
 #include <stdio.h>
 #include <windows.h>
@@ -17,8 +18,10 @@ int main(int argc, char **argv) {
     const int16_t samples[4] = {1, -2, 300, -30000};
     int16_t back[4] = {0};
     uint8_t file[52];
-    if (write(&spec, samples, 4, file, sizeof file) != 52) return fprintf(stderr, "load: it writes something else\n"), 1;
-    if (read(file, sizeof file, 0, back, 4) != 4 || back[0] != 1 || back[1] != -2 || back[2] != 300 || back[3] != -30000)
+    if (write(&spec, samples, 4, file, sizeof file) != 52)
+        return fprintf(stderr, "load: it writes something else\n"), 1;
+    if (read(file, sizeof file, 0, back, 4) != 4
+        || back[0] != 1 || back[1] != -2 || back[2] != 300 || back[3] != -30000)
         return fprintf(stderr, "load: it reads something else\n"), 1;
     printf("load: %d functions, and the samples that were written\n", argc - 2);
     return 0;

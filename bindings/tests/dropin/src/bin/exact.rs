@@ -52,12 +52,16 @@ both! {
     }
 
     // One call of many: a block, an iterator's next, nth, take with a fold or a loop, a whole fold, collect.
-    fn call<R: Read, S: original::Sample + package::Sample + Copy + Default + ToString>(reader: &mut WavReader<R>, chooser: &mut Chooser) -> String {
+    fn call<R: Read, S: original::Sample + package::Sample + Copy + Default + ToString>(
+        reader: &mut WavReader<R>,
+        chooser: &mut Chooser,
+    ) -> String {
         let some = chooser.below(9) as usize;
         if chooser.below(7) == 0 {
             let mut block = vec![S::default(); chooser.one_of(&[some, 15 + some, 5000])];
             let (count, result) = reader.block(&mut block);
-            return block[..count].iter().map(S::to_string).collect::<String>() + &result.map_or_else(|error| error.to_string(), |()| " ".into());
+            return block[..count].iter().map(S::to_string).collect::<String>()
+                + &result.map_or_else(|error| error.to_string(), |()| " ".into());
         }
         let mut samples = reader.samples::<S>();
         match chooser.below(9) {
@@ -67,12 +71,25 @@ both! {
             5 => samples.take(some).map(show).collect(),
             6 => samples.by_ref().step_by(some + 1).take(2).map(show).collect(),
             7 if some < 3 => samples.fold(String::from("all: "), |all, sample| all + &show(sample)),
-            8 if some < 3 => samples.collect::<Result<Vec<_>, _>>().map_or_else(|error| error.to_string(), |all| all.iter().map(S::to_string).collect()),
+            8 if some < 3 => match samples.collect::<Result<Vec<_>, _>>() {
+                Ok(all) => all.iter().map(S::to_string).collect(),
+                Err(error) => error.to_string(),
+            },
             _ => samples.size_hint().0.to_string(),
         }
     }
 
-    fn history<R: Read>(reader: WavReader<R>, seed: u64, place: &dyn Fn() -> usize, end: impl Fn(R) -> usize) -> String {
+    /// Where a medium is in its bytes.
+    fn position(mut end: impl io::Seek) -> usize {
+        end.stream_position().unwrap() as usize
+    }
+
+    fn history<R: Read>(
+        reader: WavReader<R>,
+        seed: u64,
+        place: &dyn Fn() -> usize,
+        end: impl Fn(R) -> usize,
+    ) -> String {
         let mut chooser = Chooser::new(seed);
         let mut reader = reader;
         let mut history = format!("{:?} {} ", reader.spec(), reader.len());
@@ -94,7 +111,8 @@ both! {
         let place = Rc::new(Cell::new(0));
         let mut chooser = Chooser::new(seed ^ 77);
         let kinds = [io::ErrorKind::Other, io::ErrorKind::Interrupted, io::ErrorKind::WouldBlock];
-        let faults = (0..chooser.below(6)).map(|_| (20 + chooser.below(bytes.len() as u64) as usize, chooser.one_of(&kinds)));
+        let faults =
+            (0..chooser.below(6)).map(|_| (20 + chooser.below(bytes.len() as u64) as usize, chooser.one_of(&kinds)));
         let faults = if reader.ends_with("faults") { faults.collect() } else { Vec::new() };
         let unsteady = Unsteady { bytes: bytes.to_vec(), place: place.clone(), seed, faults };
         let now = || place.get();
@@ -102,20 +120,29 @@ both! {
         let error = |error: Error| format!("{error} {}", place.get());
         match reader {
             "few bytes" | "faults" => WavReader::new(unsteady).map_or_else(error, |it| history(it, seed, &now, |_| 0)),
-            "Cursor<Vec>" => WavReader::new(Cursor::new(bytes.to_vec())).map_or_else(error, |it| history(it, seed, &|| 0, |end| end.position() as usize)),
+            "Cursor<Vec>" => {
+                let cursor = Cursor::new(bytes.to_vec());
+                WavReader::new(cursor).map_or_else(error, |it| history(it, seed, &|| 0, position))
+            }
             "&mut Cursor" => {
                 let mut cursor = Cursor::new(bytes);
-                let history = WavReader::new(&mut cursor).map_or_else(error, |it| history(it, seed, &|| 0, |end| end.position() as usize));
+                let history = WavReader::new(&mut cursor).map_or_else(error, |it| history(it, seed, &|| 0, position));
                 history + &cursor.position().to_string()
             }
-            "BufReader of few bytes" | "BufReader of faults" => WavReader::new(BufReader::with_capacity(capacity, unsteady))
-                .map_or_else(|error| error.to_string(), |it| history(it, seed, &|| 0, |end| end.get_ref().place.get() - end.buffer().len())),
-            "BufReader<File>" => WavReader::new(BufReader::with_capacity(capacity, std::fs::File::open(path).unwrap()))
-                .map_or_else(error, |it| history(it, seed, &|| 0, |mut end| io::Seek::stream_position(&mut end).unwrap() as usize)),
-            "open" => WavReader::open(path).map_or_else(error, |it| history(it, seed, &|| 0, |mut end| io::Seek::stream_position(&mut end).unwrap() as usize)),
+            "BufReader of few bytes" | "BufReader of faults" => {
+                let taken = |end: BufReader<Unsteady>| end.get_ref().place.get() - end.buffer().len();
+                WavReader::new(BufReader::with_capacity(capacity, unsteady))
+                    .map_or_else(|error| error.to_string(), |it| history(it, seed, &|| 0, taken))
+            }
+            "BufReader<File>" => {
+                let file = BufReader::with_capacity(capacity, std::fs::File::open(path).unwrap());
+                WavReader::new(file).map_or_else(error, |it| history(it, seed, &|| 0, position))
+            }
+            "open" => WavReader::open(path).map_or_else(error, |it| history(it, seed, &|| 0, position)),
             _ => {
                 let mut rest = bytes;
-                let history = WavReader::new(&mut rest).map_or_else(error, |it| history(it, seed, &|| 0, |end| end.len()));
+                let history =
+                    WavReader::new(&mut rest).map_or_else(error, |it| history(it, seed, &|| 0, |end| end.len()));
                 history + &rest.len().to_string()
             }
         }

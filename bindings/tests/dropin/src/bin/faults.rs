@@ -1,16 +1,16 @@
 //! A writer of which each call fails in turn, once or from there on, a write after half of its bytes: after an Ok
-//! `finalize` the original reads the accepted samples, exactly; after an error those of the last `flush` that was Ok, and
-//! maybe more of the accepted. The package keeps this; of the original it is counted. (An append that can't begin leaves the
-//! file as it was.) And writers that are full at each length: the package counts no fewer samples than the original, but
-//! for those of the block that had no room.   faults
+//! `finalize` the original reads the accepted samples, exactly; after an error those of the last `flush` that was Ok,
+//! and maybe more of the accepted. The package keeps this; of the original it is counted. (An append that can't begin
+//! leaves the file as it was.) And writers that are full at each length: the package counts no fewer samples than the
+//! original, but for those of the block that had no room.   faults
 use dropin::{both, Tally};
 use std::cell::RefCell;
 use std::collections::BTreeMap;
 use std::io::{self, BufWriter, Cursor, Read, Seek, SeekFrom, Write};
 use std::rc::Rc;
 
-/// A file in memory, the calls up to now, which of them fails first, and whether all after it do, or how many bytes there
-/// may be.
+/// A file in memory, the calls up to now, which of them fails first, and whether all after it do, or how many bytes
+/// there may be.
 #[derive(Default)]
 struct Disk {
     file: Cursor<Vec<u8>>,
@@ -90,7 +90,8 @@ both! {
         for i in 0..40i32 {
             for j in 0..if i % 20 == 0 { plan.burst } else { 3 } {
                 let sample = (i * 7 + j) % 128;
-                let result = if plan.is_float { writer.write_sample(sample as f32) } else { writer.write_sample(sample) };
+                let result =
+                    if plan.is_float { writer.write_sample(sample as f32) } else { writer.write_sample(sample) };
                 record.accepted.extend(result.ok().map(|()| sample));
             }
             if plan.bits == 16 && i % 5 == 4 {
@@ -216,7 +217,12 @@ fn main() {
                     match is_kept {
                         _ if name == "original" => {}
                         true => tally.same(),
-                        false => tally.unexplained(|| format!("call {fails} of {channels} channels, {bits} bits, {burst} {appends} {is_buffered} {goes_on}: {what}")),
+                        false => tally.unexplained(|| {
+                            format!(
+                                "call {fails} of {channels} channels, {bits} bits, {burst} {appends} {is_buffered} \
+                                 {goes_on}: {what}"
+                            )
+                        }),
                     }
                     if disk.calls < fails {
                         break;

@@ -81,7 +81,9 @@ both! {
                     reader = go_anew(bytes, time);
                     "seek true ".into()
                 }
-                _ if spec.sample_format == SampleFormat::Float => show(reader.samples::<f32>().next(), |sample| sample.to_bits().to_string()),
+                _ if spec.sample_format == SampleFormat::Float => {
+                    show(reader.samples::<f32>().next(), |sample| sample.to_bits().to_string())
+                }
                 _ => show(reader.samples::<i32>().next(), |sample| sample.to_string()),
             };
         }
@@ -98,11 +100,21 @@ both! {
     pub fn write(seed: u64, stores_torn: bool) -> (String, Vec<u8>) {
         let mut chooser = Chooser::new(seed);
         let (bits, width, sample_format) = chooser.one_of(&[
-            (8, 1, SampleFormat::Int), (16, 2, SampleFormat::Int), (24, 3, SampleFormat::Int), (24, 4, SampleFormat::Int),
-            (32, 4, SampleFormat::Int), (32, 4, SampleFormat::Float), (12, 2, SampleFormat::Int),
+            (8, 1, SampleFormat::Int),
+            (16, 2, SampleFormat::Int),
+            (24, 3, SampleFormat::Int),
+            (24, 4, SampleFormat::Int),
+            (32, 4, SampleFormat::Int),
+            (32, 4, SampleFormat::Float),
+            (12, 2, SampleFormat::Int),
         ]);
         let channels = 1 + chooser.below(3) as u16;
-        let spec = WavSpec { channels, sample_rate: 8000 + chooser.below(90_000) as u32, bits_per_sample: bits, sample_format };
+        let spec = WavSpec {
+            channels,
+            sample_rate: 8000 + chooser.below(90_000) as u32,
+            bits_per_sample: bits,
+            sample_format,
+        };
         let mut answers = String::new();
         let mut file = Cursor::new(Vec::new());
         for session in 0..if bits == 12 || (bits, width) == (24, 4) { 1 } else { 1 + chooser.below(3) } {
@@ -128,7 +140,10 @@ both! {
                         (0..count).for_each(|i| batch.write_sample(sample.wrapping_add(i as i32) as i16));
                         shown(batch.flush())
                     }
-                    _ => (0..if is_long { 3000 } else { 3 }).map(|i| shown(writer.write_sample(sample >> (i % 30)))).collect(),
+                    _ => {
+                        let count = if is_long { 3000 } else { 3 };
+                        (0..count).map(|i| shown(writer.write_sample(sample >> (i % 30)))).collect()
+                    }
                 };
                 answers += &format!("{} {}; ", writer.len(), writer.duration());
             }
@@ -216,8 +231,8 @@ fn from_difference<T: std::fmt::Debug>(one: T, other: T) -> String {
     format!("\n  original: {}\n  package:  {}", some(&one), some(&other))
 }
 
-/// The file without what the original misreads before the data: a pad byte, a fact chunk that hasn't four bytes, and what
-/// is in a fmt chunk after its forty bytes.
+/// The file without what the original misreads before the data: a pad byte, a fact chunk that hasn't four bytes, and
+/// what is in a fmt chunk after its forty bytes.
 fn without_what_is_misread(file: &[u8]) -> Vec<u8> {
     let mut plain = file[..file.len().min(12)].to_vec();
     let mut at = 12;

@@ -1,6 +1,6 @@
-//! How long both crates take, in nanoseconds a sample: the least of some rounds in turn. Blocks are `read_samples`, and the
-//! original's iterator. Each case is compiled at two places in memory, since some processors take longer for a loop that has
-//! a jump at the end of 32 bytes.   speed ROUNDS
+//! How long both crates take, in nanoseconds a sample: the least of some rounds in turn. Blocks are `read_samples`, and
+//! the original's iterator. Each case is compiled at two places in memory, since some processors take longer for a loop
+//! that has a jump at the end of 32 bytes.   speed ROUNDS
 use dropin::{both, Blocks};
 use std::arch::asm;
 use std::fs::File;
@@ -74,7 +74,13 @@ both! {
         while black_box(&mut reader).block(black_box(block.as_mut())).0 > 0 {}
     }
 
-    fn cases_of<S: Sample + Into<f64> + Copy + Default, const SKIP: usize>(cases: &mut Cases, name: &str, spec: WavSpec, path: &str, make: impl Fn(usize) -> S) {
+    fn cases_of<S: Sample + Into<f64> + Copy + Default, const SKIP: usize>(
+        cases: &mut Cases,
+        name: &str,
+        spec: WavSpec,
+        path: &str,
+        make: impl Fn(usize) -> S,
+    ) {
         time::<SKIP>(cases, format!("{name} write_sample, create"), || {
             let mut writer = WavWriter::create(path, spec).unwrap();
             (0..COUNT).for_each(|i| writer.write_sample(black_box(make(i))).unwrap());
@@ -87,23 +93,47 @@ both! {
             writer.finalize().unwrap();
         });
         let open = || File::open(path).unwrap();
-        time::<SKIP>(cases, format!("{name} next, Cursor<&Vec>"), || each::<_, S>(WavReader::new(Cursor::new(&file)).unwrap()));
-        time::<SKIP>(cases, format!("{name} next, &mut Cursor<&[u8]>"), || each::<_, S>(WavReader::new(&mut Cursor::new(&file[..])).unwrap()));
-        time::<SKIP>(cases, format!("{name} next, BufReader<File>"), || each::<_, S>(WavReader::new(BufReader::new(open())).unwrap()));
-        time::<SKIP>(cases, format!("{name} next, BufReader<unknown>"), || each::<_, S>(WavReader::new(BufReader::new(Unknown(open()))).unwrap()));
+        time::<SKIP>(cases, format!("{name} next, Cursor<&Vec>"), || {
+            each::<_, S>(WavReader::new(Cursor::new(&file)).unwrap())
+        });
+        time::<SKIP>(cases, format!("{name} next, &mut Cursor<&[u8]>"), || {
+            each::<_, S>(WavReader::new(&mut Cursor::new(&file[..])).unwrap())
+        });
+        time::<SKIP>(cases, format!("{name} next, BufReader<File>"), || {
+            each::<_, S>(WavReader::new(BufReader::new(open())).unwrap())
+        });
+        time::<SKIP>(cases, format!("{name} next, BufReader<unknown>"), || {
+            each::<_, S>(WavReader::new(BufReader::new(Unknown(open()))).unwrap())
+        });
         time::<SKIP>(cases, format!("{name} next, open"), || each::<_, S>(WavReader::open(path).unwrap()));
-        time::<SKIP>(cases, format!("{name} fold, Cursor<&Vec>"), || sum::<_, S>(WavReader::new(Cursor::new(&file)).unwrap()));
-        time::<SKIP>(cases, format!("{name} fold, BufReader<File>"), || sum::<_, S>(WavReader::new(BufReader::new(open())).unwrap()));
-        time::<SKIP>(cases, format!("{name} fold, BufReader<unknown>"), || sum::<_, S>(WavReader::new(BufReader::new(Unknown(open()))).unwrap()));
+        time::<SKIP>(cases, format!("{name} fold, Cursor<&Vec>"), || {
+            sum::<_, S>(WavReader::new(Cursor::new(&file)).unwrap())
+        });
+        time::<SKIP>(cases, format!("{name} fold, BufReader<File>"), || {
+            sum::<_, S>(WavReader::new(BufReader::new(open())).unwrap())
+        });
+        time::<SKIP>(cases, format!("{name} fold, BufReader<unknown>"), || {
+            sum::<_, S>(WavReader::new(BufReader::new(Unknown(open()))).unwrap())
+        });
         time::<SKIP>(cases, format!("{name} fold, open"), || sum::<_, S>(WavReader::open(path).unwrap()));
         let block = [S::default(); 4096];
-        time::<SKIP>(cases, format!("{name} blocks of 4096, Cursor<&Vec>"), || blocks(WavReader::new(Cursor::new(&file)).unwrap(), block));
-        time::<SKIP>(cases, format!("{name} blocks of 4096, BufReader<File>"), || blocks(WavReader::new(BufReader::new(open())).unwrap(), block));
+        time::<SKIP>(cases, format!("{name} blocks of 4096, Cursor<&Vec>"), || {
+            blocks(WavReader::new(Cursor::new(&file)).unwrap(), block)
+        });
+        time::<SKIP>(cases, format!("{name} blocks of 4096, BufReader<File>"), || {
+            blocks(WavReader::new(BufReader::new(open())).unwrap(), block)
+        });
         time::<SKIP>(cases, format!("{name} blocks of 4096, open"), || blocks(WavReader::open(path).unwrap(), block));
-        time::<SKIP>(cases, format!("{name} blocks of 64, open"), || blocks(WavReader::open(path).unwrap(), [S::default(); 64]));
-        time::<SKIP>(cases, format!("{name} blocks of 2, open"), || blocks(WavReader::open(path).unwrap(), [S::default(); 2]));
+        time::<SKIP>(cases, format!("{name} blocks of 64, open"), || {
+            blocks(WavReader::open(path).unwrap(), [S::default(); 64])
+        });
+        time::<SKIP>(cases, format!("{name} blocks of 2, open"), || {
+            blocks(WavReader::open(path).unwrap(), [S::default(); 2])
+        });
         time::<SKIP>(cases, format!("{name} collect, open"), || {
-            black_box(WavReader::open(path).unwrap().into_samples::<S>().map(|sample| sample.unwrap()).collect::<Vec<_>>());
+            black_box(
+                WavReader::open(path).unwrap().into_samples::<S>().map(|sample| sample.unwrap()).collect::<Vec<_>>(),
+            );
         });
         time::<SKIP>(cases, format!("{name} collect Result, open"), || {
             black_box(WavReader::open(path).unwrap().into_samples::<S>().collect::<Result<Vec<_>, _>>().unwrap());
@@ -111,7 +141,8 @@ both! {
     }
 
     pub fn run<const SKIP: usize>(path: &str) -> Cases {
-        let spec = |bits, sample_format| WavSpec { channels: 2, sample_rate: 48000, bits_per_sample: bits, sample_format };
+        let spec =
+            |bits, sample_format| WavSpec { channels: 2, sample_rate: 48000, bits_per_sample: bits, sample_format };
         let mut cases = Vec::new();
         cases_of::<_, SKIP>(&mut cases, "i16", spec(16, SampleFormat::Int), path, |i| i as i16);
         cases_of::<_, SKIP>(&mut cases, "i24", spec(24, SampleFormat::Int), path, |i| i as i32 & 0x7f_ffff);
@@ -136,12 +167,15 @@ both! {
             writer.finalize().unwrap();
         });
         time::<SKIP>(&mut cases, "i16 write_sample, new(BufWriter<File>)".into(), || {
-            let mut writer = WavWriter::new(BufWriter::new(File::create(path).unwrap()), spec(16, SampleFormat::Int)).unwrap();
+            let mut writer =
+                WavWriter::new(BufWriter::new(File::create(path).unwrap()), spec(16, SampleFormat::Int)).unwrap();
             (0..COUNT).for_each(|i| writer.write_sample(black_box(i as i16)).unwrap());
             writer.finalize().unwrap();
         });
         let file = std::fs::read(path).unwrap();
-        time::<SKIP>(&mut cases, "i16 next as i32, Cursor<&Vec>".into(), || each::<_, i32>(WavReader::new(Cursor::new(&file)).unwrap()));
+        time::<SKIP>(&mut cases, "i16 next as i32, Cursor<&Vec>".into(), || {
+            each::<_, i32>(WavReader::new(Cursor::new(&file)).unwrap())
+        });
         cases
     }
 }
