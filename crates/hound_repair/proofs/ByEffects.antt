@@ -13,8 +13,8 @@ use Rattle.hound_repair.specs.Held.{held}
 use Rattle.hound_repair.specs.Repairing.{IsNotFound, Repairs}
 use Rattle.hound_repair.specs.Steps.{IsNotLookedAt, IsNotRepaired, Mends, MendsAtEach, PartlyMended, PerformedOn, Tells, effects_for, mending, mending_effects, rejected_for}
 use Rattle.hound_repair.specs.declared.look.Damage.{Damage}
-use Rattle.hound_repair.specs.declared.sizes.RepairState.{RepairState}
-use Rattle.hound_repair.specs.declared.sizes.RepairState.TheVariants.{Whole, CutOff, HasChunksAfterData}
+use Rattle.hound_writer.specs.declared.resuming.RepairState.{RepairState}
+use Rattle.hound_writer.specs.declared.resuming.RepairState.TheVariants.{Whole, CutOff, HasChunksAfterData}
 use Rattle.hound_repair.specs.declared.steps.LookError.{LookError}
 use Rattle.hound_repair.specs.declared.steps.LookError.TheVariants.{Failed, Rejected}
 use Rattle.hound_repair.proofs.Mending.{length_is, put_ok, repairs_kept}

@@ -16,7 +16,7 @@ use Rattle.hound_repair.specs.declared.look.SeenHead.{SeenHead}
 use Rattle.hound_repair.specs.Held.{are_chunks, begins_chunk, chunk_content, ends_with_id3, has_known_tag, held, is_followed, right_length, shown_length, uncounted}
 use Rattle.hound_repair.specs.Repairing.{repair_fault, size_fault, state_of}
 use Rattle.hound_repair.specs.Steps.{IsAtChunk, IsFoundAs, IsLengthOf, IsMeasured, IsNotWhole, IsShown, else_followed, followed, has_right, steps_left, tagged}
-use Rattle.hound_repair.specs.declared.sizes.RepairState.TheVariants.{CutOff, HasChunksAfterData}
+use Rattle.hound_writer.specs.declared.resuming.RepairState.TheVariants.{CutOff, HasChunksAfterData}
 use Rattle.hound_repair.specs.declared.look.Damage.{Damage}
 use Rattle.hound_repair.specs.declared.steps.Stage.TheVariants as stages
 use Rattle.hound_repair.specs.Damages.{IsSoundDamage, shown_of}

@@ -16,7 +16,7 @@ use Rattle.hound_repair.specs.declared.sizes.Sizes.{Sizes}
 use Rattle.hound_walk.specs.declared.cause.Cause.TheVariants.{Unsupported}
 use Rattle.hound_repair.specs.declared.bytes.Unrepaired.{Unrepaired}
 use Rattle.hound_repair.specs.declared.bytes.Unrepaired.TheVariants.{NoRoom, TooLong, Unsupported as UnsupportedSamples}
-use Rattle.hound_repair.specs.declared.sizes.RepairState.TheVariants.{CutOff}
+use Rattle.hound_writer.specs.declared.resuming.RepairState.TheVariants.{CutOff}
 
 -- whether chunks after the data are looked for, by what follows them
 abbrev pub may_be_chunks : Rest → Bool

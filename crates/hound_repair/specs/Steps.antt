@@ -15,8 +15,8 @@ use Rattle.hound_repair.specs.Held.{are_chunks, are_right, begins_chunk, ends_wi
 use Rattle.hound_repair.specs.Repairing.{IsFoundAt, IsRepairFault, Looks, Repairs, found_length, repair_fault, state_of}
 use Rattle.hound_repair.specs.declared.look.Damage.{Damage}
 use Rattle.hound_repair.specs.declared.sizes.Repair.{Repair}
-use Rattle.hound_repair.specs.declared.sizes.RepairState.{RepairState}
-use Rattle.hound_repair.specs.declared.sizes.RepairState.TheVariants.{CutOff}
+use Rattle.hound_writer.specs.declared.resuming.RepairState.{RepairState}
+use Rattle.hound_writer.specs.declared.resuming.RepairState.TheVariants.{CutOff}
 use Rattle.hound_repair.specs.declared.steps.Rejection.{Rejection}
 use Rattle.hound_repair.specs.declared.steps.Rejection.TheVariants as rejections
 use Rattle.hound_repair.specs.declared.steps.Stage.{Stage}

@@ -7,10 +7,11 @@ ghost use Rattle.hound_repair.specs.Repairing.{IsFoundAt};
 ghost use Rattle.hound_repair.specs.Steps.{unrepaired_for};
 
 use crate::look::{Damage, Rest};
-use crate::sizes::{Repair, RepairState};
+use crate::sizes::Repair;
 use crate::steps::{Look, LookStep, Rejection, after_head, take_asked};
 use hound_number::le_u32;
 use hound_walk::{FileHead, bytes_at};
+use hound_writer::RepairState;
 use std::result;
 
 /// Why a file in memory isn't repaired.

@@ -8,12 +8,13 @@ ghost use Rattle.hound_repair.specs.Damages.{IsSoundDamage, repair_of, seen_head
 ghost use Rattle.hound_repair.specs.Held.{has_known_tag, has_tag, is_printable, said_length, held, missing_pad};
 ghost use Rattle.hound_repair.specs.Repairing.{Finds, IsNotFound, Looks};
 
-use crate::sizes::{Repair, RepairState, Sizes};
+use crate::sizes::{Repair, Sizes};
 use crate::steps::{error_for, look_by_parts};
 use hound_medium::Source;
 use hound_number::u32_at;
 use hound_spec::{Error, WavSpecEx};
 use hound_walk::FileHead;
+use hound_writer::RepairState;
 use std::result;
 
 // The tags that show that a chunk begins, whatever follows them: those of RIFF and of its update,

@@ -8,35 +8,7 @@ ghost use Rattle.hound_repair.specs.Repairing.{size_fault};
 
 use crate::look::SeenHead;
 use hound_spec::{Error, Result, WavSpecEx, riff_size, riff_size_fits};
-use std::fmt;
-
-/// What a file was found as.
-#[derive(Clone, Copy, Debug, PartialEq, Eq)]
-pub enum RepairState {
-    /// Both sizes are right: those of the whole frames that the file holds.
-    Whole,
-
-    /// A size is wrong, as where a recording was cut off.
-    CutOff,
-
-    /// Something follows the data, by the data length, so the file wasn't cut off in them: a chunk
-    /// with a tag of RIFF or its common extensions, as `LIST`, `bext` or `id3 `, which may itself be
-    /// cut off; chunks with printable tags to the end of the file; or an ID3v1 tag at the end. The
-    /// pad byte after the data may lack.
-    HasChunksAfterData,
-}
-
-/// A sentence without its full stop, for a user.
-impl fmt::Display for RepairState {
-    fn fmt<W: fmt::Write>(&self, f: &mut fmt::Formatter<W>) -> fmt::Result {
-        f.write_str(match self {
-            RepairState::Whole => "the file is whole",
-            RepairState::CutOff => "the recording was cut off",
-            RepairState::HasChunksAfterData =>
-                "something follows the data, so they weren't cut off",
-        })
-    }
-}
+use hound_writer::RepairState;
 
 /// What a file holds, and how it was found.
 #[derive(Clone, Copy, Debug, PartialEq, Eq)]

@@ -6,7 +6,7 @@ ghost use Rattle.hound_writer.specs.{IsMediumError, PutsAt, nth};
 ghost use Rattle.hound_medium.specs.{WhereKeeps, WhereTells};
 ghost use Rattle.hound_repair.specs.Damages.{FindsDamage, IsSoundDamage, may_be_chunks};
 ghost use Rattle.hound_repair.specs.Steps.{IsAsked, IsAtChunk, IsAtEnd, IsAtStage, IsFoundAs, IsLengthOf, IsMeasured, IsNotLookedAt, Tells, IsNotWhole, IsSoundHead, IsSoundLook, IsSoundStage, PerformedOn, PerformsOn, AsksEffect, AsksMore, AsksNext, AsksPart, IsShown, IsSoundRepairing, IsSoundRepairStep, StaysAt, MendsMedium, RepairsMedium, LooksTo, MeasuresTo, StageNearer, asked_count, asked_place, asks_for, effects_of_task, failure_of, looks_for_chunks, else_followed, followed, mending, mending_end, mending_rest, steps_left};
-ghost use Rattle.hound_repair.specs.declared.sizes.RepairState.TheVariants.{CutOff};
+ghost use Rattle.hound_writer.specs.declared.resuming.RepairState.TheVariants.{CutOff};
 ghost use Rattle.hound_repair.specs.declared.steps.Stage.TheVariants as stages;
 ghost use Rattle.hound_repair.specs.declared.steps.Repairing.TheVariants as states;
 
@@ -14,12 +14,12 @@ use crate::look::{
     Damage, ID3_LENGTH, ID3_TAG, Rest, SeenHead, chunk_content, has_known_tag, seen_head,
 };
 use crate::read_at::{LIMIT, length_of, part_at};
-use crate::sizes::{Repair, RepairState, right_sizes};
+use crate::sizes::{Repair, right_sizes};
 use hound_medium::{Medium, Source, put_all};
 use hound_number::{le_u32, u32_at};
 use hound_spec::{Error, is_pair};
 use hound_walk::{Cause, FileHead, HeadError, HeadWalk, Part, Step, error_of, take_part};
-use hound_writer::{Action, Effect, Report};
+use hound_writer::{Action, Effect, RepairState, Report};
 use std::io;
 
 /// Why a file isn't repaired, by its bytes.

@@ -4,8 +4,6 @@ use Rattle.hound_spec.specs.{greatest_u32}
 use Rattle.hound_spec.specs.declared.spec.WavSpecEx.{WavSpecEx}
 use Rattle.hound_repair.specs.{AsksNext, asked_count}
 use Rattle.hound_repair.specs.declared.look.SeenHead.{SeenHead}
-use Rattle.hound_repair.specs.declared.sizes.RepairState.{RepairState}
-use Rattle.hound_repair.specs.declared.sizes.RepairState.TheVariants.{Whole, CutOff, HasChunksAfterData}
 use Rattle.hound_repair.specs.declared.steps.Failure.{Failure}
 use Rattle.hound_repair.specs.declared.steps.Failure.TheVariants.{Sync, Call}
 use Rattle.hound_repair.specs.declared.steps.Rejection.{Rejection}
@@ -21,7 +19,7 @@ use Rattle.hound_repair.specs.declared.steps.Task.{Task}
 use Rattle.hound_repair.specs.declared.steps.Task.TheVariants.{FindDamage, Repair, RepairToEnd}
 use Rattle.hound_writer.specs.declared.recorder.RecorderError.TheVariants.{SyncFailed}
 use Rattle.hound_slices.specs.Effects.{effect_of, report_of}
-use Rattle.hound_slices.specs.Repairing.{IsReported}
+use Rattle.hound_slices.specs.Repairing.{IsReported, state_of_code}
 use Rattle.hound_slices.specs.Walks.{found_of, part_of}
 use Rattle.hound_slices.specs.declared.error.CallError.{CallError}
 use Rattle.hound_slices.specs.declared.error.CallError.TheVariants.{Head, NotPerformed, NotWritable, Recorder, TooLong}
@@ -31,11 +29,6 @@ use Rattle.hound_slices.specs.declared.spec.HoundRepair.{HoundRepair}
 -- what the caller requests, by its number
 abbrev pub task_of : ℕ → Task
 task_of mode = if mode == 1 then Repair else if mode == 2 then RepairToEnd else FindDamage
-
--- how a file was found, by its number
-abbrev pub state_of_code : ℕ → RepairState
-state_of_code number =
-    if number == 0 then Whole else if number == 1 then CutOff else HasChunksAfterData
 
 -- what failed, by its number
 abbrev pub failure_of_code : ℕ → Failure

@@ -4,16 +4,16 @@ ghost use Rattle.hound_walk.specs.{IsSoundOption};
 ghost use Rattle.hound_repair.specs.{IsSoundHead, IsSoundRepairing, IsSoundStage};
 ghost use Rattle.hound_repair.specs.declared.steps.Repairing.TheVariants as states;
 ghost use Rattle.hound_repair.specs.declared.steps.Stage.TheVariants as stages;
-ghost use Rattle.hound_slices.specs.Repairers.{BeginsRepairer, StepsRepairer, after_head, count_of, failure_of_code, error_of, head_of, repairing_of, state_of_code, task_of};
+ghost use Rattle.hound_slices.specs.Repairers.{BeginsRepairer, StepsRepairer, after_head, count_of, failure_of_code, error_of, head_of, repairing_of, task_of};
 
 use crate::effect::{HoundEffect, effect_for_c, report_of};
 use crate::error::CallError;
-use crate::repairing::{repair_for_c, state_code};
+use crate::repairing::{repair_for_c, state_code, state_of_code};
 use crate::spec::{HoundRepair, HoundSpec};
 use crate::walking::{found_for_c, found_of};
 use hound_repair::{
-    Failure, Look, Rejection, RepairError, RepairState, RepairStep, Repairing, SeenHead, Stage,
-    Task, repair_next, seen_head,
+    Failure, Look, Rejection, RepairError, RepairStep, Repairing, SeenHead, Stage, Task,
+    repair_next, seen_head,
 };
 use hound_walk::{FileHead, HeadWalk, Part};
 use hound_writer::RecorderError;
@@ -44,17 +44,6 @@ fn task_of(mode: u32) -> Task
         1 => Task::Repair,
         2 => Task::RepairToEnd,
         _ => Task::FindDamage,
-    }
-}
-
-// How a file was found, by its number.
-fn state_of_code(number: u32) -> RepairState
-    ensures { result ≡ state_of_code number }
-{
-    match number {
-        0 => RepairState::Whole,
-        1 => RepairState::CutOff,
-        _ => RepairState::HasChunksAfterData,
     }
 }
 

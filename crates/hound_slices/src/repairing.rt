@@ -1,6 +1,6 @@
 // Files that are repaired.
 ghost use Rattle.std.specs.Prelude.{◌≡◌, ◌<◌, ◌≤◌, IfErr, IfOk, length};
-ghost use Rattle.hound_slices.specs.Repairing.{FindsInFile, IsDamageError, IsReported, RepairsFile, state_code};
+ghost use Rattle.hound_slices.specs.Repairing.{FindsInFile, IsDamageError, IsReported, RepairsFile, state_code, state_of_code};
 ghost use Rattle.hound_repair.specs.{may_be_chunks};
 
 use crate::error::CallError;
@@ -17,6 +17,17 @@ pub(crate) fn state_code(state: RepairState) -> u32
         RepairState::Whole => 0,
         RepairState::CutOff => 1,
         RepairState::HasChunksAfterData => 2,
+    }
+}
+
+// How a file was found, by that number.
+pub(crate) fn state_of_code(number: u32) -> RepairState
+    ensures { result ≡ state_of_code number }
+{
+    match number {
+        0 => RepairState::Whole,
+        1 => RepairState::CutOff,
+        _ => RepairState::HasChunksAfterData,
     }
 }
 

@@ -6,6 +6,7 @@ ghost use Rattle.hound.specs.declared.Error.TheVariants.{IoError as ErrorIoError
 ghost use Rattle.hound.specs.declared.SampleFormat.TheVariants.{Float as SampleFormatFloat, Int as SampleFormatInt};
 ghost use Rattle.hound.specs.declared.Action.TheVariants.{Perform as ActionPerform, WriteBlock as ActionWriteBlock};
 ghost use Rattle.hound.specs.declared.Effect.TheVariants.{Sync as EffectSync, Size as EffectSize};
+ghost use Rattle.hound.specs.declared.RecorderError.TheVariants.{CutOff as RecorderErrorCutOff, HasChunksAfterData as RecorderErrorHasChunksAfterData};
 ghost use Rattle.hound.specs.declared.RepairState.TheVariants.{Whole as RepairStateWhole, CutOff as RepairStateCutOff, HasChunksAfterData as RepairStateHasChunksAfterData};
 ghost use Rattle.hound.specs.declared.Begin.{Begin};
 ghost use Rattle.hound.specs.declared.Begin.TheVariants.{New as BeginNew, Append as BeginAppend};
