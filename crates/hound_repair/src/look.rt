@@ -9,7 +9,7 @@ ghost use Rattle.hound_repair.specs.Held.{has_known_tag, has_tag, is_printable, 
 ghost use Rattle.hound_repair.specs.Repairing.{Finds, IsNotFound, Looks};
 
 use crate::sizes::{Repair, Sizes};
-use crate::steps::{error_for, look_by_parts};
+use crate::steps::{Task, error_for, look_by_parts};
 use hound_medium::Source;
 use hound_number::u32_at;
 use hound_spec::{Error, WavSpecEx};
@@ -31,16 +31,6 @@ pub(crate) const ID3_LENGTH: u64 = 128;
 // What an ID3v1 tag begins with.
 pub(crate) const ID3_TAG: [u8; 3] = *b"TAG";
 
-/// What follows data of the length that the header says.
-#[derive(Clone, Copy, Debug, PartialEq, Eq)]
-pub enum Rest {
-    /// Maybe chunks or a tag, which are looked for.
-    MayBeChunks,
-
-    /// Samples, whatever they look like.
-    IsSamples,
-}
-
 /// The head of a file, with what is known of the byte after its data.
 #[derive(Clone, Copy)]
 pub struct SeenHead {
@@ -60,7 +50,8 @@ pub struct SeenHead {
 /// A file as it was found, and the sizes that it should have.
 #[derive(Clone, Copy)]
 pub struct Damage {
-    pub(crate) head: SeenHead,
+    /// Its head.
+    pub head: SeenHead,
     pub(crate) held: u64,
     pub(crate) sizes: Sizes,
     pub(crate) state: RepairState,
@@ -139,7 +130,7 @@ impl SeenHead {
 
 impl Damage {
     /// What is reported of it.
-    pub(crate) fn repair(&self) -> Repair
+    pub fn repair(&self) -> Repair
         requires { IsSoundDamage self.now }
         ensures { result ≡ repair_of self.now }
     {
@@ -185,7 +176,7 @@ pub fn find_damage<S: Source>(medium: S) -> result::Result<(S, Repair), (S, Erro
         (λ rejected. IsNotFound (S.state medium) (S.state rejected.0) rejected.1)) }
 {
     let mut medium = medium;
-    match look_by_parts(&mut medium, Rest::MayBeChunks) {
+    match look_by_parts(&mut medium, Task::FindDamage) {
         Ok(damage) => Ok((medium, damage.repair())),
         Err(error) => Err((medium, error_for(error))),
     }
