@@ -6,8 +6,6 @@ use Rattle.hound_repair.specs.{AsksNext, asked_count}
 use Rattle.hound_repair.specs.declared.look.SeenHead.{SeenHead}
 use Rattle.hound_repair.specs.declared.steps.Failure.{Failure}
 use Rattle.hound_repair.specs.declared.steps.Failure.TheVariants.{Sync, Call}
-use Rattle.hound_repair.specs.declared.steps.Rejection.{Rejection}
-use Rattle.hound_repair.specs.declared.steps.Rejection.TheVariants as rejections
 use Rattle.hound_repair.specs.declared.steps.RepairError.{RepairError}
 use Rattle.hound_repair.specs.declared.steps.RepairError.TheVariants.{Rejected, Failed}
 use Rattle.hound_repair.specs.declared.steps.RepairStep.{RepairStep}
@@ -18,11 +16,12 @@ use Rattle.hound_repair.specs.declared.steps.Stage.TheVariants as stages
 use Rattle.hound_repair.specs.declared.steps.Task.{Task}
 use Rattle.hound_repair.specs.declared.steps.Task.TheVariants.{FindDamage, Repair, RepairToEnd}
 use Rattle.hound_writer.specs.declared.recorder.RecorderError.TheVariants.{SyncFailed}
+use Rattle.hound_slices.specs.Codes.{error_of_rejection}
 use Rattle.hound_slices.specs.Effects.{effect_of, report_of}
 use Rattle.hound_slices.specs.Repairing.{IsReported, state_of_code}
-use Rattle.hound_slices.specs.Walks.{found_of, part_of}
+use Rattle.hound_slices.specs.Walks.{found_of, part_of, walk_with}
 use Rattle.hound_slices.specs.declared.error.CallError.{CallError}
-use Rattle.hound_slices.specs.declared.error.CallError.TheVariants.{Head, NotPerformed, NotWritable, Recorder, TooLong}
+use Rattle.hound_slices.specs.declared.error.CallError.TheVariants.{NotPerformed, Recorder}
 use Rattle.hound_slices.specs.declared.repairer.HoundRepairer.{HoundRepairer}
 use Rattle.hound_slices.specs.declared.spec.HoundRepair.{HoundRepair}
 
@@ -75,11 +74,7 @@ if_head c (Some head) = after_head c head
 abbrev pub repairing_of : HoundRepairer → Repairing
 repairing_of c =
     if nat_lt c.part 4
-    then states.Looks (stages.Head (record {
-      found = found_of c.spec;
-      taken = c.taken;
-      part = part_of c.part c.fmt_length;
-    }))
+    then states.Looks (stages.Head (walk_with c.spec c.taken c.part c.fmt_length))
     else if c.part == 11 then states.Failed (failure_of_code c.number)
     else if_head c (head_of c)
 
@@ -94,9 +89,7 @@ bytes_read c = take (min (min c.effect.length 40) (count_of (repairing_of c))) c
 
 -- what a call returns for an error of a repair
 abbrev pub error_of : RepairError → CallError
-error_of (Rejected (rejections.Head cause)) = Head cause
-error_of (Rejected rejections.Unsupported) = NotWritable
-error_of (Rejected rejections.TooLong) = TooLong
+error_of (Rejected why) = error_of_rejection why
 error_of (Failed Sync) = Recorder SyncFailed
 error_of (Failed Call) = NotPerformed
 

@@ -1,6 +1,5 @@
 // The repair of a caller who reads and writes the file.
-ghost use Rattle.std.specs.Prelude.{◌≡◌, ◌<◌, ◌≤◌, Some, IfSome, IfOk};
-ghost use Rattle.hound_walk.specs.{IsSoundOption};
+ghost use Rattle.std.specs.Prelude.{◌≡◌, ◌≤◌, Some, IfSome, IfOk};
 ghost use Rattle.hound_repair.specs.{IsSoundHead, IsSoundRepairing, IsSoundStage};
 ghost use Rattle.hound_repair.specs.declared.steps.Repairing.TheVariants as states;
 ghost use Rattle.hound_repair.specs.declared.steps.Stage.TheVariants as stages;
@@ -10,12 +9,11 @@ use crate::effect::{HoundEffect, effect_for_c, report_of};
 use crate::error::CallError;
 use crate::repairing::{repair_for_c, state_code, state_of_code};
 use crate::spec::{HoundRepair, HoundSpec};
-use crate::walking::{found_for_c, found_of};
+use crate::walking::{found_for_c, found_of, numbers_of, walk_with};
 use hound_repair::{
-    Failure, Look, Rejection, RepairError, RepairStep, Repairing, SeenHead, Stage, Task,
-    repair_next, seen_head,
+    Failure, RepairError, RepairStep, Repairing, SeenHead, Stage, Task, repair_next, seen_head,
 };
-use hound_walk::{FileHead, HeadWalk, Part};
+use hound_walk::FileHead;
 use hound_writer::RecorderError;
 
 /// A repairer of a file that the caller reads and writes.
@@ -72,14 +70,8 @@ fn head_of(c: HoundRepairer) -> Option<SeenHead>
     ensures is { result ≡ head_of c }
     ensures sound { IfSome result IsSoundHead }
 {
-    let spec_ex = match found_of(c.spec) {
-        None => return None,
-        Some(spec_ex) => spec_ex,
-    };
-    if c.data_start < 20 {
-        return None;
-    }
-    if c.data_start > 20 + u32::MAX as u64 {
+    let spec_ex = found_of(c.spec)?;
+    if c.data_start < 20 || c.data_start > 20 + u32::MAX as u64 {
         return None;
     }
     Some(SeenHead {
@@ -120,31 +112,14 @@ fn after_head(c: HoundRepairer, head: SeenHead) -> Repairing
     }
 }
 
-// The part of the header that C's repairer asks for.
-fn walk_of(c: HoundRepairer) -> HeadWalk
-    requires { c.part < 4 }
-    ensures is { repairing_of c ≡ states.Looks (stages.Head result) }
-    ensures sound { IsSoundOption result.found }
-{
-    HeadWalk {
-        found: found_of(c.spec),
-        taken: c.taken,
-        part: match c.part {
-            0 => Part::Front,
-            1 => Part::Header,
-            2 => Part::Last,
-            _ => Part::Fmt(c.fmt_length),
-        },
-    }
-}
-
 // The repair that C's is.
 fn repairing_of(c: HoundRepairer) -> Repairing
     ensures is { result ≡ repairing_of c }
     ensures sound { IsSoundRepairing result }
 {
     if c.part < 4 {
-        return Repairing::Looks(Stage::Head(walk_of(c)));
+        let walk = walk_with(c.spec, c.taken, c.part, c.fmt_length);
+        return Repairing::Looks(Stage::Head(walk));
     }
     if c.part == 11 {
         return Repairing::Failed(failure_of_code(c.number));
@@ -188,12 +163,7 @@ fn stage_for_c(c: HoundRepairer, stage: Stage) -> HoundRepairer
 {
     match stage {
         Stage::Head(walk) => {
-            let (part, fmt_length) = match walk.part {
-                Part::Front => (0, 0),
-                Part::Header => (1, 0),
-                Part::Last => (2, 0),
-                Part::Fmt(length) => (3, length),
-            };
+            let (part, fmt_length) = numbers_of(walk.part);
             HoundRepairer {
                 spec: found_for_c(walk.found),
                 taken: walk.taken,
@@ -232,16 +202,11 @@ fn repairer_for_c(c: HoundRepairer, state: Repairing) -> HoundRepairer
 }
 
 // How many bytes a repairer has asked for.
-fn count_of(state: Repairing, length: u64, task: Task) -> usize
+fn count_of(state: Repairing) -> usize
     ensures { result ≡ count_of state }
 {
     match state {
-        Repairing::Looks(stage) => Look {
-            length,
-            rest: task.rest(),
-            stage,
-        }
-        .count(),
+        Repairing::Looks(stage) => stage.count(),
         _ => 0,
     }
 }
@@ -251,9 +216,7 @@ fn error_of(error: RepairError) -> CallError
     ensures { result ≡ error_of error }
 {
     match error {
-        RepairError::Rejected(Rejection::Head(cause)) => CallError::Head(cause),
-        RepairError::Rejected(Rejection::Unsupported) => CallError::NotWritable,
-        RepairError::Rejected(Rejection::TooLong) => CallError::TooLong,
+        RepairError::Rejected(why) => why.into(),
         RepairError::Failed(Failure::Sync) => CallError::Recorder(RecorderError::SyncFailed),
         RepairError::Failed(Failure::Call) => CallError::NotPerformed,
     }
@@ -290,7 +253,7 @@ pub fn step_repairer(
     let c = *repairer;
     let task = task_of(c.mode);
     let mut state = repairing_of(c);
-    let asked = count_of(state, c.length, task);
+    let asked = count_of(state);
     let read = (c.effect.length.min(40) as usize).min(asked);
     let step = repair_next(
         &mut state,
@@ -309,12 +272,7 @@ pub fn step_repairer(
         }
         Ok(RepairStep::Found(repair)) => {
             let next = repairer_for_c(c, state);
-            let head = FileHead {
-                spec_ex: repair.spec_ex,
-                data_length: next.data_length,
-                data_start: next.data_start,
-            };
-            *found = repair_for_c(repair, head, c.length);
+            *found = repair_for_c(repair, next.data_start, next.data_length, c.length);
             *repairer = HoundRepairer {
                 effect: effect_for_c(None),
                 ..next
