@@ -2,7 +2,6 @@
 use Rattle.std.specs.Prelude.{◌≡◌, ℕ, ◌+◌, ◌≤◌, ◌^◌, Bool, false, [], ◌∷◌, length, take, Some, true, List, drop, Option, None, if◌then◌else◌}
 use Rattle.hound_spec.specs.{riff_size}
 use Rattle.hound_medium.specs.{MediumState, unknown}
-use Rattle.hound_walk.specs.declared.chunks.FileHead.{FileHead}
 use Rattle.hound_walk.specs.{IsDataPlace, IsSoundSpec}
 use Rattle.hound_writer.specs.{AppendFault, PutsNothing, by_bytes, too_long}
 use Rattle.hound_repair.specs.Held.{frames_held, held, right_length, shown_length, torn_bytes, missing_pad}
@@ -12,15 +11,6 @@ use Rattle.hound_repair.specs.declared.look.SeenHead.{SeenHead}
 use Rattle.hound_repair.specs.declared.sizes.Repair.{Repair}
 use Rattle.hound_repair.specs.declared.sizes.Sizes.{Sizes}
 use Rattle.hound_writer.specs.declared.resuming.RepairState.TheVariants.{CutOff}
-
--- a head, and whether a single byte after its data is a sample
-abbrev pub seen_head : FileHead → Bool → SeenHead
-seen_head head more = record {
-  spec_ex = head.spec_ex;
-  data_length = head.data_length;
-  data_start = head.data_start;
-  has_more = more;
-}
 
 -- the data length that a file with this head shows
 abbrev pub shown_of : SeenHead → ℕ

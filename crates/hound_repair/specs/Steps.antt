@@ -167,7 +167,7 @@ IsSoundHead head = IsSoundSpec head.spec_ex × IsDataPlace head.data_start
 
 abbrev pub IsSoundStage : Stage → Type 0
 IsSoundStage (stages.Head walk) = IsSoundOption walk.found
-IsSoundStage (stages.Last head) = IsSoundSpec head.spec_ex × IsDataPlace head.data_start
+IsSoundStage (stages.Last head) = IsSoundHead head
 IsSoundStage (stages.Size head) = IsSoundHead head
 IsSoundStage (stages.Chunk head place padded) = IsSoundHead head
 IsSoundStage (stages.Tag head) = IsSoundHead head
@@ -309,10 +309,10 @@ IsSoundRepairing (Mends_now head number) = IsSoundHead head
 IsSoundRepairing (Found_now head state) = IsSoundHead head
 IsSoundRepairing (Failed_with failure) = ⊤
 
--- over every file: what is found has the spec of a header
+-- over every file: the sizes of what is found are right
 abbrev pub IsSoundRepairStep : RepairStep → Type 0
 IsSoundRepairStep (Asks action) = ⊤
-IsSoundRepairStep (Found_so found) = IsSoundSpec found.spec_ex
+IsSoundRepairStep (Found_so d) = IsSoundDamage d
 
 -- at a fault of the bytes a repair stays where it is, over every file
 abbrev pub StaysAt : Result RepairStep RepairError → Repairing → Repairing → Type 0
@@ -340,7 +340,7 @@ AsksEffect task d number (Asks action) new = (effect : Effect)
     × (nth (effects_of_task task d) number ≡ Some effect) × (action ≡ Perform effect)
     × (new ≡ Mends_now d.head number)
 AsksEffect task d number (Found_so found) new = (nth (effects_of_task task d) number ≡ None)
-    × (found ≡ repair_of d) × (new ≡ Found_now d.head d.state)
+    × (found ≡ d) × (new ≡ Found_now d.head d.state)
 
 -- where an effect leads whose number is given: to the next one once it is done, to itself before
 abbrev pub AsksAfter : Task → Damage → ℕ → Report → Option Effect → Repairing → Result RepairStep RepairError
@@ -399,6 +399,6 @@ AsksNext task n bytes report (Mends_now head number) new result = (file : List �
 AsksNext task n bytes report (Found_now head state) new result = (new ≡ Found_now head state)
     × ((file : List ℕ) → IsLengthOf n file
     → Head file head.spec_ex head.data_length head.data_start → IsShown file head
-    → Remeasures file head result (λ d. (result ≡ Ok (Found_so (repair_of (record d { state = state }))))))
+    → Remeasures file head result (λ d. result ≡ Ok (Found_so (record d { state = state }))))
 AsksNext task n bytes report (Failed_with failure) new result =
     (result ≡ Err (failed failure)) × (new ≡ Failed_with failure)

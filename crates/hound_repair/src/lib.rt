@@ -21,7 +21,7 @@ pub use laws::{
     a_look_finds_what_a_repair_does, a_repair_keeps_stored_samples, a_second_repair_writes_nothing,
     a_stopped_repair_is_done_again, effects_mend,
 };
-pub use look::{Damage, SeenHead, find_damage, seen_head};
+pub use look::{Damage, SeenHead, find_damage};
 pub use mend::{repair, repair_to_end};
 pub use sizes::Repair;
 pub use steps::{Failure, Rejection, RepairError, RepairStep, Repairing, Stage, Task, repair_next};

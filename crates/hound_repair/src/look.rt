@@ -4,7 +4,7 @@ ghost use Rattle.hound_spec.specs.{padded};
 ghost use Rattle.hound_medium.specs.{WhereTells};
 ghost use Rattle.hound_walk.specs.{IsSoundSpec};
 ghost use Rattle.hound_writer.specs.{IsMediumError};
-ghost use Rattle.hound_repair.specs.Damages.{IsSoundDamage, repair_of, seen_head, shown_of};
+ghost use Rattle.hound_repair.specs.Damages.{IsSoundDamage, repair_of, shown_of};
 ghost use Rattle.hound_repair.specs.Held.{has_known_tag, has_tag, is_printable, said_length, held, missing_pad};
 ghost use Rattle.hound_repair.specs.Repairing.{Finds, IsNotFound, Looks};
 
@@ -13,7 +13,6 @@ use crate::steps::{Task, error_for, look_by_parts};
 use hound_medium::Source;
 use hound_number::u32_at;
 use hound_spec::{Error, WavSpecEx};
-use hound_walk::FileHead;
 use hound_writer::RepairState;
 use std::result;
 
@@ -104,18 +103,6 @@ pub(crate) fn chunk_content(header: &[u8], left: u64) -> Option<u64>
         return Some(length + length % 2);
     }
     None
-}
-
-/// What is known of a file once its head is found.
-pub fn seen_head(head: FileHead, has_more: bool) -> SeenHead
-    ensures { result ≡ seen_head head has_more }
-{
-    SeenHead {
-        spec_ex: head.spec_ex,
-        data_length: head.data_length,
-        data_start: head.data_start,
-        has_more,
-    }
 }
 
 impl SeenHead {

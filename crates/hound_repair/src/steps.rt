@@ -5,12 +5,12 @@ ghost use Rattle.hound_walk.specs.{Head, IsAt, IsDataPlace, IsSoundOption, IsSou
 ghost use Rattle.hound_writer.specs.{IsMediumError, PutsAt, nth};
 ghost use Rattle.hound_medium.specs.{WhereKeeps, WhereTells};
 ghost use Rattle.hound_repair.specs.Damages.{FindsDamage, IsSoundDamage};
-ghost use Rattle.hound_repair.specs.Steps.{IsAsked, IsAtChunk, IsAtEnd, IsAtStage, IsFoundAs, IsLengthOf, IsMeasured, IsNotLookedAt, Tells, IsNotWhole, IsSoundHead, IsSoundLook, IsSoundStage, PerformedOn, PerformsOn, AsksEffect, AsksMore, AsksNext, AsksPart, IsShown, IsSoundRepairing, IsSoundRepairStep, StaysAt, MendsMedium, RepairsMedium, LooksTo, MeasuresTo, StageNearer, asked_count, asks_for, stage_place, effects_of_task, failure_of, looks_for_chunks, else_followed, followed, mending, mending_end, mending_rest, steps_left};
+ghost use Rattle.hound_repair.specs.Steps.{IsAsked, IsAtChunk, IsAtEnd, IsAtStage, IsFoundAs, IsLengthOf, IsMeasured, IsNotLookedAt, Tells, IsNotWhole, IsSoundHead, IsSoundLook, IsSoundStage, PerformedOn, PerformsOn, AsksEffect, AsksMore, AsksNext, AsksPart, IsShown, IsSoundRepairing, IsSoundRepairStep, StaysAt, MendsMedium, RepairsMedium, LooksTo, MeasuresTo, StageNearer, asked_count, asks_for, stage_place, effects_of_task, failure_of, looks_for_chunks, else_followed, followed, mending, steps_left};
 ghost use Rattle.hound_writer.specs.declared.resuming.RepairState.TheVariants.{CutOff};
 ghost use Rattle.hound_repair.specs.declared.steps.Stage.TheVariants as stages;
 ghost use Rattle.hound_repair.specs.declared.steps.Repairing.TheVariants as states;
 
-use crate::look::{Damage, ID3_LENGTH, ID3_TAG, SeenHead, chunk_content, has_known_tag, seen_head};
+use crate::look::{Damage, ID3_LENGTH, ID3_TAG, SeenHead, chunk_content, has_known_tag};
 use crate::read_at::{LIMIT, length_of, part_at};
 use crate::sizes::{Repair, right_sizes};
 use hound_medium::{Medium, Source, put_all};
@@ -40,7 +40,7 @@ pub enum Stage {
     Head(HeadWalk),
 
     /// The single byte after the data, of a file with this head.
-    Last(FileHead),
+    Last(SeenHead),
 
     /// The RIFF size.
     Size(SeenHead),
@@ -265,9 +265,9 @@ fn take_tag(damage: Damage, bytes: &[u8]) -> LookStep
     found_as(damage, RepairState::CutOff)
 }
 
-/// What is requested once the head is found: the byte after the data, if it is the only one, or the RIFF
-/// size.
-pub(crate) fn after_head(length: u64, head: FileHead) -> Stage
+// What is requested once the head is found: the byte after the data, if it is the only one, or the RIFF
+// size.
+fn after_head(length: u64, head: FileHead) -> Stage
     requires place { IsDataPlace head.data_start }
     requires sound { IsSoundSpec head.spec_ex }
     ensures at { (looks : Bool) (file : List ℕ) → IsLengthOf length file
@@ -275,10 +275,16 @@ pub(crate) fn after_head(length: u64, head: FileHead) -> Stage
     ensures sound { IsSoundStage result }
     ensures near { steps_left length result ≤ 5 + length + length }
 {
+    let seen = SeenHead {
+        spec_ex: head.spec_ex,
+        data_length: head.data_length,
+        data_start: head.data_start,
+        has_more: false,
+    };
     if length == head.data_start + head.data_length as u64 + 1 {
-        return Stage::Last(head);
+        return Stage::Last(seen);
     }
-    Stage::Size(seen_head(head, false))
+    Stage::Size(seen)
 }
 
 // Whether a single byte after the data, which is this if there is one, is a sample.
@@ -289,16 +295,18 @@ fn is_sample(bytes: &[u8]) -> bool
 }
 
 // Takes the byte after the data.
-fn take_last(head: FileHead, bytes: &[u8]) -> LookStep
-    requires sound { IsSoundSpec head.spec_ex }
-    requires place { IsDataPlace head.data_start }
+fn take_last(head: SeenHead, bytes: &[u8]) -> LookStep
+    requires sound { IsSoundHead head }
     ensures leads { (looks : Bool) (file : List ℕ) → IsAtStage looks file (stages.Last head)
         → (bytes.now ≡ take 1 (drop (head.data_start + head.data_length) file))
         → LooksTo looks file (Ok result) }
     ensures sound { IsSoundLook result }
     ensures nearer { (n : ℕ) → StageNearer n (steps_left n (stages.Last head)) result }
 {
-    LookStep::Next(Stage::Size(seen_head(head, is_sample(bytes))))
+    LookStep::Next(Stage::Size(SeenHead {
+        has_more: is_sample(bytes),
+        ..head
+    }))
 }
 
 // Takes a part of the header.
@@ -389,7 +397,7 @@ pub enum RepairStep {
     Asks(Action),
 
     /// Nothing: this was found, and is mended if that is to be.
-    Found(Repair),
+    Found(Damage),
 }
 
 /// Why a repair has ended.
@@ -440,7 +448,7 @@ fn ask_for(state: &mut Repairing, task: Task, damage: Damage, number: u32) -> Re
         }
         None => {
             *state = Repairing::Found(damage.head, damage.state);
-            RepairStep::Found(damage.repair())
+            RepairStep::Found(damage)
         }
     }
 }
@@ -528,11 +536,10 @@ pub fn repair_next(
         }
         Repairing::Found(head, found) => {
             let damage = measured(length, head).map_err(RepairError::Rejected)?;
-            let found = Damage {
+            Ok(RepairStep::Found(Damage {
                 state: found,
                 ..damage
-            };
-            Ok(RepairStep::Found(found.repair()))
+            }))
         }
         Repairing::Failed(failure) => Err(RepairError::Failed(failure)),
     }
@@ -593,40 +600,11 @@ impl Damage {
             return None;
         }
         let start = self.head.data_start;
-        match number {
-            0 => Some(Effect::Sync),
-            1 => Some(Effect::Size(start - 4, self.sizes.data_length)),
-            2 => Some(Effect::Sync),
-            _ => self.effect_after(number - 3),
-        }
-    }
-
-    // The same, once the data length is synced.
-    fn effect_after(&self, number: u32) -> Option<Effect>
-        requires { IsSoundDamage self.now }
-        ensures is { result
-            ≡ nth (mending_rest self.now.head.data_start self.now.sizes.data_length self.now.held) number }
-        ensures few { IfSome result (λ _. number ≤ 3) }
-    {
-        if !self.lacks_pad() {
-            return self.last_effect(number);
-        }
-        match number {
-            0 => Some(Effect::Pad(self.head.data_start + self.held)),
-            1 => Some(Effect::Sync),
-            _ => self.last_effect(number - 2),
-        }
-    }
-
-    // The same, once no pad byte is missing.
-    fn last_effect(&self, number: u32) -> Option<Effect>
-        requires { IsSoundDamage self.now }
-        ensures is { result ≡ nth (mending_end self.now.head.data_start self.now.sizes.data_length) number }
-        ensures few { IfSome result (λ _. number ≤ 1) }
-    {
-        match number {
-            0 => Some(Effect::Size(4, self.sizes.riff_size)),
-            1 => Some(Effect::Sync),
+        match (number, self.lacks_pad()) {
+            (1, _) => Some(Effect::Size(start - 4, self.sizes.data_length)),
+            (3, true) => Some(Effect::Pad(start + self.held)),
+            (3, false) | (5, true) => Some(Effect::Size(4, self.sizes.riff_size)),
+            (0 | 2 | 4, _) | (6, true) => Some(Effect::Sync),
             _ => None,
         }
     }

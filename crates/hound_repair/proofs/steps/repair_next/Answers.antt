@@ -23,12 +23,14 @@ pub returns-in_ok-damage-in-Found-clause-next : goal.returns-in_ok-damage-in-Fou
 returns-in_ok-damage-in-Found-clause-next c =
     let is = mapped_ok _ _ _ _ c.in_ok-damage-in-Found.ensures.variant c.in_ok-damage-in-Found.ensures.cases in
     let seen = c.measured-in-Found.ensures in
-    subst (λ old. AsksNext c.args.task c.args.length c.args.bytes.now c.args.report old old (Ok (Found c.repair.result)))
-    (sym c.in-Found.is)
-    (refl, λ file size head shown. inl (
-      c.in_ok-damage-in-Found.damage,
-      rw is at seen.sound,
-      rw is at (seen.measures file size head shown),
-      rw is at seen.head,
-      ap (λ r. Ok (Found r)) c.repair.ensures,
-    ))
+    subst (λ old. AsksNext c.args.task c.args.length c.args.bytes.now c.args.report old old (Ok (Found (record c.in_ok-damage-in-Found.damage { state = c.in-Found.found }))))
+    (sym c.in-Found.is) (
+      refl,
+      λ file size head shown. inl (
+        c.in_ok-damage-in-Found.damage,
+        rw is at seen.sound,
+        rw is at (seen.measures file size head shown),
+        rw is at seen.head,
+        refl,
+      ),
+    )
