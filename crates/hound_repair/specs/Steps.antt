@@ -23,9 +23,6 @@ use Rattle.hound_repair.specs.declared.steps.Rejection.TheVariants as rejections
 use Rattle.hound_repair.specs.declared.steps.Stage.{Stage}
 use Rattle.hound_repair.specs.declared.steps.Stage.TheVariants as stages
 use Rattle.hound_spec.specs.declared.error.Error.{Error}
-use Rattle.hound_spec.specs.declared.error.Error.TheVariants.{IoError}
-use Rattle.hound_repair.specs.declared.steps.LookError.{LookError}
-use Rattle.hound_repair.specs.declared.steps.LookError.TheVariants.{Failed, Rejected}
 use Rattle.hound_writer.specs.{nth}
 use Rattle.hound_writer.specs.declared.effects.Action.{Action}
 use Rattle.hound_writer.specs.declared.effects.Action.TheVariants.{Read, Perform}
@@ -255,17 +252,6 @@ pub record IsLookedAt (looks : Bool) (bytes : List ℕ) (d : Damage) : Type 0 wh
   pub found : IsFoundAt looks bytes (repair_of d) d.head.data_length d.head.data_start
   pub held_is : d.held ≡ held d.head.data_start bytes
   pub cut : d.state ≡ CutOff
-
--- a file that isn't looked at, for a fault that its bytes have, or since a read failed
-abbrev pub IsNotLookedAt : LookError → MediumState → MediumState → Type 0
-IsNotLookedAt (Failed error) old new = Looks {T = Unit {0}} (Err error) old new
-IsNotLookedAt (Rejected why) old new = Looks {E = IoFault} (Ok (tt {0})) old new
-    × IsRejectedFor old.contents why
-
--- the error that callers get
-abbrev pub Tells : LookError → Error → Type 0
-Tells (Failed error) modelled = modelled ≡ IoError error
-Tells (Rejected why) modelled = NamesFault modelled (rejected_for why)
 
 -- what is left where the medium failed: all, or a file that is partly mended
 abbrev pub LeavesPartly : Bool → MediumState → MediumState → Type 0

@@ -9,7 +9,7 @@ ghost use Rattle.hound_repair.specs.Held.{has_known_tag, has_tag, is_printable, 
 ghost use Rattle.hound_repair.specs.Repairing.{Finds, IsNotFound, Looks};
 
 use crate::sizes::{Repair, Sizes};
-use crate::steps::{Task, error_for, look_by_parts};
+use crate::steps::{Task, look_by_parts};
 use hound_medium::Source;
 use hound_number::u32_at;
 use hound_spec::{Error, WavSpecEx};
@@ -165,6 +165,6 @@ pub fn find_damage<S: Source>(medium: S) -> result::Result<(S, Repair), (S, Erro
     let mut medium = medium;
     match look_by_parts(&mut medium, Task::FindDamage) {
         Ok(damage) => Ok((medium, damage.repair())),
-        Err(error) => Err((medium, error_for(error))),
+        Err(error) => Err((medium, error)),
     }
 }

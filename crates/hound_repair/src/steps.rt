@@ -2,10 +2,11 @@
 // what is to be done.
 ghost use Rattle.std.specs.Prelude.{◌≡◌, ℕ, ◌+◌, ◌-◌, ◌≤◌, Bool, List, Ok, true, IfErr, IfOk, IfSome, MatchResult, length, nat_lt, slice_index, take, drop};
 ghost use Rattle.hound_walk.specs.{Head, IsAt, IsDataPlace, IsSoundOption, IsSoundSpec, part_bytes};
-ghost use Rattle.hound_writer.specs.{IsMediumError, PutsAt, nth};
+ghost use Rattle.hound_writer.specs.{IsMediumError, NamesFault, PutsAt, nth};
 ghost use Rattle.hound_medium.specs.{WhereKeeps, WhereTells};
 ghost use Rattle.hound_repair.specs.Damages.{FindsDamage, IsSoundDamage};
-ghost use Rattle.hound_repair.specs.Steps.{IsAsked, IsAtChunk, IsAtEnd, IsAtStage, IsFoundAs, IsLengthOf, IsMeasured, IsNotLookedAt, Tells, IsNotWhole, IsSoundHead, IsSoundLook, IsSoundStage, PerformedOn, PerformsOn, AsksEffect, AsksMore, AsksNext, AsksPart, IsShown, IsSoundRepairing, IsSoundRepairStep, StaysAt, MendsMedium, RepairsMedium, LooksTo, MeasuresTo, StageNearer, asked_count, asks_for, stage_place, effects_of_task, failure_of, looks_for_chunks, else_followed, followed, mending, steps_left};
+ghost use Rattle.hound_repair.specs.Repairing.{IsNotFound};
+ghost use Rattle.hound_repair.specs.Steps.{IsAsked, IsAtChunk, IsAtEnd, IsAtStage, IsFoundAs, IsLengthOf, IsMeasured, IsNotWhole, IsSoundHead, IsSoundLook, IsSoundStage, PerformedOn, PerformsOn, AsksEffect, AsksMore, AsksNext, AsksPart, IsShown, IsSoundRepairing, IsSoundRepairStep, StaysAt, MendsMedium, RepairsMedium, LooksTo, MeasuresTo, StageNearer, asked_count, asks_for, stage_place, effects_of_task, failure_of, looks_for_chunks, rejected_for, else_followed, followed, mending, steps_left};
 ghost use Rattle.hound_writer.specs.declared.resuming.RepairState.TheVariants.{CutOff};
 ghost use Rattle.hound_repair.specs.declared.steps.Stage.TheVariants as stages;
 ghost use Rattle.hound_repair.specs.declared.steps.Repairing.TheVariants as states;
@@ -545,47 +546,37 @@ pub fn repair_next(
     }
 }
 
-/// Why a file isn't looked at.
-#[derive(Debug, Drop)]
-pub(crate) enum LookError {
-    /// A read failed.
-    Failed(io::Error),
-    /// The bytes decide it.
-    Rejected(Rejection),
-}
-
-/// Looks at a file from its beginning, one part after the other.
-pub(crate) fn look_by_parts<S: Source>(source: &mut S, task: Task) -> Result<Damage, LookError>
-    ensures sound { IfOk result IsSoundDamage }
-    ensures finds { WhereTells S.tells (MatchResult result
-        (λ damage. FindsDamage (looks_for_chunks task) (S.state source.old) damage (S.state source.new))
-        (λ error. IsNotLookedAt error (S.state source.old) (S.state source.new))) }
+// The error that callers get.
+fn error_for(why: Rejection) -> Error
+    ensures names { NamesFault result (rejected_for why) }
+    ensures reported { IsMediumError result }
 {
-    let length = length_of(source).map_err(LookError::Failed)?;
-    let mut stage = Stage::first();
-    'parts: loop {
-        let mut buf = [0; 40];
-        let place = stage.place(length);
-        let asked = stage.count();
-        let count = part_at(source, place, &mut buf[..asked]).map_err(LookError::Failed)?;
-        match take_asked(length, task, stage, &buf[..count]) {
-            Ok(LookStep::Next(next)) => stage = next,
-            Ok(LookStep::Found(damage)) => return Ok(damage),
-            Err(why) => return Err(LookError::Rejected(why)),
-        }
+    match why {
+        Rejection::Head(cause) => error_of(HeadError::Rejected(cause)),
+        Rejection::Unsupported => Error::Unsupported,
+        Rejection::TooLong => Error::TooLong,
     }
 }
 
-/// The error that callers get.
-pub(crate) fn error_for(error: LookError) -> Error
-    ensures names { Tells error result }
-    ensures reported { IsMediumError result }
+/// Looks at a file from its beginning, one part after the other.
+pub(crate) fn look_by_parts<S: Source>(source: &mut S, task: Task) -> Result<Damage, Error>
+    ensures sound { IfOk result IsSoundDamage }
+    ensures reported { IfErr result IsMediumError }
+    ensures finds { WhereTells S.tells (MatchResult result
+        (λ damage. FindsDamage (looks_for_chunks task) (S.state source.old) damage (S.state source.new))
+        (IsNotFound (S.state source.old) (S.state source.new))) }
 {
-    match error {
-        LookError::Failed(error) => Error::IoError(error),
-        LookError::Rejected(Rejection::Head(cause)) => error_of(HeadError::Rejected(cause)),
-        LookError::Rejected(Rejection::Unsupported) => Error::Unsupported,
-        LookError::Rejected(Rejection::TooLong) => Error::TooLong,
+    let length = length_of(source)?;
+    let mut stage = Stage::first();
+    'parts: loop {
+        let mut buf = [0; 40];
+        let asked = stage.count();
+        let count = part_at(source, stage.place(length), &mut buf[..asked])?;
+        match take_asked(length, task, stage, &buf[..count]) {
+            Ok(LookStep::Next(next)) => stage = next,
+            Ok(LookStep::Found(damage)) => return Ok(damage),
+            Err(why) => return Err(error_for(why)),
+        }
     }
 }
 
@@ -658,7 +649,7 @@ pub(crate) fn repair_by_effects<M: Source + Medium>(
     let mut medium = medium;
     let damage = match look_by_parts(&mut medium, task) {
         Ok(damage) => damage,
-        Err(error) => return Err((medium, error_for(error))),
+        Err(error) => return Err((medium, error)),
     };
     match perform_all(&mut medium, damage) {
         Ok(()) => Ok((medium, damage.repair())),

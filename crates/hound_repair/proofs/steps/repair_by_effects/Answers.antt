@@ -1,12 +1,12 @@
-use Rattle.std.proofs.Common.{sym, subst}
+use Rattle.std.proofs.Common.{inl, sym, subst}
 use Rattle.hound_repair.specs.Steps.{looks_for_chunks}
 use Rattle.hound_repair.specs.Repairing.{Repairs}
-use Rattle.hound_repair.proofs.ByEffects.{done_by, moments_by, not_by, not_by_moments, stopped_by}
+use Rattle.hound_repair.proofs.ByEffects.{done_by, moments_by, not_by, stopped_by}
 use Rattle.hound_repair.proofs.steps.repair_by_effects.Goals as goal
 
 pub returns-in-Err-clause-repaired : goal.returns-in-Err-clause-repaired
 returns-in-Err-clause-repaired g c modelled =
-    not_by (looks_for_chunks c.args.task) c.in-Err.error c.error_for.result _ _ (c.in-Err.ensures.finds modelled) c.error_for.ensures.names
+    not_by (looks_for_chunks c.args.task) c.in-Err.error _ _ (c.in-Err.ensures.finds modelled)
 
 pub returns-in-Ok-perform_all-clause-repaired : goal.returns-in-Ok-perform_all-clause-repaired
 returns-in-Ok-perform_all-clause-repaired g c modelled =
@@ -22,7 +22,7 @@ returns-in-Err-perform_all-clause-repaired g c modelled =
 
 pub returns-in-Err-clause-moments : goal.returns-in-Err-clause-moments
 returns-in-Err-clause-moments g c modelled kept =
-    not_by_moments (looks_for_chunks c.args.task) c.in-Err.error _ _ (c.in-Err.ensures.finds modelled)
+    inl (c.in-Err.ensures.finds modelled).puts.stays.past
 
 pub returns-in-Ok-perform_all-clause-moments : goal.returns-in-Ok-perform_all-clause-moments
 returns-in-Ok-perform_all-clause-moments g c modelled kept =
