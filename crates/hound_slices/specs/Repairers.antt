@@ -2,7 +2,7 @@
 use Rattle.std.specs.Prelude.{◌≡◌, ℕ, ◌+◌, ◌==◌, nat_lt, if◌then◌else◌, true, false, List, min, take, Option, None, Some, Result, Ok, Err}
 use Rattle.hound_spec.specs.{greatest_u32}
 use Rattle.hound_spec.specs.declared.spec.WavSpecEx.{WavSpecEx}
-use Rattle.hound_repair.specs.{AsksNext, asked_count}
+use Rattle.hound_repair.specs.{AsksNext, asked_count, repair_of}
 use Rattle.hound_repair.specs.declared.look.SeenHead.{SeenHead}
 use Rattle.hound_repair.specs.declared.steps.Failure.{Failure}
 use Rattle.hound_repair.specs.declared.steps.Failure.TheVariants.{Sync, Call}
@@ -53,11 +53,7 @@ head_of c = head_with c (found_of c.spec)
 -- where a repairer is that has found the head
 abbrev pub after_head : HoundRepairer → SeenHead → Repairing
 after_head c head =
-    if c.part == 4 then states.Looks (stages.Last (record {
-      spec_ex = head.spec_ex;
-      data_length = head.data_length;
-      data_start = head.data_start;
-    }))
+    if c.part == 4 then states.Looks (stages.Last head)
     else if c.part == 5 then states.Looks (stages.Size head)
     else if c.part == 6 then states.Looks (stages.Chunk head c.place true)
     else if c.part == 7 then states.Looks (stages.Chunk head c.place false)
@@ -99,9 +95,9 @@ abbrev pub GivesStep : HoundRepairer → HoundRepairer → HoundRepair → Hound
     → Result RepairStep RepairError → Result ℕ CallError → Type 0
 GivesStep old new was now (Ok (Asks action)) outcome =
     (outcome ≡ Ok 1) × (new.effect ≡ effect_of (Some action)) × (now ≡ was)
-GivesStep old new was now (Ok (Found found)) outcome =
-    (outcome ≡ Ok 0) × (new.effect ≡ effect_of None) × IsReported found now
-    × (now.data_start ≡ new.data_start) × (now.data_length ≡ new.data_length) × (now.length ≡ old.length)
+GivesStep old new was now (Ok (Found d)) outcome =
+    (outcome ≡ Ok 0) × (new.effect ≡ effect_of None) × IsReported (repair_of d) now
+    × (now.data_start ≡ d.head.data_start) × (now.data_length ≡ d.head.data_length) × (now.length ≡ old.length)
 GivesStep old new was now (Err (Failed failure)) outcome =
     (outcome ≡ Err (error_of (Failed failure))) × (new.effect ≡ effect_of None) × (now ≡ was)
 GivesStep old new was now (Err (Rejected why)) outcome =

@@ -3,6 +3,7 @@ ghost use Rattle.std.specs.Prelude.{◌≡◌, ◌≤◌, Some, IfSome, IfOk};
 ghost use Rattle.hound_repair.specs.{IsSoundHead, IsSoundRepairing, IsSoundStage};
 ghost use Rattle.hound_repair.specs.declared.steps.Repairing.TheVariants as states;
 ghost use Rattle.hound_repair.specs.declared.steps.Stage.TheVariants as stages;
+ghost use Rattle.hound_slices.specs.Effects.{effect_of};
 ghost use Rattle.hound_slices.specs.Repairers.{BeginsRepairer, StepsRepairer, after_head, count_of, failure_of_code, error_of, head_of, repairing_of, task_of};
 
 use crate::effect::{HoundEffect, effect_for_c, report_of};
@@ -11,10 +12,9 @@ use crate::repairing::{repair_for_c, state_code, state_of_code};
 use crate::spec::{HoundRepair, HoundSpec};
 use crate::walking::{found_for_c, found_of, numbers_of, walk_with};
 use hound_repair::{
-    Failure, RepairError, RepairStep, Repairing, SeenHead, Stage, Task, repair_next, seen_head,
+    Failure, RepairError, RepairStep, Repairing, SeenHead, Stage, Task, repair_next,
 };
-use hound_walk::FileHead;
-use hound_writer::RecorderError;
+use hound_writer::{Action, RecorderError};
 
 /// A repairer of a file that the caller reads and writes.
 #[repr(C)]
@@ -82,19 +82,6 @@ fn head_of(c: HoundRepairer) -> Option<SeenHead>
     })
 }
 
-// The head of the file alone.
-fn file_head(head: SeenHead) -> FileHead
-    ensures spec { result.spec_ex ≡ head.spec_ex }
-    ensures counted { result.data_length ≡ head.data_length }
-    ensures start { result.data_start ≡ head.data_start }
-{
-    FileHead {
-        spec_ex: head.spec_ex,
-        data_length: head.data_length,
-        data_start: head.data_start,
-    }
-}
-
 // Where a repairer is that has found the head.
 fn after_head(c: HoundRepairer, head: SeenHead) -> Repairing
     requires { IsSoundHead head }
@@ -102,7 +89,7 @@ fn after_head(c: HoundRepairer, head: SeenHead) -> Repairing
     ensures sound { IsSoundRepairing result }
 {
     match c.part {
-        4 => Repairing::Looks(Stage::Last(file_head(head))),
+        4 => Repairing::Looks(Stage::Last(head)),
         5 => Repairing::Looks(Stage::Size(head)),
         6 => Repairing::Looks(Stage::Chunk(head, c.place, true)),
         7 => Repairing::Looks(Stage::Chunk(head, c.place, false)),
@@ -172,7 +159,7 @@ fn stage_for_c(c: HoundRepairer, stage: Stage) -> HoundRepairer
                 ..c
             }
         }
-        Stage::Last(head) => with_head(c, seen_head(head, false), 4, 0, 0),
+        Stage::Last(head) => with_head(c, head, 4, 0, 0),
         Stage::Size(head) => with_head(c, head, 5, 0, 0),
         Stage::Chunk(head, place, padded) => {
             with_head(c, head, if padded { 6 } else { 7 }, place, 0)
@@ -181,14 +168,18 @@ fn stage_for_c(c: HoundRepairer, stage: Stage) -> HoundRepairer
     }
 }
 
-// C's form of a repair, with the length and the task of this one.
-fn repairer_for_c(c: HoundRepairer, state: Repairing) -> HoundRepairer
+// C's form of a repair that requests this, with the length and the task of this one.
+fn repairer_for_c(c: HoundRepairer, state: Repairing, action: Option<Action>) -> HoundRepairer
     requires { IsSoundRepairing state }
     ensures is { repairing_of result ≡ state }
     ensures length { result.length ≡ c.length }
     ensures mode { result.mode ≡ c.mode }
-    ensures effect { result.effect ≡ c.effect }
+    ensures effect { result.effect ≡ effect_of action }
 {
+    let c = HoundRepairer {
+        effect: effect_for_c(action),
+        ..c
+    };
     match state {
         Repairing::Looks(stage) => stage_for_c(c, stage),
         Repairing::Mends(head, number) => with_head(c, head, 9, 0, number),
@@ -264,27 +255,17 @@ pub fn step_repairer(
     );
     match step {
         Ok(RepairStep::Asks(action)) => {
-            *repairer = HoundRepairer {
-                effect: effect_for_c(Some(action)),
-                ..repairer_for_c(c, state)
-            };
+            *repairer = repairer_for_c(c, state, Some(action));
             Ok(1)
         }
-        Ok(RepairStep::Found(repair)) => {
-            let next = repairer_for_c(c, state);
-            *found = repair_for_c(repair, next.data_start, next.data_length, c.length);
-            *repairer = HoundRepairer {
-                effect: effect_for_c(None),
-                ..next
-            };
+        Ok(RepairStep::Found(damage)) => {
+            *found = repair_for_c(damage, c.length);
+            *repairer = repairer_for_c(c, state, None);
             Ok(0)
         }
-        Err(RepairError::Rejected(why)) => Err(error_of(RepairError::Rejected(why))),
+        Err(RepairError::Rejected(why)) => Err(why.into()),
         Err(RepairError::Failed(failure)) => {
-            *repairer = HoundRepairer {
-                effect: effect_for_c(None),
-                ..repairer_for_c(c, state)
-            };
+            *repairer = repairer_for_c(c, state, None);
             Err(error_of(RepairError::Failed(failure)))
         }
     }

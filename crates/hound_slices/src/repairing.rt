@@ -5,7 +5,7 @@ ghost use Rattle.hound_repair.specs.{IsSoundDamage, looks_for_chunks, repair_of}
 
 use crate::error::CallError;
 use crate::spec::{HoundRepair, spec_for_c};
-use hound_repair::{Damage, Repair, RepairState, Task, find_damage_in_bytes, repair_bytes};
+use hound_repair::{Damage, RepairState, Task, find_damage_in_bytes, repair_bytes};
 
 // The number of how a file was found.
 pub(crate) fn state_code(state: RepairState) -> u32
@@ -29,46 +29,25 @@ pub(crate) fn state_of_code(number: u32) -> RepairState
     }
 }
 
-// What was found of a file of so many bytes, for C: its data begin there, and its header counts so many.
-pub(crate) fn repair_for_c(
-    repair: Repair,
-    data_start: u64,
-    data_length: u32,
-    length: u64,
-) -> HoundRepair
-    requires { 0 < repair.spec_ex.bytes_per_sample }
-    ensures reported { IsReported repair result }
-    ensures start { result.data_start ≡ data_start }
-    ensures counted { result.data_length ≡ data_length }
-    ensures length { result.length ≡ length }
-{
-    HoundRepair {
-        spec: spec_for_c(repair.spec_ex),
-        frames: repair.frames,
-        left_over: repair.left_over,
-        state: state_code(repair.state),
-        data_start,
-        length,
-        data_length,
-        unused: 0,
-    }
-}
-
-// The same of what was found in bytes.
-fn damage_for_c(damage: Damage, length: usize) -> HoundRepair
+// What was found of a file of so many bytes, for C.
+pub(crate) fn repair_for_c(damage: Damage, length: u64) -> HoundRepair
     requires { IsSoundDamage damage }
     ensures reported { IsReported (repair_of damage) result }
     ensures start { result.data_start ≡ damage.head.data_start }
     ensures counted { result.data_length ≡ damage.head.data_length }
     ensures length { result.length ≡ length }
 {
-    let head = damage.head;
-    repair_for_c(
-        damage.repair(),
-        head.data_start,
-        head.data_length,
-        length as u64,
-    )
+    let repair = damage.repair();
+    HoundRepair {
+        spec: spec_for_c(repair.spec_ex),
+        frames: repair.frames,
+        left_over: repair.left_over,
+        state: state_code(repair.state),
+        data_start: damage.head.data_start,
+        length,
+        data_length: damage.head.data_length,
+        unused: 0,
+    }
 }
 
 /// Looks at a file, and returns what a repair would report.
@@ -77,7 +56,7 @@ pub fn find_file_damage(file: &[u8]) -> Result<HoundRepair, CallError>
     ensures error { IfErr result (IsDamageError file.now) }
 {
     let damage = find_damage_in_bytes(file, Task::FindDamage)?;
-    Ok(damage_for_c(damage, file.len()))
+    Ok(repair_for_c(damage, file.len() as u64))
 }
 
 /// Repairs the file in the first bytes, reports what was found, and returns its length; the task says what
@@ -95,11 +74,7 @@ pub fn repair_file(
         return Err(CallError::NoRoom);
     }
     let damage = find_damage_in_bytes(&file[..used], task)?;
-    match repair_bytes(file, used, damage) {
-        Some(length) => {
-            *found = damage_for_c(damage, used);
-            Ok(length)
-        }
-        None => Err(CallError::NoRoom),
-    }
+    let length = repair_bytes(file, used, damage).ok_or(CallError::NoRoom)?;
+    *found = repair_for_c(damage, used as u64);
+    Ok(length)
 }
