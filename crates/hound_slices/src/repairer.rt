@@ -140,34 +140,6 @@ fn with_head(c: HoundRepairer, head: SeenHead, part: u32, place: u64, number: u3
     }
 }
 
-// C's form of a look, with the length and the task of this one.
-fn stage_for_c(c: HoundRepairer, stage: Stage) -> HoundRepairer
-    requires { IsSoundStage stage }
-    ensures is { repairing_of result ≡ states.Looks stage }
-    ensures length { result.length ≡ c.length }
-    ensures mode { result.mode ≡ c.mode }
-    ensures effect { result.effect ≡ c.effect }
-{
-    match stage {
-        Stage::Head(walk) => {
-            let (part, fmt_length) = numbers_of(walk.part);
-            HoundRepairer {
-                spec: found_for_c(walk.found),
-                taken: walk.taken,
-                part,
-                fmt_length,
-                ..c
-            }
-        }
-        Stage::Last(head) => with_head(c, head, 4, 0, 0),
-        Stage::Size(head) => with_head(c, head, 5, 0, 0),
-        Stage::Chunk(head, place, padded) => {
-            with_head(c, head, if padded { 6 } else { 7 }, place, 0)
-        }
-        Stage::Tag(head) => with_head(c, head, 8, 0, 0),
-    }
-}
-
 // C's form of a repair that requests this, with the length and the task of this one.
 fn repairer_for_c(c: HoundRepairer, state: Repairing, action: Option<Action>) -> HoundRepairer
     requires { IsSoundRepairing state }
@@ -181,7 +153,21 @@ fn repairer_for_c(c: HoundRepairer, state: Repairing, action: Option<Action>) ->
         ..c
     };
     match state {
-        Repairing::Looks(stage) => stage_for_c(c, stage),
+        Repairing::Looks(Stage::Head(walk)) => {
+            let (part, fmt_length) = numbers_of(walk.part);
+            HoundRepairer {
+                spec: found_for_c(walk.found),
+                taken: walk.taken,
+                part,
+                fmt_length,
+                ..c
+            }
+        }
+        Repairing::Looks(Stage::Last(head)) => with_head(c, head, 4, 0, 0),
+        Repairing::Looks(Stage::Size(head)) => with_head(c, head, 5, 0, 0),
+        Repairing::Looks(Stage::Chunk(head, place, true)) => with_head(c, head, 6, place, 0),
+        Repairing::Looks(Stage::Chunk(head, place, false)) => with_head(c, head, 7, place, 0),
+        Repairing::Looks(Stage::Tag(head)) => with_head(c, head, 8, 0, 0),
         Repairing::Mends(head, number) => with_head(c, head, 9, 0, number),
         Repairing::Found(head, found) => with_head(c, head, 10, 0, state_code(found)),
         Repairing::Failed(failure) => HoundRepairer {
