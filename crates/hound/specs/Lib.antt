@@ -28,14 +28,12 @@ pub use Rattle.hound_writer.specs.declared.effects.Effect.{Effect}
 pub use Rattle.hound_writer.specs.declared.effects.Report.{Report}
 pub use Rattle.hound_writer.specs.declared.recorder.Recorder.{Recorder}
 pub use Rattle.hound_writer.specs.declared.recorder.RecorderError.{RecorderError}
-pub use Rattle.hound_writer.specs.declared.resuming.FileState.{FileState}
+pub use Rattle.hound_writer.specs.declared.resuming.RepairState.{RepairState}
 pub use Rattle.hound_writer.specs.declared.resuming.FoundFile.{FoundFile}
-pub use Rattle.hound_repair.specs.{are_right, begins_chunk, broadcast_tags, frame_length, frames_held, has_tag, held, if_some, is_printable, known_tags, mended, metadata_tags, missing_pad, program_tags, riff_tags, right_length, said_length, shown_length, torn_bytes, update_tags, Finds, HasRightSizes, HasUnfitHead, IsFoundAt, IsNoPad, IsNotFound, IsRepairFault, LeavesFor, Looks, ReadsFrames, Repairs, UnlessFollowed, found_length, frames_found, state_of, torn_found, whole_frames, AreRightSizes, FindsDamage, IsSame, IsSoundDamage, IsUnmeasured, IsUnrepaired, LacksRoom, RepairsBytes, as_medium, bytes_fault, may_be_chunks, repair_of, seen_head, shown_of, AsksAfter, AsksEffect, AsksMore, AsksNext, AsksOfLook, AsksPart, IsAsked, IsAtChunk, IsAtEnd, IsAtStage, IsFoundAs, IsLengthOf, IsLookedAt, IsMeasured, IsNotLookedAt, IsNotRepaired, IsNotWhole, IsShown, IsSoundHead, IsSoundLook, IsSoundRepairStep, IsSoundRepairing, IsSoundStage, LeavesPartly, LooksTo, MeasuresTo, Mends, MendsAtEach, MendsMedium, PartlyMended, PerformedOn, PerformsOn, Remeasures, RepairsMedium, StageNearer, StaysAt, Tells, asked_count, asked_place, asks_for, effects_for, effects_of_task, else_followed, failure_of, followed, has_right, looks_for_chunks, mending, mending_effects, mending_end, mending_rest, pads, rejected_for, stage_place, steps_left, tagged, unrepaired_for}
+pub use Rattle.hound_repair.specs.{are_right, begins_chunk, broadcast_tags, frame_length, frames_held, has_tag, held, if_some, is_printable, known_tags, mended, metadata_tags, missing_pad, program_tags, riff_tags, right_length, said_length, shown_length, torn_bytes, update_tags, Finds, HasRightSizes, HasUnfitHead, IsFoundAt, IsNoPad, IsNotFound, IsRepairFault, LeavesFor, Looks, ReadsFrames, Repairs, UnlessFollowed, found_length, frames_found, state_of, torn_found, whole_frames, AreRightSizes, FindsDamage, IsSame, IsSoundDamage, LacksRoom, RepairsBytes, as_medium, repair_of, shown_of, AsksAfter, AsksEffect, AsksMore, AsksNext, AsksOfLook, AsksPart, IsAsked, IsAtChunk, IsAtEnd, IsAtStage, IsFoundAs, IsLengthOf, IsLookedAt, IsMeasured, IsNotRepaired, IsNotWhole, IsRejectedFor, IsShown, IsSoundHead, IsSoundLook, IsSoundRepairStep, IsSoundRepairing, IsSoundStage, LeavesPartly, LooksTo, MeasuresTo, Mends, MendsAtEach, MendsMedium, PartlyMended, PerformedOn, PerformsOn, Remeasures, RepairsMedium, StageNearer, StaysAt, asked_count, asks_for, effects_for, effects_of_task, else_followed, failure_of, followed, has_right, looks_for_chunks, mending, mending_effects, mending_end, mending_rest, pads, rejected_for, stage_place, steps_left, tagged}
 unfoldable pub use Rattle.hound_repair.specs.{are_at_most, are_chunks, chunk_content, data_held, ends_with_id3, ends_with_pad, has_known_tag, is_followed, uncounted, repair_fault, size_fault}
-pub use Rattle.hound_repair.specs.declared.bytes.Unrepaired.{Unrepaired}
 pub use Rattle.hound_repair.specs.declared.look.Damage.{Damage}
 pub use Rattle.hound_repair.specs.declared.sizes.Repair.{Repair}
-pub use Rattle.hound_repair.specs.declared.sizes.RepairState.{RepairState}
 pub use Rattle.hound.specs.Sessions.{AnswersAll, AnswersCall, AnswersSession, AnswersStep, IsReturned, RunsFrom, RunsOn, RunsOnce, RunsUntil, StopsAt, StopsEarly, all_steps, writer_after}
 pub use Rattle.hound.specs.Headline.{BeginInOrder, CanonicalAtEnd, CountedAfterLoss, CountedAtEach, FlushedByFlushes, FrontAtEach, FrontInWrites, HasPublished, HasWholeLength, HeadAtEach, Holds, HoldsAtEnd, IfBegun, IsLeftAfter, IsUncut, Keeps, Kept, KeptAfterLoss, KeptWithin, LastsToEnd, LeftWithin, LosesNothing, MixedInPatches, NeverLess, NoFault, OldOrNewInPatches, Promises, PublishedByFlushes, SaidByFlushes, SaysFrames, StoredAtEach, SurvivesAtEnd, accepted, accepted_as_seen, accepted_by_all, accepted_of, begins_at, contents_at, seen}
 pub use Rattle.hound.specs.Run.{BeginsAs, EndsAs, IsNotBegunAs, IsSession, Ran, Takes, accepted_by, accepted_by_steps, asked_by, batch_containers, begun_spec, containers_of, end_call, file_of, is_int, is_sixteen}

@@ -84,7 +84,7 @@ pub use hound_reader::{
     written_is_read,
 };
 pub use hound_repair::{
-    Damage, Repair, RepairState, a_look_finds_what_a_repair_does, a_repair_keeps_stored_samples,
+    Damage, Repair, a_look_finds_what_a_repair_does, a_repair_keeps_stored_samples,
     a_second_repair_writes_nothing, a_stopped_repair_is_done_again, effects_mend, find_damage,
     find_damage_in_file, repair, repair_file, repair_file_to_end, repair_to_end,
 };
@@ -97,7 +97,7 @@ pub use hound_spec::{
 };
 pub use hound_walk::{one_answer, read_wave_header, written_is_head};
 pub use hound_writer::{
-    Action, Effect, FileState, FoundFile, Recorder, RecorderError, Report, SampleWriter16,
+    Action, Effect, FoundFile, Recorder, RecorderError, RepairState, Report, SampleWriter16,
     WavWriter, a_block_is_its_samples, a_cut_is_ignored, a_recorder_directs,
     an_effect_may_be_repeated, one_append_answer,
 };

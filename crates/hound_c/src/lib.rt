@@ -19,7 +19,7 @@ ghost use Rattle.hound_slices.specs.{AppendsInPlace, BeginsRepairer, CountsWhole
 ghost use Rattle.hound_slices.specs.declared.error.CallError.{CallError as AnyError};
 ghost use Rattle.hound_slices.specs.declared.error.CallError.TheVariants.{Head};
 
-use hound_repair::Rest;
+use hound_repair::Task;
 use hound_sample::FloatBits;
 use hound_slices::{
     CallError, HoundInfo, HoundRecorder, HoundRepair, HoundRepairer, HoundSpec, HoundWalk,
@@ -192,7 +192,7 @@ pub extern "C" fn hound_find_damage(file: &[u8], found: &mut HoundRepair) -> i32
 pub extern "C" fn hound_repair(file: &mut [u8], used: usize, found: &mut HoundRepair) -> i64
     ensures { Returns result (RepairsFile true used file.old file.new found.old found.new) }
 {
-    code_of(repair_file(file, used, Rest::MayBeChunks, found))
+    code_of(repair_file(file, used, Task::Repair, found))
 }
 
 /// The same where all that follows the header of the data is samples, whatever it looks like.
@@ -200,7 +200,7 @@ pub extern "C" fn hound_repair(file: &mut [u8], used: usize, found: &mut HoundRe
 pub extern "C" fn hound_repair_to_end(file: &mut [u8], used: usize, found: &mut HoundRepair) -> i64
     ensures { Returns result (RepairsFile false used file.old file.new found.old found.new) }
 {
-    code_of(repair_file(file, used, Rest::IsSamples, found))
+    code_of(repair_file(file, used, Task::RepairToEnd, found))
 }
 
 /// Begins to look at a file of so many bytes, or to repair it, which the caller reads and writes.

@@ -1,5 +1,5 @@
 // The recorders of `hound_callers`, each run once.
-use hound::{Durable, FileState, FoundFile, Journal, Step, Tape, WavReader, WavSpecEx, WavWriter};
+use hound::{Durable, RepairState, FoundFile, Journal, Step, Tape, WavReader, WavSpecEx, WavWriter};
 use hound_callers::{
     Twelve, append_blocks, append_by_effects, continue_by_effects, finish, finish_durable,
     opened_meanwhile, pack_one, publish_and_continue, publish_durably, record_at_once,
@@ -211,7 +211,7 @@ fn mends(alloc: Global, blocks: &[&[u8]], lost: &[bool]) -> hound::Result<bool> 
         data_length: 0,
         length: 53,
         frames: 4,
-        state: FileState::CutOff,
+        state: RepairState::CutOff,
     };
     let mut journal = Journal::new(alloc, CUT_OFF.to_vec(alloc)?)?;
     let count = continue_by_effects(&mut journal, found, blocks, lost);

@@ -5,7 +5,7 @@ use Rattle.std.proofs.Math.Nat.{div-add-mod', le-mul_of_pos_right, mul-mod_left}
 use Rattle.std.specs.Prelude.{if◌then◌else◌, nat_lt}
 use Rattle.hound.specs.{AppendsRecorder, ContinuesAfter, Error, FoundFile, Readable, Recorder, RecorderError, Resumes, ResumesAfter, WavSpecEx, ends_whole, found_frame, greatest_u32, kept_as, padded}
 use Rattle.hound.specs.declared.Error.TheVariants.{Unsupported}
-use Rattle.hound.specs.declared.FileState.TheVariants.{HasChunksAfterData as Followed}
+use Rattle.hound.specs.declared.RepairState.TheVariants.{HasChunksAfterData as Followed}
 use Rattle.hound.specs.declared.RecorderError.TheVariants.{NotWritable, UnfinishedFrame, TooLong, Truncated, CutOff, HasChunksAfterData, NeedsCheckpoint, SyncFailed}
 use Rattle.hound.proofs.Recorders.{readable_frames}
 use Rattle.hound_callers.specs.Recorder.{IsErrorOf, IsNotResumed}

@@ -7,7 +7,7 @@ ghost use Rattle.hound_callers.specs.Recorder.{Continues, IsFound, IsNotContinue
 ghost use Rattle.hound_callers.specs.Recording.{published_calls};
 
 use hound::{
-    Action, Effect, Error, FileState, FoundFile, Medium, Recorder, RecorderError, Report,
+    Action, Effect, Error, FoundFile, Medium, Recorder, RecorderError, RepairState, Report,
     WavReader, WavSpecEx, a_recorder_directs, a_recording_is_kept, an_effect_may_be_repeated,
     header_of, put_all,
 };
@@ -309,7 +309,7 @@ pub fn append_by_effects<M: Medium>(
         data_length,
         length: contents.len() as u64,
         frames: samples / spec_ex.spec.channels as u32,
-        state: FileState::HasChunksAfterData,
+        state: RepairState::HasChunksAfterData,
     };
     let mut resumed = match Recorder::resume(found, false, false) {
         Ok(resumed) => resumed,

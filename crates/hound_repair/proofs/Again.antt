@@ -14,8 +14,8 @@ use Rattle.hound_writer.specs.{field}
 use Rattle.hound_repair.specs.Held.{is_followed, are_right, data_held, ends_with_pad, frame_length, frames_held, held, mended, missing_pad, shown_length, uncounted}
 use Rattle.hound_repair.specs.Repairing.{HasRightSizes, IsFoundAt, LeavesFor, Repairs, found_length, state_of}
 use Rattle.hound_repair.specs.declared.sizes.Repair.{Repair}
-use Rattle.hound_repair.specs.declared.sizes.RepairState.{RepairState}
-use Rattle.hound_repair.specs.declared.sizes.RepairState.TheVariants.{Whole, CutOff, HasChunksAfterData}
+use Rattle.hound_writer.specs.declared.resuming.RepairState.{RepairState}
+use Rattle.hound_writer.specs.declared.resuming.RepairState.TheVariants.{Whole, CutOff, HasChunksAfterData}
 use Rattle.hound_repair.proofs.RightSizes.{frames_are, length_of, not_followed, same_sizes, sizes_of}
 
 -- the bytes held are all data, or all but the last, which is the pad byte

@@ -1,6 +1,6 @@
 -- What a repair by effects leaves of a medium.
 use Rattle.std.proofs.lemmas.Grind.{common_steps}
-use Rattle.std.proofs.Common.{◌≡◌, ℕ, ◌<◌, ◌^◌, Bool, IsTrue, true, length, inl, inr, Result, Ok, Err, refl, sym, ap, ◌∙◌, subst, arith}
+use Rattle.std.proofs.Common.{◌≡◌, ℕ, ◌<◌, ◌^◌, Bool, IsTrue, true, List, length, inl, inr, Result, Ok, Err, refl, sym, ap, ◌∙◌, subst, arith}
 use Rattle.std.specs.declared.io.Error.{Error as IoFault}
 use Rattle.hound_number.specs.{AreBytes}
 use Rattle.hound_spec.specs.declared.error.Error.{Error}
@@ -10,13 +10,13 @@ use Rattle.hound_writer.specs.{IsIoError, PutsNothing}
 use Rattle.hound_writer.proofs.Heads.{head_beyond, head_inside}
 use Rattle.hound_repair.specs.Damages.{FindsDamage, IsSoundDamage, repair_of}
 use Rattle.hound_repair.specs.Held.{held}
-use Rattle.hound_repair.specs.Repairing.{IsNotFound, Repairs}
-use Rattle.hound_repair.specs.Steps.{IsNotLookedAt, IsNotRepaired, Mends, MendsAtEach, PartlyMended, PerformedOn, Tells, effects_for, mending, mending_effects, rejected_for}
+use Rattle.hound_repair.specs.Repairing.{IsNotFound, IsRepairFault, Repairs}
+use Rattle.hound_repair.specs.Steps.{IsNotRepaired, IsRejectedFor, Mends, MendsAtEach, PartlyMended, PerformedOn, effects_for, mending, mending_effects, rejected_for}
 use Rattle.hound_repair.specs.declared.look.Damage.{Damage}
-use Rattle.hound_repair.specs.declared.sizes.RepairState.{RepairState}
-use Rattle.hound_repair.specs.declared.sizes.RepairState.TheVariants.{Whole, CutOff, HasChunksAfterData}
-use Rattle.hound_repair.specs.declared.steps.LookError.{LookError}
-use Rattle.hound_repair.specs.declared.steps.LookError.TheVariants.{Failed, Rejected}
+use Rattle.hound_writer.specs.declared.resuming.RepairState.{RepairState}
+use Rattle.hound_writer.specs.declared.resuming.RepairState.TheVariants.{Whole, CutOff, HasChunksAfterData}
+use Rattle.hound_repair.specs.declared.steps.Rejection.{Rejection}
+use Rattle.hound_repair.specs.declared.steps.Rejection.TheVariants as rejections
 use Rattle.hound_repair.proofs.Mending.{length_is, put_ok, repairs_kept}
 use Rattle.hound_repair.proofs.Performing.{allowed, faults_of, mends, spans}
 use Rattle.hound_repair.proofs.RightSizes.{length_fits}
@@ -24,32 +24,21 @@ use Rattle.hound_repair.proofs.RightSizes.{length_fits}
 is_true : {b : Bool} → IsTrue b → b ≡ true
 is_true {b = b} kept = grind (arith, common_steps)
 
--- a file that isn't looked at
-pub not_by : (looks : Bool) (error : LookError) (outcome : Error) (old new : MediumState)
-    → IsNotLookedAt error old new → Tells error outcome → IsNotRepaired looks old new outcome
-not_by looks (Failed e) outcome old new finds tells = record {
-  why = inr (subst IsIoError (sym tells) tt, inl finds.puts, finds.faults);
-}
-not_by looks (Rejected why) outcome old new finds tells = record {
-  why = inl (rejected_for why, finds.1, tells, finds.0.puts, finds.0.faults);
-}
+-- the fault of the bytes
+pub fault_of : (why : Rejection) (bytes : List ℕ) → IsRejectedFor bytes why → IsRepairFault bytes (rejected_for why)
+fault_of (rejections.Head cause) bytes is = inl (cause, refl, is)
+fault_of rejections.Unsupported bytes is = inr is
+fault_of rejections.TooLong bytes is = inr is
 
--- nor found
-pub not_found_by : (error : LookError) (outcome : Error) (old new : MediumState)
-    → IsNotLookedAt error old new → Tells error outcome → IsNotFound old new outcome
-not_found_by (Failed e) outcome old new finds tells = record {
-  puts = finds.puts;
-  why = inr (subst IsIoError (sym tells) tt, finds.faults);
+-- where nothing is found nothing is repaired
+pub not_by : (looks : Bool) (outcome : Error) (old new : MediumState)
+    → IsNotFound old new outcome → IsNotRepaired looks old new outcome
+not_by looks outcome old new not = record {
+  why = elim not.why [
+    | inl bytes ↦ inl (bytes.0, bytes.1, bytes.2, not.puts, bytes.3)
+    | inr failed ↦ inr (failed.0, inl not.puts, failed.1)
+  ];
 }
-not_found_by (Rejected why) outcome old new finds tells = record {
-  puts = finds.0.puts;
-  why = inl (rejected_for why, finds.1, tells, finds.0.faults);
-}
-
-pub not_by_moments : (looks : Bool) (error : LookError) (old new : MediumState)
-    → IsNotLookedAt error old new → MendsAtEach looks old new
-not_by_moments looks (Failed e) old new finds = inl finds.puts.stays.past
-not_by_moments looks (Rejected why) old new finds = inl finds.0.puts.stays.past
 
 module _ (looks keeps : Bool) (old mid new : MediumState) (d : Damage) (sound : IsSoundDamage d)
     (finds : FindsDamage looks old d mid) (small : AreBytes mid.contents) where

@@ -13,7 +13,7 @@ use Rattle.hound_repair.specs.Held.{mended, missing_pad}
 use Rattle.hound_repair.specs.Repairing.{Repairs}
 use Rattle.hound_repair.specs.declared.look.Damage.{Damage}
 use Rattle.hound_repair.specs.declared.sizes.Repair.{Repair}
-use Rattle.hound_repair.specs.declared.sizes.RepairState.TheVariants.{CutOff}
+use Rattle.hound_writer.specs.declared.resuming.RepairState.TheVariants.{CutOff}
 use Rattle.hound_repair.proofs.Mending.{length_is, mended_by, repairs_cut}
 
 -- two sizes that were stored in place

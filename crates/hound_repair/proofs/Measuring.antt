@@ -13,8 +13,6 @@ use Rattle.hound_walk.proofs.Unique.{head_no_fault, heads_agree}
 use Rattle.hound_writer.specs.{AppendFault, by_bytes, FailsCheck, NamesFault, too_long}
 use Rattle.hound_repair.specs.Held.{data_held, ends_with_pad, held, shown_length}
 use Rattle.hound_repair.specs.Repairing.{IsRepairFault, repair_fault, size_fault}
-use Rattle.hound_repair.specs.Damages.{IsUnmeasured}
-use Rattle.hound_repair.specs.Steps.{rejected_for, unrepaired_for}
 use Rattle.hound_repair.specs.declared.steps.Rejection.{Rejection}
 use Rattle.hound_repair.specs.declared.steps.Rejection.TheVariants as rejections
 
@@ -36,41 +34,3 @@ pub not_written : (s : WavSpecEx) (len start n : ℕ)
     → repair_fault s len start n ≡ Some (by_bytes Unsupported)
 unfolding repair_fault
 not_written s len start n pair = rw pair
-
--- the fault that a check answers
-pub fails_for : (T : Type 0) (e : Error) (o : Option AppendFault) → FailsCheck {T = T} (Err e) o
-    → (fault : AppendFault) × (o ≡ Some fault) × NamesFault e fault
-fails_for T e o fails = grind (arith, common_steps)
-
--- a head that is there and isn't repaired fails a check
-unfit : (head : FileHead) (file : List ℕ) (fault : AppendFault)
-    → Head file head.spec_ex head.data_length head.data_start → IsRepairFault file fault
-    → repair_fault head.spec_ex (shown_length head.data_start head.data_length file) head.data_start
-    (held head.data_start file) ≡ Some fault
-unfit head file fault is (inl (cause, same, rejected)) =
-    absurd (head_no_fault file head.spec_ex head.data_length head.data_start cause is rejected)
-unfit head file fault is (inr (s, len, start, other, some)) =
-    let agree = heads_agree file s head.spec_ex len head.data_length start head.data_start other is in
-    (λ i. repair_fault (sym agree.0 i) (shown_length (sym agree.2 i) (sym agree.1 i) file) (sym agree.2 i) (held (sym agree.2 i) file))
-    ∙ some
-
--- by its samples, if its bytes decide it
-by_samples : (s : WavSpecEx) (len start n : ℕ) (cause : Cause)
-    → repair_fault s len start n ≡ Some (by_bytes cause)
-    → repair_fault s len start n ≡ Some (by_bytes Unsupported)
-unfolding repair_fault size_fault
-by_samples s len start n cause is = grind (arith, common_steps)
-
--- so its fault is one of two
-pub unmeasured : (head : FileHead) (file : List ℕ) (why : Rejection)
-    → Head file head.spec_ex head.data_length head.data_start → IsRepairFault file (rejected_for why)
-    → IsUnmeasured head file (unrepaired_for why)
-unmeasured head file rejections.TooLong is fault = (too_long, refl, unfit head file too_long is fault)
-unmeasured head file rejections.Unsupported is fault =
-    (by_bytes Unsupported, refl, unfit head file (by_bytes Unsupported) is fault)
-unmeasured head file (rejections.Head cause) is fault = (
-  by_bytes Unsupported,
-  refl,
-  by_samples head.spec_ex (shown_length head.data_start head.data_length file) head.data_start
-      (held head.data_start file) cause (unfit head file (by_bytes cause) is fault),
-)

@@ -10,7 +10,7 @@ use Rattle.hound_repair.specs.Held.{held, mended, missing_pad}
 use Rattle.hound_repair.specs.Repairing.{IsFoundAt, Repairs, found_length}
 use Rattle.hound_repair.specs.declared.look.Damage.{Damage}
 use Rattle.hound_repair.specs.declared.sizes.Repair.{Repair}
-use Rattle.hound_repair.specs.declared.sizes.RepairState.TheVariants.{CutOff}
+use Rattle.hound_writer.specs.declared.resuming.RepairState.TheVariants.{CutOff}
 use Rattle.hound_repair.proofs.RightSizes.{right_sizes_put, right_sizes_there}
 
 -- the sizes and the missing bytes are what mends a file

@@ -15,8 +15,8 @@ use Rattle.hound_writer.proofs.Sizes.{same_length, same_riff, same_transitive}
 use Rattle.hound_repair.specs.Held.{frame_length, frames_held, held, mended, missing_pad, right_length, shown_length}
 use Rattle.hound_repair.specs.Repairing.{HasRightSizes, IsFoundAt, UnlessFollowed, found_length, frames_found, repair_fault, size_fault, state_of}
 use Rattle.hound_repair.specs.declared.sizes.Repair.{Repair}
-use Rattle.hound_repair.specs.declared.sizes.RepairState.{RepairState}
-use Rattle.hound_repair.specs.declared.sizes.RepairState.TheVariants.{HasChunksAfterData}
+use Rattle.hound_writer.specs.declared.resuming.RepairState.{RepairState}
+use Rattle.hound_writer.specs.declared.resuming.RepairState.TheVariants.{HasChunksAfterData}
 
 -- two sizes that were put change nothing else
 pub same_sizes : (p riff n : ℕ) (c : List ℕ) → 8 ≤ p → p + 4 ≤ length c

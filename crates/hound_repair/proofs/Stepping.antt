@@ -1,9 +1,10 @@
 -- A look at a file, one part after the other.
 use Rattle.std.proofs.lemmas.Grind.{common_steps}
-use Rattle.std.proofs.Common.{◌≡◌, ℕ, ◌+◌, ◌-◌, ◌≤◌, ◌<◌, Bool, true, false, ◌&&◌, ◌||◌, nat_lt, List, [], ◌++◌, length, drop, take, inl, inr, min, ◌^◌, Some, None, Err, refl, sym, ap, ◌∙◌, arith, length-drop, length-take}
+use Rattle.std.proofs.Common.{◌≡◌, ℕ, ◌+◌, ◌-◌, ◌≤◌, ◌<◌, Bool, true, false, ◌&&◌, ◌||◌, nat_lt, List, [], ◌++◌, length, drop, take, inl, inr, min, ◌^◌, Some, None, Result, Ok, Err, refl, sym, ap, ◌∙◌, arith, length-drop, length-take}
 use Rattle.std.proofs.lemmas.Bool.{cases_lt}
 use Rattle.std.proofs.lemmas.List.{take-append-le, take-take, take_all, drop-drop}
-use Rattle.std.specs.Prelude.{bytes_eq, codes, slice_index, if◌then◌else◌}
+use Rattle.std.specs.Result.{is_ok, result_unwrap_or}
+use Rattle.std.specs.Prelude.{MatchResult, bytes_eq, codes, slice_index, if◌then◌else◌}
 use Rattle.hound_spec.specs.declared.error.Error.{Error}
 use Rattle.hound_spec.specs.declared.spec.WavSpecEx.{WavSpecEx}
 use Rattle.std.proofs.lemmas.Bool.Decides.{nat_tests}
@@ -16,14 +17,20 @@ use Rattle.hound_repair.specs.declared.look.SeenHead.{SeenHead}
 use Rattle.hound_repair.specs.Held.{are_chunks, begins_chunk, chunk_content, ends_with_id3, has_known_tag, held, is_followed, right_length, shown_length, uncounted}
 use Rattle.hound_repair.specs.Repairing.{repair_fault, size_fault, state_of}
 use Rattle.hound_repair.specs.Steps.{IsAtChunk, IsFoundAs, IsLengthOf, IsMeasured, IsNotWhole, IsShown, else_followed, followed, has_right, steps_left, tagged}
-use Rattle.hound_repair.specs.declared.sizes.RepairState.TheVariants.{CutOff, HasChunksAfterData}
+use Rattle.hound_writer.specs.declared.resuming.RepairState.TheVariants.{CutOff, HasChunksAfterData}
 use Rattle.hound_repair.specs.declared.look.Damage.{Damage}
 use Rattle.hound_repair.specs.declared.steps.Stage.TheVariants as stages
 use Rattle.hound_repair.specs.Damages.{IsSoundDamage, shown_of}
 use Rattle.hound_writer.specs.{AppendFault, FailsCheck, field, too_long}
 use Rattle.hound_writer.proofs.Heads.{head_inside}
-use Rattle.hound_repair.proofs.Measuring.{fails_for, written}
+use Rattle.hound_repair.proofs.Measuring.{written}
 use Rattle.hound_repair.proofs.Chunking.{chunk_then, known_chunk, no_chunk, none_left, tag_is}
+
+-- a value was one before its error was mapped
+pub mapped_ok : {T E : Type 0} (D : Type 0) (P : E → Type 0) (self : Result T E) (x : T)
+    → true ≡ is_ok self → MatchResult self (λ y. ◌≡◌ {A = Result T D} (Ok x) (Ok y)) P → self ≡ Ok x
+mapped_ok D P (Ok y) x same cases = ap Ok (ap (λ m. result_unwrap_or m y) (sym cases))
+mapped_ok D P (Err e) x same cases = absurd (cc same)
 
 -- how a file is found whose sizes aren't right, by whether something follows its data
 pub known_by : (looks : Bool) (file : List ℕ) (head : SeenHead) (b : Bool)
@@ -194,20 +201,13 @@ pub nearer_chunk : (n place content : ℕ) (head : SeenHead) (wide : Bool) → p
 nearer_chunk n place content head true before = omega (arith, before)
 nearer_chunk n place content head false before = omega (arith, before)
 
--- the only fault of sizes
-only_too_long : (s : WavSpecEx) (len start n : ℕ) (fault : AppendFault)
-    → size_fault s len start n ≡ Some fault → size_fault s len start n ≡ Some too_long
-unfolding size_fault
-only_too_long s len start n fault is = grind (arith, common_steps)
-
-pub sizes_rejected : (T : Type 0) (e : Error) (s : WavSpecEx) (counted len start n m : ℕ)
-    → FailsCheck {T = T} (Err e) (size_fault s counted start m)
+-- sizes that are rejected by what is counted of a file are rejected by what it holds
+pub sizes_rejected : (s : WavSpecEx) (counted len start n m : ℕ)
+    → size_fault s counted start m ≡ Some too_long
     → size_fault s counted start m ≡ size_fault s len start n
     → is_pair s.spec.sample_format s.spec.bits_per_sample s.bytes_per_sample ≡ true
     → repair_fault s len start n ≡ Some too_long
-sizes_rejected T e s counted len start n m fails same pair =
-    let check = fails_for T e (size_fault s counted start m) fails in
-    written s len start n pair ∙ sym same ∙ only_too_long s counted start m check.0 check.1
+sizes_rejected s counted len start n m fails same pair = written s len start n pair ∙ sym same ∙ fails
 
 -- sizes that aren't right, where chunks are looked for
 pub not_whole : (looks : Bool) (file : List ℕ) (d : Damage) → IsSoundDamage d → IsMeasured file d

@@ -14,7 +14,7 @@ use Rattle.hound_repair.specs.Held.{data_held, frame_length, frames_held, held, 
 use Rattle.hound_repair.specs.Repairing.{IsFoundAt, Repairs, found_length, repair_fault, size_fault}
 use Rattle.hound_repair.specs.Steps.{PartlyMended}
 use Rattle.hound_repair.specs.declared.sizes.Repair.{Repair}
-use Rattle.hound_repair.specs.declared.sizes.RepairState.TheVariants.{HasChunksAfterData}
+use Rattle.hound_writer.specs.declared.resuming.RepairState.TheVariants.{HasChunksAfterData}
 use Rattle.hound_repair.proofs.Again.{frames_padded}
 use Rattle.hound_repair.proofs.Resuming.{frames_shown}
 use Rattle.hound_repair.proofs.RightSizes.{field_before, frames_are, length_of, not_followed}

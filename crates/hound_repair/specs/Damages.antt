@@ -2,35 +2,15 @@
 use Rattle.std.specs.Prelude.{◌≡◌, ℕ, ◌+◌, ◌≤◌, ◌^◌, Bool, false, [], ◌∷◌, length, take, Some, true, List, drop, Option, None, if◌then◌else◌}
 use Rattle.hound_spec.specs.{riff_size}
 use Rattle.hound_medium.specs.{MediumState, unknown}
-use Rattle.hound_walk.specs.declared.chunks.FileHead.{FileHead}
 use Rattle.hound_walk.specs.{IsDataPlace, IsSoundSpec}
 use Rattle.hound_writer.specs.{AppendFault, PutsNothing, by_bytes, too_long}
 use Rattle.hound_repair.specs.Held.{frames_held, held, right_length, shown_length, torn_bytes, missing_pad}
 use Rattle.hound_repair.specs.Repairing.{IsFoundAt, frames_found, repair_fault, torn_found, Repairs, found_length}
 use Rattle.hound_repair.specs.declared.look.Damage.{Damage}
 use Rattle.hound_repair.specs.declared.look.SeenHead.{SeenHead}
-use Rattle.hound_repair.specs.declared.look.Rest.{Rest}
-use Rattle.hound_repair.specs.declared.look.Rest.TheVariants.{MayBeChunks, IsSamples}
 use Rattle.hound_repair.specs.declared.sizes.Repair.{Repair}
 use Rattle.hound_repair.specs.declared.sizes.Sizes.{Sizes}
-use Rattle.hound_walk.specs.declared.cause.Cause.TheVariants.{Unsupported}
-use Rattle.hound_repair.specs.declared.bytes.Unrepaired.{Unrepaired}
-use Rattle.hound_repair.specs.declared.bytes.Unrepaired.TheVariants.{NoRoom, TooLong, Unsupported as UnsupportedSamples}
-use Rattle.hound_repair.specs.declared.sizes.RepairState.TheVariants.{CutOff}
-
--- whether chunks after the data are looked for, by what follows them
-abbrev pub may_be_chunks : Rest → Bool
-may_be_chunks MayBeChunks = true
-may_be_chunks IsSamples = false
-
--- a head, and whether a single byte after its data is a sample
-abbrev pub seen_head : FileHead → Bool → SeenHead
-seen_head head more = record {
-  spec_ex = head.spec_ex;
-  data_length = head.data_length;
-  data_start = head.data_start;
-  has_more = more;
-}
+use Rattle.hound_writer.specs.declared.resuming.RepairState.TheVariants.{CutOff}
 
 -- the data length that a file with this head shows
 abbrev pub shown_of : SeenHead → ℕ
@@ -83,18 +63,6 @@ pub record RepairsBytes (looks : Bool) (used n : ℕ) (found : Repair) (old new 
     pub repairs : Repairs looks (as_medium (take used old)) found (as_medium (take n new))
     pub rest : drop n new ≡ drop n old
 
--- the fault of the bytes that keeps them from being repaired
-abbrev pub bytes_fault : Unrepaired → Option AppendFault
-bytes_fault UnsupportedSamples = Some (by_bytes Unsupported)
-bytes_fault TooLong = Some too_long
-bytes_fault NoRoom = None
-
--- why a file of these bytes with this head isn't looked at
-abbrev pub IsUnmeasured : FileHead → List ℕ → Unrepaired → Type 0
-IsUnmeasured head bytes why = (fault : AppendFault) × (bytes_fault why ≡ Some fault)
-    × (repair_fault head.spec_ex (shown_length head.data_start head.data_length bytes) head.data_start
-    (held head.data_start bytes) ≡ Some fault)
-
 -- a pad byte is missing from a file that was cut off and takes all of the memory
 pub record LacksRoom (looks : Bool) (used : ℕ) (bytes : List ℕ) : Type 0 where
   pub found : Repair
@@ -104,10 +72,3 @@ pub record LacksRoom (looks : Bool) (used : ℕ) (bytes : List ℕ) : Type 0 whe
   pub state : found.state ≡ CutOff
   pub pad : missing_pad (found_length found) (held start (take used bytes)) ≡ 0 ∷ []
   pub full : length bytes ≤ used
-
--- why a file with this head in the first bytes isn't repaired
-abbrev pub IsUnrepaired : Bool → FileHead → ℕ → List ℕ → Unrepaired → Type 0
-IsUnrepaired looks head used bytes NoRoom = LacksRoom looks used bytes
-IsUnrepaired looks head used bytes why =
-    repair_fault head.spec_ex (shown_length head.data_start head.data_length (take used bytes))
-    head.data_start (held head.data_start (take used bytes)) ≡ bytes_fault why

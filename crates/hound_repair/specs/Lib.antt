@@ -3,8 +3,8 @@ pub use Rattle.hound_repair.specs.Held.{are_right, begins_chunk, broadcast_tags,
 unfoldable pub use Rattle.hound_repair.specs.Held.{are_at_most, are_chunks, chunk_content, data_held, ends_with_id3, ends_with_pad, has_known_tag, is_followed, uncounted}
 pub use Rattle.hound_repair.specs.Repairing.{Finds, HasRightSizes, HasUnfitHead, IsFoundAt, IsNoPad, IsNotFound, IsRepairFault, LeavesFor, Looks, ReadsFrames, Repairs, UnlessFollowed, found_length, frames_found, state_of, torn_found, whole_frames}
 unfoldable pub use Rattle.hound_repair.specs.Repairing.{repair_fault, size_fault}
-pub use Rattle.hound_repair.specs.Damages.{AreRightSizes, FindsDamage, IsSame, IsSoundDamage, IsUnmeasured, IsUnrepaired, LacksRoom, RepairsBytes, as_medium, bytes_fault, may_be_chunks, repair_of, seen_head, shown_of}
-pub use Rattle.hound_repair.specs.Steps.{AsksAfter, AsksEffect, AsksMore, AsksNext, AsksOfLook, AsksPart, IsAsked, IsAtChunk, IsAtEnd, IsAtStage, IsFoundAs, IsLengthOf, IsLookedAt, IsMeasured, IsNotLookedAt, IsNotRepaired, IsNotWhole, IsShown, IsSoundHead, IsSoundLook, IsSoundRepairStep, IsSoundRepairing, IsSoundStage, LeavesPartly, LooksTo, MeasuresTo, Mends, MendsAtEach, MendsMedium, PartlyMended, PerformedOn, PerformsOn, Remeasures, RepairsMedium, StageNearer, StaysAt, Tells, asked_count, asked_place, asks_for, effects_for, effects_of_task, else_followed, failure_of, followed, has_right, looks_for_chunks, mending, mending_effects, mending_end, mending_rest, pads, rejected_for, stage_place, steps_left, tagged, unrepaired_for}
+pub use Rattle.hound_repair.specs.Damages.{AreRightSizes, FindsDamage, IsSame, IsSoundDamage, LacksRoom, RepairsBytes, as_medium, repair_of, shown_of}
+pub use Rattle.hound_repair.specs.Steps.{AsksAfter, AsksEffect, AsksMore, AsksNext, AsksOfLook, AsksPart, IsAsked, IsAtChunk, IsAtEnd, IsAtStage, IsFoundAs, IsLengthOf, IsLookedAt, IsMeasured, IsNotRepaired, IsNotWhole, IsRejectedFor, IsShown, IsSoundHead, IsSoundLook, IsSoundRepairStep, IsSoundRepairing, IsSoundStage, LeavesPartly, LooksTo, MeasuresTo, Mends, MendsAtEach, MendsMedium, PartlyMended, PerformedOn, PerformsOn, Remeasures, RepairsMedium, StageNearer, StaysAt, asked_count, asks_for, effects_for, effects_of_task, else_followed, failure_of, followed, has_right, looks_for_chunks, mending, mending_effects, mending_end, mending_rest, pads, rejected_for, stage_place, steps_left, tagged}
 pub mod Held
 pub mod Repairing
 pub mod Damages

@@ -11,8 +11,8 @@ use Rattle.hound_walk.specs.{Head, Readable, Rejected}
 use Rattle.hound_writer.specs.{IsIoError, AppendFault, by_bytes, too_long, NamesFault, PutsNothing, field}
 use Rattle.hound_repair.specs.Held.{is_followed, are_right, frame_length, frames_held, held, mended, right_length, shown_length, torn_bytes}
 use Rattle.hound_repair.specs.declared.sizes.Repair.{Repair}
-use Rattle.hound_repair.specs.declared.sizes.RepairState.{RepairState}
-use Rattle.hound_repair.specs.declared.sizes.RepairState.TheVariants.{Whole, CutOff, HasChunksAfterData}
+use Rattle.hound_writer.specs.declared.resuming.RepairState.{RepairState}
+use Rattle.hound_writer.specs.declared.resuming.RepairState.TheVariants.{Whole, CutOff, HasChunksAfterData}
 
 -- the fault of a head that holds so many bytes, of samples that are written: the RIFF size of its
 -- whole frames doesn't fit

@@ -1,6 +1,7 @@
 -- A repair whose caller reads and writes the file.
 use Rattle.std.specs.Prelude.{◌≡◌, ℕ, ◌^◌, min, ◌+◌, ◌-◌, ◌≤◌, ◌<◌, ◌⊎◌, ⊤, MatchResult, Bool, true, false, ◌||◌, ◌&&◌, List, [], ◌∷◌, ◌++◌, length, take, drop, Result, Ok, Err, Option, None, Some}
 use Rattle.hound_spec.specs.{greatest_u32, riff_size}
+use Rattle.hound_walk.specs.{Rejected as HasNoHead}
 use Rattle.hound_walk.specs.{Head, IsAt, IsDataPlace, IsSoundOption, IsSoundSpec, part_length, part_start, parts_left}
 use Rattle.hound_walk.specs.declared.cause.Cause.TheVariants as causes
 use Rattle.hound_repair.specs.declared.look.SeenHead.{SeenHead}
@@ -12,23 +13,17 @@ use Rattle.hound_writer.specs.declared.effects.Effect.{Effect}
 use Rattle.hound_writer.specs.declared.effects.Effect.TheVariants.{Sync, Pad, Size}
 use Rattle.hound_repair.specs.Damages.{IsSoundDamage, repair_of, shown_of}
 use Rattle.hound_repair.specs.Held.{are_chunks, are_right, begins_chunk, ends_with_id3, held, is_followed, mended, missing_pad, shown_length}
-use Rattle.hound_repair.specs.Repairing.{IsFoundAt, IsRepairFault, Looks, Repairs, found_length, repair_fault, state_of}
+use Rattle.hound_repair.specs.Repairing.{HasUnfitHead, IsFoundAt, IsRepairFault, Looks, Repairs, found_length, repair_fault, state_of}
 use Rattle.hound_repair.specs.declared.look.Damage.{Damage}
 use Rattle.hound_repair.specs.declared.sizes.Repair.{Repair}
-use Rattle.hound_repair.specs.declared.sizes.RepairState.{RepairState}
-use Rattle.hound_repair.specs.declared.sizes.RepairState.TheVariants.{CutOff}
+use Rattle.hound_writer.specs.declared.resuming.RepairState.{RepairState}
+use Rattle.hound_writer.specs.declared.resuming.RepairState.TheVariants.{CutOff}
 use Rattle.hound_repair.specs.declared.steps.Rejection.{Rejection}
 use Rattle.hound_repair.specs.declared.steps.Rejection.TheVariants as rejections
 use Rattle.hound_repair.specs.declared.steps.Stage.{Stage}
 use Rattle.hound_repair.specs.declared.steps.Stage.TheVariants as stages
-use Rattle.hound_repair.specs.declared.steps.Look.{Look}
 use Rattle.hound_spec.specs.declared.error.Error.{Error}
-use Rattle.hound_spec.specs.declared.error.Error.TheVariants.{IoError}
-use Rattle.hound_repair.specs.declared.steps.LookError.{LookError}
-use Rattle.hound_repair.specs.declared.steps.LookError.TheVariants.{Failed, Rejected}
 use Rattle.hound_writer.specs.{nth}
-use Rattle.hound_repair.specs.declared.bytes.Unrepaired.{Unrepaired}
-use Rattle.hound_repair.specs.declared.bytes.Unrepaired.TheVariants as unrepaired
 use Rattle.hound_writer.specs.declared.effects.Action.{Action}
 use Rattle.hound_writer.specs.declared.effects.Action.TheVariants.{Read, Perform}
 use Rattle.hound_writer.specs.declared.effects.Report.{Report}
@@ -54,9 +49,6 @@ stage_place (stages.Size head) length = 4
 stage_place (stages.Chunk head place padded) length = place
 stage_place (stages.Tag head) length = length - 128
 
-abbrev pub asked_place : Look → ℕ
-asked_place look = stage_place look.stage look.length
-
 abbrev pub asked_count : Stage → ℕ
 asked_count (stages.Head walk) = part_length walk.part
 asked_count (stages.Last head) = 1
@@ -65,12 +57,12 @@ asked_count (stages.Chunk head place padded) = 8
 asked_count (stages.Tag head) = 3
 
 -- what its caller does
-abbrev pub asks_for : Look → Action
-asks_for look = Read (asked_place look) (asked_count look.stage)
+abbrev pub asks_for : Stage → ℕ → Action
+asks_for stage n = Read (stage_place stage n) (asked_count stage)
 
--- the bytes of the file that a look asks for: fewer only at its end
-abbrev pub IsAsked : Look → List ℕ → List ℕ → Type 0
-IsAsked look file bytes = bytes ≡ take (asked_count look.stage) (drop (asked_place look) file)
+-- the bytes that a look at a file of so many asks for: fewer only at its end
+abbrev pub IsAsked : ℕ → Stage → List ℕ → List ℕ → Type 0
+IsAsked n stage file bytes = bytes ≡ take (asked_count stage) (drop (stage_place stage n) file)
 
 -- whether something follows the data of a file with this head
 abbrev pub followed : List ℕ → SeenHead → Bool
@@ -142,10 +134,16 @@ rejected_for (rejections.Head cause) = by_bytes cause
 rejected_for rejections.Unsupported = by_bytes causes.Unsupported
 rejected_for rejections.TooLong = too_long
 
+-- the bytes have that fault: they have no head for its cause, or one that fails a check
+abbrev pub IsRejectedFor : List ℕ → Rejection → Type 0
+IsRejectedFor bytes (rejections.Head cause) = HasNoHead bytes cause
+IsRejectedFor bytes rejections.Unsupported = HasUnfitHead bytes (by_bytes causes.Unsupported)
+IsRejectedFor bytes rejections.TooLong = HasUnfitHead bytes too_long
+
 -- what is measured of a file with a head, or its fault
 abbrev pub MeasuresTo : List ℕ → Result Damage Rejection → Type 0
 MeasuresTo file (Ok d) = IsMeasured file d
-MeasuresTo file (Err why) = IsRepairFault file (rejected_for why)
+MeasuresTo file (Err why) = IsRejectedFor file why
 
 -- how a file with this head is found
 abbrev pub IsFoundAs : Bool → List ℕ → SeenHead → RepairState → Type 0
@@ -158,7 +156,7 @@ LooksTo looks file (Ok (Next stage)) = IsAtStage looks file stage
 LooksTo looks file (Ok (Found d)) =
     IsFoundAt looks file (repair_of d) d.head.data_length d.head.data_start
     × (d.held ≡ held d.head.data_start file) × IsShown file d.head
-LooksTo looks file (Err why) = IsRepairFault file (rejected_for why)
+LooksTo looks file (Err why) = IsRejectedFor file why
 
 -- over every file: specs and places are those of a header
 abbrev pub IsSoundHead : SeenHead → Type 0
@@ -166,7 +164,7 @@ IsSoundHead head = IsSoundSpec head.spec_ex × IsDataPlace head.data_start
 
 abbrev pub IsSoundStage : Stage → Type 0
 IsSoundStage (stages.Head walk) = IsSoundOption walk.found
-IsSoundStage (stages.Last head) = IsSoundSpec head.spec_ex × IsDataPlace head.data_start
+IsSoundStage (stages.Last head) = IsSoundHead head
 IsSoundStage (stages.Size head) = IsSoundHead head
 IsSoundStage (stages.Chunk head place padded) = IsSoundHead head
 IsSoundStage (stages.Tag head) = IsSoundHead head
@@ -255,17 +253,6 @@ pub record IsLookedAt (looks : Bool) (bytes : List ℕ) (d : Damage) : Type 0 wh
   pub held_is : d.held ≡ held d.head.data_start bytes
   pub cut : d.state ≡ CutOff
 
--- a file that isn't looked at, for a fault that its bytes have, or since a read failed
-abbrev pub IsNotLookedAt : LookError → MediumState → MediumState → Type 0
-IsNotLookedAt (Failed error) old new = Looks {T = Unit {0}} (Err error) old new
-IsNotLookedAt (Rejected why) old new = Looks {E = IoFault} (Ok (tt {0})) old new
-    × IsRepairFault old.contents (rejected_for why)
-
--- the error that callers get
-abbrev pub Tells : LookError → Error → Type 0
-Tells (Failed error) modelled = modelled ≡ IoError error
-Tells (Rejected why) modelled = NamesFault modelled (rejected_for why)
-
 -- what is left where the medium failed: all, or a file that is partly mended
 abbrev pub LeavesPartly : Bool → MediumState → MediumState → Type 0
 LeavesPartly looks old new = PutsNothing old new
@@ -308,10 +295,10 @@ IsSoundRepairing (Mends_now head number) = IsSoundHead head
 IsSoundRepairing (Found_now head state) = IsSoundHead head
 IsSoundRepairing (Failed_with failure) = ⊤
 
--- over every file: what is found has the spec of a header
+-- over every file: the sizes of what is found are right
 abbrev pub IsSoundRepairStep : RepairStep → Type 0
 IsSoundRepairStep (Asks action) = ⊤
-IsSoundRepairStep (Found_so found) = IsSoundSpec found.spec_ex
+IsSoundRepairStep (Found_so d) = IsSoundDamage d
 
 -- at a fault of the bytes a repair stays where it is, over every file
 abbrev pub StaysAt : Result RepairStep RepairError → Repairing → Repairing → Type 0
@@ -339,7 +326,7 @@ AsksEffect task d number (Asks action) new = (effect : Effect)
     × (nth (effects_of_task task d) number ≡ Some effect) × (action ≡ Perform effect)
     × (new ≡ Mends_now d.head number)
 AsksEffect task d number (Found_so found) new = (nth (effects_of_task task d) number ≡ None)
-    × (found ≡ repair_of d) × (new ≡ Found_now d.head d.state)
+    × (found ≡ d) × (new ≡ Found_now d.head d.state)
 
 -- where an effect leads whose number is given: to the next one once it is done, to itself before
 abbrev pub AsksAfter : Task → Damage → ℕ → Report → Option Effect → Repairing → Result RepairStep RepairError
@@ -362,26 +349,26 @@ AsksMore task d number report new result =
 abbrev pub AsksPart : Task → List ℕ → ℕ → Result RepairStep RepairError → Repairing → Repairing → Type 0
 AsksPart task file n (Ok ask) old new =
     ((stage : Stage) × IsAtStage (looks_for_chunks task) file stage × (new ≡ Looks_for stage)
-    × (ask ≡ Asks (Read (stage_place stage n) (asked_count stage))))
+    × (ask ≡ Asks (asks_for stage n)))
     ⊎ ((d : Damage) × AsksEffect task d 0 ask new
     × IsFoundAt (looks_for_chunks task) file (repair_of d) d.head.data_length d.head.data_start
     × (d.held ≡ held d.head.data_start file) × IsShown file d.head)
-AsksPart task file n (Err (rejected why)) old new = IsRepairFault file (rejected_for why) × (new ≡ old)
+AsksPart task file n (Err (rejected why)) old new = IsRejectedFor file why × (new ≡ old)
 AsksPart task file n (Err (failed failure)) old new = ⊥
 
 -- what is measured again of a file of which this was found, as it was looked at, and what then holds
 abbrev pub Remeasures : List ℕ → SeenHead → Result RepairStep RepairError → (Damage → Type 0) → Type 0
 Remeasures file head result P =
     ((d : Damage) × IsSoundDamage d × IsMeasured file d × (d.head ≡ head) × P d)
-    ⊎ ((why : Rejection) × (result ≡ Err (rejected why)) × IsRepairFault file (rejected_for why))
+    ⊎ ((why : Rejection) × (result ≡ Err (rejected why)) × IsRejectedFor file why)
 
 -- what comes of a part, by how its read has ended: what is pending is requested again
 abbrev pub AsksOfLook : Task → ℕ → List ℕ → Stage → Repairing → Result RepairStep RepairError → Report → Type 0
 AsksOfLook task n bytes stage new result Pending = (new ≡ Looks_for stage)
-    × (result ≡ Ok (Asks (Read (stage_place stage n) (asked_count stage))))
+    × (result ≡ Ok (Asks (asks_for stage n)))
 AsksOfLook task n bytes stage new result Done = (file : List ℕ) → IsLengthOf n file
     → IsAtStage (looks_for_chunks task) file stage
-    → bytes ≡ take (asked_count stage) (drop (stage_place stage n) file)
+    → IsAsked n stage file bytes
     → AsksPart task file n result (Looks_for stage) new
 AsksOfLook task n bytes stage new result NotDone =
     (result ≡ Err (failed CallFailed)) × (new ≡ Failed_with CallFailed)
@@ -398,11 +385,6 @@ AsksNext task n bytes report (Mends_now head number) new result = (file : List �
 AsksNext task n bytes report (Found_now head state) new result = (new ≡ Found_now head state)
     × ((file : List ℕ) → IsLengthOf n file
     → Head file head.spec_ex head.data_length head.data_start → IsShown file head
-    → Remeasures file head result (λ d. (result ≡ Ok (Found_so (repair_of (record d { state = state }))))))
+    → Remeasures file head result (λ d. result ≡ Ok (Found_so (record d { state = state }))))
 AsksNext task n bytes report (Failed_with failure) new result =
     (result ≡ Err (failed failure)) × (new ≡ Failed_with failure)
-
--- why a file in memory with a head isn't repaired
-abbrev pub unrepaired_for : Rejection → Unrepaired
-unrepaired_for rejections.TooLong = unrepaired.TooLong
-unrepaired_for _ = unrepaired.Unsupported

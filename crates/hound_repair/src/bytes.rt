@@ -1,30 +1,15 @@
 // Files in memory, repaired where they are.
-ghost use Rattle.std.specs.Prelude.{◌≡◌, ℕ, ◌+◌, ◌≤◌, IfOk, IfErr, length, take, true};
-ghost use Rattle.hound_walk.specs.{Head, IsDataPlace, IsSoundSpec};
+ghost use Rattle.std.specs.Prelude.{◌≡◌, ◌+◌, ◌≤◌, Bool, IfErr, IfOk, IfSome, None, length, take};
+ghost use Rattle.std.specs.Option.{IfNone};
 ghost use Rattle.hound_writer.specs.{with_sizes};
-ghost use Rattle.hound_repair.specs.Damages.{FindsDamage, IsSoundDamage, IsUnmeasured, IsUnrepaired, RepairsBytes, as_medium, may_be_chunks};
-ghost use Rattle.hound_repair.specs.Repairing.{IsFoundAt};
-ghost use Rattle.hound_repair.specs.Steps.{unrepaired_for};
+ghost use Rattle.hound_repair.specs.Damages.{FindsDamage, IsSoundDamage, LacksRoom, RepairsBytes, as_medium, repair_of};
+ghost use Rattle.hound_repair.specs.Steps.{IsRejectedFor, looks_for_chunks};
 
-use crate::look::{Damage, Rest};
-use crate::sizes::{Repair, RepairState};
-use crate::steps::{Look, LookStep, Rejection, after_head, take_asked};
+use crate::look::Damage;
+use crate::steps::{LookStep, Rejection, Stage, Task, take_asked};
 use hound_number::le_u32;
-use hound_walk::{FileHead, bytes_at};
-use std::result;
-
-/// Why a file in memory isn't repaired.
-#[derive(Clone, Copy, Debug, PartialEq, Eq)]
-pub enum Unrepaired {
-    /// Its samples are not written with these bits, bytes and format.
-    Unsupported,
-
-    /// The RIFF size of its frames would pass 4294967295.
-    TooLong,
-
-    /// The memory has no room for the pad byte that is missing.
-    NoRoom,
-}
+use hound_walk::bytes_at;
+use hound_writer::RepairState;
 
 /// Puts two sizes into a file in memory: the RIFF size, and the data length at a place.
 pub fn set_sizes(bytes: &mut [u8], place: usize, riff_size: u32, data_length: u32)
@@ -36,90 +21,48 @@ pub fn set_sizes(bytes: &mut [u8], place: usize, riff_size: u32, data_length: u3
     bytes[place..place + 4].copy_from_slice(&le_u32(data_length));
 }
 
-// Why a file with a head isn't repaired.
-fn unrepaired_for(why: Rejection) -> Unrepaired
-    ensures { result ≡ unrepaired_for why }
-{
-    match why {
-        Rejection::TooLong => Unrepaired::TooLong,
-        _ => Unrepaired::Unsupported,
-    }
-}
-
-// Looks at the file with this head that takes all of these bytes; `rest` says what follows its data.
-fn measure_bytes(bytes: &[u8], head: FileHead, rest: Rest) -> result::Result<Damage, Unrepaired>
-    requires sound { IsSoundSpec head.spec_ex }
-    requires start { IsDataPlace head.data_start }
-    requires head { Head bytes.now head.spec_ex head.data_length head.data_start }
+/// Looks at the file that takes all of these bytes, as [`find_damage`](crate::find_damage) does at one
+/// in a source; no chunks are looked for where the task is to repair it to its end.
+pub fn find_damage_in_bytes(bytes: &[u8], task: Task) -> Result<Damage, Rejection>
     ensures sound { IfOk result IsSoundDamage }
+    ensures inside { IfOk result (λ damage. damage.head.data_start + damage.held ≡ length bytes.now) }
     ensures finds { IfOk result (λ damage.
-        FindsDamage (may_be_chunks rest) (as_medium bytes.now) damage (as_medium bytes.now)) }
-    ensures fault { IfErr result (IsUnmeasured head bytes.now) }
+        FindsDamage (looks_for_chunks task) (as_medium bytes.now) damage (as_medium bytes.now)) }
+    ensures fault { IfErr result (IsRejectedFor bytes.now) }
 {
     let length = bytes.len() as u64;
-    let mut stage = after_head(length, head);
+    let mut stage = Stage::first();
     'parts: loop {
-        let look = Look {
-            length,
-            rest,
-            stage,
-        };
-        match take_asked(look, bytes_at(bytes, look.place(), look.count())) {
-            Ok(LookStep::Next(next)) => stage = next,
-            Ok(LookStep::Found(damage)) => return Ok(damage),
-            Err(why) => return Err(unrepaired_for(why)),
+        let part = bytes_at(bytes, stage.place(length), stage.count());
+        match take_asked(length, task, stage, part)? {
+            LookStep::Next(next) => stage = next,
+            LookStep::Found(damage) => return Ok(damage),
         }
     }
 }
 
-/// Looks at the file with this head that takes all of these bytes, as
-/// [`find_damage`](crate::find_damage) does at one in a source.
-pub fn find_damage_in_bytes(bytes: &[u8], head: FileHead) -> result::Result<Repair, Unrepaired>
-    requires sound { IsSoundSpec head.spec_ex }
-    requires start { IsDataPlace head.data_start }
-    requires head { Head bytes.now head.spec_ex head.data_length head.data_start }
-    ensures sound { IfOk result (λ found. IsSoundSpec found.spec_ex) }
-    ensures found { IfOk result (λ found. (len : ℕ) × (start : ℕ)
-        × IsFoundAt true bytes.now found len start) }
-    ensures fault { IfErr result (IsUnmeasured head bytes.now) }
-{
-    match measure_bytes(bytes, head, Rest::MayBeChunks) {
-        Ok(damage) => Ok(damage.repair()),
-        Err(why) => Err(why),
-    }
-}
-
-/// Repairs the file with this head that is in the first `used` bytes as [`repair`](crate::repair)
-/// does one in a medium, or [`repair_to_end`](crate::repair_to_end) where the rest is samples, and
-/// returns what was found and the new length of the file: one more where a pad byte was missing. At
-/// an error nothing is written.
-pub fn repair_bytes(
-    bytes: &mut [u8],
-    used: usize,
-    head: FileHead,
-    rest: Rest,
-) -> result::Result<(Repair, usize), Unrepaired>
+/// Repairs the file in the first `used` bytes, in which this was found, as [`repair`](crate::repair)
+/// does one in a medium, and returns its new length: one more where a pad byte was missing. If there
+/// is no room for that, nothing is written.
+pub fn repair_bytes(bytes: &mut [u8], used: usize, damage: Damage) -> Option<usize>
     requires used { used ≤ length bytes.old }
-    requires sound { IsSoundSpec head.spec_ex }
-    requires start { IsDataPlace head.data_start }
-    requires head { Head (take used bytes.old) head.spec_ex head.data_length head.data_start }
-    ensures sound { IfOk result (λ done. IsSoundSpec done.0.spec_ex) }
-    ensures repairs { IfOk result (λ done.
-        RepairsBytes (may_be_chunks rest) used done.1 done.0 bytes.old bytes.new) }
-    ensures within { IfOk result (λ done. done.1 ≤ length bytes.old) }
-    ensures kept { IfErr result (λ why. (bytes.new ≡ bytes.old)
-        × IsUnrepaired (may_be_chunks rest) head used bytes.old why) }
+    requires sound { IsSoundDamage damage }
+    requires inside { damage.head.data_start + damage.held ≡ used }
+    ensures repairs { (looks : Bool)
+        → FindsDamage looks (as_medium (take used bytes.old)) damage (as_medium (take used bytes.old))
+        → IfSome result (λ n. RepairsBytes looks used n (repair_of damage) bytes.old bytes.new) }
+    ensures within { IfSome result (λ n. n ≤ length bytes.old) }
+    ensures kept { IfNone result (bytes.new ≡ bytes.old) }
+    ensures lacks { (looks : Bool)
+        → FindsDamage looks (as_medium (take used bytes.old)) damage (as_medium (take used bytes.old))
+        → IfNone result (LacksRoom looks used bytes.old) }
 {
-    let damage = match measure_bytes(&bytes[..used], head, rest) {
-        Ok(damage) => damage,
-        Err(why) => return Err(why),
-    };
     if damage.state != RepairState::CutOff {
-        return Ok((damage.repair(), used));
+        return Some(used);
     }
     let lacks_pad = damage.lacks_pad();
     if lacks_pad && used == bytes.len() {
-        return Err(Unrepaired::NoRoom);
+        return None;
     }
     let place = damage.head.data_start as usize - 4;
     let sizes = damage.sizes;
@@ -130,8 +73,8 @@ pub fn repair_bytes(
         sizes.data_length,
     );
     if !lacks_pad {
-        return Ok((damage.repair(), used));
+        return Some(used);
     }
     bytes[used] = 0;
-    Ok((damage.repair(), used + 1))
+    Some(used + 1)
 }

@@ -14,7 +14,7 @@ ghost use Rattle.hound_repair.specs.Steps.{IsLookedAt, IsNotRepaired, Mends, Par
 ghost use Rattle.hound_repair.specs.Held.{frame_length, held, shown_length};
 ghost use Rattle.hound_repair.specs.Repairing.{Finds, IsFoundAt, IsNoPad, ReadsFrames, Repairs, found_length, repair_fault};
 ghost use Rattle.hound_repair.specs.declared.sizes.Repair.{Repair};
-ghost use Rattle.hound_repair.specs.declared.sizes.RepairState.TheVariants.{HasChunksAfterData, Whole};
+ghost use Rattle.hound_writer.specs.declared.resuming.RepairState.TheVariants.{HasChunksAfterData, Whole};
 
 /// A repair loses no sample that is stored: samples whose containers are stored from the data on are
 /// read first, as many as whole frames have, with the spec of the head, whatever the sizes said.

@@ -14,15 +14,14 @@ mod read_at;
 mod sizes;
 mod steps;
 
-pub use bytes::{Unrepaired, find_damage_in_bytes, repair_bytes, set_sizes};
+pub use bytes::{find_damage_in_bytes, repair_bytes, set_sizes};
 pub use file::{find_damage_in_file, repair_file, repair_file_to_end};
+pub use hound_writer::RepairState;
 pub use laws::{
     a_look_finds_what_a_repair_does, a_repair_keeps_stored_samples, a_second_repair_writes_nothing,
     a_stopped_repair_is_done_again, effects_mend,
 };
-pub use look::{Damage, Rest, SeenHead, find_damage, seen_head};
+pub use look::{Damage, SeenHead, find_damage};
 pub use mend::{repair, repair_to_end};
-pub use sizes::{Repair, RepairState};
-pub use steps::{
-    Failure, Look, Rejection, RepairError, RepairStep, Repairing, Stage, Task, repair_next,
-};
+pub use sizes::Repair;
+pub use steps::{Failure, Rejection, RepairError, RepairStep, Repairing, Stage, Task, repair_next};

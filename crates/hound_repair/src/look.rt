@@ -4,16 +4,16 @@ ghost use Rattle.hound_spec.specs.{padded};
 ghost use Rattle.hound_medium.specs.{WhereTells};
 ghost use Rattle.hound_walk.specs.{IsSoundSpec};
 ghost use Rattle.hound_writer.specs.{IsMediumError};
-ghost use Rattle.hound_repair.specs.Damages.{IsSoundDamage, repair_of, seen_head, shown_of};
+ghost use Rattle.hound_repair.specs.Damages.{IsSoundDamage, repair_of, shown_of};
 ghost use Rattle.hound_repair.specs.Held.{has_known_tag, has_tag, is_printable, said_length, held, missing_pad};
 ghost use Rattle.hound_repair.specs.Repairing.{Finds, IsNotFound, Looks};
 
-use crate::sizes::{Repair, RepairState, Sizes};
-use crate::steps::{error_for, look_by_parts};
+use crate::sizes::{Repair, Sizes};
+use crate::steps::{Task, look_by_parts};
 use hound_medium::Source;
 use hound_number::u32_at;
 use hound_spec::{Error, WavSpecEx};
-use hound_walk::FileHead;
+use hound_writer::RepairState;
 use std::result;
 
 // The tags that show that a chunk begins, whatever follows them: those of RIFF and of its update,
@@ -29,16 +29,6 @@ pub(crate) const ID3_LENGTH: u64 = 128;
 
 // What an ID3v1 tag begins with.
 pub(crate) const ID3_TAG: [u8; 3] = *b"TAG";
-
-/// What follows data of the length that the header says.
-#[derive(Clone, Copy, Debug, PartialEq, Eq)]
-pub enum Rest {
-    /// Maybe chunks or a tag, which are looked for.
-    MayBeChunks,
-
-    /// Samples, whatever they look like.
-    IsSamples,
-}
 
 /// The head of a file, with what is known of the byte after its data.
 #[derive(Clone, Copy)]
@@ -59,7 +49,8 @@ pub struct SeenHead {
 /// A file as it was found, and the sizes that it should have.
 #[derive(Clone, Copy)]
 pub struct Damage {
-    pub(crate) head: SeenHead,
+    /// Its head.
+    pub head: SeenHead,
     pub(crate) held: u64,
     pub(crate) sizes: Sizes,
     pub(crate) state: RepairState,
@@ -114,18 +105,6 @@ pub(crate) fn chunk_content(header: &[u8], left: u64) -> Option<u64>
     None
 }
 
-/// What is known of a file once its head is found.
-pub fn seen_head(head: FileHead, has_more: bool) -> SeenHead
-    ensures { result ≡ seen_head head has_more }
-{
-    SeenHead {
-        spec_ex: head.spec_ex,
-        data_length: head.data_length,
-        data_start: head.data_start,
-        has_more,
-    }
-}
-
 impl SeenHead {
     /// The data length that the file shows.
     pub(crate) fn shown(&self) -> u64
@@ -138,7 +117,7 @@ impl SeenHead {
 
 impl Damage {
     /// What is reported of it.
-    pub(crate) fn repair(&self) -> Repair
+    pub fn repair(&self) -> Repair
         requires { IsSoundDamage self.now }
         ensures { result ≡ repair_of self.now }
     {
@@ -184,8 +163,8 @@ pub fn find_damage<S: Source>(medium: S) -> result::Result<(S, Repair), (S, Erro
         (λ rejected. IsNotFound (S.state medium) (S.state rejected.0) rejected.1)) }
 {
     let mut medium = medium;
-    match look_by_parts(&mut medium, Rest::MayBeChunks) {
+    match look_by_parts(&mut medium, Task::FindDamage) {
         Ok(damage) => Ok((medium, damage.repair())),
-        Err(error) => Err((medium, error_for(error))),
+        Err(error) => Err((medium, error)),
     }
 }

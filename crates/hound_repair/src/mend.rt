@@ -5,9 +5,8 @@ ghost use Rattle.hound_medium.specs.{WhereKeeps, WhereTells};
 ghost use Rattle.hound_writer.specs.{IsMediumError};
 ghost use Rattle.hound_repair.specs.Steps.{MendsMedium, RepairsMedium};
 
-use crate::look::Rest;
 use crate::sizes::Repair;
-use crate::steps::repair_by_effects;
+use crate::steps::{Task, repair_by_effects};
 use hound_medium::{Medium, Source};
 use hound_spec::Error;
 use std::result;
@@ -43,7 +42,7 @@ pub fn repair<M: Source + Medium>(medium: M) -> result::Result<(M, Repair), (M, 
     ensures repaired { WhereTells M.tells (RepairsMedium true M.state medium result) }
     ensures moments { WhereKeeps M.tells M.keeps (MendsMedium true M.state medium result) }
 {
-    repair_by_effects(medium, Rest::MayBeChunks)
+    repair_by_effects(medium, Task::Repair)
 }
 
 /// Repairs a file as [`repair`] does, and takes all bytes from the data on for samples, also where
@@ -55,5 +54,5 @@ pub fn repair_to_end<M: Source + Medium>(medium: M) -> result::Result<(M, Repair
     ensures repaired { WhereTells M.tells (RepairsMedium false M.state medium result) }
     ensures moments { WhereKeeps M.tells M.keeps (MendsMedium false M.state medium result) }
 {
-    repair_by_effects(medium, Rest::IsSamples)
+    repair_by_effects(medium, Task::RepairToEnd)
 }

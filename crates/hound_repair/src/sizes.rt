@@ -1,42 +1,15 @@
 // The sizes that a file should have, by what it holds.
-ghost use Rattle.std.specs.Prelude.{◌≡◌, ◌+◌, ◌*◌, ◌/◌, ◌%◌, ◌<◌, ◌≤◌, ◌^◌, IfOk};
+ghost use Rattle.std.specs.Prelude.{◌≡◌, ◌+◌, ◌*◌, ◌/◌, ◌%◌, ◌<◌, ◌≤◌, ◌^◌, IfSome, None, Some};
+ghost use Rattle.std.specs.Option.{IfNone};
 ghost use Rattle.hound_walk.specs.{IsDataPlace, IsSoundSpec};
-ghost use Rattle.hound_writer.specs.{FailsCheck};
+ghost use Rattle.hound_writer.specs.{too_long};
 ghost use Rattle.hound_repair.specs.Held.{data_held};
 ghost use Rattle.hound_repair.specs.Damages.{AreRightSizes};
 ghost use Rattle.hound_repair.specs.Repairing.{size_fault};
 
 use crate::look::SeenHead;
-use hound_spec::{Error, Result, WavSpecEx, riff_size, riff_size_fits};
-use std::fmt;
-
-/// What a file was found as.
-#[derive(Clone, Copy, Debug, PartialEq, Eq)]
-pub enum RepairState {
-    /// Both sizes are right: those of the whole frames that the file holds.
-    Whole,
-
-    /// A size is wrong, as where a recording was cut off.
-    CutOff,
-
-    /// Something follows the data, by the data length, so the file wasn't cut off in them: a chunk
-    /// with a tag of RIFF or its common extensions, as `LIST`, `bext` or `id3 `, which may itself be
-    /// cut off; chunks with printable tags to the end of the file; or an ID3v1 tag at the end. The
-    /// pad byte after the data may lack.
-    HasChunksAfterData,
-}
-
-/// A sentence without its full stop, for a user.
-impl fmt::Display for RepairState {
-    fn fmt<W: fmt::Write>(&self, f: &mut fmt::Formatter<W>) -> fmt::Result {
-        f.write_str(match self {
-            RepairState::Whole => "the file is whole",
-            RepairState::CutOff => "the recording was cut off",
-            RepairState::HasChunksAfterData =>
-                "something follows the data, so they weren't cut off",
-        })
-    }
-}
+use hound_spec::{WavSpecEx, riff_size, riff_size_fits};
+use hound_writer::RepairState;
 
 /// What a file holds, and how it was found.
 #[derive(Clone, Copy, Debug, PartialEq, Eq)]
@@ -64,15 +37,16 @@ pub(crate) struct Sizes {
 }
 
 /// The right sizes of a file with this head that shows this data length, and holds so many bytes from
-/// the data on.
+/// the data on, if the RIFF size fits.
 #[tactic(auto, using(crate::proofs::Dividing::whole_le, crate::proofs::Dividing::times_le), unfolding(crate::specs::Repairing::size_fault, crate::specs::Held::data_held, crate::specs::Held::ends_with_pad))]
-pub(crate) fn right_sizes(head: SeenHead, shown: u64, held: u64) -> Result<Sizes>
+pub(crate) fn right_sizes(head: SeenHead, shown: u64, held: u64) -> Option<Sizes>
     requires sound { IsSoundSpec head.spec_ex }
     requires start { IsDataPlace head.data_start }
     requires small { shown ≤ 2 ^ 32 }
     requires few { held ≤ 2 ^ 33 }
-    ensures check { FailsCheck result (size_fault head.spec_ex shown head.data_start held) }
-    ensures right { IfOk result (AreRightSizes head shown held) }
+    ensures check { IfNone result (size_fault head.spec_ex shown head.data_start held ≡ Some too_long) }
+    ensures fits { IfSome result (λ _. size_fault head.spec_ex shown head.data_start held ≡ None) }
+    ensures right { IfSome result (AreRightSizes head shown held) }
 {
     let frame = head.spec_ex.spec.channels as u64 * head.spec_ex.bytes_per_sample as u64;
     // All that is held is data, except a pad byte that the data length shows.
@@ -84,9 +58,9 @@ pub(crate) fn right_sizes(head: SeenHead, shown: u64, held: u64) -> Result<Sizes
     let frames = data / frame;
     let right = frames * frame;
     if !riff_size_fits(head.data_start, right) {
-        return Err(Error::TooLong);
+        return None;
     }
-    Ok(Sizes {
+    Some(Sizes {
         riff_size: riff_size(head.data_start, right) as u32,
         data_length: right as u32,
         frames: frames as u32,

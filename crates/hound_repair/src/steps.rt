@@ -2,24 +2,23 @@
 // what is to be done.
 ghost use Rattle.std.specs.Prelude.{◌≡◌, ℕ, ◌+◌, ◌-◌, ◌≤◌, Bool, List, Ok, true, IfErr, IfOk, IfSome, MatchResult, length, nat_lt, slice_index, take, drop};
 ghost use Rattle.hound_walk.specs.{Head, IsAt, IsDataPlace, IsSoundOption, IsSoundSpec, part_bytes};
-ghost use Rattle.hound_writer.specs.{IsMediumError, PutsAt, nth};
+ghost use Rattle.hound_writer.specs.{IsMediumError, NamesFault, PutsAt, nth};
 ghost use Rattle.hound_medium.specs.{WhereKeeps, WhereTells};
-ghost use Rattle.hound_repair.specs.Damages.{FindsDamage, IsSoundDamage, may_be_chunks};
-ghost use Rattle.hound_repair.specs.Steps.{IsAsked, IsAtChunk, IsAtEnd, IsAtStage, IsFoundAs, IsLengthOf, IsMeasured, IsNotLookedAt, Tells, IsNotWhole, IsSoundHead, IsSoundLook, IsSoundStage, PerformedOn, PerformsOn, AsksEffect, AsksMore, AsksNext, AsksPart, IsShown, IsSoundRepairing, IsSoundRepairStep, StaysAt, MendsMedium, RepairsMedium, LooksTo, MeasuresTo, StageNearer, asked_count, asked_place, asks_for, effects_of_task, failure_of, looks_for_chunks, else_followed, followed, mending, mending_end, mending_rest, steps_left};
-ghost use Rattle.hound_repair.specs.declared.sizes.RepairState.TheVariants.{CutOff};
+ghost use Rattle.hound_repair.specs.Damages.{FindsDamage, IsSoundDamage};
+ghost use Rattle.hound_repair.specs.Repairing.{IsNotFound};
+ghost use Rattle.hound_repair.specs.Steps.{IsAsked, IsAtChunk, IsAtEnd, IsAtStage, IsFoundAs, IsLengthOf, IsMeasured, IsNotWhole, IsSoundHead, IsSoundLook, IsSoundStage, PerformedOn, PerformsOn, AsksEffect, AsksMore, AsksNext, AsksPart, IsShown, IsSoundRepairing, IsSoundRepairStep, StaysAt, MendsMedium, RepairsMedium, LooksTo, MeasuresTo, StageNearer, asked_count, asks_for, stage_place, effects_of_task, failure_of, looks_for_chunks, rejected_for, else_followed, followed, mending, steps_left};
+ghost use Rattle.hound_writer.specs.declared.resuming.RepairState.TheVariants.{CutOff};
 ghost use Rattle.hound_repair.specs.declared.steps.Stage.TheVariants as stages;
 ghost use Rattle.hound_repair.specs.declared.steps.Repairing.TheVariants as states;
 
-use crate::look::{
-    Damage, ID3_LENGTH, ID3_TAG, Rest, SeenHead, chunk_content, has_known_tag, seen_head,
-};
+use crate::look::{Damage, ID3_LENGTH, ID3_TAG, SeenHead, chunk_content, has_known_tag};
 use crate::read_at::{LIMIT, length_of, part_at};
-use crate::sizes::{Repair, RepairState, right_sizes};
+use crate::sizes::{Repair, right_sizes};
 use hound_medium::{Medium, Source, put_all};
 use hound_number::{le_u32, u32_at};
 use hound_spec::{Error, is_pair};
 use hound_walk::{Cause, FileHead, HeadError, HeadWalk, Part, Step, error_of, take_part};
-use hound_writer::{Action, Effect, Report};
+use hound_writer::{Action, Effect, RepairState, Report};
 use std::io;
 
 /// Why a file isn't repaired, by its bytes.
@@ -42,7 +41,7 @@ pub enum Stage {
     Head(HeadWalk),
 
     /// The single byte after the data, of a file with this head.
-    Last(FileHead),
+    Last(SeenHead),
 
     /// The RIFF size.
     Size(SeenHead),
@@ -52,19 +51,6 @@ pub enum Stage {
 
     /// What may be an ID3v1 tag at the end.
     Tag(SeenHead),
-}
-
-/// A look at a file, between two parts.
-#[derive(Clone, Copy)]
-pub struct Look {
-    /// How many bytes the file has.
-    pub length: u64,
-
-    /// What follows its data.
-    pub rest: Rest,
-
-    /// What it asks for.
-    pub stage: Stage,
 }
 
 // Where one part leads.
@@ -77,27 +63,39 @@ pub(crate) enum LookStep {
     Found(Damage),
 }
 
-impl Look {
-    /// The place of the part that it asks for.
-    pub fn place(self) -> u64
-        requires { IsSoundStage self.stage }
-        ensures { result ≡ asked_place self }
+impl Stage {
+    /// What a look at a file asks for first.
+    pub fn first() -> Stage
+        ensures sound { IsSoundStage result }
+        ensures at { (looks : Bool) (file : List ℕ) → IsAtStage looks file result }
     {
-        match self.stage {
+        Stage::Head(HeadWalk {
+            found: None,
+            taken: 0,
+            part: Part::Front,
+        })
+    }
+
+    /// The place of the part that a look at a file of so many bytes asks for.
+    pub fn place(self, length: u64) -> u64
+        requires { IsSoundStage self }
+        ensures { result ≡ stage_place self length }
+    {
+        match self {
             Stage::Head(walk) => walk.start(),
             Stage::Last(head) => head.data_start + head.data_length as u64,
             Stage::Size(_) => 4,
             Stage::Chunk(_, place, _) => place,
-            Stage::Tag(_) => self.length.saturating_sub(ID3_LENGTH),
+            Stage::Tag(_) => length.saturating_sub(ID3_LENGTH),
         }
     }
 
     /// How many bytes it has; fewer only at the end of the file.
     pub fn count(self) -> usize
-        ensures is { result ≡ asked_count self.stage }
+        ensures is { result ≡ asked_count self }
         ensures few { result ≤ 40 }
     {
-        match self.stage {
+        match self {
             Stage::Head(walk) => walk.length(),
             Stage::Last(_) => 1,
             Stage::Size(_) => 4,
@@ -107,11 +105,11 @@ impl Look {
     }
 
     /// What its caller does.
-    pub fn action(self) -> Action
-        requires { IsSoundStage self.stage }
-        ensures { result ≡ asks_for self }
+    pub fn action(self, length: u64) -> Action
+        requires { IsSoundStage self }
+        ensures { result ≡ asks_for self length }
     {
-        Action::Read(self.place(), self.count() as u32)
+        Action::Read(self.place(length), self.count() as u32)
     }
 }
 
@@ -136,15 +134,13 @@ fn measured(size: u64, head: SeenHead) -> Result<Damage, Rejection>
         return Err(Rejection::Head(Cause::Ended));
     }
     let held = size - head.data_start;
-    match right_sizes(head, head.shown(), held) {
-        Ok(sizes) => Ok(Damage {
-            head,
-            held,
-            sizes,
-            state: RepairState::CutOff,
-        }),
-        Err(_) => Err(Rejection::TooLong),
-    }
+    let sizes = right_sizes(head, head.shown(), held).ok_or(Rejection::TooLong)?;
+    Ok(Damage {
+        head,
+        held,
+        sizes,
+        state: RepairState::CutOff,
+    })
 }
 
 // A file that is found as this.
@@ -211,10 +207,10 @@ fn after_sizes(damage: Damage) -> LookStep
 }
 
 // Takes the RIFF size.
-fn take_size(rest: Rest, damage: Damage, bytes: &[u8]) -> Result<LookStep, Rejection>
+fn take_size(task: Task, damage: Damage, bytes: &[u8]) -> Result<LookStep, Rejection>
     requires sound { IsSoundDamage damage }
     ensures leads { (file : List ℕ) → IsMeasured file damage → (bytes.now ≡ take 4 (drop 4 file))
-        → LooksTo (may_be_chunks rest) file result }
+        → LooksTo (looks_for_chunks task) file result }
     ensures sound { IfOk result IsSoundLook }
     ensures nearer { (n : ℕ) → damage.head.data_start + damage.held ≤ n
         → IfOk result (StageNearer n (steps_left n (stages.Size damage.head))) }
@@ -226,7 +222,7 @@ fn take_size(rest: Rest, damage: Damage, bytes: &[u8]) -> Result<LookStep, Rejec
     if u32_at(bytes, 0) == sizes.riff_size && damage.head.data_length == sizes.data_length {
         return Ok(found_as(damage, RepairState::Whole));
     }
-    if rest == Rest::IsSamples {
+    if task == Task::RepairToEnd {
         return Ok(found_as(damage, RepairState::CutOff));
     }
     Ok(after_sizes(damage))
@@ -270,9 +266,9 @@ fn take_tag(damage: Damage, bytes: &[u8]) -> LookStep
     found_as(damage, RepairState::CutOff)
 }
 
-/// What is requested once the head is found: the byte after the data, if it is the only one, or the RIFF
-/// size.
-pub(crate) fn after_head(length: u64, head: FileHead) -> Stage
+// What is requested once the head is found: the byte after the data, if it is the only one, or the RIFF
+// size.
+fn after_head(length: u64, head: FileHead) -> Stage
     requires place { IsDataPlace head.data_start }
     requires sound { IsSoundSpec head.spec_ex }
     ensures at { (looks : Bool) (file : List ℕ) → IsLengthOf length file
@@ -280,10 +276,16 @@ pub(crate) fn after_head(length: u64, head: FileHead) -> Stage
     ensures sound { IsSoundStage result }
     ensures near { steps_left length result ≤ 5 + length + length }
 {
+    let seen = SeenHead {
+        spec_ex: head.spec_ex,
+        data_length: head.data_length,
+        data_start: head.data_start,
+        has_more: false,
+    };
     if length == head.data_start + head.data_length as u64 + 1 {
-        return Stage::Last(head);
+        return Stage::Last(seen);
     }
-    Stage::Size(seen_head(head, false))
+    Stage::Size(seen)
 }
 
 // Whether a single byte after the data, which is this if there is one, is a sample.
@@ -294,16 +296,18 @@ fn is_sample(bytes: &[u8]) -> bool
 }
 
 // Takes the byte after the data.
-fn take_last(head: FileHead, bytes: &[u8]) -> LookStep
-    requires sound { IsSoundSpec head.spec_ex }
-    requires place { IsDataPlace head.data_start }
+fn take_last(head: SeenHead, bytes: &[u8]) -> LookStep
+    requires sound { IsSoundHead head }
     ensures leads { (looks : Bool) (file : List ℕ) → IsAtStage looks file (stages.Last head)
         → (bytes.now ≡ take 1 (drop (head.data_start + head.data_length) file))
         → LooksTo looks file (Ok result) }
     ensures sound { IsSoundLook result }
     ensures nearer { (n : ℕ) → StageNearer n (steps_left n (stages.Last head)) result }
 {
-    LookStep::Next(Stage::Size(seen_head(head, is_sample(bytes))))
+    LookStep::Next(Stage::Size(SeenHead {
+        has_more: is_sample(bytes),
+        ..head
+    }))
 }
 
 // Takes a part of the header.
@@ -323,29 +327,28 @@ fn take_header(length: u64, walk: HeadWalk, bytes: &[u8]) -> Result<LookStep, Re
 
 // Takes the bytes that a look asks for, fewer only at the end of the file, and returns where they
 // lead: to another part, or to what `repair` finds. At an error the look has ended.
-pub(crate) fn take_asked(look: Look, bytes: &[u8]) -> Result<LookStep, Rejection>
-    requires sound { IsSoundStage look.stage }
-    ensures leads { (file : List ℕ) → IsLengthOf look.length file
-        → IsAtStage (may_be_chunks look.rest) file look.stage → IsAsked look file bytes.now
-        → LooksTo (may_be_chunks look.rest) file result }
+pub(crate) fn take_asked(
+    length: u64,
+    task: Task,
+    stage: Stage,
+    bytes: &[u8],
+) -> Result<LookStep, Rejection>
+    requires sound { IsSoundStage stage }
+    ensures leads { (file : List ℕ) → IsLengthOf length file
+        → IsAtStage (looks_for_chunks task) file stage → IsAsked length stage file bytes.now
+        → LooksTo (looks_for_chunks task) file result }
     ensures sound { IfOk result IsSoundLook }
-    ensures nearer { IfOk result (StageNearer look.length (steps_left look.length look.stage)) }
+    ensures nearer { IfOk result (StageNearer length (steps_left length stage)) }
 {
-    match look.stage {
-        Stage::Head(walk) => take_header(look.length, walk, bytes),
+    match stage {
+        Stage::Head(walk) => take_header(length, walk, bytes),
         Stage::Last(head) => Ok(take_last(head, bytes)),
-        Stage::Size(head) => match measured(look.length, head) {
-            Ok(damage) => take_size(look.rest, damage, bytes),
-            Err(why) => Err(why),
-        },
-        Stage::Chunk(head, place, padded) => match measured(look.length, head) {
-            Ok(damage) => Ok(take_chunk(damage, place, padded, bytes)),
-            Err(why) => Err(why),
-        },
-        Stage::Tag(head) => match measured(look.length, head) {
-            Ok(damage) => Ok(take_tag(damage, bytes)),
-            Err(why) => Err(why),
-        },
+        Stage::Size(head) => take_size(task, measured(length, head)?, bytes),
+        Stage::Chunk(head, place, padded) => {
+            let damage = measured(length, head)?;
+            Ok(take_chunk(damage, place, padded, bytes))
+        }
+        Stage::Tag(head) => Ok(take_tag(measured(length, head)?, bytes)),
     }
 }
 
@@ -360,18 +363,6 @@ pub enum Task {
 
     /// What [`repair_to_end`](crate::repair_to_end) does.
     RepairToEnd,
-}
-
-impl Task {
-    /// What follows the data.
-    pub fn rest(self) -> Rest
-        ensures { may_be_chunks result ≡ looks_for_chunks self }
-    {
-        match self {
-            Task::RepairToEnd => Rest::IsSamples,
-            _ => Rest::MayBeChunks,
-        }
-    }
 }
 
 /// What failed, so that the repair has ended.
@@ -407,7 +398,7 @@ pub enum RepairStep {
     Asks(Action),
 
     /// Nothing: this was found, and is mended if that is to be.
-    Found(Repair),
+    Found(Damage),
 }
 
 /// Why a repair has ended.
@@ -458,7 +449,7 @@ fn ask_for(state: &mut Repairing, task: Task, damage: Damage, number: u32) -> Re
         }
         None => {
             *state = Repairing::Found(damage.head, damage.state);
-            RepairStep::Found(damage.repair())
+            RepairStep::Found(damage)
         }
     }
 }
@@ -477,44 +468,40 @@ fn after_effect(
     ensures spec { IfOk result IsSoundRepairStep }
     ensures stays { StaysAt result state.old state.new }
 {
-    match damage.effect_of(task, number) {
-        None => Ok(ask_for(state, task, damage, number)),
-        Some(effect) => match report {
-            Report::Pending => Ok(ask_for(state, task, damage, number)),
-            Report::Done => Ok(ask_for(state, task, damage, number + 1)),
-            Report::Failed => {
-                let failure = failure_of(effect);
-                *state = Repairing::Failed(failure);
-                Err(RepairError::Failed(failure))
-            }
-        },
+    match (report, damage.effect_of(task, number)) {
+        (Report::Done, Some(_)) => Ok(ask_for(state, task, damage, number + 1)),
+        (Report::Failed, Some(effect)) => {
+            let failure = failure_of(effect);
+            *state = Repairing::Failed(failure);
+            Err(RepairError::Failed(failure))
+        }
+        _ => Ok(ask_for(state, task, damage, number)),
     }
 }
 
 // What comes of a part that was read.
 fn after_part(
     state: &mut Repairing,
-    look: Look,
+    length: u64,
     task: Task,
+    stage: Stage,
     bytes: &[u8],
 ) -> Result<RepairStep, RepairError>
-    requires sound { IsSoundStage look.stage }
-    requires rest { may_be_chunks look.rest ≡ looks_for_chunks task }
-    requires was { state.old ≡ states.Looks look.stage }
-    ensures leads { (file : List ℕ) → IsLengthOf look.length file
-        → IsAtStage (looks_for_chunks task) file look.stage → IsAsked look file bytes.now
-        → AsksPart task file look.length result state.old state.new }
+    requires sound { IsSoundStage stage }
+    requires was { state.old ≡ states.Looks stage }
+    ensures leads { (file : List ℕ) → IsLengthOf length file
+        → IsAtStage (looks_for_chunks task) file stage → IsAsked length stage file bytes.now
+        → AsksPart task file length result state.old state.new }
     ensures sound { IsSoundRepairing state.new }
     ensures spec { IfOk result IsSoundRepairStep }
     ensures stays { StaysAt result state.old state.new }
 {
-    match take_asked(look, bytes) {
-        Ok(LookStep::Next(stage)) => {
-            *state = Repairing::Looks(stage);
-            Ok(RepairStep::Asks(Look { stage, ..look }.action()))
+    match take_asked(length, task, stage, bytes).map_err(RepairError::Rejected)? {
+        LookStep::Next(next) => {
+            *state = Repairing::Looks(next);
+            Ok(RepairStep::Asks(next.action(length)))
         }
-        Ok(LookStep::Found(damage)) => Ok(ask_for(state, task, damage, 0)),
-        Err(why) => Err(RepairError::Rejected(why)),
+        LookStep::Found(damage) => Ok(ask_for(state, task, damage, 0)),
     }
 }
 
@@ -536,92 +523,60 @@ pub fn repair_next(
     ensures stays { StaysAt result state.old state.new }
 {
     match *state {
-        Repairing::Looks(stage) => {
-            let look = Look {
-                length,
-                rest: task.rest(),
-                stage,
-            };
-            match report {
-                Report::Pending => Ok(RepairStep::Asks(look.action())),
-                Report::Done => after_part(state, look, task, bytes),
-                Report::Failed => {
-                    *state = Repairing::Failed(Failure::Call);
-                    Err(RepairError::Failed(Failure::Call))
-                }
+        Repairing::Looks(stage) => match report {
+            Report::Pending => Ok(RepairStep::Asks(stage.action(length))),
+            Report::Done => after_part(state, length, task, stage, bytes),
+            Report::Failed => {
+                *state = Repairing::Failed(Failure::Call);
+                Err(RepairError::Failed(Failure::Call))
             }
-        }
-        Repairing::Mends(head, number) => match measured(length, head) {
-            Ok(damage) => after_effect(state, task, damage, number, report),
-            Err(why) => Err(RepairError::Rejected(why)),
         },
-        Repairing::Found(head, found) => match measured(length, head) {
-            Ok(damage) => Ok(RepairStep::Found(Damage {
+        Repairing::Mends(head, number) => {
+            let damage = measured(length, head).map_err(RepairError::Rejected)?;
+            after_effect(state, task, damage, number, report)
+        }
+        Repairing::Found(head, found) => {
+            let damage = measured(length, head).map_err(RepairError::Rejected)?;
+            Ok(RepairStep::Found(Damage {
                 state: found,
                 ..damage
-            }
-            .repair())),
-            Err(why) => Err(RepairError::Rejected(why)),
-        },
+            }))
+        }
         Repairing::Failed(failure) => Err(RepairError::Failed(failure)),
     }
 }
 
-/// Why a file isn't looked at.
-#[derive(Debug, Drop)]
-pub(crate) enum LookError {
-    /// A read failed.
-    Failed(io::Error),
-    /// The bytes decide it.
-    Rejected(Rejection),
-}
-
-/// Looks at a file from its beginning, one part after the other.
-pub(crate) fn look_by_parts<S: Source>(source: &mut S, rest: Rest) -> Result<Damage, LookError>
-    ensures sound { IfOk result IsSoundDamage }
-    ensures finds { WhereTells S.tells (MatchResult result
-        (λ damage. FindsDamage (may_be_chunks rest) (S.state source.old) damage (S.state source.new))
-        (λ error. IsNotLookedAt error (S.state source.old) (S.state source.new))) }
+// The error that callers get.
+fn error_for(why: Rejection) -> Error
+    ensures names { NamesFault result (rejected_for why) }
+    ensures reported { IsMediumError result }
 {
-    let length = match length_of(source) {
-        Ok(length) => length,
-        Err(error) => return Err(LookError::Failed(error)),
-    };
-    let mut stage = Stage::Head(HeadWalk {
-        found: None,
-        taken: 0,
-        part: Part::Front,
-    });
-    'parts: loop {
-        let look = Look {
-            length,
-            rest,
-            stage,
-        };
-        let mut buf = [0; 40];
-        let asked = look.count();
-        let count = match part_at(source, look.place(), &mut buf[..asked]) {
-            Ok(count) => count,
-            Err(error) => return Err(LookError::Failed(error)),
-        };
-        match take_asked(look, &buf[..count]) {
-            Ok(LookStep::Next(next)) => stage = next,
-            Ok(LookStep::Found(damage)) => return Ok(damage),
-            Err(why) => return Err(LookError::Rejected(why)),
-        }
+    match why {
+        Rejection::Head(cause) => error_of(HeadError::Rejected(cause)),
+        Rejection::Unsupported => Error::Unsupported,
+        Rejection::TooLong => Error::TooLong,
     }
 }
 
-/// The error that callers get.
-pub(crate) fn error_for(error: LookError) -> Error
-    ensures names { Tells error result }
-    ensures reported { IsMediumError result }
+/// Looks at a file from its beginning, one part after the other.
+pub(crate) fn look_by_parts<S: Source>(source: &mut S, task: Task) -> Result<Damage, Error>
+    ensures sound { IfOk result IsSoundDamage }
+    ensures reported { IfErr result IsMediumError }
+    ensures finds { WhereTells S.tells (MatchResult result
+        (λ damage. FindsDamage (looks_for_chunks task) (S.state source.old) damage (S.state source.new))
+        (IsNotFound (S.state source.old) (S.state source.new))) }
 {
-    match error {
-        LookError::Failed(error) => Error::IoError(error),
-        LookError::Rejected(Rejection::Head(cause)) => error_of(HeadError::Rejected(cause)),
-        LookError::Rejected(Rejection::Unsupported) => Error::Unsupported,
-        LookError::Rejected(Rejection::TooLong) => Error::TooLong,
+    let length = length_of(source)?;
+    let mut stage = Stage::first();
+    'parts: loop {
+        let mut buf = [0; 40];
+        let asked = stage.count();
+        let count = part_at(source, stage.place(length), &mut buf[..asked])?;
+        match take_asked(length, task, stage, &buf[..count]) {
+            Ok(LookStep::Next(next)) => stage = next,
+            Ok(LookStep::Found(damage)) => return Ok(damage),
+            Err(why) => return Err(error_for(why)),
+        }
     }
 }
 
@@ -636,40 +591,11 @@ impl Damage {
             return None;
         }
         let start = self.head.data_start;
-        match number {
-            0 => Some(Effect::Sync),
-            1 => Some(Effect::Size(start - 4, self.sizes.data_length)),
-            2 => Some(Effect::Sync),
-            _ => self.effect_after(number - 3),
-        }
-    }
-
-    // The same, once the data length is synced.
-    fn effect_after(&self, number: u32) -> Option<Effect>
-        requires { IsSoundDamage self.now }
-        ensures is { result
-            ≡ nth (mending_rest self.now.head.data_start self.now.sizes.data_length self.now.held) number }
-        ensures few { IfSome result (λ _. number ≤ 3) }
-    {
-        if !self.lacks_pad() {
-            return self.last_effect(number);
-        }
-        match number {
-            0 => Some(Effect::Pad(self.head.data_start + self.held)),
-            1 => Some(Effect::Sync),
-            _ => self.last_effect(number - 2),
-        }
-    }
-
-    // The same, once no pad byte is missing.
-    fn last_effect(&self, number: u32) -> Option<Effect>
-        requires { IsSoundDamage self.now }
-        ensures is { result ≡ nth (mending_end self.now.head.data_start self.now.sizes.data_length) number }
-        ensures few { IfSome result (λ _. number ≤ 1) }
-    {
-        match number {
-            0 => Some(Effect::Size(4, self.sizes.riff_size)),
-            1 => Some(Effect::Sync),
+        match (number, self.lacks_pad()) {
+            (1, _) => Some(Effect::Size(start - 4, self.sizes.data_length)),
+            (3, true) => Some(Effect::Pad(start + self.held)),
+            (3, false) | (5, true) => Some(Effect::Size(4, self.sizes.riff_size)),
+            (0 | 2 | 4, _) | (6, true) => Some(Effect::Sync),
             _ => None,
         }
     }
@@ -704,10 +630,8 @@ fn perform_all<M: Medium>(medium: &mut M, damage: Damage) -> io::Result<()>
 {
     let mut number = 0;
     while let Some(effect) = damage.effect(number) {
-        match perform(medium, effect) {
-            Ok(()) => number += 1,
-            Err(error) => return Err(error),
-        }
+        perform(medium, effect)?;
+        number += 1;
     }
     Ok(())
 }
@@ -715,17 +639,17 @@ fn perform_all<M: Medium>(medium: &mut M, damage: Damage) -> io::Result<()>
 /// Repairs a file by the machine.
 pub(crate) fn repair_by_effects<M: Source + Medium>(
     medium: M,
-    rest: Rest,
+    task: Task,
 ) -> Result<(M, Repair), (M, Error)>
     ensures sound { IfOk result (λ done. IsSoundSpec done.1.spec_ex) }
     ensures reported { IfErr result (λ rejected. IsMediumError rejected.1) }
-    ensures repaired { WhereTells M.tells (RepairsMedium (may_be_chunks rest) M.state medium result) }
-    ensures moments { WhereKeeps M.tells M.keeps (MendsMedium (may_be_chunks rest) M.state medium result) }
+    ensures repaired { WhereTells M.tells (RepairsMedium (looks_for_chunks task) M.state medium result) }
+    ensures moments { WhereKeeps M.tells M.keeps (MendsMedium (looks_for_chunks task) M.state medium result) }
 {
     let mut medium = medium;
-    let damage = match look_by_parts(&mut medium, rest) {
+    let damage = match look_by_parts(&mut medium, task) {
         Ok(damage) => damage,
-        Err(error) => return Err((medium, error_for(error))),
+        Err(error) => return Err((medium, error)),
     };
     match perform_all(&mut medium, damage) {
         Ok(()) => Ok((medium, damage.repair())),

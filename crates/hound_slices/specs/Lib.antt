@@ -1,13 +1,13 @@
 -- The words of this crate, for those above it. The file is made by `scripts/make_words`.
-pub use Rattle.hound_slices.specs.Codes.{IsHeadError, Records, Returns, code_for, error_code, reason_code}
+pub use Rattle.hound_slices.specs.Codes.{IsHeadError, Records, Returns, code_for, error_code, error_of_rejection, reason_code}
 pub use Rattle.hound_slices.specs.Reading.{Decodes, DecodesSamples, IsCutBefore, IsOtherType, IsReadError, ReadsInto, ReadsSamples, read_check, rejection_error, stored, whole}
-pub use Rattle.hound_slices.specs.Writing.{AppendsInPlace, AppendsSamples, Encodes, GivesHeader, GivesSizes, HasPlace, IsAppendingError, IsEncodeError, IsExplicit, IsFile, IsRejectedBy, IsSizeError, IsWriteError, Sizes, WritesFile, check_of, file_size, spec_from_c}
-pub use Rattle.hound_slices.specs.Repairing.{FindsInFile, HasHeadOf, IsDamageError, IsFileError, IsReported, RepairsFile, state_code}
-pub use Rattle.hound_slices.specs.Walks.{AnswersPart, AreAsked, Asks, AsksAgain, AsksOn, FindsHead, HasNoHead, IsHeadOf, Steps, TakesPart, bytes_of_part, found_of, part_end, part_of, walk_of}
+pub use Rattle.hound_slices.specs.Writing.{AppendsInPlace, AppendsSamples, Encodes, GivesHeader, GivesSizes, HasPlace, IsAppendingError, IsEncodeError, IsExplicit, IsFile, IsRejectedBy, IsSizeError, IsUnencoded, IsWriteError, Sizes, WritesFile, file_size, spec_from_c}
+pub use Rattle.hound_slices.specs.Repairing.{FindsInFile, HasHeadOf, IsDamageError, IsFileError, IsReported, RepairsFile, state_code, state_of_code}
+pub use Rattle.hound_slices.specs.Walks.{AnswersPart, AreAsked, Asks, AsksAgain, AsksOn, FindsHead, HasNoHead, IsHeadOf, Steps, TakesPart, bytes_of_part, found_of, part_end, part_of, walk_of, walk_with}
 pub use Rattle.hound_slices.specs.Scaling.{AreBits, IsScaleError, ScalesToFloats, ScalesToIntegers}
 pub use Rattle.hound_slices.specs.Effects.{effect_of, effect_with, report_of}
-pub use Rattle.hound_slices.specs.Recording.{file_state, found_file, mends, overwrites, recorder_for_c}
-pub use Rattle.hound_slices.specs.Repairers.{BeginsRepairer, GivesStep, StepsRepairer, after_head, bytes_read, count_of, error_of, failure_of_code, head_of, head_with, if_head, repairing_of, state_of_code, task_of}
+pub use Rattle.hound_slices.specs.Recording.{found_file, mends, overwrites, recorder_for_c}
+pub use Rattle.hound_slices.specs.Repairers.{BeginsRepairer, GivesStep, StepsRepairer, after_head, bytes_read, count_of, error_of, failure_of_code, head_of, head_with, if_head, repairing_of, task_of}
 pub use Rattle.hound_slices.specs.Searching.{CountsWhole, GuessesData, HasFrames, IsDataTag}
 pub mod Codes
 pub mod Reading

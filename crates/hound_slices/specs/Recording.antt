@@ -1,10 +1,9 @@
 -- Recorders as C has them.
-use Rattle.std.specs.Prelude.{ℕ, ◌/◌, ◌%◌, ◌==◌, if◌then◌else◌, Bool, None}
+use Rattle.std.specs.Prelude.{ℕ, ◌/◌, ◌%◌, ◌==◌, Bool, None}
 use Rattle.hound_writer.specs.declared.recorder.Recorder.{Recorder}
-use Rattle.hound_writer.specs.declared.resuming.FileState.{FileState}
-use Rattle.hound_writer.specs.declared.resuming.FileState.TheVariants.{Whole, CutOff, HasChunksAfterData}
 use Rattle.hound_writer.specs.declared.resuming.FoundFile.{FoundFile}
 use Rattle.hound_slices.specs.Effects.{effect_of}
+use Rattle.hound_slices.specs.Repairing.{state_of_code}
 use Rattle.hound_slices.specs.Writing.{spec_from_c}
 use Rattle.hound_slices.specs.declared.recording.HoundRecorder.{HoundRecorder}
 use Rattle.hound_slices.specs.declared.spec.HoundRepair.{HoundRepair}
@@ -12,10 +11,6 @@ use Rattle.hound_slices.specs.declared.spec.HoundRepair.{HoundRepair}
 -- a recorder whose caller has nothing to do
 abbrev pub recorder_for_c : Recorder → HoundRecorder
 recorder_for_c r = record { effect = effect_of None; recorder = r }
-
--- how a file was found, by its number
-abbrev pub file_state : ℕ → FileState
-file_state n = if n == 0 then Whole else if n == 1 then CutOff else HasChunksAfterData
 
 -- the file that C's is
 abbrev pub found_file : HoundRepair → FoundFile
@@ -25,7 +20,7 @@ found_file c = record {
   data_length = c.data_length;
   length = c.length;
   frames = c.frames;
-  state = file_state c.state;
+  state = state_of_code c.state;
 }
 
 -- what is allowed: the sum of 1 if a recording may be mended, and 2 if chunks may be overwritten

@@ -2,14 +2,10 @@
 use Rattle.std.specs.Prelude.{◌≡◌, ℕ, ◌+◌, ◌==◌, nat_lt, if◌then◌else◌, true, false, List, min, take, Option, None, Some, Result, Ok, Err}
 use Rattle.hound_spec.specs.{greatest_u32}
 use Rattle.hound_spec.specs.declared.spec.WavSpecEx.{WavSpecEx}
-use Rattle.hound_repair.specs.{AsksNext, asked_count}
+use Rattle.hound_repair.specs.{AsksNext, asked_count, repair_of}
 use Rattle.hound_repair.specs.declared.look.SeenHead.{SeenHead}
-use Rattle.hound_repair.specs.declared.sizes.RepairState.{RepairState}
-use Rattle.hound_repair.specs.declared.sizes.RepairState.TheVariants.{Whole, CutOff, HasChunksAfterData}
 use Rattle.hound_repair.specs.declared.steps.Failure.{Failure}
 use Rattle.hound_repair.specs.declared.steps.Failure.TheVariants.{Sync, Call}
-use Rattle.hound_repair.specs.declared.steps.Rejection.{Rejection}
-use Rattle.hound_repair.specs.declared.steps.Rejection.TheVariants as rejections
 use Rattle.hound_repair.specs.declared.steps.RepairError.{RepairError}
 use Rattle.hound_repair.specs.declared.steps.RepairError.TheVariants.{Rejected, Failed}
 use Rattle.hound_repair.specs.declared.steps.RepairStep.{RepairStep}
@@ -20,22 +16,18 @@ use Rattle.hound_repair.specs.declared.steps.Stage.TheVariants as stages
 use Rattle.hound_repair.specs.declared.steps.Task.{Task}
 use Rattle.hound_repair.specs.declared.steps.Task.TheVariants.{FindDamage, Repair, RepairToEnd}
 use Rattle.hound_writer.specs.declared.recorder.RecorderError.TheVariants.{SyncFailed}
+use Rattle.hound_slices.specs.Codes.{error_of_rejection}
 use Rattle.hound_slices.specs.Effects.{effect_of, report_of}
-use Rattle.hound_slices.specs.Repairing.{IsReported}
-use Rattle.hound_slices.specs.Walks.{found_of, part_of}
+use Rattle.hound_slices.specs.Repairing.{IsReported, state_of_code}
+use Rattle.hound_slices.specs.Walks.{found_of, part_of, walk_with}
 use Rattle.hound_slices.specs.declared.error.CallError.{CallError}
-use Rattle.hound_slices.specs.declared.error.CallError.TheVariants.{Head, NotPerformed, NotWritable, Recorder, TooLong}
+use Rattle.hound_slices.specs.declared.error.CallError.TheVariants.{NotPerformed, Recorder}
 use Rattle.hound_slices.specs.declared.repairer.HoundRepairer.{HoundRepairer}
 use Rattle.hound_slices.specs.declared.spec.HoundRepair.{HoundRepair}
 
 -- what the caller requests, by its number
 abbrev pub task_of : ℕ → Task
 task_of mode = if mode == 1 then Repair else if mode == 2 then RepairToEnd else FindDamage
-
--- how a file was found, by its number
-abbrev pub state_of_code : ℕ → RepairState
-state_of_code number =
-    if number == 0 then Whole else if number == 1 then CutOff else HasChunksAfterData
 
 -- what failed, by its number
 abbrev pub failure_of_code : ℕ → Failure
@@ -61,11 +53,7 @@ head_of c = head_with c (found_of c.spec)
 -- where a repairer is that has found the head
 abbrev pub after_head : HoundRepairer → SeenHead → Repairing
 after_head c head =
-    if c.part == 4 then states.Looks (stages.Last (record {
-      spec_ex = head.spec_ex;
-      data_length = head.data_length;
-      data_start = head.data_start;
-    }))
+    if c.part == 4 then states.Looks (stages.Last head)
     else if c.part == 5 then states.Looks (stages.Size head)
     else if c.part == 6 then states.Looks (stages.Chunk head c.place true)
     else if c.part == 7 then states.Looks (stages.Chunk head c.place false)
@@ -82,11 +70,7 @@ if_head c (Some head) = after_head c head
 abbrev pub repairing_of : HoundRepairer → Repairing
 repairing_of c =
     if nat_lt c.part 4
-    then states.Looks (stages.Head (record {
-      found = found_of c.spec;
-      taken = c.taken;
-      part = part_of c.part c.fmt_length;
-    }))
+    then states.Looks (stages.Head (walk_with c.spec c.taken c.part c.fmt_length))
     else if c.part == 11 then states.Failed (failure_of_code c.number)
     else if_head c (head_of c)
 
@@ -101,9 +85,7 @@ bytes_read c = take (min (min c.effect.length 40) (count_of (repairing_of c))) c
 
 -- what a call returns for an error of a repair
 abbrev pub error_of : RepairError → CallError
-error_of (Rejected (rejections.Head cause)) = Head cause
-error_of (Rejected rejections.Unsupported) = NotWritable
-error_of (Rejected rejections.TooLong) = TooLong
+error_of (Rejected why) = error_of_rejection why
 error_of (Failed Sync) = Recorder SyncFailed
 error_of (Failed Call) = NotPerformed
 
@@ -113,9 +95,9 @@ abbrev pub GivesStep : HoundRepairer → HoundRepairer → HoundRepair → Hound
     → Result RepairStep RepairError → Result ℕ CallError → Type 0
 GivesStep old new was now (Ok (Asks action)) outcome =
     (outcome ≡ Ok 1) × (new.effect ≡ effect_of (Some action)) × (now ≡ was)
-GivesStep old new was now (Ok (Found found)) outcome =
-    (outcome ≡ Ok 0) × (new.effect ≡ effect_of None) × IsReported found now
-    × (now.data_start ≡ new.data_start) × (now.data_length ≡ new.data_length) × (now.length ≡ old.length)
+GivesStep old new was now (Ok (Found d)) outcome =
+    (outcome ≡ Ok 0) × (new.effect ≡ effect_of None) × IsReported (repair_of d) now
+    × (now.data_start ≡ d.head.data_start) × (now.data_length ≡ d.head.data_length) × (now.length ≡ old.length)
 GivesStep old new was now (Err (Failed failure)) outcome =
     (outcome ≡ Err (error_of (Failed failure))) × (new.effect ≡ effect_of None) × (now ≡ was)
 GivesStep old new was now (Err (Rejected why)) outcome =

@@ -1,13 +1,13 @@
 -- What repairing does.
-use Rattle.std.specs.Prelude.{◌≡◌, ◌⊎◌, ℕ, Bool, ◌<◌, ◌≤◌, List, length, take, true, Result, Ok, Err}
+use Rattle.std.specs.Prelude.{◌≡◌, ◌⊎◌, ℕ, Bool, ◌==◌, if◌then◌else◌, ◌<◌, ◌≤◌, List, length, take, true, Result, Ok, Err}
 use Rattle.hound_walk.specs.declared.cause.Cause.TheVariants.{Unsupported}
 use Rattle.hound_spec.specs.declared.spec.WavSpecEx.{WavSpecEx}
 use Rattle.hound_walk.specs.{Head, Rejected}
 use Rattle.hound_writer.specs.{by_bytes, too_long}
 use Rattle.hound_repair.specs.{HasUnfitHead, IsFoundAt, LacksRoom, RepairsBytes}
 use Rattle.hound_repair.specs.declared.sizes.Repair.{Repair}
-use Rattle.hound_repair.specs.declared.sizes.RepairState.{RepairState}
-use Rattle.hound_repair.specs.declared.sizes.RepairState.TheVariants.{Whole, CutOff, HasChunksAfterData}
+use Rattle.hound_writer.specs.declared.resuming.RepairState.{RepairState}
+use Rattle.hound_writer.specs.declared.resuming.RepairState.TheVariants.{Whole, CutOff, HasChunksAfterData}
 use Rattle.hound_slices.specs.Writing.{IsExplicit, spec_from_c}
 use Rattle.hound_slices.specs.declared.error.CallError.{CallError}
 use Rattle.hound_slices.specs.declared.error.CallError.TheVariants.{Head as NoHead, NotWritable, TooLong, NoRoom}
@@ -18,6 +18,11 @@ abbrev pub state_code : RepairState → ℕ
 state_code Whole = 0
 state_code CutOff = 1
 state_code HasChunksAfterData = 2
+
+-- how a file was found, by that number
+abbrev pub state_of_code : ℕ → RepairState
+state_of_code number =
+    if number == 0 then Whole else if number == 1 then CutOff else HasChunksAfterData
 
 -- what was found, as C has it
 pub record IsReported (found : Repair) (c : HoundRepair) : Type 0 where

@@ -32,9 +32,13 @@ abbrev pub part_of : ℕ → ℕ → Part
 part_of part length =
     if part == 0 then Front else if part == 1 then Header else if part == 2 then Last else Fmt length
 
+-- the walk with C's numbers
+abbrev pub walk_with : HoundSpec → ℕ → ℕ → ℕ → HeadWalk
+walk_with spec taken part length = record { found = found_of spec; taken = taken; part = part_of part length }
+
 -- the walk that C's is
 abbrev pub walk_of : HoundWalk → HeadWalk
-walk_of c = record { found = found_of c.spec; taken = c.taken; part = part_of c.part c.fmt_length }
+walk_of c = walk_with c.spec c.taken c.part c.fmt_length
 
 -- where the part ends that a walk asks for
 abbrev pub part_end : HeadWalk → ℕ

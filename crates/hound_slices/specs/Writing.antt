@@ -29,11 +29,16 @@ spec_from_c c = record {
 abbrev pub IsExplicit : HoundSpec → Type 0
 IsExplicit c = (0 < c.bytes_per_sample) × (c.sample_format ≤ 1)
 
--- whether values have containers
-abbrev pub check_of : {T : Type 0} → Result T Rejection → Result (Unit {0}) CallError
-check_of (Ok list) = Ok tt
-check_of (Err too_wide) = Err TooWide
-check_of (Err unsupported) = Err NotWritable
+-- why values of a format have no containers of a spec
+abbrev pub IsUnencoded : {V : Type 0} → SampleFormat → (V → ℕ → ℕ → Result (List ℕ) Rejection)
+    → WavSpecEx → List V → CallError → Type 0
+IsUnencoded format container s values OtherFormat = s.spec.sample_format ≡ format → ⊥
+IsUnencoded format container s values NotWritable =
+    (IsPair s.spec.sample_format s.spec.bits_per_sample s.bytes_per_sample → ⊥)
+    ⊎ ((s.spec.sample_format ≡ format) × (containers_in container s values ≡ Err unsupported))
+IsUnencoded format container s values TooWide =
+    (s.spec.sample_format ≡ format) × (containers_in container s values ≡ Err too_wide)
+IsUnencoded format container s values _ = ⊥
 
 -- how many bytes the file of so many samples has
 abbrev pub file_size : WavSpecEx → ℕ → ℕ
@@ -131,19 +136,16 @@ pub record AppendsSamples {V : Type 0} (format : SampleFormat)
 -- why values aren't appended to a file of so many samples
 abbrev pub IsRejectedBy : {V : Type 0} → SampleFormat → (V → ℕ → ℕ → Result (List ℕ) Rejection)
     → WavSpecEx → ℕ → ℕ → List V → ℕ → ℕ → CallError → Type 0
-IsRejectedBy format container s samples start values used room OtherFormat =
-    s.spec.sample_format ≡ format → ⊥
-IsRejectedBy format container s samples start values used room NotWritable =
-    (IsPair s.spec.sample_format s.spec.bits_per_sample s.bytes_per_sample → ⊥)
-    ⊎ ((s.spec.sample_format ≡ format) × (containers_in container s values ≡ Err unsupported))
-IsRejectedBy format container s samples start values used room TooWide =
-    (s.spec.sample_format ≡ format) × (containers_in container s values ≡ Err too_wide)
 IsRejectedBy format container s samples start values used room Truncated =
     used < start + samples * s.bytes_per_sample
 IsRejectedBy format container s samples start values used room NoRoom =
     room < start + padded ((length values + samples) * s.bytes_per_sample)
+IsRejectedBy format container s samples start values used room TooLong =
+    IsSizeError s start (length values + samples) TooLong
+IsRejectedBy format container s samples start values used room UnfinishedFrame =
+    IsSizeError s start (length values + samples) UnfinishedFrame
 IsRejectedBy format container s samples start values used room error =
-    IsSizeError s start (length values + samples) error
+    IsUnencoded format container s values error
 
 abbrev pub IsAppendingError : {V : Type 0} → SampleFormat → (V → ℕ → ℕ → Result (List ℕ) Rejection)
     → List V → ℕ → List ℕ → CallError → Type 0
@@ -162,14 +164,8 @@ AppendsInPlace format container values used old new (Err error) = (new ≡ old)
 -- why values aren't encoded
 abbrev pub IsEncodeError : {V : Type 0} → SampleFormat → (V → ℕ → ℕ → Result (List ℕ) Rejection)
     → WavSpecEx → List V → ℕ → CallError → Type 0
-IsEncodeError format container s values room OtherFormat = s.spec.sample_format ≡ format → ⊥
-IsEncodeError format container s values room NotWritable =
-    (IsPair s.spec.sample_format s.spec.bits_per_sample s.bytes_per_sample → ⊥)
-    ⊎ ((s.spec.sample_format ≡ format) × (containers_in container s values ≡ Err unsupported))
-IsEncodeError format container s values room TooWide =
-    (s.spec.sample_format ≡ format) × (containers_in container s values ≡ Err too_wide)
 IsEncodeError format container s values room NoRoom = room < length values * s.bytes_per_sample
-IsEncodeError format container s values room _ = ⊥
+IsEncodeError format container s values room error = IsUnencoded format container s values error
 
 -- what encoding does, by its outcome: the containers of the values are the front of the caller's
 -- memory

@@ -7,7 +7,7 @@ use crate::head::find_samples;
 use crate::writing::{check_samples, sizes_of, write_data_at};
 use hound_repair::set_sizes;
 use hound_sample::Sample;
-use hound_spec::{SampleFormat, is_pair};
+use hound_spec::SampleFormat;
 
 /// Appends samples after those of the file in the first bytes, and returns its new length.
 pub fn append_block<S: Sample + Copy>(
@@ -24,20 +24,12 @@ pub fn append_block<S: Sample + Copy>(
     }
     let (head, stored) = find_samples(&file[..used])?;
     let spec_ex = head.spec_ex;
-    if spec_ex.spec.sample_format != format {
-        return Err(CallError::OtherFormat);
-    }
-    let bits = spec_ex.spec.bits_per_sample;
-    let width = spec_ex.bytes_per_sample;
-    if !is_pair(spec_ex.spec.sample_format, bits, width) {
-        return Err(CallError::NotWritable);
-    }
+    check_samples(spec_ex, format, samples)?;
     let data_start = head.data_start as usize;
-    let end = data_start + stored as usize * width as usize;
+    let end = data_start + stored as usize * spec_ex.bytes_per_sample as usize;
     if end > used {
         return Err(CallError::Truncated);
     }
-    check_samples(samples, bits, width)?;
     if samples.len() > u32::MAX as usize {
         return Err(CallError::TooLong);
     }
@@ -46,7 +38,7 @@ pub fn append_block<S: Sample + Copy>(
     if size > file.len() {
         return Err(CallError::NoRoom);
     }
-    write_data_at(file, end, samples, bits, width, data_length);
+    write_data_at(file, end, samples, spec_ex, data_length);
     set_sizes(file, data_start - 4, (size - 8) as u32, data_length);
     Ok(size)
 }

@@ -21,10 +21,7 @@ fn padded(bytes: [u8; 4]) -> [u8; 40]
     ensures { result ≡ bytes ++ replicate 36 0 }
 {
     let mut padded = [0; 40];
-    padded[0] = bytes[0];
-    padded[1] = bytes[1];
-    padded[2] = bytes[2];
-    padded[3] = bytes[3];
+    padded[..4].copy_from_slice(&bytes);
     padded
 }
 

@@ -1,7 +1,9 @@
 // Why a call doesn't do its work, and the number that C gets for it.
 ghost use Rattle.std.specs.Prelude.{◌≡◌, ◌<◌, ◌^◌, IfOk};
-ghost use Rattle.hound_slices.specs.Codes.{error_code, code_for};
+ghost use Rattle.hound_slices.specs.Codes.{error_code, error_of_rejection, code_for};
+ghost use Rattle.hound_slices.specs.declared.error.CallError.TheVariants.{Head};
 
+use hound_repair::Rejection;
 use hound_walk::Cause;
 use hound_writer::RecorderError;
 
@@ -28,6 +30,26 @@ pub enum CallError {
     NotPerformed,
     /// A recorder returns this error.
     Recorder(RecorderError),
+}
+
+impl From<Cause> for CallError {
+    ghost from_gives = { λ cause error. error ≡ Head cause };
+
+    fn from(cause: Cause) -> CallError {
+        CallError::Head(cause)
+    }
+}
+
+impl From<Rejection> for CallError {
+    ghost from_gives = { λ why error. error ≡ error_of_rejection why };
+
+    fn from(why: Rejection) -> CallError {
+        match why {
+            Rejection::Head(cause) => CallError::Head(cause),
+            Rejection::Unsupported => CallError::NotWritable,
+            Rejection::TooLong => CallError::TooLong,
+        }
+    }
 }
 
 /// The number that C gets for an error.

@@ -1,10 +1,11 @@
 // Recorders, as C has them.
 ghost use Rattle.std.specs.Prelude.{◌≡◌};
-ghost use Rattle.hound_slices.specs.Recording.{file_state, found_file, mends, overwrites, recorder_for_c};
+ghost use Rattle.hound_slices.specs.Recording.{found_file, mends, overwrites, recorder_for_c};
 
 use crate::effect::{HoundEffect, effect_for_c};
+use crate::repairing::state_of_code;
 use crate::spec::{HoundRepair, spec_from_c};
-use hound_writer::{FileState, FoundFile, Recorder};
+use hound_writer::{FoundFile, Recorder};
 
 /// A recorder, and what its caller is to do.
 #[repr(C)]
@@ -24,17 +25,6 @@ pub fn recorder_for_c(recorder: Recorder) -> HoundRecorder
     }
 }
 
-// How a file was found, by its number.
-fn file_state(state: u32) -> FileState
-    ensures { result ≡ file_state state }
-{
-    match state {
-        0 => FileState::Whole,
-        1 => FileState::CutOff,
-        _ => FileState::HasChunksAfterData,
-    }
-}
-
 /// The file that C's is.
 pub fn found_file(found: &HoundRepair) -> FoundFile
     ensures { result ≡ found_file found.now }
@@ -45,7 +35,7 @@ pub fn found_file(found: &HoundRepair) -> FoundFile
         data_length: found.data_length,
         length: found.length,
         frames: found.frames,
-        state: file_state(found.state),
+        state: state_of_code(found.state),
     }
 }
 

@@ -1,22 +1,20 @@
 // The repair of a caller who reads and writes the file.
-ghost use Rattle.std.specs.Prelude.{◌≡◌, ◌<◌, ◌≤◌, Some, IfSome, IfOk};
-ghost use Rattle.hound_walk.specs.{IsSoundOption};
+ghost use Rattle.std.specs.Prelude.{◌≡◌, ◌≤◌, Some, IfSome, IfOk};
 ghost use Rattle.hound_repair.specs.{IsSoundHead, IsSoundRepairing, IsSoundStage};
 ghost use Rattle.hound_repair.specs.declared.steps.Repairing.TheVariants as states;
 ghost use Rattle.hound_repair.specs.declared.steps.Stage.TheVariants as stages;
-ghost use Rattle.hound_slices.specs.Repairers.{BeginsRepairer, StepsRepairer, after_head, count_of, failure_of_code, error_of, head_of, repairing_of, state_of_code, task_of};
+ghost use Rattle.hound_slices.specs.Effects.{effect_of};
+ghost use Rattle.hound_slices.specs.Repairers.{BeginsRepairer, StepsRepairer, after_head, count_of, failure_of_code, error_of, head_of, repairing_of, task_of};
 
 use crate::effect::{HoundEffect, effect_for_c, report_of};
 use crate::error::CallError;
-use crate::repairing::{repair_for_c, state_code};
+use crate::repairing::{repair_for_c, state_code, state_of_code};
 use crate::spec::{HoundRepair, HoundSpec};
-use crate::walking::{found_for_c, found_of};
+use crate::walking::{found_for_c, found_of, numbers_of, walk_with};
 use hound_repair::{
-    Failure, Look, Rejection, RepairError, RepairState, RepairStep, Repairing, SeenHead, Stage,
-    Task, repair_next, seen_head,
+    Failure, RepairError, RepairStep, Repairing, SeenHead, Stage, Task, repair_next,
 };
-use hound_walk::{FileHead, HeadWalk, Part};
-use hound_writer::RecorderError;
+use hound_writer::{Action, RecorderError};
 
 /// A repairer of a file that the caller reads and writes.
 #[repr(C)]
@@ -47,17 +45,6 @@ fn task_of(mode: u32) -> Task
     }
 }
 
-// How a file was found, by its number.
-fn state_of_code(number: u32) -> RepairState
-    ensures { result ≡ state_of_code number }
-{
-    match number {
-        0 => RepairState::Whole,
-        1 => RepairState::CutOff,
-        _ => RepairState::HasChunksAfterData,
-    }
-}
-
 // What failed, by its number.
 fn failure_of_code(number: u32) -> Failure
     ensures { result ≡ failure_of_code number }
@@ -83,14 +70,8 @@ fn head_of(c: HoundRepairer) -> Option<SeenHead>
     ensures is { result ≡ head_of c }
     ensures sound { IfSome result IsSoundHead }
 {
-    let spec_ex = match found_of(c.spec) {
-        None => return None,
-        Some(spec_ex) => spec_ex,
-    };
-    if c.data_start < 20 {
-        return None;
-    }
-    if c.data_start > 20 + u32::MAX as u64 {
+    let spec_ex = found_of(c.spec)?;
+    if c.data_start < 20 || c.data_start > 20 + u32::MAX as u64 {
         return None;
     }
     Some(SeenHead {
@@ -101,19 +82,6 @@ fn head_of(c: HoundRepairer) -> Option<SeenHead>
     })
 }
 
-// The head of the file alone.
-fn file_head(head: SeenHead) -> FileHead
-    ensures spec { result.spec_ex ≡ head.spec_ex }
-    ensures counted { result.data_length ≡ head.data_length }
-    ensures start { result.data_start ≡ head.data_start }
-{
-    FileHead {
-        spec_ex: head.spec_ex,
-        data_length: head.data_length,
-        data_start: head.data_start,
-    }
-}
-
 // Where a repairer is that has found the head.
 fn after_head(c: HoundRepairer, head: SeenHead) -> Repairing
     requires { IsSoundHead head }
@@ -121,7 +89,7 @@ fn after_head(c: HoundRepairer, head: SeenHead) -> Repairing
     ensures sound { IsSoundRepairing result }
 {
     match c.part {
-        4 => Repairing::Looks(Stage::Last(file_head(head))),
+        4 => Repairing::Looks(Stage::Last(head)),
         5 => Repairing::Looks(Stage::Size(head)),
         6 => Repairing::Looks(Stage::Chunk(head, c.place, true)),
         7 => Repairing::Looks(Stage::Chunk(head, c.place, false)),
@@ -131,31 +99,14 @@ fn after_head(c: HoundRepairer, head: SeenHead) -> Repairing
     }
 }
 
-// The part of the header that C's repairer asks for.
-fn walk_of(c: HoundRepairer) -> HeadWalk
-    requires { c.part < 4 }
-    ensures is { repairing_of c ≡ states.Looks (stages.Head result) }
-    ensures sound { IsSoundOption result.found }
-{
-    HeadWalk {
-        found: found_of(c.spec),
-        taken: c.taken,
-        part: match c.part {
-            0 => Part::Front,
-            1 => Part::Header,
-            2 => Part::Last,
-            _ => Part::Fmt(c.fmt_length),
-        },
-    }
-}
-
 // The repair that C's is.
 fn repairing_of(c: HoundRepairer) -> Repairing
     ensures is { result ≡ repairing_of c }
     ensures sound { IsSoundRepairing result }
 {
     if c.part < 4 {
-        return Repairing::Looks(Stage::Head(walk_of(c)));
+        let walk = walk_with(c.spec, c.taken, c.part, c.fmt_length);
+        return Repairing::Looks(Stage::Head(walk));
     }
     if c.part == 11 {
         return Repairing::Failed(failure_of_code(c.number));
@@ -189,22 +140,21 @@ fn with_head(c: HoundRepairer, head: SeenHead, part: u32, place: u64, number: u3
     }
 }
 
-// C's form of a look, with the length and the task of this one.
-fn stage_for_c(c: HoundRepairer, stage: Stage) -> HoundRepairer
-    requires { IsSoundStage stage }
-    ensures is { repairing_of result ≡ states.Looks stage }
+// C's form of a repair that requests this, with the length and the task of this one.
+fn repairer_for_c(c: HoundRepairer, state: Repairing, action: Option<Action>) -> HoundRepairer
+    requires { IsSoundRepairing state }
+    ensures is { repairing_of result ≡ state }
     ensures length { result.length ≡ c.length }
     ensures mode { result.mode ≡ c.mode }
-    ensures effect { result.effect ≡ c.effect }
+    ensures effect { result.effect ≡ effect_of action }
 {
-    match stage {
-        Stage::Head(walk) => {
-            let (part, fmt_length) = match walk.part {
-                Part::Front => (0, 0),
-                Part::Header => (1, 0),
-                Part::Last => (2, 0),
-                Part::Fmt(length) => (3, length),
-            };
+    let c = HoundRepairer {
+        effect: effect_for_c(action),
+        ..c
+    };
+    match state {
+        Repairing::Looks(Stage::Head(walk)) => {
+            let (part, fmt_length) = numbers_of(walk.part);
             HoundRepairer {
                 spec: found_for_c(walk.found),
                 taken: walk.taken,
@@ -213,25 +163,11 @@ fn stage_for_c(c: HoundRepairer, stage: Stage) -> HoundRepairer
                 ..c
             }
         }
-        Stage::Last(head) => with_head(c, seen_head(head, false), 4, 0, 0),
-        Stage::Size(head) => with_head(c, head, 5, 0, 0),
-        Stage::Chunk(head, place, padded) => {
-            with_head(c, head, if padded { 6 } else { 7 }, place, 0)
-        }
-        Stage::Tag(head) => with_head(c, head, 8, 0, 0),
-    }
-}
-
-// C's form of a repair, with the length and the task of this one.
-fn repairer_for_c(c: HoundRepairer, state: Repairing) -> HoundRepairer
-    requires { IsSoundRepairing state }
-    ensures is { repairing_of result ≡ state }
-    ensures length { result.length ≡ c.length }
-    ensures mode { result.mode ≡ c.mode }
-    ensures effect { result.effect ≡ c.effect }
-{
-    match state {
-        Repairing::Looks(stage) => stage_for_c(c, stage),
+        Repairing::Looks(Stage::Last(head)) => with_head(c, head, 4, 0, 0),
+        Repairing::Looks(Stage::Size(head)) => with_head(c, head, 5, 0, 0),
+        Repairing::Looks(Stage::Chunk(head, place, true)) => with_head(c, head, 6, place, 0),
+        Repairing::Looks(Stage::Chunk(head, place, false)) => with_head(c, head, 7, place, 0),
+        Repairing::Looks(Stage::Tag(head)) => with_head(c, head, 8, 0, 0),
         Repairing::Mends(head, number) => with_head(c, head, 9, 0, number),
         Repairing::Found(head, found) => with_head(c, head, 10, 0, state_code(found)),
         Repairing::Failed(failure) => HoundRepairer {
@@ -243,16 +179,11 @@ fn repairer_for_c(c: HoundRepairer, state: Repairing) -> HoundRepairer
 }
 
 // How many bytes a repairer has asked for.
-fn count_of(state: Repairing, length: u64, task: Task) -> usize
+fn count_of(state: Repairing) -> usize
     ensures { result ≡ count_of state }
 {
     match state {
-        Repairing::Looks(stage) => Look {
-            length,
-            rest: task.rest(),
-            stage,
-        }
-        .count(),
+        Repairing::Looks(stage) => stage.count(),
         _ => 0,
     }
 }
@@ -262,9 +193,7 @@ fn error_of(error: RepairError) -> CallError
     ensures { result ≡ error_of error }
 {
     match error {
-        RepairError::Rejected(Rejection::Head(cause)) => CallError::Head(cause),
-        RepairError::Rejected(Rejection::Unsupported) => CallError::NotWritable,
-        RepairError::Rejected(Rejection::TooLong) => CallError::TooLong,
+        RepairError::Rejected(why) => why.into(),
         RepairError::Failed(Failure::Sync) => CallError::Recorder(RecorderError::SyncFailed),
         RepairError::Failed(Failure::Call) => CallError::NotPerformed,
     }
@@ -301,7 +230,7 @@ pub fn step_repairer(
     let c = *repairer;
     let task = task_of(c.mode);
     let mut state = repairing_of(c);
-    let asked = count_of(state, c.length, task);
+    let asked = count_of(state);
     let read = (c.effect.length.min(40) as usize).min(asked);
     let step = repair_next(
         &mut state,
@@ -312,32 +241,17 @@ pub fn step_repairer(
     );
     match step {
         Ok(RepairStep::Asks(action)) => {
-            *repairer = HoundRepairer {
-                effect: effect_for_c(Some(action)),
-                ..repairer_for_c(c, state)
-            };
+            *repairer = repairer_for_c(c, state, Some(action));
             Ok(1)
         }
-        Ok(RepairStep::Found(repair)) => {
-            let next = repairer_for_c(c, state);
-            let head = FileHead {
-                spec_ex: repair.spec_ex,
-                data_length: next.data_length,
-                data_start: next.data_start,
-            };
-            *found = repair_for_c(repair, head, c.length);
-            *repairer = HoundRepairer {
-                effect: effect_for_c(None),
-                ..next
-            };
+        Ok(RepairStep::Found(damage)) => {
+            *found = repair_for_c(damage, c.length);
+            *repairer = repairer_for_c(c, state, None);
             Ok(0)
         }
-        Err(RepairError::Rejected(why)) => Err(error_of(RepairError::Rejected(why))),
+        Err(RepairError::Rejected(why)) => Err(why.into()),
         Err(RepairError::Failed(failure)) => {
-            *repairer = HoundRepairer {
-                effect: effect_for_c(None),
-                ..repairer_for_c(c, state)
-            };
+            *repairer = repairer_for_c(c, state, None);
             Err(error_of(RepairError::Failed(failure)))
         }
     }

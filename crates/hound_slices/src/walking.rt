@@ -1,8 +1,8 @@
 // The walk of a caller who reads the file.
-ghost use Rattle.std.specs.Prelude.{◌≡◌, pos};
+ghost use Rattle.std.specs.Prelude.{◌≡◌, ◌<◌, pos};
 ghost use Rattle.hound_walk.specs.{IsSoundOption};
 ghost use Rattle.hound_slices.specs.Effects.{report_of};
-ghost use Rattle.hound_slices.specs.Walks.{AnswersPart, Asks, FindsHead, bytes_of_part, found_of, walk_of};
+ghost use Rattle.hound_slices.specs.Walks.{AnswersPart, Asks, FindsHead, bytes_of_part, found_of, part_of, walk_of, walk_with};
 
 use crate::effect::{effect_for_c, report_of};
 use crate::error::{CallError, code_of_error};
@@ -29,21 +29,42 @@ pub(crate) fn found_of(spec: HoundSpec) -> Option<WavSpecEx>
     Some(spec_ex)
 }
 
+// The walk with C's numbers.
+pub(crate) fn walk_with(spec: HoundSpec, taken: u32, part: u32, fmt_length: u32) -> HeadWalk
+    ensures is { result ≡ walk_with spec taken part fmt_length }
+    ensures sound { IsSoundOption result.found }
+{
+    HeadWalk {
+        found: found_of(spec),
+        taken,
+        part: match part {
+            0 => Part::Front,
+            1 => Part::Header,
+            2 => Part::Last,
+            _ => Part::Fmt(fmt_length),
+        },
+    }
+}
+
+// The numbers of a part.
+pub(crate) fn numbers_of(part: Part) -> (u32, u32)
+    ensures is { part_of result.0 result.1 ≡ part }
+    ensures few { result.0 < 4 }
+{
+    match part {
+        Part::Front => (0, 0),
+        Part::Header => (1, 0),
+        Part::Last => (2, 0),
+        Part::Fmt(length) => (3, length),
+    }
+}
+
 // The walk that C's is.
 fn walk_of(walk: HoundWalk) -> HeadWalk
     ensures is { result ≡ walk_of walk }
     ensures sound { IsSoundOption result.found }
 {
-    HeadWalk {
-        found: found_of(walk.spec),
-        taken: walk.taken,
-        part: match walk.part {
-            0 => Part::Front,
-            1 => Part::Header,
-            2 => Part::Last,
-            _ => Part::Fmt(walk.fmt_length),
-        },
-    }
+    walk_with(walk.spec, walk.taken, walk.part, walk.fmt_length)
 }
 
 // The bytes of the part that C's walk asks for, as they were read.
@@ -77,12 +98,7 @@ fn walk_for_c(walk: HeadWalk) -> HoundWalk
     ensures is { walk_of result ≡ walk }
     ensures asks { Asks result }
 {
-    let (part, fmt_length) = match walk.part {
-        Part::Front => (0, 0),
-        Part::Header => (1, 0),
-        Part::Last => (2, 0),
-        Part::Fmt(length) => (3, length),
-    };
+    let (part, fmt_length) = numbers_of(walk.part);
     HoundWalk {
         effect: effect_for_c(Some(Action::Read(walk.start(), walk.length() as u32))),
         spec: found_for_c(walk.found),

@@ -1,8 +1,9 @@
 // Whole files that are written.
 ghost use Rattle.std.specs.Prelude.{◌≡◌, ◌+◌, ◌*◌, ◌%◌, ◌^◌, ◌≤◌, ◌++◌, IsOk, IfOk, IfErr, length, take, drop};
-ghost use Rattle.hound_spec.specs.{IsWritable, greatest_u32, data_start, header, padded, padding, riff_size};
-ghost use Rattle.hound_sample.specs.{all_containers, joined_containers};
-ghost use Rattle.hound_slices.specs.Writing.{Encodes, GivesHeader, GivesSizes, IsSizeError, Sizes, WritesFile, check_of, spec_from_c};
+ghost use Rattle.hound_spec.specs.{IsPair, IsWritable, greatest_u32, data_start, header, padded, padding, riff_size};
+ghost use Rattle.hound_sample.specs.{joined_containers};
+ghost use Rattle.hound_writer.specs.{containers_in};
+ghost use Rattle.hound_slices.specs.Writing.{Encodes, GivesHeader, GivesSizes, IsSizeError, IsUnencoded, Sizes, WritesFile, spec_from_c};
 
 use crate::error::CallError;
 use crate::spec::{HoundSpec, spec_from_c};
@@ -10,14 +11,26 @@ use hound_number::le_u32;
 use hound_sample::{Sample, SampleError, check_containers, have_containers, store_containers};
 use hound_spec::{SampleFormat, WavSpecEx, header_length, header_of, is_pair, riff_size_fits};
 
-/// Checks that all samples have containers.
+/// Checks that samples of a format have containers of a spec, which is written.
 pub(crate) fn check_samples<S: Sample + Copy>(
+    spec_ex: WavSpecEx,
+    format: SampleFormat,
     samples: &[S],
-    bits: u16,
-    width: u16,
 ) -> Result<(), CallError>
-    ensures { result ≡ check_of (all_containers (λ s. S.container s bits width) samples.now) }
+    ensures format { IfOk result (λ _. spec_ex.spec.sample_format ≡ format) }
+    ensures pair { IfOk result (λ _.
+        IsPair spec_ex.spec.sample_format spec_ex.spec.bits_per_sample spec_ex.bytes_per_sample) }
+    ensures have { IfOk result (λ _. IsOk (containers_in S.container spec_ex samples.now)) }
+    ensures unencoded { IfErr result (IsUnencoded format S.container spec_ex samples.now) }
 {
+    let bits = spec_ex.spec.bits_per_sample;
+    let width = spec_ex.bytes_per_sample;
+    if spec_ex.spec.sample_format != format {
+        return Err(CallError::OtherFormat);
+    }
+    if !is_pair(format, bits, width) {
+        return Err(CallError::NotWritable);
+    }
     if have_containers(samples, bits, width) {
         return Ok(());
     }
@@ -33,19 +46,25 @@ pub(crate) fn write_data_at<S: Sample + Copy>(
     out: &mut [u8],
     at: usize,
     samples: &[S],
-    bits: u16,
-    width: u16,
+    spec_ex: WavSpecEx,
     data_length: u32,
 )
-    requires have { IsOk (all_containers (λ s. S.container s bits width) samples.now) }
-    requires width { width ≤ 4 }
-    requires room { at + width * length samples.now + data_length % 2 ≤ length out.old }
-    ensures { let body = joined_containers (λ s. S.container s bits width) samples.now in
+    requires have { IsOk (containers_in S.container spec_ex samples.now) }
+    requires width { spec_ex.bytes_per_sample ≤ 4 }
+    requires room { at + spec_ex.bytes_per_sample * length samples.now + data_length % 2 ≤ length out.old }
+    ensures { let s = spec_ex in
+        let body = joined_containers (λ v. S.container v s.spec.bits_per_sample s.bytes_per_sample) samples.now in
         out.new ≡ take at out.old ++ ((body ++ padding data_length)
-        ++ drop (at + (width * length samples.now + data_length % 2)) out.old) }
+        ++ drop (at + (s.bytes_per_sample * length samples.now + data_length % 2)) out.old) }
 {
+    let width = spec_ex.bytes_per_sample;
     let end = at + width as usize * samples.len();
-    store_containers(&mut out[at..end], samples, bits, width);
+    store_containers(
+        &mut out[at..end],
+        samples,
+        spec_ex.spec.bits_per_sample,
+        width,
+    );
     if data_length % 2 == 1 {
         out[end] = 0;
     }
@@ -172,19 +191,14 @@ pub fn write_file<S: Sample + Copy>(
     if !spec_ex.is_writable() {
         return Err(CallError::NotWritable);
     }
-    if spec_ex.spec.sample_format != format {
-        return Err(CallError::OtherFormat);
-    }
-    let bits = spec_ex.spec.bits_per_sample;
-    let width = spec_ex.bytes_per_sample;
-    check_samples(samples, bits, width)?;
+    check_samples(spec_ex, format, samples)?;
     let data_start = header_length(spec_ex);
     let (data_length, size) = sizes_of(spec_ex, data_start, samples.len() as u64)?;
     if size > out.len() {
         return Err(CallError::NoRoom);
     }
     put_header(spec_ex, (size - 8) as u32, data_length, out);
-    write_data_at(out, data_start, samples, bits, width, data_length);
+    write_data_at(out, data_start, samples, spec_ex, data_length);
     Ok(size)
 }
 
@@ -199,19 +213,17 @@ pub fn encode_block<S: Sample + Copy>(
     ensures within { IfOk result (λ n. n ≤ length out.old) }
 {
     let spec_ex = spec_from_c(spec);
-    if spec_ex.spec.sample_format != format {
-        return Err(CallError::OtherFormat);
-    }
-    let bits = spec_ex.spec.bits_per_sample;
+    check_samples(spec_ex, format, samples)?;
     let width = spec_ex.bytes_per_sample;
-    if !is_pair(spec_ex.spec.sample_format, bits, width) {
-        return Err(CallError::NotWritable);
-    }
-    check_samples(samples, bits, width)?;
     if samples.len() > out.len() / width as usize {
         return Err(CallError::NoRoom);
     }
     let end = samples.len() * width as usize;
-    store_containers(&mut out[..end], samples, bits, width);
+    store_containers(
+        &mut out[..end],
+        samples,
+        spec_ex.spec.bits_per_sample,
+        width,
+    );
     Ok(end)
 }

@@ -4,8 +4,8 @@ use Rattle.hound_writer.specs.Recorder.{AppendsRecorder, recorder_of}
 use Rattle.hound_writer.specs.declared.recorder.Recorder.{Recorder}
 use Rattle.hound_writer.specs.declared.recorder.RecorderError.{RecorderError}
 use Rattle.hound_writer.specs.declared.recorder.RecorderError.TheVariants.{CutOff, HasChunksAfterData, Truncated}
-use Rattle.hound_writer.specs.declared.resuming.FileState.{FileState}
-use Rattle.hound_writer.specs.declared.resuming.FileState.TheVariants.{Whole, CutOff as WasCutOff, HasChunksAfterData as HasChunks}
+use Rattle.hound_writer.specs.declared.resuming.RepairState.{RepairState}
+use Rattle.hound_writer.specs.declared.resuming.RepairState.TheVariants.{Whole, CutOff as WasCutOff, HasChunksAfterData as HasChunks}
 use Rattle.hound_writer.specs.declared.resuming.FoundFile.{FoundFile}
 
 -- how many bytes a frame of the file has
@@ -20,7 +20,7 @@ ends_whole f = nat_lt 0 (found_frame f) && ((f.data_length % found_frame f == 0)
     && nat_le f.length (f.data_start + f.data_length + f.data_length % 2)))
 
 -- how many bytes of data are kept of a file that continues after those that its header counts
-abbrev pub kept_as : FileState → FoundFile → Bool → Bool → Result ℕ RecorderError
+abbrev pub kept_as : RepairState → FoundFile → Bool → Bool → Result ℕ RecorderError
 kept_as Whole f mends overwrites = Ok f.data_length
 kept_as WasCutOff f mends overwrites = if mends then Ok (f.frames * found_frame f) else Err CutOff
 kept_as HasChunks f mends overwrites = if overwrites then Ok f.data_length else Err HasChunksAfterData

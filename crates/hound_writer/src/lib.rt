@@ -25,5 +25,5 @@ pub use laws::{
 };
 pub use patch::{patch as patch_sizes, put_at};
 pub use recorder::{Recorder, RecorderError};
-pub use resuming::{FileState, FoundFile};
+pub use resuming::{FoundFile, RepairState};
 pub use write::WavWriter;

@@ -4,18 +4,34 @@ ghost use Rattle.hound_writer.specs.Resuming.{ContinuesAfter, Resumes, ends_whol
 
 use crate::recorder::{Recorder, RecorderError};
 use hound_spec::WavSpecEx;
+use std::fmt;
 
-/// How a file was found.
+/// What a file was found as.
 #[derive(Clone, Copy, Debug, PartialEq, Eq)]
-pub enum FileState {
-    /// Its sizes are right.
+pub enum RepairState {
+    /// Both sizes are right: those of the whole frames that the file holds.
     Whole,
 
-    /// Its recording was cut off.
+    /// A size is wrong, as where a recording was cut off.
     CutOff,
 
-    /// Chunks or a tag follow the data.
+    /// Something follows the data, by the data length, so the file wasn't cut off in them: a chunk
+    /// with a tag of RIFF or its common extensions, as `LIST`, `bext` or `id3 `, which may itself be
+    /// cut off; chunks with printable tags to the end of the file; or an ID3v1 tag at the end. The
+    /// pad byte after the data may lack.
     HasChunksAfterData,
+}
+
+/// A sentence without its full stop, for a user.
+impl fmt::Display for RepairState {
+    fn fmt<W: fmt::Write>(&self, f: &mut fmt::Formatter<W>) -> fmt::Result {
+        f.write_str(match self {
+            RepairState::Whole => "the file is whole",
+            RepairState::CutOff => "the recording was cut off",
+            RepairState::HasChunksAfterData =>
+                "something follows the data, so they weren't cut off",
+        })
+    }
 }
 
 /// A file that was found, as a repair reports it.
@@ -37,7 +53,7 @@ pub struct FoundFile {
     pub frames: u32,
 
     /// How it was found.
-    pub state: FileState,
+    pub state: RepairState,
 }
 
 impl FoundFile {
@@ -76,11 +92,11 @@ impl FoundFile {
             return Ok(counted);
         }
         match self.state {
-            FileState::Whole => Ok(counted),
-            FileState::CutOff if mends => Ok(self.frames as u64 * self.frame_length() as u64),
-            FileState::CutOff => Err(RecorderError::CutOff),
-            FileState::HasChunksAfterData if overwrites => Ok(counted),
-            FileState::HasChunksAfterData => Err(RecorderError::HasChunksAfterData),
+            RepairState::Whole => Ok(counted),
+            RepairState::CutOff if mends => Ok(self.frames as u64 * self.frame_length() as u64),
+            RepairState::CutOff => Err(RecorderError::CutOff),
+            RepairState::HasChunksAfterData if overwrites => Ok(counted),
+            RepairState::HasChunksAfterData => Err(RecorderError::HasChunksAfterData),
         }
     }
 }

@@ -3,7 +3,7 @@ use Rattle.std.proofs.Common.{◌≡◌, ◌-◌, ◌*◌, ◌/◌, ◌∙◌, L
 use Rattle.std.specs.Borrow.{Bor}
 use Rattle.hound.proofs.Knowing.{head_inside}
 use Rattle.hound.specs.{FoundFile, IsSoundSpec, Readable, resumed_file}
-use Rattle.hound.specs.declared.FileState.TheVariants.{HasChunksAfterData}
+use Rattle.hound.specs.declared.RepairState.TheVariants.{HasChunksAfterData}
 use Rattle.hound_callers.proofs.Performing.{log_of, saves}
 use Rattle.hound_callers.proofs.Resuming.{kept_all, not_resumed, too_long}
 use Rattle.hound_callers.proofs.recorder.append_by_effects.Goals as goal

@@ -1,16 +1,12 @@
-use Rattle.std.proofs.Common.{sym, subst, arith, length-drop}
-use Rattle.hound_walk.specs.{Head}
+use Rattle.std.proofs.Common.{arith, length-drop}
 use Rattle.hound_writer.proofs.Heads.{head_inside}
-use Rattle.hound_repair.specs.Steps.{IsShown}
-use Rattle.hound_repair.specs.declared.look.SeenHead.{SeenHead}
 use Rattle.hound_repair.proofs.Stepping.{none_counted}
 use Rattle.hound_repair.proofs.steps.after_head.Goals as goal
 
 pub returns-clause-at : goal.returns-clause-at
 returns-clause-at c = λ looks file size head.
     let h = c.args.head in
-    let inside = head_inside file h.spec_ex h.data_length h.data_start head in
-    subst (λ (seen : SeenHead). Head file seen.spec_ex seen.data_length seen.data_start × IsShown file seen) (sym c.seen_head.ensures) (
+    let inside = head_inside file h.spec_ex h.data_length h.data_start head in (
       head,
       λ few. omega (
         arith,

@@ -1,6 +1,6 @@
 use Rattle.hound_medium.specs.{WhereTells}
-use Rattle.hound_repair.specs.Damages.{IsSame, may_be_chunks}
-use Rattle.hound_repair.specs.Steps.{IsAtStage, IsLengthOf, IsSoundStage, steps_left}
+use Rattle.hound_repair.specs.Damages.{IsSame}
+use Rattle.hound_repair.specs.Steps.{IsAtStage, IsLengthOf, IsSoundStage, looks_for_chunks, steps_left}
 use Rattle.hound_repair.proofs.steps.look_by_parts.Given as goal
 
 abbrev pub invariant-parts : goal.invariant-parts
@@ -10,7 +10,7 @@ invariant-parts g l = record {
   same : WhereTells g.S.Placed.tells
       (IsSame (g.S.Placed.state l.fn.source) (g.S.Placed.state l.source));
   at : WhereTells g.S.Placed.tells
-      (IsAtStage (may_be_chunks l.rest) (g.S.Placed.state l.fn.source).contents l.stage);
+      (IsAtStage (looks_for_chunks l.task) (g.S.Placed.state l.fn.source).contents l.stage);
 }
 
 abbrev pub decreases-parts : goal.decreases-parts

@@ -1,35 +1,35 @@
-use Rattle.std.proofs.Common.{sym, subst}
-use Rattle.hound_repair.specs.Damages.{may_be_chunks}
+use Rattle.std.proofs.Common.{inl, sym, subst}
+use Rattle.hound_repair.specs.Steps.{looks_for_chunks}
 use Rattle.hound_repair.specs.Repairing.{Repairs}
-use Rattle.hound_repair.proofs.ByEffects.{done_by, moments_by, not_by, not_by_moments, stopped_by}
+use Rattle.hound_repair.proofs.ByEffects.{done_by, moments_by, not_by, stopped_by}
 use Rattle.hound_repair.proofs.steps.repair_by_effects.Goals as goal
 
 pub returns-in-Err-clause-repaired : goal.returns-in-Err-clause-repaired
 returns-in-Err-clause-repaired g c modelled =
-    not_by (may_be_chunks c.args.rest) c.in-Err.error c.error_for.result _ _ (c.in-Err.ensures.finds modelled) c.error_for.ensures.names
+    not_by (looks_for_chunks c.args.task) c.in-Err.error _ _ (c.in-Err.ensures.finds modelled)
 
 pub returns-in-Ok-perform_all-clause-repaired : goal.returns-in-Ok-perform_all-clause-repaired
 returns-in-Ok-perform_all-clause-repaired g c modelled =
     let state = g.M.Placed.state in
-    subst (λ r. Repairs (may_be_chunks c.args.rest) (state c.args.medium) r (state c.perform_all.new.medium)) (sym c.repair.ensures)
-    (done_by (may_be_chunks c.args.rest) g.M.Placed.keeps _ _ _ c.in-Ok.damage c.in-Ok.ensures.sound (c.in-Ok.ensures.finds modelled)
+    subst (λ r. Repairs (looks_for_chunks c.args.task) (state c.args.medium) r (state c.perform_all.new.medium)) (sym c.repair.ensures)
+    (done_by (looks_for_chunks c.args.task) g.M.Placed.keeps _ _ _ c.in-Ok.damage c.in-Ok.ensures.sound (c.in-Ok.ensures.finds modelled)
     (g.met.M.Placed.bytes c.look_by_parts.new.source modelled) (c.in-Ok-perform_all.ensures modelled))
 
 pub returns-in-Err-perform_all-clause-repaired : goal.returns-in-Err-perform_all-clause-repaired
 returns-in-Err-perform_all-clause-repaired g c modelled =
-    stopped_by (may_be_chunks c.args.rest) g.M.Placed.keeps _ _ _ c.in-Ok.damage c.in-Ok.ensures.sound (c.in-Ok.ensures.finds modelled)
+    stopped_by (looks_for_chunks c.args.task) g.M.Placed.keeps _ _ _ c.in-Ok.damage c.in-Ok.ensures.sound (c.in-Ok.ensures.finds modelled)
     (g.met.M.Placed.bytes c.look_by_parts.new.source modelled) c.in-Err-perform_all.error (c.in-Err-perform_all.ensures modelled)
 
 pub returns-in-Err-clause-moments : goal.returns-in-Err-clause-moments
 returns-in-Err-clause-moments g c modelled kept =
-    not_by_moments (may_be_chunks c.args.rest) c.in-Err.error _ _ (c.in-Err.ensures.finds modelled)
+    inl (c.in-Err.ensures.finds modelled).puts.stays.past
 
 pub returns-in-Ok-perform_all-clause-moments : goal.returns-in-Ok-perform_all-clause-moments
 returns-in-Ok-perform_all-clause-moments g c modelled kept =
-    moments_by (may_be_chunks c.args.rest) g.M.Placed.keeps _ _ _ c.in-Ok.damage c.in-Ok.ensures.sound (c.in-Ok.ensures.finds modelled)
+    moments_by (looks_for_chunks c.args.task) g.M.Placed.keeps _ _ _ c.in-Ok.damage c.in-Ok.ensures.sound (c.in-Ok.ensures.finds modelled)
     (g.met.M.Placed.bytes c.look_by_parts.new.source modelled) _ kept (g.met.M.Medium.replays c.look_by_parts.new.source modelled kept) (c.in-Ok-perform_all.ensures modelled)
 
 pub returns-in-Err-perform_all-clause-moments : goal.returns-in-Err-perform_all-clause-moments
 returns-in-Err-perform_all-clause-moments g c modelled kept =
-    moments_by (may_be_chunks c.args.rest) g.M.Placed.keeps _ _ _ c.in-Ok.damage c.in-Ok.ensures.sound (c.in-Ok.ensures.finds modelled)
+    moments_by (looks_for_chunks c.args.task) g.M.Placed.keeps _ _ _ c.in-Ok.damage c.in-Ok.ensures.sound (c.in-Ok.ensures.finds modelled)
     (g.met.M.Placed.bytes c.look_by_parts.new.source modelled) _ kept (g.met.M.Medium.replays c.look_by_parts.new.source modelled kept) (c.in-Err-perform_all.ensures modelled)

@@ -1,15 +1,11 @@
-use Rattle.std.proofs.Common.{◌+◌, ◌∙◌, sym, ap, subst}
+use Rattle.std.proofs.Common.{◌+◌, ◌∙◌, sym, ap}
 use Rattle.std.specs.Prelude.{if◌then◌else◌}
-use Rattle.hound_walk.specs.{Head}
-use Rattle.hound_repair.specs.Steps.{IsShown}
-use Rattle.hound_repair.specs.declared.look.SeenHead.{SeenHead}
 use Rattle.hound_repair.proofs.Stepping.{last_read}
 use Rattle.hound_repair.proofs.steps.take_last.Goals as goal
 
 pub returns-clause-leads : goal.returns-clause-leads
 returns-clause-leads c = λ looks file at is.
-    let h = c.args.head in
-    subst (λ (seen : SeenHead). Head file seen.spec_ex seen.data_length seen.data_start × IsShown file seen) (sym c.seen_head.ensures) (
+    let h = c.args.head in (
       at.0,
       λ few.
           let read = last_read h.data_start h.data_length file c.args.bytes.now (at.1 few) is in

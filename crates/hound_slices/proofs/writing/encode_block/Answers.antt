@@ -4,7 +4,7 @@ use Rattle.std.proofs.lemmas.List.{drop_at, take_at}
 use Rattle.hound_writer.specs.{containers_in}
 use Rattle.hound_sample.proofs.Joined.{joined}
 use Rattle.hound_slices.specs.Writing.{Encodes, IsEncodeError}
-use Rattle.hound_slices.proofs.Checks.{failed, passed}
+use Rattle.hound_slices.proofs.Checks.{not_encoded, passed}
 use Rattle.hound_slices.proofs.writing.encode_block.Goals as goal
 
 pub returns-in_err-check_samples-clause-encodes : goal.returns-in_err-check_samples-clause-encodes
@@ -16,8 +16,8 @@ returns-in_err-check_samples-clause-encodes g c =
       refl,
       subst (λ s. IsEncodeError c.args.format g.S.Sample.container s c.args.samples.now (length c.args.out.now) error)
           c.spec_from_c-spec_ex.ensures
-          (failed (IsEncodeError c.args.format g.S.Sample.container c.spec_from_c-spec_ex.result c.args.samples.now (length c.args.out.now))
-          _ error c.in_err-check_samples.ensures (λ wide. (search rules, wide)) (λ none. inr (search rules, none))),
+          (not_encoded c.args.format g.S.Sample.container c.spec_from_c-spec_ex.result c.args.samples.now (length c.args.out.now) error
+          c.in_err-check_samples.ensures.unencoded),
     )
 
 pub returns-clause-encodes : goal.returns-clause-encodes
@@ -28,7 +28,7 @@ returns-clause-encodes g c =
     let n = length values * w in
     let rest = drop n c.args.out.now in
     let container = λ (v : g.row.S.Denot). g.S.Sample.container v s.spec.bits_per_sample w in
-    let (list, list_is) = passed (containers_in g.S.Sample.container s values) (search rules) in
+    let (list, list_is) = passed (containers_in g.S.Sample.container s values) c.in_ok-check_samples.ensures.have in
     let j = joined container w (λ _ b e. (g.met.S.Sample.in_width _ _ _ b e).0) values list list_is in
     let body_is = c.store_containers.ensures in
     let size : length c.store_containers.new.bytes ≡ n = ap length body_is ∙ omega (arith, j.size) in

@@ -10,7 +10,7 @@ use Rattle.hound_sample.specs.{joined_containers}
 use Rattle.hound_writer.specs.{containers_in}
 use Rattle.hound_sample.proofs.Joined.{joined}
 use Rattle.hound_slices.specs.Writing.{WritesFile, IsWriteError}
-use Rattle.hound_slices.proofs.Checks.{failed, passed}
+use Rattle.hound_slices.proofs.Checks.{not_written, passed}
 use Rattle.hound_slices.proofs.writing.write_file.Goals as goal
 
 pub returns-in_err-check_samples-clause-writes : goal.returns-in_err-check_samples-clause-writes
@@ -22,8 +22,8 @@ returns-in_err-check_samples-clause-writes g c =
       refl,
       subst (λ s. IsWriteError c.args.format g.S.Sample.container s c.args.samples.now (length c.args.out.now) error)
           c.spec_from_c-spec_ex.ensures
-          (failed (IsWriteError c.args.format g.S.Sample.container c.spec_from_c-spec_ex.result c.args.samples.now (length c.args.out.now))
-          _ error c.in_err-check_samples.ensures (λ wide. (search rules, wide)) (λ none. inr (search rules, none))),
+          (not_written c.args.format g.S.Sample.container c.spec_from_c-spec_ex.result c.args.samples.now (length c.args.out.now) error
+          c.in_err-check_samples.ensures.unencoded),
     )
 
 pub returns-clause-writes : goal.returns-clause-writes
@@ -36,7 +36,7 @@ returns-clause-writes g c =
     let start = c.header_length-data_start.result in
     let len = c.in_ok-data_length.data_length in
     let end = c.in_ok-data_length.size in
-    let (list, list_is) = passed (containers_in g.S.Sample.container s values) (search rules) in
+    let (list, list_is) = passed (containers_in g.S.Sample.container s values) c.in_ok-check_samples.ensures.have in
     let j = joined container w (λ _ b e. (g.met.S.Sample.in_width _ _ _ b e).0) values list list_is in
     let head = header s (end - 8) len in
     let head_long : length head ≡ start = length-header s (end - 8) len
