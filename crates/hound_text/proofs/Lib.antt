@@ -1,4 +1,3 @@
-pub mod Decimals
 pub mod Leading
 pub mod Rereading
 pub mod Saying
