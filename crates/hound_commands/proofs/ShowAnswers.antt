@@ -360,37 +360,6 @@ file_stops (Some xs) (Some ys) s n failure spec samples out0 out1 out2 head firs
       gets-written out0 out1 out2 text last gets written,
     )
 
--- ---- a fault that is reported for what was returned
-
-pub fault_reported : (input out0 out1 out2 : Option (List ℕ)) (result : Result (Unit {0}) Failure)
-    → OnOk result (Shows input out0 out1) → IfErr result (λ failure. ShowsUntil input failure out0 out1)
-    → Keeps out1 out2 → ShowsUntil input InputOrOutput out0 out2
-fault_reported None out0 out1 out2 result shown until keeps = tt
-fault_reported (Some bytes) out0 out1 out2 (Ok x) (text, shown, got) until keeps = (
-  text,
-  inr (record {
-    s = shown.s;
-    samples = shown.samples;
-    start = shown.start;
-    readable = shown.readable;
-    stops = whole_stops shown.s shown.samples (drop shown.start bytes) (spec_line shown.s.spec shown.samples) text shown.showable shown.text_is;
-  }),
-  appends-kept out0 out1 out2 text got keeps,
-)
-fault_reported (Some bytes) out0 out1 out2 (Err failure) shown (text, inl (cause, none), got) keeps =
-    (text, inl (tt, none), appends-kept out0 out1 out2 text got keeps)
-fault_reported (Some bytes) out0 out1 out2 (Err failure) shown (text, inr part, got) keeps = (
-  text,
-  inr (record {
-    s = part.s;
-    samples = part.samples;
-    start = part.start;
-    readable = part.readable;
-    stops = faulted part.s part.samples failure (drop part.start bytes) (spec_line part.s.spec part.samples) text part.stops;
-  }),
-  appends-kept out0 out1 out2 text got keeps,
-)
-
 -- the failure that `?` returns
 pub err_is : {T : Type 0} (Q : Failure → Type 0) (result : Result T Failure) (failure : Failure)
     → IsErrAnd result (λ e. e ≡ failure) → Q failure → IfErr result Q

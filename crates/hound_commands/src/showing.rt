@@ -16,22 +16,8 @@ use std::io::Write;
 // How many samples are read at once.
 const BLOCK_LENGTH: usize = 1024;
 
-/// Writes the lines of a file, as far as it can be read.
+/// Writes the lines of a file, that of its spec and those of its samples, as far as it can be read.
 pub fn show<R: io::Read, O: io::Write>(input: &mut R, output: &mut O) -> Result<(), Failure>
-    ensures shown { OnOk result (Shows (R.remaining input.old) (O.contents output.old)
-        (O.contents output.new)) }
-    ensures until { IfErr result (λ failure. ShowsUntil (R.remaining input.old) failure
-        (O.contents output.old) (O.contents output.new)) }
-{
-    let result = show_lines(input, output);
-    let flushed = output.flush();
-    result?;
-    flushed?;
-    Ok(())
-}
-
-// The lines of a file: that of its spec, and those of its samples.
-fn show_lines<R: io::Read, O: io::Write>(input: &mut R, output: &mut O) -> Result<(), Failure>
     ensures shown { OnOk result (Shows (R.remaining input.old) (O.contents output.old)
         (O.contents output.new)) }
     ensures until { IfErr result (λ failure. ShowsUntil (R.remaining input.old) failure
@@ -43,8 +29,12 @@ fn show_lines<R: io::Read, O: io::Write>(input: &mut R, output: &mut O) -> Resul
     let result = show_samples(&mut reader, &mut lines, output);
 
     // Those before a failure are shown.
-    lines.write_to(output)?;
-    result
+    let written = lines.write_to(output);
+    let flushed = output.flush();
+    written?;
+    result?;
+    flushed?;
+    Ok(())
 }
 
 // The line of a spec.
