@@ -1,8 +1,8 @@
-use Rattle.std.proofs.Common.{◌≡◌, ◌∙◌, ◌⊎◌, ℕ, ◌*◌, ◌<◌, ◌≤◌, false, Result, Ok, Err, IfErr, IfOk, MatchResult, inl, inr, subst, sym}
+use Rattle.std.proofs.Common.{◌≡◌, ◌∙◌, ◌≤◌, false, Result, Ok, Err, IfErr, IfOk, MatchResult, inl, inr, subst, sym}
 use Rattle.std.proofs.lemmas.Bool.{false≢true}
 use Rattle.std.proofs.lemmas.Nat.{mul-le}
 use Rattle.std.proofs.lemmas.Result.{MatchResult-weaker}
-use Rattle.hound.specs.{IsFoundAt, IsNotRepaired, IsSoundSpec, MediumState, PartlyMended, Repair, Repairs, WavSpecEx, found_length, frame_length}
+use Rattle.hound.specs.{IsSoundSpec, PartlyMended, WavSpecEx, found_length, frame_length}
 use Rattle.hound.specs.declared.RepairState.TheVariants.{CutOff, HasChunksAfterData}
 use Rattle.hound_callers.proofs.callers.repair_recording.Goals as goal
 
