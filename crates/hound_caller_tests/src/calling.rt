@@ -2,7 +2,7 @@
 use hound::{Source, WavReader, WavWriter};
 use hound_callers::{
     give_up_batch, look_and_repair, open_written, publish, read_block, read_from, record_at_once,
-    record_checkpoint, reopen, sample_at, samples_of,
+    reopen, sample_at, samples_of,
 };
 use hound_test_helpers::{FOUR_SAMPLES, NO_SAMPLES, empty_tape, sixteen, tape_of};
 use std::alloc::Global;
@@ -23,7 +23,7 @@ fn a_recorder_publishes_each_sample(rt: HostRuntime) -> Result<(), Fail> {
     let mut writer = WavWriter::new(empty_tape(rt.alloc()), sixteen(1))?;
     give_up_batch(rt.alloc(), &mut writer, 9)?;
     for sample in [2i16, -3, 5, -7] {
-        record_checkpoint(&mut writer, sample)?;
+        record_at_once(&mut writer, &[sample])?;
     }
     let published = publish(&mut writer)?;
     let tape = writer.drop_into();

@@ -2,9 +2,8 @@
 use hound::{Durable, RepairState, FoundFile, Journal, Step, Tape, WavReader, WavSpecEx, WavWriter};
 use hound_callers::{
     Twelve, append_blocks, append_by_effects, continue_by_effects, finish, finish_durable,
-    opened_meanwhile, pack_one, publish_and_continue, publish_durably, record_at_once,
-    record_batch, record_by_effects, record_mixed, record_safely, record_steps, record_twelve,
-    record_twelve_and_repair, record_twelve_through_a_loss, write_if_short,
+    opened_meanwhile, pack_one, publish_and_continue, publish_durably, record, record_at_once,
+    record_batch, record_by_effects, record_checkpoints, record_steps, write_if_short,
 };
 use hound_test_helpers::{FOUR_SAMPLES, empty_tape, integers, read_all, sixteen, tape_of};
 use std::alloc::Global;
@@ -35,27 +34,9 @@ fn holds(alloc: Global, bytes: &[u8], samples: &[i16]) -> bool {
 }
 
 fn records(alloc: Global, blocks: &[&[Twelve]]) -> bool {
-    match record_twelve(empty_tape(alloc), integers(1, 44100, 16, 2), blocks) {
+    match record(empty_tape(alloc), integers(1, 44100, 16, 2), blocks) {
         Ok(tape) => holds(alloc, tape.bytes(), &ACCEPTED),
         Err(_) => false,
-    }
-}
-
-fn repairs(alloc: Global, blocks: &[&[Twelve]]) -> bool {
-    match record_twelve_and_repair(empty_tape(alloc), integers(1, 44100, 16, 2), blocks) {
-        Ok((tape, found)) => found.frames == 6 && holds(alloc, tape.bytes(), &ACCEPTED),
-        Err(_) => false,
-    }
-}
-
-fn survives(alloc: Global, blocks: &[&[Twelve]]) -> hound::Result<bool> {
-    let journal = Journal::new(alloc, Vec::new(alloc))?;
-    match record_twelve_through_a_loss(journal, integers(1, 44100, 16, 2), blocks) {
-        Ok(journal) => {
-            let bytes = journal.bytes_after(alloc, journal.taken())?;
-            Ok(holds(alloc, &bytes, &ACCEPTED))
-        }
-        Err((_, error)) => Err(error),
     }
 }
 
@@ -86,7 +67,7 @@ fn published(
 ) -> hound::Result<Option<(usize, bool)>> {
     let mut journal = Journal::new(alloc, Vec::new(alloc))?;
     journal.fail(fail_from, u64::MAX);
-    let Ok((journal, count)) = record_safely(journal, integers(1, 44100, 16, 2), blocks) else {
+    let Ok((journal, count)) = record_checkpoints(journal, integers(1, 44100, 16, 2), blocks) else {
         return Ok(None);
     };
     let bytes = journal.bytes_after(alloc, journal.taken())?;
@@ -220,12 +201,14 @@ fn mends(alloc: Global, blocks: &[&[u8]], lost: &[bool]) -> hound::Result<bool> 
     Ok(count == Ok(3) && all.as_slice() == [2i16, -3, 5, -7, 2, -3, 5, -7].as_slice())
 }
 
+// After a sample of another type.
 fn takes_a_batch(alloc: Global) -> hound::Result<bool> {
     let mut writer = WavWriter::new(empty_tape(alloc), sixteen(1))?;
+    writer.write_sample(-8i8)?;
     record_batch(alloc, &mut writer, &[300, -301])?;
     let (tape, result) = writer.finalize_into();
     result?;
-    Ok(holds(alloc, tape.bytes(), &[300, -301]))
+    Ok(holds(alloc, tape.bytes(), &[-8, 300, -301]))
 }
 
 // 40000 needs more than sixteen bits.
@@ -282,14 +265,6 @@ fn takes_steps(alloc: Global) -> bool {
     }
 }
 
-fn mixes(alloc: Global) -> bool {
-    let spec_ex = WavSpecEx::from(sixteen(1));
-    match record_mixed(alloc, empty_tape(alloc), spec_ex, &[7, -8], &[300, -301]) {
-        Ok((tape, answer)) => answer.is_ok() && holds(alloc, tape.bytes(), &[7, -8, 300, -301]),
-        Err(_) => false,
-    }
-}
-
 // Publishes two samples and continues with a third. Who opens the file just before the sizes of the end are
 // written finds the two, and then all three.
 fn continues(alloc: Global) -> hound::Result<bool> {
@@ -309,14 +284,8 @@ fn continues(alloc: Global) -> hound::Result<bool> {
 fn recorders_leave_what_they_accepted(rt: HostRuntime) -> Result<(), Fail> {
     let alloc = rt.alloc();
     let blocks: &[&[Twelve]] = &BLOCKS;
-    let found = (
-        records(alloc, blocks),
-        repairs(alloc, blocks),
-        survives(alloc, blocks)?,
-        mixes(alloc),
-        appends(alloc, blocks)?,
-    );
-    assert_eq!(rt; found, (true, true, true, true, true));
+    assert!(rt; records(alloc, blocks));
+    assert!(rt; appends(alloc, blocks)?);
     Ok(())
 }
 

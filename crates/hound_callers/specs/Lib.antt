@@ -1,4 +1,3 @@
 pub mod Recording
 pub mod Recorder
 pub mod Twelve
-pub mod Either

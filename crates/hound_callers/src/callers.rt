@@ -1,14 +1,17 @@
 // Functions of a user of the library, whose contracts follow from its public ones.
-ghost use Rattle.std.specs.Prelude.{◌≡◌, ℕ, ◌/◌, ◌<◌, ◌++◌, ◌⊎◌, false, true, List, length, map, ◌∷◌, None, Some, Ok, Err, Result, IfErr, IfOk, IfSome, MatchResult, OnOk};
-ghost use Rattle.hound.specs.{AreKnown, Begun, Call, Checkpoints, Finishes, Known, ReadsAs, Recorded, found_in, start_of, IsSameFile, ReaderState, RepairsMedium, Seeks, containers, AreContainers, canonical, HasPublished, IsLeftAfter, Keeps, accepted_by_all, begins_at, container_in, one_more, samples_left, OpensAs, ReadsFrames, IsIoError, IsNext, IsSixteen, MediumState, WhereTells, Error, IsWritable, IsWhole, sample_count, WavSpecEx, container_at, meaning_at, rejection_at, samples_before, unread};
+ghost use Rattle.std.specs.Prelude.{◌≡◌, ℕ, ◌/◌, ◌<◌, ◌≤◌, ◌++◌, Bool, ◌⊎◌, false, true, List, length, map, ◌∷◌, None, Some, Ok, Err, Result, IfErr, IfOk, IfSome, MatchResult, OnOk};
+ghost use Rattle.std.specs.List.{AllByRecursion, concat};
+ghost use Rattle.hound.specs.{AreKnown, Begun, Call, Checkpoints, Finishes, Known, ReadsAs, Recorded, found_in, start_of, IsSameFile, ReaderState, RepairsMedium, Seeks, Repair, Repairs, IsFoundAt, Head, IsSoundSpec, IsStored, IsNoPad, shown_length, held, frame_length, containers, AreContainers, canonical, HasPublished, IsLeftAfter, Keeps, accepted_by_all, begins_at, one_more, samples_left, OpensAs, ReadsFrames, IsIoError, IsNext, IsSixteen, MediumState, WhereTells, Error, IsWritable, sample_count, WavSpecEx, container_at, meaning_at, rejection_at, samples_before, unread};
 ghost use Rattle.hound.specs.declared.Error.TheVariants.{OutOfMemory};
-ghost use Rattle.hound_callers.specs.Recording.{IsNoBatch, IsPublished, WritesAndFlushes, as_item};
+ghost use Rattle.hound.specs.declared.RepairState.TheVariants.{HasChunksAfterData, Whole};
+ghost use Rattle.hound_callers.specs.Recording.{IsNoBatch, as_item};
 
 use hound::{
     Error, Medium, Repair, Sample, Source, WavReader, WavWriter, a_look_finds_what_a_repair_does,
-    a_repair_loses_no_published_sample, a_seek_leads_to_its_frame, a_writer_holds_its_calls,
-    an_iterator_gives_what_it_hints, an_ok_flush_is_kept, find_damage, items_are_of_the_file,
-    one_answer, repair, repair_to_end, written_is_read,
+    a_repair_keeps_stored_samples, a_repair_loses_no_published_sample,
+    a_second_repair_writes_nothing, a_seek_leads_to_its_frame, a_stopped_repair_is_done_again,
+    a_writer_holds_its_calls, an_iterator_gives_what_it_hints, an_ok_flush_is_kept, find_damage,
+    items_are_of_the_file, one_answer, repair, repair_to_end, written_is_read,
 };
 use std::alloc::Global;
 use std::{io, result};
@@ -45,25 +48,10 @@ pub fn finish<M: Medium>(writer: WavWriter<M>) -> (M, hound::Result<()>)
     (medium, result)
 }
 
-/// Writes a sample and publishes it: the file is then read as the samples before and this one
-/// (`published`). An error is that of one of these calls, and there is no other (`calls`).
-pub fn record_checkpoint<S: Sample, M: Medium>(
-    writer: &mut WavWriter<M>,
-    sample: S,
-) -> hound::Result<()>
-    ensures published { WhereTells M.tells (IsWhole M.state writer.old → OnOk result (IsPublished M.state
-        (container_in S.container writer.old.spec_ex sample)
-        writer.old writer.new)) }
-    ensures calls { WritesAndFlushes M.Placed (container_in S.container writer.old.spec_ex sample)
-        result writer.old writer.new }
-{
-    writer.write_sample(sample)?;
-    writer.flush()
-}
-
 /// Repairs what a recorder has left, whoever made its calls, over whichever medium: it does what
 /// `repair_to_end` does (`repaired`), and no sample is missing that one of the recorder's flushes has
-/// published, whether calls failed or the power went (`none_lost`).
+/// published, whether calls failed or the power went (`none_lost`). Another repair then finds the file whole
+/// (`again`). One that failed has written nothing, or is done again: that finds the same frames (`stopped`).
 pub fn repair_recording<N: Source + Medium>(left: N) -> result::Result<(N, Repair), (N, Error)>
     requires place { WhereTells N.tells ((N.state left).place ≡ 0) }
     ensures repaired { WhereTells N.tells (RepairsMedium false N.state left result) }
@@ -74,18 +62,37 @@ pub fn repair_recording<N: Source + Medium>(left: N) -> result::Result<(N, Repai
         (N.state left).contents →
         IfOk result (λ done. (done.1.spec_ex ≡ s) × ReadsFrames done.1 (start_of s file)
         (found_in file ++ accepted_by_all before) (N.state done.0).contents)) }
+    ensures again { WhereTells N.tells (IfOk result (λ done. (looks : Bool) (next new : MediumState)
+        (other : Repair) → next.contents ≡ (N.state done.0).contents → Repairs looks next other new →
+        (other.state ≡ Whole) × (other.frames ≡ done.1.frames) × (new.contents ≡ next.contents))) }
+    ensures stopped { WhereTells N.tells (IfErr result (λ rejected.
+        ((N.state rejected.0).contents ≡ (N.state left).contents)
+        ⊎ ((found : Repair) × (len start : ℕ) × IsFoundAt false (N.state left).contents found len start
+        × (1 ≤ frame_length found.spec_ex → (next new : MediumState) (other : Repair)
+        → next.contents ≡ (N.state rejected.0).contents → Repairs false next other new →
+        (other.spec_ex ≡ found.spec_ex) × (other.frames ≡ found.frames))))) }
 {
     a_repair_loses_no_published_sample();
+    a_second_repair_writes_nothing();
+    a_stopped_repair_is_done_again();
     repair_to_end(left)
 }
 
 /// Looks at a file before anything is written, then repairs it, and returns what the look found: it is what
-/// `repair` reports, which is all that happened to the file.
+/// `repair` reports, which is all that happened to the file (`repaired`). Unless chunks follow the data, the
+/// samples that were stored are read first, whoever wrote them (`stored`).
 pub fn look_and_repair<M: Source + Medium>(medium: M) -> result::Result<(M, Repair), (M, Error)>
     requires { WhereTells M.tells ((M.state medium).place ≡ 0) }
-    ensures { WhereTells M.tells (RepairsMedium true M.state medium result) }
+    ensures repaired { WhereTells M.tells (RepairsMedium true M.state medium result) }
+    ensures stored { WhereTells M.tells (IfOk result (λ done. let old = (M.state medium).contents in
+        (s : WavSpecEx) (len start : ℕ) (list : List (List ℕ)) → (done.1.state ≡ HasChunksAfterData → ⊥)
+        → Head old s len start → IsSoundSpec s → AllByRecursion (λ c. length c ≡ s.bytes_per_sample) list
+        → IsStored start (concat list) 0 (length (concat list)) old
+        → IsNoPad s (shown_length start len old) (held start old) list →
+        (done.1.spec_ex ≡ s) × ReadsFrames done.1 start list (M.state done.0).contents)) }
 {
     a_look_finds_what_a_repair_does();
+    a_repair_keeps_stored_samples();
     let (medium, found) = find_damage(medium)?;
     let mut medium = medium;
     if let Err(error) = medium.go(0) {

@@ -1,10 +1,9 @@
-//! What a user builds over the public items of `hound` alone: sample types, and functions that prove
+//! What a user builds over the public items of `hound` alone: a sample type, and functions that prove
 //! something of their own from its contracts.
 #![tactic(auto)]
 
 mod callers;
 mod editing;
-mod either;
 mod example;
 mod reading;
 mod recorder;
@@ -12,17 +11,15 @@ mod recording;
 mod twelve;
 
 pub use callers::{
-    finish, give_up_batch, look_and_repair, open_written, publish, record_checkpoint,
-    repair_recording, sample_at, samples_of,
+    finish, give_up_batch, look_and_repair, open_written, publish, repair_recording, sample_at,
+    samples_of,
 };
 pub use editing::append_blocks;
-pub use either::EitherSample;
 pub use example::record_and_read;
 pub use reading::{opened_meanwhile, read_block, read_from, reopen};
 pub use recorder::{append_by_effects, continue_by_effects, record_by_effects};
 pub use recording::{
     finish_durable, pack_one, publish_and_continue, publish_durably, record, record_at_once,
-    record_batch, record_checkpoints, record_mixed, record_safely, record_steps, record_twelve,
-    record_twelve_and_repair, record_twelve_through_a_loss, write_if_short,
+    record_batch, record_checkpoints, record_steps, write_if_short,
 };
 pub use twelve::Twelve;

@@ -1,19 +1,18 @@
 // Recorders that make their calls themselves.
 ghost use Rattle.std.specs.Prelude.{◌≡◌, ◌⊎◌, ◌-◌, ◌/◌, ◌<◌, ◌≤◌, ℕ, Bool, false, true, List, ◌∷◌, ◌++◌, [], Err, Ok, Result, MatchResult, is_ok, IsFalse, IsOk, IfOk, IfErr, IsErrAnd, IsTrue, OnErr, OnOk, drop, length, map, replicate, take};
 ghost use Rattle.std.specs.List.{All, concat};
-ghost use Rattle.hound.specs.{Accepts, AcceptsBytes, AreKnown, Asked, Begins, ReadsAs, IsSameFile, Takes, Checkpoints, Error, Finishes, accepted_as_seen, field, found_in, start_of, i16_bytes, whole_containers, IsIoError, IsNotBegun, IsNotRepaired, Stays, MediumState, Repair, Repairs, SurvivesLoss, container_in, Begun, Call, Known, Left, Recorded, returned, made, marked, new_file, publish, seen, write, int_container, Around, within, HasPublished, Kept, KeptWithin, accepted_by_all, canonical, data_start, AcceptsEach, Ascends, WritesToBatch, containers_in, fits, remaining, signed_bytes_of, ReadsFrames, IsSixteen, Ran, asked_by, containers_of, WhereKeeps, WhereTells, WriterState, IsWhole, accepted_samples, data_length, WavSpecEx};
+ghost use Rattle.hound.specs.{Accepts, AcceptsBytes, AreKnown, Asked, Begins, ReadsAs, IsSameFile, Takes, Checkpoints, Error, Finishes, accepted_as_seen, field, found_in, start_of, i16_bytes, whole_containers, IsNotBegun, MediumState, Repair, Repairs, SurvivesLoss, Begun, Call, Known, Left, Recorded, returned, made, marked, new_file, publish, seen, write, int_container, Around, within, Kept, KeptWithin, accepted_by_all, canonical, data_start, AcceptsEach, Ascends, WritesToBatch, containers_in, fits, remaining, signed_bytes_of, ReadsFrames, IsSixteen, Ran, asked_by, containers_of, WhereKeeps, WhereTells, WriterState, IsWhole, accepted_samples, data_length, WavSpecEx};
 ghost use Rattle.hound.specs.declared.session.Begin.TheVariants.{New};
 ghost use Rattle.hound.specs.declared.session.End.TheVariants.{Drop, Finalize};
 ghost use Rattle.hound.specs.declared.session.Step.TheVariants.{Whole};
 ghost use Rattle.hound_callers.specs.Recording.{HaveContainers, IsNoBatch, IsPublished, IsStopped, PublishesBlocks, ReadsSince, StopsAt, WritesAndFlushes, all_asked, block_asks, containers_by, published_calls, recorder_asks};
 
-use crate::twelve::Twelve;
 use hound::{
-    Begin, Durable, End, Error, Medium, Placed, Repair, Sample, SampleWriter16, Source, Step,
-    WavSpecEx, WavWriter, a_batch_is_its_values, a_block_is_its_samples, a_durable_medium_ascends,
+    Begin, Durable, End, Error, Medium, Placed, Sample, SampleWriter16, Source, Step, WavSpecEx,
+    WavWriter, a_batch_is_its_values, a_block_is_its_samples, a_durable_medium_ascends,
     a_repair_loses_no_published_sample, a_run_leaves_its_calls, a_write_is_marked_by_its_ok,
-    an_ok_flush_is_kept, calls_are_a_run, i16s_are_kept, repair_to_end, run_session,
-    sessions_leave_one_file, what_a_loss_leaves, what_is_kept, what_is_known,
+    an_ok_flush_is_kept, calls_are_a_run, i16s_are_kept, run_session, sessions_leave_one_file,
+    what_a_loss_leaves, what_is_kept, what_is_known,
 };
 use std::alloc::Global;
 use std::result;
@@ -47,72 +46,26 @@ pub(crate) fn record_blocks<S: Sample + Copy, M: Medium>(writer: &mut WavWriter<
     }
 }
 
-/// Records blocks of samples into a new file in this very medium, with a flush after every fourth,
-/// whatever the results of these calls are.
+/// Records blocks of samples into a new file, with a flush after every fourth, and ends it, whatever the
+/// results of these calls are: they were made, one by one, and led to what is left (`left`), which holds all
+/// that they promise, in each of its states (`kept`).
 pub fn record<S: Sample + Copy, M: Source + Medium>(
     medium: M,
     spec_ex: WavSpecEx,
     blocks: &[&[S]],
-) -> result::Result<WavWriter<M>, (M, Error)>
-    requires { WhereTells M.tells ((M.state medium).place ≡ 0) }
-    ensures { MatchResult result
-        (Recorded M.Placed spec_ex (new_file (M.state medium))
-        (recorder_asks (containers_by S.container spec_ex) 0 blocks.now))
-        (λ rejected. IsNotBegun M.Placed spec_ex medium rejected.0 rejected.1) }
-{
-    let mut recorder = WavWriter::try_new(medium, spec_ex)?;
-    record_blocks(&mut recorder, blocks);
-    Ok(recorder)
-}
-
-/// Records blocks of twelve-bit samples as [`record`] does, and ends the file: these calls were made,
-/// one by one, and led to what is left (`left`), which holds all that they promise, in each of its
-/// states (`kept`).
-pub fn record_twelve<M: Source + Medium>(
-    medium: M,
-    spec_ex: WavSpecEx,
-    blocks: &[&[Twelve]],
 ) -> result::Result<M, (M, Error)>
     requires { WhereTells M.tells ((M.state medium).place ≡ 0) }
-    ensures left { MatchResult result (λ left. Left M.Placed spec_ex (new_file (M.state medium))
-        (all_asked ⟦<Twelve as Sample>⟧.container spec_ex blocks.now) left)
+    ensures left { MatchResult result
+        (Left M.Placed spec_ex (new_file (M.state medium)) (all_asked S.container spec_ex blocks.now))
         (λ rejected. IsNotBegun M.Placed spec_ex medium rejected.0 rejected.1) }
     ensures kept { IfOk result (λ left. WhereKeeps M.tells M.keeps
-        (Kept M.Placed spec_ex (new_file (M.state medium))
-        (all_asked ⟦<Twelve as Sample>⟧.container spec_ex blocks.now) left)) }
+        (Kept M.Placed spec_ex (new_file (M.state medium)) (all_asked S.container spec_ex blocks.now) left)) }
 {
     what_is_kept::<M>();
-    let (medium, _) = record(medium, spec_ex, blocks)?.finalize_into();
+    let mut recorder = WavWriter::try_new(medium, spec_ex)?;
+    record_blocks(&mut recorder, blocks);
+    let (medium, _) = recorder.finalize_into();
     Ok(medium)
-}
-
-/// Records over a medium that may lose its power: whatever sectors keep what was written since it
-/// was flushed, what is left counts, and has lost no sample that a flush has published.
-///
-/// The medium must be new: its place is 0, and nothing has been written to it yet.
-pub fn record_twelve_through_a_loss<M: Source + Medium>(
-    medium: M,
-    spec_ex: WavSpecEx,
-    blocks: &[&[Twelve]],
-) -> result::Result<M, (M, Error)>
-    requires place { WhereTells M.tells ((M.state medium).place ≡ 0) }
-    requires past { WhereKeeps M.tells M.keeps ((M.state medium).past ≡ []) }
-    requires flushed { WhereKeeps M.tells M.keeps ((M.state medium).flushed ≡ 0) }
-    ensures { let durable = ⟦<Durable<M> as Placed>⟧ in
-        MatchResult result (λ left. WhereKeeps M.tells M.keeps
-        (Around (M.state medium) (M.state left) (λ first last. KeptWithin durable spec_ex
-        (new_file (durable.state first))
-        (all_asked ⟦<Twelve as Sample>⟧.container spec_ex blocks.now) last (within last))))
-        (λ rejected. Around (M.state medium) (M.state rejected.0) (λ first last.
-        IsNotBegun durable spec_ex first last rejected.1)) }
-{
-    let writer = match record(Durable::new(medium), spec_ex, blocks) {
-        Ok(writer) => writer,
-        Err((durable, error)) => return Err((durable.into_inner(), error)),
-    };
-    let (durable, _) = writer.finalize_into();
-    what_a_loss_leaves::<M>();
-    Ok(durable.into_inner())
 }
 
 // Writes a block and publishes it, also where it ends within a frame, of which the next block has the
@@ -157,48 +110,20 @@ fn publish_blocks<S: Sample + Copy, M: Medium>(writer: &mut WavWriter<M>, blocks
     blocks.len()
 }
 
-/// Records blocks of twelve-bit samples over a medium that may lose its power, with a checkpoint
-/// after each, until a call fails, and returns how many blocks were published.
+/// Records blocks of samples over a medium that may lose its power, with a checkpoint after each, until a
+/// call fails, and returns how many blocks were published.
 ///
 /// Its calls are the write and the flush of each of these blocks, all of which published it, then those
 /// of the next block, if there is one, which didn't, and the end. One of these flushes has published exactly the
 /// samples of the blocks, if there are some; and whatever sectors keep what was written since the medium was
-/// flushed, what is left counts, and has lost no sample that a flush has published. The medium must
-/// be new: its place is 0, and nothing has been written to it yet.
-pub fn record_checkpoints<M: Source + Medium>(
+/// flushed, what is left counts, and has lost no sample that a flush has published (`published`). Once that is
+/// repaired, the samples of these blocks are read first, as many as whole frames have (`safe`).
+///
+/// The medium must be new: its place is 0, and nothing has been written to it yet.
+pub fn record_checkpoints<S: Sample + Copy, M: Source + Medium>(
     medium: M,
     spec_ex: WavSpecEx,
-    blocks: &[&[Twelve]],
-) -> result::Result<(M, usize), (M, Error)>
-    requires place { WhereTells M.tells ((M.state medium).place ≡ 0) }
-    requires past { WhereKeeps M.tells M.keeps ((M.state medium).past ≡ []) }
-    requires flushed { WhereKeeps M.tells M.keeps ((M.state medium).flushed ≡ 0) }
-    ensures { let durable = ⟦<Durable<M> as Placed>⟧ in
-        MatchResult result (λ done. (done.1 ≤ length blocks.now)
-        × WhereKeeps M.tells M.keeps (Around (M.state medium) (M.state done.0) (λ first last.
-        PublishesBlocks durable (containers_by ⟦<Twelve as Sample>⟧.container spec_ex) spec_ex
-        (new_file (durable.state first)) blocks.now done.1 last (within last))))
-        (λ rejected. Around (M.state medium) (M.state rejected.0) (λ first last.
-        IsNotBegun durable spec_ex first last rejected.1)) }
-{
-    what_is_known();
-    let mut writer = match WavWriter::try_new(Durable::new(medium), spec_ex) {
-        Ok(writer) => writer,
-        Err((durable, error)) => return Err((durable.into_inner(), error)),
-    };
-    let published = publish_blocks(&mut writer, blocks);
-    let durable = writer.drop_into();
-    what_a_loss_leaves::<M>();
-    Ok((durable.into_inner(), published))
-}
-
-/// Records as [`record_checkpoints`] does (`published`), and returns how many blocks are safe: whatever
-/// a loss of power leaves of them, once that is repaired the samples of these blocks are read first, as
-/// many as whole frames have.
-pub fn record_safely<M: Source + Medium>(
-    medium: M,
-    spec_ex: WavSpecEx,
-    blocks: &[&[Twelve]],
+    blocks: &[&[S]],
 ) -> result::Result<(M, usize), (M, Error)>
     requires place { WhereTells M.tells ((M.state medium).place ≡ 0) }
     requires past { WhereKeeps M.tells M.keeps ((M.state medium).past ≡ []) }
@@ -206,61 +131,29 @@ pub fn record_safely<M: Source + Medium>(
     ensures within { IfOk result (λ done. done.1 ≤ length blocks.now) }
     ensures published { let durable = ⟦<Durable<M> as Placed>⟧ in
         IfOk result (λ done. WhereKeeps M.tells M.keeps (Around (M.state medium) (M.state done.0) (λ first last.
-        PublishesBlocks durable (containers_by ⟦<Twelve as Sample>⟧.container spec_ex) spec_ex
+        PublishesBlocks durable (containers_by S.container spec_ex) spec_ex
         (new_file (durable.state first)) blocks.now done.1 last (within last)))) }
-    ensures safe { MatchResult result (λ done. WhereKeeps M.tells M.keeps (0 < done.1 → (list : List (List ℕ))
-        × HaveContainers (containers_by ⟦<Twelve as Sample>⟧.container spec_ex) (take done.1 blocks.now) list
+    ensures safe { IfOk result (λ done. WhereKeeps M.tells M.keeps (0 < done.1 → (list : List (List ℕ))
+        × HaveContainers (containers_by S.container spec_ex) (take done.1 blocks.now) list
         × ((sector : ℕ) (cut mended : MediumState) (found : Repair) → 1 ≤ sector
         → (data_start spec_ex - 4) / sector ≡ (data_start spec_ex - 1) / sector
         → (let s = M.state done.0 in
         SurvivesLoss sector s.start s.past s.flushed (length s.past) cut.contents)
         → Repairs false cut found mended →
-        (found.spec_ex ≡ spec_ex) × ReadsFrames found (data_start spec_ex) list mended.contents)))
-        (λ rejected. Around (M.state medium) (M.state rejected.0) (λ first last.
+        (found.spec_ex ≡ spec_ex) × ReadsFrames found (data_start spec_ex) list mended.contents))) }
+    ensures rejected { IfErr result (λ rejected. Around (M.state medium) (M.state rejected.0) (λ first last.
         IsNotBegun (⟦<Durable<M> as Placed>⟧) spec_ex first last rejected.1)) }
 {
+    what_is_known();
+    what_a_loss_leaves::<M>();
     a_repair_loses_no_published_sample();
-    record_checkpoints(medium, spec_ex, blocks)
-}
-
-/// Records blocks of twelve-bit samples as [`record`] does, drops the writer, whatever its end did,
-/// and repairs the file, as `repair_to_end` repairs what was left (`repaired`): no sample is missing that
-/// a flush has published (`none_lost`). An error is that of the constructor, or of the repair of what was
-/// left (`err`).
-pub fn record_twelve_and_repair<M: Source + Medium>(
-    medium: M,
-    spec_ex: WavSpecEx,
-    blocks: &[&[Twelve]],
-) -> result::Result<(M, Repair), (M, Error)>
-    requires { WhereTells M.tells ((M.state medium).place ≡ 0) }
-    ensures repaired { IfOk result (λ done. (left cut : M)
-        × Left M.Placed spec_ex (new_file (M.state medium))
-        (all_asked ⟦<Twelve as Sample>⟧.container spec_ex blocks.now) left
-        × WhereTells M.tells (Stays (M.state left) (M.state cut)
-        × Repairs false (M.state cut) done.1 (M.state done.0))) }
-    ensures none_lost { IfOk result (λ done. WhereKeeps M.tells M.keeps ((left : M)
-        × (kept : Kept M.Placed spec_ex (new_file (M.state medium))
-        (all_asked ⟦<Twelve as Sample>⟧.container spec_ex blocks.now) left)
-        × ((before after : List Call) (flush : Call) → kept.left.recorded.calls ≡ before ++ (flush ∷ after)
-        → HasPublished flush →
-        (done.1.spec_ex ≡ spec_ex)
-        × ReadsFrames done.1 (data_start spec_ex) (accepted_by_all before) (M.state done.0).contents))) }
-    ensures err { IfErr result (λ rejected.
-        IsNotBegun M.Placed spec_ex medium rejected.0 rejected.1
-        ⊎ ((left cut : M) × Left M.Placed spec_ex (new_file (M.state medium))
-        (all_asked ⟦<Twelve as Sample>⟧.container spec_ex blocks.now) left
-        × WhereTells M.tells ((IsIoError rejected.1 × Stays (M.state left) (M.state rejected.0))
-        ⊎ (Stays (M.state left) (M.state cut)
-        × IsNotRepaired false (M.state cut) (M.state rejected.0) rejected.1)))) }
-{
-    what_is_kept::<M>();
-    a_repair_loses_no_published_sample();
-    let writer = record(medium, spec_ex, blocks)?;
-    let mut medium = writer.drop_into();
-    if let Err(error) = medium.go(0) {
-        return Err((medium, Error::IoError(error)));
-    }
-    repair_to_end(medium)
+    let mut writer = match WavWriter::try_new(Durable::new(medium), spec_ex) {
+        Ok(writer) => writer,
+        Err((durable, error)) => return Err((durable.into_inner(), error)),
+    };
+    let published = publish_blocks(&mut writer, blocks);
+    let durable = writer.drop_into();
+    Ok((durable.into_inner(), published))
 }
 
 /// Records steps into a new file, whatever the results are: if it was begun, this was a run with these
@@ -325,19 +218,6 @@ pub fn pack_one<M: Source + Medium>(
     }
 }
 
-// Writes single samples, whatever the results are.
-fn record_singles<S: Sample + Copy, M: Medium>(writer: &mut WavWriter<M>, singles: &[S])
-    ensures spec { writer.new.spec_ex ≡ writer.old.spec_ex }
-    ensures recorded { (s : WavSpecEx) (file : Begun) (known : List Known)
-        → Recorded M.Placed s file known writer.old
-        → Recorded M.Placed s file
-        (known ++ map (λ v. made (write (container_in S.container s v))) singles.now) writer.new }
-{
-    for sample in singles {
-        let _ = writer.write_sample(*sample);
-    }
-}
-
 /// Writes a batch, which is accepted by one call; where there is no room for it, or no memory, the
 /// writer stays as it was (`recorded`), and else the result is that of this call (`calls`). At an Ok it
 /// accepted what its values would have been accepted as one by one (`same`).
@@ -371,38 +251,6 @@ pub fn record_batch<M: Medium>(
         values.write_sample(*value);
     }
     values.flush()
-}
-
-/// Records single samples of eight bits and then a batch of sixteen into a new file, and ends it, and
-/// returns what became of the batch: what is left holds all that these calls promise. A batch that
-/// found no room or no memory isn't among them.
-pub fn record_mixed<M: Source + Medium>(
-    alloc: Global,
-    medium: M,
-    spec_ex: WavSpecEx,
-    singles: &[i8],
-    batch: &[i16],
-) -> result::Result<(M, hound::Result<()>), (M, Error)>
-    requires place { WhereTells M.tells ((M.state medium).place ≡ 0) }
-    requires sixteen { IsSixteen spec_ex }
-    ensures { MatchResult result (λ done.
-        let asked = map (λ v. made (write (container_in ⟦<i8 as Sample>⟧.container spec_ex v))) singles.now in
-        let file = new_file (M.state medium) in
-        WhereKeeps M.tells M.keeps (
-        ((w : WriterState M) × IsErrAnd done.1 (IsNoBatch w (length batch.now))
-        × Recorded M.Placed spec_ex file asked w
-        × Kept M.Placed spec_ex file (asked ++ made publish ∷ []) done.0)
-        ⊎ Kept M.Placed spec_ex file
-        ((asked ++ marked (write (whole_containers spec_ex (i16_bytes batch.now)))
-        (is_ok done.1) ∷ []) ++ made publish ∷ []) done.0))
-        (λ rejected. IsNotBegun M.Placed spec_ex medium rejected.0 rejected.1) }
-{
-    what_is_kept::<M>();
-    let mut writer = WavWriter::try_new(medium, spec_ex)?;
-    record_singles(&mut writer, singles);
-    let answer = record_batch(alloc, &mut writer, batch);
-    let (medium, _) = writer.finalize_into();
-    Ok((medium, answer))
 }
 
 /// Writes samples by one call and publishes them: the file is then read as the samples before and all

@@ -1,11 +1,11 @@
 -- What an output got, one write after the other.
 use Rattle.std.proofs.lemmas.Grind.{common_steps}
-use Rattle.std.proofs.Common.{ℕ, ◌<◌, List, [], ◌++◌, length, take, drop, Option, Some, None, Result, Ok, Err, OnErr, refl, sym, ◌∙◌, ap, subst, append_assoc, append-nil, arith}
+use Rattle.std.proofs.Common.{◌≡◌, ℕ, ◌<◌, List, [], ◌++◌, length, take, drop, Option, Some, None, Result, Ok, Err, IsErrAnd, refl, sym, ◌∙◌, ap, subst, append_assoc, append-nil, arith}
 use Rattle.std.specs.Io.{StartsWith}
 use Rattle.std.specs.Io.KnownBytes.{Appends, Keeps}
 use Rattle.std.proofs.KnownBytes.{starts_with_rest}
 use Rattle.std.proofs.Transfers.{starts_with_of_append, starts_with_trans}
-use Rattle.hound_commands.specs.Showing.{GetsBeginning, GetsBuffered}
+use Rattle.hound_commands.specs.Showing.{GetsBeginning, GetsBuffered, PushesOut}
 
 -- texts appended one after the other
 pub appends-then : (old mid new : Option (List ℕ)) (first rest : List ℕ) → Appends old mid first
@@ -71,10 +71,10 @@ pub part-written : (text : List ℕ) (old new : Option (List ℕ))
 part-written text old new (n, fewer, all) = grind (arith, common_steps)
 
 -- a failed write of a buffer leaves a beginning of all that its text begins
-pub stopped-within : {T E : Type 0} (result : Result T E) (old mid new : Option (List ℕ)) (text buffered whole : List ℕ)
-    → GetsBuffered old mid buffered text → GetsBeginning mid new buffered → StartsWith whole text
-    → OnErr result (GetsBeginning old new whole)
-stopped-within (Ok x) old mid new text buffered whole got stopped front = tt
-stopped-within (Err e) old mid new text buffered whole got stopped front =
+pub stopped-within : {T E : Type 0} (P : E → Type 0) (result : Result T E) (old mid new : Option (List ℕ))
+    (text buffered whole lines : List ℕ) → IsErrAnd result P → GetsBuffered old mid buffered text
+    → GetsBeginning mid new buffered × (lines ≡ []) → StartsWith whole text → PushesOut result old new lines whole
+stopped-within P (Ok x) old mid new text buffered whole lines is got stopped front = absurd is
+stopped-within P (Err e) old mid new text buffered whole lines is got (stopped, none) front =
     let (part, beginning, all) = gets-stopped old mid new text buffered got stopped in
-    (part, starts_with_trans whole text part front beginning, all)
+    ((part, starts_with_trans whole text part front beginning, all), none)

@@ -1,7 +1,7 @@
 -- What the lines of samples are, one sample after the other.
-use Rattle.std.proofs.Common.{◌≡◌, ℕ, zero, suc, ◌+◌, ◌*◌, ◌<◌, ◌≤◌, List, [], ◌∷◌, ◌++◌, length, map, take, drop, Option, Some, None, Result, Ok, Err, IfErr, IfSome, IsErrAnd, OnOk, inl, inr, refl, sym, ◌∙◌, ap, subst, append_assoc, append-nil, length-drop, drop-drop, arith}
+use Rattle.std.proofs.Common.{◌≡◌, ℕ, zero, suc, ◌+◌, ◌*◌, ◌<◌, ◌≤◌, List, [], ◌∷◌, ◌++◌, length, map, take, drop, Option, Some, None, Result, Ok, Err, IfErr, IfSome, IsErrAnd, inl, inr, refl, sym, ◌∙◌, ap, subst, append_assoc, append-nil, length-drop, drop-drop, arith}
 use Rattle.std.proofs.lemmas.Option.{IfSome_then}
-use Rattle.std.specs.Io.KnownBytes.{Appends, Keeps}
+use Rattle.std.specs.Io.KnownBytes.{Appends}
 use Rattle.std.proofs.Transfers.{starts_with_of_eq, starts_with_trans}
 use Rattle.hound_number.specs.{WhereKnown}
 use Rattle.hound_sample.specs.{ReadRejection, other_format, misfit, too_wide, unsupported, int_meaning, items_of, Reads, error_of_read}
@@ -16,9 +16,9 @@ use Rattle.hound_spec.specs.declared.spec.SampleFormat.TheVariants.{Float, Int}
 use Rattle.hound_spec.specs.declared.spec.WavSpec.{WavSpec}
 use Rattle.hound_spec.specs.declared.spec.WavSpecEx.{WavSpecEx}
 use Rattle.hound_text.specs.{integer_line}
-use Rattle.hound_commands.proofs.Outputs.{appends-kept, appends-none, gets-more, gets-none, gets-stopped, gets-then, gets-written}
+use Rattle.hound_commands.proofs.Outputs.{appends-none, gets-more, gets-none, gets-stopped, gets-then, gets-written}
 use Rattle.hound_commands.specs.Commands.{failure_of}
-use Rattle.hound_commands.specs.Showing.{GetsBeginning, GetsBuffered, AreShowable, Shows, ShowsSamples, ShowsUntil, StopsAt, StopsSamples, spec_line, line_for, sample_line, sample_lines, show_rejection}
+use Rattle.hound_commands.specs.Showing.{AnswersSamples, GetsBeginning, GetsBuffered, AreShowable, Shows, ShowsSamples, ShowsUntil, StopsAt, StopsSamples, spec_line, line_for, sample_line, sample_lines, show_rejection}
 use Rattle.hound_commands.specs.declared.failure.Failure.{Failure}
 use Rattle.hound_commands.specs.declared.failure.Failure.TheVariants.{BadNumber, InputOrOutput, Rejected}
 
@@ -185,18 +185,24 @@ faulted s n (Rejected e) bytes first text (some, rejected, text_is) =
 
 -- a fault, whatever was returned before it
 pub stopped : (s : WavSpecEx) (n : ℕ) (result : Result (Unit {0}) Failure) (left old new : Option (List ℕ)) (first last : List ℕ)
-    → OnOk result (ShowsSamples s n left old new first last)
-    → IfErr result (λ failure. StopsSamples s n failure left old new first last)
-    → StopsSamples s n InputOrOutput left old new first last
-stopped s n (Ok x) left old new first last shown stops =
+    → AnswersSamples s n result left old new first last → StopsSamples s n InputOrOutput left old new first last
+stopped s n (Ok x) left old new first last shown =
     IfSome_then left shown (λ bytes (showable, got). (
       first ++ sample_lines s n bytes,
       whole_stops s n bytes first (first ++ sample_lines s n bytes) showable refl,
       got,
     ))
-stopped s n (Err failure) left old new first last shown stops =
+stopped s n (Err failure) left old new first last stops =
     IfSome_then left stops
     (λ bytes (text, here, got). (text, faulted s n failure bytes first text here, got))
+
+-- the failure that `?` returns
+pub stops_as : (s : WavSpecEx) (n : ℕ) (result : Result (Unit {0}) Failure) (failure : Failure)
+    (left old new : Option (List ℕ)) (first last : List ℕ) → IsErrAnd result (λ e. e ≡ failure)
+    → StopsSamples s n failure left old new first last → AnswersSamples s n result left old new first last
+stops_as s n (Ok x) failure left old new first last is stops = absurd is
+stops_as s n (Err e) failure left old new first last is stops =
+    subst (λ f. StopsSamples s n f left old new first last) (sym is) stops
 
 -- a read that failed: a fault, or a spec whose samples are not shown
 read_stops : {A : Type 0} (s : WavSpecEx) (k count : ℕ) (rejection : Option ReadRejection) (meaning : List ℕ → A)
@@ -258,9 +264,9 @@ module _ {A : Type 0} (rejection : SampleFormat → ℕ → ℕ → Option ReadR
 
   -- they can't all be written
   pub block_stops : (out2 : Option (List ℕ)) (room : List ℕ)
-      → GetsBeginning out1 out2 (lines ++ flat_map line values) → room ≡ []
+      → GetsBeginning out1 out2 (lines ++ flat_map line values) × (room ≡ [])
       → StopsSamples s n InputOrOutput left out0 out2 first room
-  block_stops out2 room stopped emptied =
+  block_stops out2 room (stopped, emptied) =
       let (mid, at, inside, read, rest) = after in
       subst (StopsSamples s n InputOrOutput left out0 out2 first) (sym emptied)
       (part_stops s n left out0 out1 out2 first (lines ++ flat_map line values)
@@ -359,37 +365,6 @@ file_stops (Some xs) (Some ys) s n failure spec samples out0 out1 out2 head firs
       }),
       gets-written out0 out1 out2 text last gets written,
     )
-
--- ---- a fault that is reported for what was returned
-
-pub fault_reported : (input out0 out1 out2 : Option (List ℕ)) (result : Result (Unit {0}) Failure)
-    → OnOk result (Shows input out0 out1) → IfErr result (λ failure. ShowsUntil input failure out0 out1)
-    → Keeps out1 out2 → ShowsUntil input InputOrOutput out0 out2
-fault_reported None out0 out1 out2 result shown until keeps = tt
-fault_reported (Some bytes) out0 out1 out2 (Ok x) (text, shown, got) until keeps = (
-  text,
-  inr (record {
-    s = shown.s;
-    samples = shown.samples;
-    start = shown.start;
-    readable = shown.readable;
-    stops = whole_stops shown.s shown.samples (drop shown.start bytes) (spec_line shown.s.spec shown.samples) text shown.showable shown.text_is;
-  }),
-  appends-kept out0 out1 out2 text got keeps,
-)
-fault_reported (Some bytes) out0 out1 out2 (Err failure) shown (text, inl (cause, none), got) keeps =
-    (text, inl (tt, none), appends-kept out0 out1 out2 text got keeps)
-fault_reported (Some bytes) out0 out1 out2 (Err failure) shown (text, inr part, got) keeps = (
-  text,
-  inr (record {
-    s = part.s;
-    samples = part.samples;
-    start = part.start;
-    readable = part.readable;
-    stops = faulted part.s part.samples failure (drop part.start bytes) (spec_line part.s.spec part.samples) text part.stops;
-  }),
-  appends-kept out0 out1 out2 text got keeps,
-)
 
 -- the failure that `?` returns
 pub err_is : {T : Type 0} (Q : Failure → Type 0) (result : Result T Failure) (failure : Failure)

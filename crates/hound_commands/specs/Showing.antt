@@ -1,6 +1,6 @@
 -- What `show` writes of a file: the line of its spec, and then a line for each sample; and how much of a
 -- text an output got.
-use Rattle.std.specs.Prelude.{◌≡◌, ℕ, List, ◌++◌, Option, ◌*◌, ◌<◌, ◌≤◌, ◌⊎◌, ⊤, IfSome, [], ◌∷◌, codes, decimal, drop, length, None, Some}
+use Rattle.std.specs.Prelude.{◌≡◌, ℕ, List, ◌++◌, Option, ◌*◌, ◌<◌, ◌≤◌, ◌⊎◌, ⊤, IfSome, [], ◌∷◌, codes, decimal, drop, length, None, Some, Result, Ok, Err}
 use Rattle.std.specs.Io.{StartsWith}
 use Rattle.std.specs.Io.KnownBytes.{Appends}
 use Rattle.std.specs.List.{flat_map}
@@ -24,6 +24,12 @@ GetsBeginning old new text = (part : List ℕ) × StartsWith text part × Append
 abbrev pub GetsBuffered : Option (List ℕ) → Option (List ℕ) → List ℕ → List ℕ → Type 0
 GetsBuffered old new buffered text =
     (written : List ℕ) × (text ≡ written ++ buffered) × Appends old new written
+
+-- What lines that were pushed or written leave: the output got a text but for its end, which is buffered; or
+-- at an error a beginning of it, and nothing is buffered.
+abbrev pub PushesOut : {T E : Type 0} → Result T E → Option (List ℕ) → Option (List ℕ) → List ℕ → List ℕ → Type 0
+PushesOut (Ok x) old new buffered text = GetsBuffered old new buffered text
+PushesOut (Err e) old new buffered text = GetsBeginning old new text × (buffered ≡ [])
 
 -- the word of a format
 abbrev pub format_word : SampleFormat → List ℕ
@@ -90,6 +96,13 @@ abbrev pub StopsSamples : WavSpecEx → ℕ → Failure → Option (List ℕ) �
     → Option (List ℕ) → List ℕ → List ℕ → Type 0
 StopsSamples s count failure left old new first buffered = IfSome left (λ bytes. (text : List ℕ)
     × StopsAt s count failure bytes first text × GetsBuffered old new buffered text)
+
+-- what was shown of so many samples, by the result
+abbrev pub AnswersSamples : WavSpecEx → ℕ → Result (Unit {0}) Failure → Option (List ℕ) → Option (List ℕ)
+    → Option (List ℕ) → List ℕ → List ℕ → Type 0
+AnswersSamples s count (Ok x) left old new first buffered = ShowsSamples s count left old new first buffered
+AnswersSamples s count (Err failure) left old new first buffered =
+    StopsSamples s count failure left old new first buffered
 
 -- The bytes are a file that is shown whole, and this is the text.
 pub record IsShown (bytes text : List ℕ) : Type 0 where

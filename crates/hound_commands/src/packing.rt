@@ -6,7 +6,7 @@ ghost use Rattle.hound_commands.specs.Commands.{IsPacked, IsPackFailure};
 
 use crate::failure::Failure;
 use hound_medium::{Placed, Tape};
-use hound_spec::{WavSpec, WavSpecEx};
+use hound_spec::WavSpec;
 use hound_writer::WavWriter;
 use std::alloc::Global;
 
@@ -19,10 +19,7 @@ pub fn file_of(alloc: Global, spec: WavSpec, numbers: &[i32]) -> Result<Tape, Fa
     ensures rejected { IfErr result (IsPackFailure (with_default_width spec) numbers.now) }
 {
     let tape = Tape::new(Vec::new(alloc));
-    let mut writer = match WavWriter::try_new(tape, WavSpecEx::from(spec)) {
-        Ok(writer) => writer,
-        Err((_, error)) => return Err(Failure::from(error)),
-    };
+    let mut writer = WavWriter::new(tape, spec)?;
     writer.write_samples(numbers)?;
     let (file, result) = writer.finalize_into();
     result?;

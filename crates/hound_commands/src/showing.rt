@@ -2,7 +2,7 @@
 ghost use Rattle.std.specs.Prelude.{◌≡◌, ◌+◌, ◌<◌, ◌≤◌, ◌++◌, ℕ, [], List, IfErr, OnErr, OnOk, length};
 ghost use Rattle.std.specs.List.{flat_map};
 ghost use Rattle.hound_reader.specs.{meaning_at, rejection_at};
-ghost use Rattle.hound_commands.specs.Showing.{GetsBeginning, GetsBuffered, Shows, ShowsSamples, ShowsUntil, StopsSamples, sample_line, show_rejection, spec_line};
+ghost use Rattle.hound_commands.specs.Showing.{AnswersSamples, PushesOut, Shows, ShowsUntil, sample_line, show_rejection, spec_line};
 ghost use Rattle.hound_text.specs.{HasLineRoom, integer_line, pattern_line};
 
 use crate::failure::Failure;
@@ -16,22 +16,8 @@ use std::io::Write;
 // How many samples are read at once.
 const BLOCK_LENGTH: usize = 1024;
 
-/// Writes the lines of a file, as far as it can be read.
+/// Writes the lines of a file, that of its spec and those of its samples, as far as it can be read.
 pub fn show<R: io::Read, O: io::Write>(input: &mut R, output: &mut O) -> Result<(), Failure>
-    ensures shown { OnOk result (Shows (R.remaining input.old) (O.contents output.old)
-        (O.contents output.new)) }
-    ensures until { IfErr result (λ failure. ShowsUntil (R.remaining input.old) failure
-        (O.contents output.old) (O.contents output.new)) }
-{
-    let result = show_lines(input, output);
-    let flushed = output.flush();
-    result?;
-    flushed?;
-    Ok(())
-}
-
-// The lines of a file: that of its spec, and those of its samples.
-fn show_lines<R: io::Read, O: io::Write>(input: &mut R, output: &mut O) -> Result<(), Failure>
     ensures shown { OnOk result (Shows (R.remaining input.old) (O.contents output.old)
         (O.contents output.new)) }
     ensures until { IfErr result (λ failure. ShowsUntil (R.remaining input.old) failure
@@ -43,8 +29,12 @@ fn show_lines<R: io::Read, O: io::Write>(input: &mut R, output: &mut O) -> Resul
     let result = show_samples(&mut reader, &mut lines, output);
 
     // Those before a failure are shown.
-    lines.write_to(output)?;
-    result
+    let written = lines.write_to(output);
+    let flushed = output.flush();
+    written?;
+    result?;
+    flushed?;
+    Ok(())
 }
 
 // The line of a spec.
@@ -100,12 +90,9 @@ fn show_samples<R: io::Read, O: io::Write>(
     output: &mut O,
 ) -> Result<(), Failure>
     requires fresh { reader.old.samples_read ≡ 0 }
-    ensures shown { OnOk result (ShowsSamples reader.old.spec_ex reader.old.num_samples
+    ensures { AnswersSamples reader.old.spec_ex reader.old.num_samples result
         (R.remaining reader.old.reader.now) (O.contents output.old) (O.contents output.new)
-        lines.old lines.new) }
-    ensures until { IfErr result (λ failure. StopsSamples reader.old.spec_ex
-        reader.old.num_samples failure (R.remaining reader.old.reader.now)
-        (O.contents output.old) (O.contents output.new) lines.old lines.new) }
+        lines.old lines.new }
 {
     match reader.spec().sample_format {
         SampleFormat::Int => show_blocks(reader, &mut [0i32; BLOCK_LENGTH], lines, output),
@@ -127,12 +114,9 @@ fn show_blocks<S: Line, R: io::Read, O: io::Write>(
     requires rejection { rejection_at S.rejection reader.old.spec_ex ≡ show_rejection reader.old.spec_ex }
     requires line { (c : List ℕ) → S.line (meaning_at S.meaning reader.old.spec_ex c)
         ≡ sample_line reader.old.spec_ex c }
-    ensures shown { OnOk result (ShowsSamples reader.old.spec_ex reader.old.num_samples
+    ensures { AnswersSamples reader.old.spec_ex reader.old.num_samples result
         (R.remaining reader.old.reader.now) (O.contents output.old) (O.contents output.new)
-        lines.old lines.new) }
-    ensures until { IfErr result (λ failure. StopsSamples reader.old.spec_ex
-        reader.old.num_samples failure (R.remaining reader.old.reader.now)
-        (O.contents output.old) (O.contents output.new) lines.old lines.new) }
+        lines.old lines.new }
 {
     loop {
         let (count, result) = reader.read_samples(block);
@@ -150,11 +134,8 @@ fn push_lines<S: Line, O: io::Write>(
     lines: &mut Lines,
     output: &mut O,
 ) -> io::Result<()>
-    ensures pushed { OnOk result (GetsBuffered (O.contents output.old) (O.contents output.new)
-        lines.new (lines.old ++ flat_map S.line samples.now)) }
-    ensures stopped { OnErr result (GetsBeginning (O.contents output.old) (O.contents output.new)
-        (lines.old ++ flat_map S.line samples.now)) }
-    ensures emptied { OnErr result (lines.new ≡ []) }
+    ensures { PushesOut result (O.contents output.old) (O.contents output.new) lines.new
+        (lines.old ++ flat_map S.line samples.now) }
 {
     for sample in samples {
         make_room(lines, output)?;
@@ -167,11 +148,7 @@ fn push_lines<S: Line, O: io::Write>(
 #[inline(always)]
 fn make_room<O: io::Write>(lines: &mut Lines, output: &mut O) -> io::Result<()>
     ensures room { OnOk result (HasLineRoom lines.new) }
-    ensures moved { OnOk result (GetsBuffered (O.contents output.old) (O.contents output.new)
-        lines.new lines.old) }
-    ensures stopped { OnErr result (GetsBeginning (O.contents output.old) (O.contents output.new)
-        lines.old) }
-    ensures emptied { OnErr result (lines.new ≡ []) }
+    ensures moved { PushesOut result (O.contents output.old) (O.contents output.new) lines.new lines.old }
 {
     if lines.has_room() {
         return Ok(());

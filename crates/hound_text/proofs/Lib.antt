@@ -1,3 +1,2 @@
-pub mod Decimals
 pub mod Leading
 pub mod Saying

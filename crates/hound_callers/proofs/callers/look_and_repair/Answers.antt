@@ -77,8 +77,8 @@ module _ (looks : Bool) (old mid new : MediumState) (puts : PutsNothing old mid)
       )
       why (inr (io, left, one)) = inr (io, half left, one ∙ ap one_more faults)
 
-pub returns-in_err-medium-2 : goal.returns-in_err-medium-2
-returns-in_err-medium-2 g c modelled =
+pub returns-in_err-medium-2-clause-repaired : goal.returns-in_err-medium-2-clause-repaired
+returns-in_err-medium-2-clause-repaired g c modelled =
     let state = g.M.Placed.state in
     let old = state c.args.medium in
     let seen = state c.in_ok-medium.medium in
@@ -91,8 +91,8 @@ returns-in_err-medium-2 g c modelled =
     rejected state c.args.medium c.from_residual-in_err-medium-2.result e (search rules)
     (not_repaired true old mid (state e.0) puts faults e.1 (c.in_err-medium-2.ensures.repaired modelled))
 
-pub returns : goal.returns
-returns g c modelled =
+pub returns-clause-repaired : goal.returns-clause-repaired
+returns-clause-repaired g c modelled =
     let state = g.M.Placed.state in
     let old = state c.args.medium in
     let seen = state c.in_ok-medium.medium in
@@ -106,3 +106,8 @@ returns g c modelled =
     puts.stays.contents done in
     subst (λ found. Repairs true old found (state c.in_ok-medium-2.medium)) same
     (repairs true old mid (state c.in_ok-medium-2.medium) puts faults _ done)
+
+pub returns-clause-stored : goal.returns-clause-stored
+returns-clause-stored g c modelled s len start list alone =
+    c.a_repair_keeps_stored_samples.ensures.read true (g.M.Placed.state c.args.medium) _ _ s len start list
+    (returns-clause-repaired g c modelled) (λ looks. alone)

@@ -1,7 +1,26 @@
-use Rattle.std.proofs.Common.{false}
+use Rattle.std.proofs.Common.{◌≡◌, ◌∙◌, ◌≤◌, false, Result, Ok, Err, IfErr, IfOk, MatchResult, inl, inr, subst, sym}
 use Rattle.std.proofs.lemmas.Bool.{false≢true}
+use Rattle.std.proofs.lemmas.Nat.{mul-le}
 use Rattle.std.proofs.lemmas.Result.{MatchResult-weaker}
+use Rattle.hound.specs.{IsSoundSpec, PartlyMended, WavSpecEx, found_length, frame_length}
+use Rattle.hound.specs.declared.RepairState.TheVariants.{CutOff, HasChunksAfterData}
 use Rattle.hound_callers.proofs.callers.repair_recording.Goals as goal
+
+-- what two clauses of an Ok give
+of_both : {T E : Type 0} (r : Result T E) {P Q R : T → Type 0} (N : E → Type 0) → MatchResult r P N → IfOk r Q
+    → ((x : T) → P x → Q x → R x) → IfOk r R
+of_both (Ok x) N one other then = then x one other
+of_both (Err e) N one other then = tt
+
+-- and what one of an error gives
+of_error : {T E : Type 0} (r : Result T E) (P : T → Type 0) {N R : E → Type 0} → MatchResult r P N
+    → ((e : E) → N e → R e) → IfErr r R
+of_error (Ok x) P is then = tt
+of_error (Err e) P is then = then e is
+
+-- a frame has a byte
+some : (s : WavSpecEx) → IsSoundSpec s → 1 ≤ frame_length s
+some s (channels, width, within) = mul-le 1 1 s.spec.channels s.bytes_per_sample channels width
 
 pub returns-clause-none_lost : goal.returns-clause-none_lost
 returns-clause-none_lost g c modelled s file calls recorded kept before after flush same has_all left =
@@ -9,3 +28,32 @@ returns-clause-none_lost g c modelled s file calls recorded kept before after fl
     (λ done repairs. c.a_repair_loses_no_published_sample.ensures s file calls recorded kept before
     after flush false (g.N.Placed.state c.args.left) (g.N.Placed.state done.0) done.1 same has_all left
     repairs (λ looks here. absurd (false≢true looks))) (λ _ _. tt)
+
+pub returns-clause-again : goal.returns-clause-again
+returns-clause-again g c modelled =
+    of_both c.repair_to_end.result _ (c.repair_to_end.ensures.repaired modelled) c.repair_to_end.ensures.sound
+    (λ done repairs sound looks next new other same again.
+    let (whole, spec, frames, kept) = c.a_second_repair_writes_nothing.ensures false looks
+    (g.N.Placed.state c.args.left) (g.N.Placed.state done.0) next new done.1 other repairs
+    (λ looks here. absurd (false≢true looks)) (some done.1.spec_ex sound) same again in
+    (whole, frames, kept))
+
+pub returns-clause-stopped : goal.returns-clause-stopped
+returns-clause-stopped g c modelled =
+    let old = g.N.Placed.state c.args.left in
+    of_error c.repair_to_end.result _ (c.repair_to_end.ensures.repaired modelled) (λ rejected not.
+    elim not.why [
+      | inl (fault, here, names, none, all) ↦ inl none.stays.contents
+      | inr (io, inl none, one) ↦ inl none.stays.contents
+      | inr (io, inr (found, len, start, is, state, half), one) ↦ inr (
+        found,
+        len,
+        start,
+        is,
+        λ positive next new other same again.
+            c.a_stopped_repair_is_done_again.ensures.same false false old.contents next new found other len
+            start is (λ here. let h : CutOff ≡ HasChunksAfterData = sym state ∙ here in cc h) positive
+            (subst (PartlyMended start (found_length found) old.contents) (sym same) half)
+            again (λ looks here. absurd (false≢true looks)),
+      )
+    ])

@@ -1,47 +1,59 @@
-use Rattle.std.proofs.Common.{◌∷◌, [], IsOk, take, arith, sym, subst, length-take}
+use Rattle.std.proofs.Common.{false, ◌∷◌, [], IsOk, length, take, arith, sym, subst, length-take}
+use Rattle.std.proofs.lemmas.Bool.{false≢true}
 use Rattle.std.specs.List.{All}
-use Rattle.hound.specs.{made, publish, WavSpecEx}
-use Rattle.hound_callers.specs.contracts.twelve.TwelveSample.TheImpl.{ghosts}
+use Rattle.hound.specs.{MediumState, SurvivesLoss, accepted_by_all, made, publish, WavSpecEx}
 use Rattle.hound_callers.specs.Recording.{containers_by}
 use Rattle.hound_callers.proofs.Publishing.{last_flush}
 use Rattle.hound_callers.proofs.recording.record_checkpoints.Goals as goal
 
-pub returns : goal.returns
-returns g c = (
-  c.publish_blocks-published.ensures.within,
-  λ modelled keeps.
-      let s = c.args.spec_ex in
-      let first = take c.publish_blocks-published.result c.args.blocks.now in
-      let (more, stops, recorded) =
-      c.publish_blocks-published.ensures.published s _ c.in-Ok.ensures.recorded in
-      let kept = c.what_a_loss_leaves.ensures modelled keeps s _ _ _
-      (c.drop_into-durable.ensures.left s _ _ recorded) in (
-        c.new.result,
-        c.drop_into-durable.result,
-        c.new.ensures.within,
-        sym c.into_inner-2.ensures,
-        (
-          more,
-          stops,
-          kept,
-          λ some. last_flush (containers_by ghosts.container s) first more (made publish ∷ [])
-              kept.left.recorded.calls
-              (omega (
-                arith,
-                some,
-                c.publish_blocks-published.ensures.within,
-                length-take c.publish_blocks-published.result c.args.blocks.now,
-              ))
-              (subst (λ (x : WavSpecEx).
-              All (λ block. IsOk (containers_by ghosts.container x block)) first)
-              c.in-Ok.ensures.begins.begun.spec c.publish_blocks-published.ensures.have)
-              c.what_is_known.ensures.published kept.left.recorded.are_known,
-        ),
+pub returns-clause-published : goal.returns-clause-published
+returns-clause-published g c modelled keeps =
+    let s = c.args.spec_ex in
+    let container = g.S.Sample.container in
+    let first = take c.publish_blocks-published.result c.args.blocks.now in
+    let (more, stops, recorded) =
+    c.publish_blocks-published.ensures.published s _ c.in-Ok.ensures.recorded in
+    let kept = c.what_a_loss_leaves.ensures modelled keeps s _ _ _
+    (c.drop_into-durable.ensures.left s _ _ recorded) in (
+      c.new.result,
+      c.drop_into-durable.result,
+      c.new.ensures.within,
+      sym c.into_inner-2.ensures,
+      (
+        more,
+        stops,
+        kept,
+        λ some. last_flush (containers_by container s) first more (made publish ∷ [])
+            kept.left.recorded.calls
+            (omega (
+              arith,
+              some,
+              c.publish_blocks-published.ensures.within,
+              length-take c.publish_blocks-published.result c.args.blocks.now,
+            ))
+            (subst (λ (x : WavSpecEx). All (λ block. IsOk (containers_by container x block)) first)
+            c.in-Ok.ensures.begins.begun.spec c.publish_blocks-published.ensures.have)
+            c.what_is_known.ensures.published kept.left.recorded.are_known,
       ),
-)
+    )
 
-pub returns-in-Err : goal.returns-in-Err
-returns-in-Err g c = (
+pub returns-clause-safe : goal.returns-clause-safe
+returns-clause-safe g c modelled keeps some =
+    let (first, last, old, new, (more, stops, kept, flushes)) = returns-clause-published g c modelled keeps in
+    let (before, after, flush, parts, has_all, have) = flushes some in (
+      accepted_by_all before,
+      have,
+      λ sector cut mended found one lies lost repairs.
+          c.a_repair_loses_no_published_sample.ensures c.args.spec_ex _ kept.left.recorded.calls _ kept.promised
+          before after flush false cut mended found parts has_all
+          (kept.left_after before after flush parts has_all sector cut.contents one lies
+          (subst (λ (s : MediumState). SurvivesLoss sector s.start s.past s.flushed (length s.past)
+          cut.contents) (sym new) lost))
+          repairs (λ looks here. absurd (false≢true looks)),
+    )
+
+pub returns-in-Err-clause-rejected : goal.returns-in-Err-clause-rejected
+returns-in-Err-clause-rejected g c = (
   c.new.result,
   c.in-Err.durable,
   c.new.ensures.within,

@@ -6,14 +6,14 @@ use Rattle.hound_commands.proofs.Outputs.{gets-more, gets-then, stopped-within}
 use Rattle.hound_commands.specs.Showing.{GetsBuffered}
 use Rattle.hound_commands.proofs.showing.push_lines.Goals as goal
 
-pub returns-in_err-make_room-clause-stopped : goal.returns-in_err-make_room-clause-stopped
-returns-in_err-make_room-clause-stopped g c =
+pub returns-in_err-make_room : goal.returns-in_err-make_room
+returns-in_err-make_room g c =
     let line = g.S.Line.line in
     let i = c.loop-sample.sample-index in
     let xs = c.args.samples.now in
     let text = c.args.lines.now ++ flat_map line (take i xs) in
-    stopped-within c.from_residual.result _ _ _ text _ (c.args.lines.now ++ flat_map line xs)
-    c.loop-sample.invariant c.in_err-make_room.ensures.stopped
+    stopped-within _ c.from_residual.result _ _ _ text _ (c.args.lines.now ++ flat_map line xs) _
+    c.from_residual.ensures.1 c.loop-sample.invariant c.in_err-make_room.ensures.moved
     (starts_with_of_append _ text (flat_map line (drop i xs))
     (ap (λ l. c.args.lines.now ++ flat_map line l) (sym (take-append-drop i xs))
     ∙ ap (λ l. c.args.lines.now ++ l) (flat_map-append line (take i xs) (drop i xs))
