@@ -1,11 +1,15 @@
 // Lines of numbers, buffered for the output.
-ghost use Rattle.std.specs.Prelude.{◌≡◌, ◌+◌, ◌<◌, ◌≤◌, ◌↔◌, ℕ, false, IsTrue, [], ◌∷◌, ◌++◌, length, List, take, ◌-◌, IsOk, Ok, Some, min};
+ghost use Rattle.std.specs.Prelude.{◌≡◌, ◌+◌, ◌<◌, ◌≤◌, ◌↔◌, ℕ, false, IsTrue, [], ◌∷◌, ◌++◌, decimal, length, List, take, ◌-◌, IsOk, Ok, Some, min};
 ghost use Rattle.hound_text.specs.Text.{HasLineRoom, integer_line, lines_capacity, pattern_line};
 ghost use Rattle.hound_number.specs.{Writes};
 
 use crate::output::write_text;
 use std::marker::Model;
 use std::{io, mem};
+
+// The two digits of each number below 100.
+static PAIRS: [u8; 200] =
+    *b"00010203040506070809101112131415161718192021222324252627282930313233343536373839404142434445464748495051525354555657585960616263646566676869707172737475767778798081828384858687888990919293949596979899";
 
 // How many bytes of lines are buffered: a `BufWriter` hands so many on as they are.
 const CAPACITY: usize = 16384;
@@ -54,7 +58,10 @@ impl Lines {
         requires { HasLineRoom self.old }
         ensures { self.new ≡ self.old ++ integer_line number }
     {
-        self.append(itoa::Buffer::new().format(number).as_bytes());
+        if number < 0 {
+            self.push(b'-');
+        }
+        self.push_decimal(number.unsigned_abs());
         self.push(b'\n');
     }
 
@@ -80,6 +87,27 @@ impl Lines {
     {
         self.bytes[self.length] = byte;
         self.length += 1;
+    }
+
+    // Appends the digits of a number in base 10, which are made in pairs from the last ones on.
+    #[inline(always)]
+    fn push_decimal(&mut self, mut number: u32)
+        requires { length self.old + 10 ≤ lines_capacity }
+        ensures { self.new ≡ self.old ++ decimal number }
+    {
+        let mut text = [0; 10];
+        let mut start = 8;
+        loop {
+            let pair = 2 * (number % 100) as usize;
+            text[start..start + 2].copy_from_slice(&PAIRS[pair..pair + 2]);
+            if number < 100 {
+                break;
+            }
+            number /= 100;
+            start -= 2;
+        }
+        start += (number < 10) as usize; // One digit has no zero before it.
+        self.append(&text[start..]);
     }
 
     // Appends text.

@@ -1,18 +1,9 @@
 use Rattle.std.proofs.lemmas.Grind.{common_steps}
-use Rattle.std.proofs.Common.{◌≡◌, ℕ, zero, suc, ◌+◌, ◌*◌, ◌-◌, ◌/◌, ◌%◌, ◌^◌, ◌++◌, ◌∷◌, [], false, length, length-append, refl, sym, ap, ◌∙◌, append_assoc, append-nil, arith}
+use Rattle.std.proofs.Common.{◌≡◌, suc, ◌-◌, ◌/◌, ◌%◌, ◌^◌, ◌++◌, ◌∷◌, [], false, length, length-append, ap, ◌∙◌, append_assoc, append-nil, arith}
 use Rattle.std.specs.Fmt.{digit_glyph}
 use Rattle.hound_text.specs.Text.{padded_digits}
-use Rattle.std.proofs.lemmas.Nat.{pow-add}
+use Rattle.hound_text.proofs.Decimals.{sixteen-pow}
 use Rattle.hound_text.proofs.lines.Lines.push_pattern.Goals as goal
-
--- four bits are a digit in base 16
-sixteen-pow : (k : ℕ) → 2 ^ (4 * k) ≡ 16 ^ k
-sixteen-pow zero = refl
-sixteen-pow (suc k) =
-    let four : 4 * suc k ≡ 4 * k + 4 = omega arith in
-    let one : k + 1 ≡ suc k = omega arith in
-    ap (λ n. 2 ^ n) four ∙ pow-add 2 (4 * k) 4 ∙ ap (λ n. n * 16) (sixteen-pow k)
-    ∙ sym (pow-add 16 k 1) ∙ ap (λ n. 16 ^ n) one
 
 pub loop-place-preserved : goal.loop-place-preserved
 loop-place-preserved c =
