@@ -99,7 +99,7 @@ pub use hound_walk::{one_answer, read_wave_header, written_is_head};
 pub use hound_writer::{
     Action, Effect, FoundFile, Recorder, RecorderError, RepairState, Report, SampleWriter16,
     WavWriter, a_block_is_its_samples, a_cut_is_ignored, a_recorder_directs,
-    an_effect_may_be_repeated, one_append_answer,
+    an_effect_may_be_repeated, one_append_answer, put_all_at,
 };
 pub use laws::{
     a_batch_is_its_values, a_checkpoint_holds, a_recording_is_kept,

@@ -9,18 +9,9 @@ ghost use Rattle.hound_callers.specs.Recording.{published_calls};
 use hound::{
     Action, Effect, Error, FoundFile, Medium, Recorder, RecorderError, RepairState, Report,
     WavReader, WavSpecEx, a_recorder_directs, a_recording_is_kept, an_effect_may_be_repeated,
-    header_of, put_all,
+    header_of, put_all, put_all_at,
 };
 use std::{io, result};
-
-// Writes bytes at a place.
-fn write_at<M: Medium>(medium: &mut M, place: u64, bytes: &[u8]) -> io::Result<()>
-    ensures { WhereTells M.tells (PutsAt M.keeps place bytes.now result (M.state medium.old)
-        (M.state medium.new)) }
-{
-    medium.go(place)?;
-    put_all(medium, bytes)
-}
 
 // Syncs a medium. If its end isn't known, it counts as failed.
 fn sync<M: Medium>(medium: &mut M, is_lost: bool) -> io::Result<()>
@@ -58,11 +49,11 @@ fn perform<M: Medium>(medium: &mut M, action: Action, block: &[u8], is_lost: boo
 {
     let is_done = match action {
         Action::Perform(Effect::Sync) => return report_of(sync(medium, is_lost).is_ok(), false),
-        Action::Perform(Effect::Pad(place)) => write_at(medium, place, &[0]).is_ok(),
+        Action::Perform(Effect::Pad(place)) => put_all_at(medium, place, &[0]).is_ok(),
         Action::Perform(Effect::Size(place, size)) => {
-            write_at(medium, place, &size.to_le_bytes()).is_ok()
+            put_all_at(medium, place, &size.to_le_bytes()).is_ok()
         }
-        Action::WriteBlock(place, _) => write_at(medium, place, block).is_ok(),
+        Action::WriteBlock(place, _) => put_all_at(medium, place, block).is_ok(),
         Action::Read(..) | Action::Cut(_) => false,
     };
     report_of(is_done, is_lost)

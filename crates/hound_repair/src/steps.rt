@@ -14,11 +14,11 @@ ghost use Rattle.hound_repair.specs.declared.steps.Repairing.TheVariants as stat
 use crate::look::{Damage, ID3_LENGTH, ID3_TAG, SeenHead, chunk_content, has_known_tag};
 use crate::read_at::{LIMIT, length_of, part_at};
 use crate::sizes::{Repair, right_sizes};
-use hound_medium::{Medium, Source, put_all};
+use hound_medium::{Medium, Source};
 use hound_number::{le_u32, u32_at};
 use hound_spec::{Error, is_pair};
 use hound_walk::{Cause, FileHead, HeadError, HeadWalk, Part, Step, error_of, take_part};
-use hound_writer::{Action, Effect, RepairState, Report};
+use hound_writer::{Action, Effect, RepairState, Report, put_all_at};
 use std::io;
 
 /// Why a file isn't repaired, by its bytes.
@@ -601,15 +601,6 @@ impl Damage {
     }
 }
 
-// Writes bytes at a place.
-fn write_at<M: Medium>(medium: &mut M, place: u64, bytes: &[u8]) -> io::Result<()>
-    ensures { WhereTells M.tells (PutsAt M.keeps place bytes.now result (M.state medium.old)
-        (M.state medium.new)) }
-{
-    medium.go(place)?;
-    put_all(medium, bytes)
-}
-
 // Performs an effect.
 fn perform<M: Medium>(medium: &mut M, effect: Effect) -> io::Result<()>
     ensures { WhereTells M.tells
@@ -617,8 +608,8 @@ fn perform<M: Medium>(medium: &mut M, effect: Effect) -> io::Result<()>
 {
     match effect {
         Effect::Sync => medium.flush(),
-        Effect::Pad(place) => write_at(medium, place, &[0]),
-        Effect::Size(place, size) => write_at(medium, place, &le_u32(size)),
+        Effect::Pad(place) => put_all_at(medium, place, &[0]),
+        Effect::Size(place, size) => put_all_at(medium, place, &le_u32(size)),
     }
 }
 

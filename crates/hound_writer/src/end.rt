@@ -5,7 +5,7 @@ ghost use Rattle.hound_sample.specs.{all_containers, joined_containers};
 ghost use Rattle.hound_writer.specs.{all_out, PutsAt, containers_in, sample_bytes};
 
 use crate::block::{BLOCK_LENGTH, Block};
-use crate::patch::put_at;
+use crate::patch::put_all_at;
 use hound_medium::{Medium, put_all};
 use hound_sample::Sample;
 use hound_spec::WavSpecEx;
@@ -41,7 +41,7 @@ fn go_and_put<M: Medium>(
         (M.state medium.new)) }
 {
     if may_have_moved {
-        return put_at(medium, at, bytes);
+        return put_all_at(medium, at, bytes);
     }
     put_all(medium, bytes)
 }

@@ -23,7 +23,7 @@ pub use laws::{
     a_block_is_its_samples, a_cut_is_ignored, a_recorder_directs, an_effect_may_be_repeated,
     one_append_answer,
 };
-pub use patch::{patch as patch_sizes, put_at};
+pub use patch::{patch as patch_sizes, put_all_at};
 pub use recorder::{Recorder, RecorderError};
 pub use resuming::{FoundFile, RepairState};
 pub use write::WavWriter;

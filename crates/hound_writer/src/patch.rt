@@ -9,7 +9,7 @@ use std::io;
 
 /// Writes bytes at a place, or stops at the first call of the medium that fails.
 #[inline(always)]
-pub fn put_at<M: Medium>(medium: &mut M, place: u64, bytes: &[u8]) -> io::Result<()>
+pub fn put_all_at<M: Medium>(medium: &mut M, place: u64, bytes: &[u8]) -> io::Result<()>
     ensures { WhereTells M.tells (PutsAt M.keeps place bytes.now result (M.state medium.old)
         (M.state medium.new)) }
 {
@@ -36,7 +36,7 @@ pub fn patch<M: Medium>(
         (PatchesAtEach data_len_offset riff_size data_length result (M.state medium.old)
         (M.state medium.new)) }
 {
-    put_at(medium, 4, &le_u32(riff_size))?;
-    put_at(medium, data_len_offset, &le_u32(data_length))?;
+    put_all_at(medium, 4, &le_u32(riff_size))?;
+    put_all_at(medium, data_len_offset, &le_u32(data_length))?;
     medium.flush()
 }
