@@ -6,7 +6,7 @@
 //! they were proved.
 #![tactic(auto)]
 
-ghost use Rattle.std.specs.Prelude.{◌≡◌, ◌*◌, ℕ, ℤ, List, None, false, length, pos, take, true};
+ghost use Rattle.std.specs.Prelude.{◌≡◌, ◌*◌, None, false, length, pos, take, true};
 ghost use Rattle.std.specs.Option.{option_len, option_map_or};
 ghost use Rattle.std.specs.Result.{result_ok, result_unwrap_or};
 ghost use Rattle.hound_number.specs.{bytes_of};

@@ -1,7 +1,7 @@
 // Recorders whose caller performs the effects, on a medium.
 ghost use Rattle.std.specs.Prelude.{◌≡◌, ◌⊎◌, ◌≤◌, ◌+◌, ℕ, List, [], ◌++◌, ◌∷◌, Bool, true, false, if◌then◌else◌, IfErr, IfOk, OnErr, OnOk, Result, drop, is_ok, length, slice_index_or, take};
 ghost use Rattle.std.specs.declared.io.Error.{Error as IoFault};
-ghost use Rattle.hound.specs.{Asked, Begun, Flushes, IsIoError, IsNotBegun, IsSaid, HasData, IsSynced, Known, Log, PutsAt, Repeats, Readable, Recorder, WavSpecEx, one_more, WhereKeeps, WhereTells, new_file, resumed_file, seen};
+ghost use Rattle.hound.specs.{Asked, Begun, Flushes, IsIoError, IsNotBegun, IsSaid, HasData, IsSynced, Known, Log, Repeats, Readable, Recorder, WavSpecEx, one_more, WhereKeeps, WhereTells, new_file, resumed_file, seen};
 ghost use Rattle.hound.specs.declared.Report.TheVariants.{Pending};
 ghost use Rattle.hound_callers.specs.Recorder.{Continues, IsFound, IsNotContinued, IsNotMended, IsResumed, once_mended, IsAsked, IsDirected, IsErrorOf, IsNotResumed, IsReady, PerformsAll, Saves, Stops, StopsAt, TriesAction, asked_as, once_done, report_for, samples_of};
 ghost use Rattle.hound_callers.specs.Recording.{published_calls};

@@ -1,9 +1,9 @@
 // A medium around another that flushes it before it goes back.
-ghost use Rattle.std.specs.Prelude.{◌≡◌, ◌⊎◌, ◌+◌, ◌^◌, ◌<◌, ◌≤◌, ◌+ℤ◌, nat_lt, pos, [], length, IfOk, OnOk, OnErr, MatchResult, cond, IsErr};
+ghost use Rattle.std.specs.Prelude.{◌≡◌, ◌+◌, ◌^◌, ◌<◌, ◌≤◌, ◌+ℤ◌, pos, [], length, IfOk, OnOk, MatchResult};
 ghost use Rattle.std.specs.Int.{FitsUnsigned, w64};
 ghost use Rattle.std.specs.Io.{ReadsAtMost};
 ghost use Rattle.std.specs.Io.KnownBytes.{ReadConsumes};
-ghost use Rattle.hound_medium.specs.{Goes, Shifts, Gets, Puts, Flushes, Stays, WhereTells, WhereKeeps, one_more, faults_after};
+ghost use Rattle.hound_medium.specs.{Goes, Shifts, Gets, Puts, Flushes, Stays, WhereTells, WhereKeeps, faults_after};
 ghost use Rattle.hound_durable.specs.Losses.{Ascends, IsBelow, IsItsFault, IsLastBefore, LeadsBack, OnlySyncs, own, left_of, replays_own, left_own};
 
 use hound_medium::{Medium, Placed, Source, count_fault};

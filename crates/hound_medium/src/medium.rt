@@ -1,6 +1,6 @@
 // The traits that readers and writers are generic over, the same for a `&mut`, and the loop over
 // `put`.
-ghost use Rattle.std.specs.Prelude.{◌≡◌, ◌+◌, ◌<◌, ◌≤◌, Bool, IsTrue, false, length, drop, Some, IfOk};
+ghost use Rattle.std.specs.Prelude.{◌≡◌, ◌+◌, ◌<◌, ◌≤◌, Bool, false, length, drop, Some, IfOk};
 ghost use Rattle.hound_number.specs.{AreBytes};
 ghost use Rattle.hound_medium.specs.State.{overlay, unknown, MediumState, Goes, Shifts, Gets, Puts, Flushes, WhereTells, WhereKeeps, PutsAll, faults_after};
 

@@ -4,7 +4,7 @@ ghost use Rattle.hound_sample.specs.{FillsFront};
 ghost use Rattle.hound_sample.specs.declared.item.SampleError.{SampleError};
 ghost use Rattle.hound_reader.specs.Reader.{AnswersReadMany, rejection_at, AnswersRead, taken_without, HasGiven, HasGiven-prop};
 ghost use Rattle.std.specs.Borrow.{GName};
-ghost use Rattle.std.specs.Io.KnownBytes.{Consumes, IsAtEnd, Keeps};
+ghost use Rattle.std.specs.Io.KnownBytes.{Consumes, Keeps};
 ghost use Rattle.hound_spec.specs.declared.spec.WavSpecEx.{WavSpecEx};
 
 use hound_number::early_end;

@@ -1,6 +1,6 @@
 // What holds for all files that are written, and all readers.
 ghost use Rattle.hound_medium.specs.{WhereTells};
-ghost use Rattle.std.specs.Prelude.{◌≡◌, ℕ, ◌+◌, ◌*◌, ◌/◌, List, length, map, drop, ◌<◌, ◌≤◌, IsTrue, IsSome, Option, None, Some, Ok, Result, IfSome};
+ghost use Rattle.std.specs.Prelude.{◌≡◌, ℕ, ◌+◌, ◌*◌, ◌/◌, List, length, map, drop, ◌<◌, ◌≤◌, IsSome, Option, None, Some, Ok, Result, IfSome};
 ghost use Rattle.hound_spec.specs.{IsWritable, data_start, canonical};
 ghost use Rattle.hound_spec.specs.declared.spec.WavSpecEx.{WavSpecEx};
 ghost use Rattle.hound_walk.specs.{Readable, unread};

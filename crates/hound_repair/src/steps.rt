@@ -2,7 +2,7 @@
 // what is to be done.
 ghost use Rattle.std.specs.Prelude.{◌≡◌, ℕ, ◌+◌, ◌-◌, ◌≤◌, Bool, List, Ok, true, IfErr, IfOk, IfSome, MatchResult, length, nat_lt, slice_index, take, drop};
 ghost use Rattle.hound_walk.specs.{Head, IsAt, IsDataPlace, IsSoundOption, IsSoundSpec, part_bytes};
-ghost use Rattle.hound_writer.specs.{IsMediumError, NamesFault, PutsAt, nth};
+ghost use Rattle.hound_writer.specs.{IsMediumError, NamesFault, nth};
 ghost use Rattle.hound_medium.specs.{WhereKeeps, WhereTells};
 ghost use Rattle.hound_repair.specs.Damages.{FindsDamage, IsSoundDamage};
 ghost use Rattle.hound_repair.specs.Repairing.{IsNotFound};

@@ -1,12 +1,12 @@
 // Floating-point samples by their bits.
-ghost use Rattle.std.specs.Prelude.{◌≡◌, ◌<◌, ◌≤◌, None, from_bits, pos, to_bits, ⊤};
+ghost use Rattle.std.specs.Prelude.{◌≡◌, ◌<◌, from_bits, pos, to_bits, ⊤};
 ghost use lib.Ieee.{binary32};
 ghost use Rattle.hound_number.specs.{number};
 ghost use Rattle.hound_sample.specs.Container.{pattern_container};
 ghost use Rattle.hound_sample.specs.ContainerLaws.{pattern_container-in_width};
-ghost use Rattle.hound_sample.specs.Reading.{float_rejection, pattern, ReadsContainer};
-ghost use Rattle.hound_spec.specs.declared.error.Error.TheVariants.{InvalidSampleFormat, TooWide, Unsupported};
-ghost use Rattle.hound_spec.specs.declared.spec.SampleFormat.TheVariants.{Float, Int};
+ghost use Rattle.hound_sample.specs.Reading.{float_rejection, pattern};
+ghost use Rattle.hound_spec.specs.declared.error.Error.TheVariants.{Unsupported};
+ghost use Rattle.hound_spec.specs.declared.spec.SampleFormat.TheVariants.{Float};
 
 use crate::Sample;
 use crate::decode::{Decode, check_type, decode_next, read_container, read_containers};

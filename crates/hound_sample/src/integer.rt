@@ -1,11 +1,10 @@
 // The containers of integers.
-ghost use Rattle.std.specs.Prelude.{◌≡◌, ◌<◌, ◌≤◌, ◌++◌, ◌∷◌, [], ℤ, take, None, Ok, Err, IsOk, if◌then◌else◌};
+ghost use Rattle.std.specs.Prelude.{◌≡◌, ◌<◌, ◌++◌, ◌∷◌, [], ℤ, Ok, Err};
 ghost use Rattle.hound_number.specs.{signed_bytes_of};
-ghost use Rattle.hound_sample.specs.Container.{fits, if_fits, offset_byte, int_container, IsEncoded};
-ghost use Rattle.hound_sample.specs.Reading.{int_meaning, int_rejection, low_i16, ReadsContainer, read_error};
-ghost use Rattle.hound_spec.specs.{IsPair};
-ghost use Rattle.hound_spec.specs.declared.error.Error.TheVariants.{InvalidSampleFormat, TooWide, Unsupported};
-ghost use Rattle.hound_spec.specs.declared.spec.SampleFormat.TheVariants.{Float, Int};
+ghost use Rattle.hound_sample.specs.Container.{if_fits, offset_byte, int_container, IsEncoded};
+ghost use Rattle.hound_sample.specs.Reading.{int_meaning, int_rejection, low_i16};
+ghost use Rattle.hound_spec.specs.declared.error.Error.TheVariants.{TooWide, Unsupported};
+ghost use Rattle.hound_spec.specs.declared.spec.SampleFormat.TheVariants.{Int};
 
 use crate::decode::{Decode, check_type};
 use hound_number::{

@@ -2,7 +2,7 @@
 ghost use Rattle.std.specs.Prelude.{◌≡◌, ◌≤◌, ◌/◌, ℕ, ℤ, ⊤, List, Option, Result, Ok, IsSome, IsErr, length, take};
 ghost use Rattle.hound_sample.specs.Container.{Rejection, int_container, IsEncoded, WritesContainer};
 ghost use Rattle.hound_sample.specs.ContainerLaws.{int_container-in_width};
-ghost use Rattle.hound_sample.specs.Reading.{ReadRejection, int_rejection, int_meaning, low_i16, ReadsItem, FillsFront, ReadsEach, items_of, Reads};
+ghost use Rattle.hound_sample.specs.Reading.{ReadRejection, low_i16, ReadsItem, FillsFront, ReadsEach, items_of, Reads};
 ghost use Rattle.hound_spec.specs.declared.spec.SampleFormat.{SampleFormat};
 
 use crate::decode::{decode_next, read_container, read_containers};

@@ -1,5 +1,5 @@
 // Files that are appended to.
-ghost use Rattle.std.specs.Prelude.{◌≡◌, ◌≤◌, IfOk, length};
+ghost use Rattle.std.specs.Prelude.{◌≤◌, IfOk, length};
 ghost use Rattle.hound_slices.specs.Writing.{AppendsInPlace};
 
 use crate::error::CallError;

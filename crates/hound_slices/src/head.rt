@@ -1,5 +1,5 @@
 // What is before the data.
-ghost use Rattle.std.specs.Prelude.{◌≡◌, ◌≤◌, IfOk, IfErr, length};
+ghost use Rattle.std.specs.Prelude.{◌≤◌, IfOk, IfErr, length};
 ghost use Rattle.hound_walk.specs.{IsDataPlace, IsSoundSpec, Readable, Unreadable};
 ghost use Rattle.hound_slices.specs.Codes.{IsHeadError};
 

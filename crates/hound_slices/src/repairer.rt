@@ -1,6 +1,6 @@
 // The repair of a caller who reads and writes the file.
 ghost use Rattle.std.specs.Prelude.{◌≡◌, ◌≤◌, Some, IfSome, IfOk};
-ghost use Rattle.hound_repair.specs.{IsSoundHead, IsSoundRepairing, IsSoundStage};
+ghost use Rattle.hound_repair.specs.{IsSoundHead, IsSoundRepairing};
 ghost use Rattle.hound_repair.specs.declared.steps.Repairing.TheVariants as states;
 ghost use Rattle.hound_repair.specs.declared.steps.Stage.TheVariants as stages;
 ghost use Rattle.hound_slices.specs.Effects.{effect_of};

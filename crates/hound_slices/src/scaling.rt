@@ -1,5 +1,5 @@
 // Integers as floats whose full scale is 1, and back.
-ghost use Rattle.std.specs.Prelude.{◌≡◌, ◌≤◌, IfOk, IfErr, length};
+ghost use Rattle.std.specs.Prelude.{◌≤◌, IfOk, IfErr, length};
 ghost use Rattle.hound_slices.specs.Scaling.{AreBits, IsScaleError, ScalesToFloats, ScalesToIntegers};
 
 use crate::error::CallError;

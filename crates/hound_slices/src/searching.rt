@@ -1,5 +1,5 @@
 // How much of a stream is whole frames, and where the data may begin if the header is damaged.
-ghost use Rattle.std.specs.Prelude.{◌≡◌, ◌+◌, ◌<◌, ◌≤◌, ◌^◌, IfOk, length, take, drop};
+ghost use Rattle.std.specs.Prelude.{◌+◌, ◌<◌, ◌≤◌, ◌^◌, IfOk, length};
 ghost use Rattle.hound_slices.specs.Searching.{CountsWhole, GuessesData};
 ghost use Rattle.hound_slices.specs.Writing.{spec_from_c};
 

@@ -1,9 +1,9 @@
 // The walk over chunks to the data.
 ghost use Rattle.hound_medium.specs.{WhereTells};
-ghost use Rattle.std.specs.Prelude.{◌≡◌, ℕ, ◌+◌, ◌++◌, ◌<◌, ◌≤◌, List, [], length, take, drop, Ok, Some, IsTrue, OnOk, IfOk, IfErr};
+ghost use Rattle.std.specs.Prelude.{◌≡◌, ℕ, ◌+◌, ◌++◌, ◌<◌, ◌≤◌, List, [], length, drop, Ok, Some, OnOk, IfOk, IfErr};
 ghost use Rattle.std.specs.Io.KnownBytes.{Consumes};
 ghost use Rattle.hound_number.specs.{WhereKnown, number};
-ghost use Rattle.hound_spec.specs.{fmt_fields, greatest_u32, padded, riff_tag, wave_tag};
+ghost use Rattle.hound_spec.specs.{greatest_u32, riff_tag, wave_tag};
 ghost use Rattle.hound_walk.specs.Walking.{CountsFailed, Rejects, Walks, TakesFront, RejectedAfter, TakesAll, chunk_taken, content_takes, ReadsChunk, ReadsContent, SaysContent, IsSoundOption, IsSoundChunk};
 ghost use Rattle.hound_walk.specs.Fmt.{IsSoundSpec};
 ghost use Rattle.hound_walk.specs.Grammar.{Head, IsDataPlace, Rejected, front_fault, content_fault, chunk_fault};

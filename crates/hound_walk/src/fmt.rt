@@ -1,5 +1,5 @@
 // The content of a fmt chunk.
-ghost use Rattle.std.specs.Prelude.{◌≡◌, ℕ, ◌+◌, ◌-◌, ◌≤◌, length, take, IfOk, IfErr};
+ghost use Rattle.std.specs.Prelude.{◌≡◌, ◌-◌, ◌≤◌, length, take, IfOk, IfErr};
 ghost use Rattle.hound_spec.specs.{fmt_fields, extension, pcm, ieee_float, extensible};
 ghost use Rattle.hound_walk.specs.Walking.{Gives, CountsFailed, ReadsFormat, TakesFor, content_takes};
 ghost use Rattle.hound_walk.specs.Fmt.{wave_format, wave_format_pcm, wave_format_ieee_float, wave_format_extensible, by_subformat, by_tag, fmt_len, fmt_of, IsSoundSpec};

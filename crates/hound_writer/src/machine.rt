@@ -1,5 +1,4 @@
 // What a recorder's caller asks for, and is to do.
-ghost use Rattle.std.specs.Prelude.{◌≡◌};
 ghost use Rattle.hound_writer.specs.Machine.{Advances, AsksForBlock, AsksForCheckpoint, EndsEffect, GivesUp, GoesOn, SavesFirst, Settles};
 
 use crate::effects::{Action, Report};

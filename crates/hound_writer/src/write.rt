@@ -72,7 +72,7 @@ fn begin<W: Medium>(writer: &mut W, spec_ex: WavSpecEx) -> Result<u64>
 }
 
 impl<W: Medium> WavWriter<W> {
-    ghost use Rattle.std.specs.Prelude.{◌≡◌, ◌+◌, ◌-◌, ◌/◌, ⊤, [], Ok, Err, Result, IfOk, MatchResult};
+    ghost use Rattle.std.specs.Prelude.{◌≡◌, ◌+◌, ◌-◌, ◌/◌, [], Ok, Err, Result, IfOk, MatchResult};
     ghost use Rattle.hound_spec.specs.declared.error.Error.{Error};
     ghost use Rattle.hound_spec.specs.{with_default_width};
     ghost use Rattle.hound_medium.specs.{WhereTells};
