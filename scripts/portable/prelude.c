@@ -1,16 +1,18 @@
-/* The functions of hound.h in C99, for computers that bindings/lib has no library for. scripts/portable/convert.py makes
-   this file from the proved module hound_c.wasm, whose sha256 is
+/* The functions of hound.h in C99, for computers that bindings/lib has no library for.
+   scripts/portable/convert.py makes this file from the proved module hound_c.wasm, whose sha256 is
    @MODULE@: don't edit it.
      cc -O3 -c bindings/rust/hound_c.c
 
-   Numbers are the module's: an i32 is a uint32_t, an i64 or an address a uint64_t, and an address is one of this process.
-   No call allocates or keeps a state, and a call takes at most @GREATEST@ bytes of stack for the module's own frames. */
+   Numbers are the module's: an i32 is a uint32_t, an i64 or an address a uint64_t, and an address is
+   one of this process. No call allocates or keeps a state, and a call takes at most @GREATEST@ bytes of
+   stack for the module's own frames. */
 #include <float.h>
 
 /* hound.h without its comments and its inline function. */
 @HEADER@
 
-#if (defined(__BYTE_ORDER__) && defined(__ORDER_LITTLE_ENDIAN__) && __BYTE_ORDER__ != __ORDER_LITTLE_ENDIAN__) || defined(__BIG_ENDIAN__)
+#if (defined(__BYTE_ORDER__) && defined(__ORDER_LITTLE_ENDIAN__) && __BYTE_ORDER__ != __ORDER_LITTLE_ENDIAN__) \
+    || defined(__BIG_ENDIAN__)
 #error "hound_c.c is for little-endian processors"
 #endif
 #if defined(__FAST_MATH__) || defined(_M_FP_FAST)
@@ -68,8 +70,18 @@ static inline uint64_t bits_of(double x) { uint64_t y; COPY(&y, &x, 8); return y
 static inline double f64_of(uint64_t x) { double y; COPY(&y, &x, 8); return y; }
 static inline double neg_f64(double x) { return f64_of(bits_of(x) ^ 0x8000000000000000ull); }
 static inline float neg_f32(float x) { uint32_t y; COPY(&y, &x, 4); y ^= 0x80000000u; COPY(&x, &y, 4); return x; }
-static inline uint32_t extend8(uint32_t x) { uint8_t y = (uint8_t)(x & 255); int8_t z; COPY(&z, &y, 1); return (uint32_t)z; }
-static inline uint32_t extend16(uint32_t x) { uint16_t y = (uint16_t)(x & 65535); int16_t z; COPY(&z, &y, 2); return (uint32_t)z; }
+static inline uint32_t extend8(uint32_t x) {
+    uint8_t y = (uint8_t)(x & 255);
+    int8_t z;
+    COPY(&z, &y, 1);
+    return (uint32_t)z;
+}
+static inline uint32_t extend16(uint32_t x) {
+    uint16_t y = (uint16_t)(x & 65535);
+    int16_t z;
+    COPY(&z, &y, 2);
+    return (uint32_t)z;
+}
 static inline uint32_t shr_s32(uint32_t x, uint32_t by) { return x >> 31 ? ~(~x >> by) : x >> by; }
 static inline uint32_t div32(uint32_t x, uint32_t y) { if (y == 0) TRAP(); return x / y; }
 static inline uint32_t rem32(uint32_t x, uint32_t y) { if (y == 0) TRAP(); return x % y; }
