@@ -142,11 +142,8 @@ impl<M: Medium> Placed for Durable<M> {
             (FitsUnsigned w64 (pos (within self.old).place +ℤ by)
             → IsItsFault result (within self.old) (within self.new)) }
     {
-        let to = self
-            .place
-            .checked_add_signed(by)
-            .ok_or(ErrorKind::InvalidInput);
-        let to = count_fault(to, &mut self.faults)?;
+        let to = self.place.checked_add_signed(by);
+        let to = count_fault(to.ok_or(ErrorKind::InvalidInput), &mut self.faults)?;
         self.go(to)
     }
 }
@@ -172,10 +169,8 @@ impl<M: Medium> Medium for Durable<M> {
     {
         let room = (u64::MAX - self.place).min(u64::MAX - self.taken);
         if room < bytes.len() as u64 {
-            return count_fault(
-                Err(io::Error::from(ErrorKind::OutOfMemory)),
-                &mut self.faults,
-            );
+            let too_long = io::Error::from(ErrorKind::OutOfMemory);
+            return count_fault(Err(too_long), &mut self.faults);
         }
         let n = count_fault(self.inner.put(bytes), &mut self.faults)?;
         self.place += n as u64;
@@ -233,10 +228,8 @@ impl<M: Medium + Source> Source for Durable<M> {
             → IsItsFault result (within self.old) (within self.new)) }
     {
         if u64::MAX - self.place < buf.len() as u64 {
-            return count_fault(
-                Err(io::Error::from(ErrorKind::InvalidInput)),
-                &mut self.faults,
-            );
+            let too_far = io::Error::from(ErrorKind::InvalidInput);
+            return count_fault(Err(too_far), &mut self.faults);
         }
         let n = count_fault(Source::get(&mut self.inner, buf), &mut self.faults)?;
         self.place += n as u64;

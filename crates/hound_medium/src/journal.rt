@@ -193,11 +193,8 @@ impl Placed for Journal {
         ensures numbered { IsNumbered self.old self.new }
     {
         self.call()?;
-        let place = self
-            .place
-            .checked_add_signed(by)
-            .ok_or(ErrorKind::InvalidInput);
-        self.place = count_fault(place, &mut self.faults)?;
+        let place = self.place.checked_add_signed(by);
+        self.place = count_fault(place.ok_or(ErrorKind::InvalidInput), &mut self.faults)?;
         Ok(())
     }
 }

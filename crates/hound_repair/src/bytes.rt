@@ -65,13 +65,8 @@ pub fn repair_bytes(bytes: &mut [u8], used: usize, damage: Damage) -> Option<usi
         return None;
     }
     let place = damage.head.data_start as usize - 4;
-    let sizes = damage.sizes;
-    set_sizes(
-        &mut bytes[..used],
-        place,
-        sizes.riff_size,
-        sizes.data_length,
-    );
+    let (riff_size, data_length) = (damage.sizes.riff_size, damage.sizes.data_length);
+    set_sizes(&mut bytes[..used], place, riff_size, data_length);
     if !lacks_pad {
         return Some(used);
     }

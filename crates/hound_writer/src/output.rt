@@ -357,18 +357,13 @@ impl<W: Medium> Output<W> {
             (W.state self.old.medium) (W.state self.new.medium)) }
     {
         self.may_have_moved = true;
-        let riff_size = riff_size(self.data_start, self.data_bytes_written as u64) as u32;
-        patch(
-            &mut self.writer,
-            self.data_start - 4,
-            riff_size,
-            self.data_bytes_written,
-        )?;
+        let length = self.data_bytes_written;
+        let riff_size = riff_size(self.data_start, length as u64) as u32;
+        patch(&mut self.writer, self.data_start - 4, riff_size, length)?;
         if !continues {
             return Ok(());
         }
-        self.writer
-            .go(self.data_start + self.data_bytes_written as u64)?;
+        self.writer.go(self.data_start + length as u64)?;
         self.may_have_moved = false;
         Ok(())
     }
