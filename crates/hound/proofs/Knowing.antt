@@ -1,6 +1,5 @@
 -- What is known of calls, and the calls; and lemmas of the layers below for the proofs of callers.
-use Rattle.std.proofs.lemmas.Grind.{common_steps}
-use Rattle.std.proofs.Common.{◌≡◌, ℕ, ◌-◌, Bool, true, false, List, [], ◌∷◌, ◌++◌, length, map, Result, Ok, Err, OnOk, is_ok, refl, sym, ◌∙◌, ap, arith}
+use Rattle.std.proofs.Common.{◌≡◌, ℕ, ◌-◌, Bool, true, false, List, [], ◌∷◌, ◌++◌, length, map, Result, Ok, Err, OnOk, is_ok, refl, sym, ◌∙◌, ap}
 use Rattle.std.specs.List.{AllByRecursion, concat}
 use Rattle.std.proofs.lemmas.Bool.{false≢true}
 use Rattle.hound_spec.specs.declared.error.Error.{Error}
@@ -30,12 +29,6 @@ among (other ∷ before) after one (call ∷ calls) are =
     let (first, last, found, parts, before_are, is, after_are) =
     among before after one calls are.1 in
     (call ∷ first, last, found, ap (λ l. call ∷ l) parts, (are.0, before_are), is, after_are)
-
--- the last of the calls, of which this is known
-pub last_known : (before : List Known) (one : Known) (calls : List Call)
-    → AreKnown (before ++ one ∷ []) calls
-    → (first : List Call) × (end : Call) × (calls ≡ first ++ (end ∷ [])) × IsKnown one end
-last_known before one calls are = grind (arith, common_steps, among)
 
 -- what calls accepted whose marks are known
 pub accepted : (list : List (Asked × Bool)) (calls : List Call) → AreKnown (seen list) calls
