@@ -2,7 +2,7 @@
 use hound::{Source, WavReader, WavWriter};
 use hound_callers::{
     give_up_batch, look_and_repair, open_written, publish, read_block, read_from, record_at_once,
-    reopen, sample_at, samples_of,
+    reopen, sample_at, samples_of, written_and_read,
 };
 use hound_test_helpers::{FOUR_SAMPLES, NO_SAMPLES, empty_tape, sixteen, tape_of};
 use std::alloc::Global;
@@ -38,6 +38,18 @@ fn a_written_file_is_opened(rt: HostRuntime) -> Result<(), Fail> {
     let count = reader.len();
     let is_at_data = reader.into_inner() == [2u8, 0, 0xfd, 0xff, 5, 0, 0xf9, 0xff].as_slice();
     assert_eq!(rt; (count, is_at_data), (4, true));
+    Ok(())
+}
+
+#[test]
+fn an_integer_comes_back(rt: HostRuntime) -> Result<(), Fail> {
+    let read = [
+        written_and_read(-128, 8, 1)?,
+        written_and_read(8_388_607, 24, 4)?,
+        written_and_read(i32::MIN, 32, 4)?,
+    ];
+    assert_eq!(rt; read, [-128, 8_388_607, i32::MIN]);
+    assert!(rt; written_and_read(128, 8, 1).is_err());
     Ok(())
 }
 

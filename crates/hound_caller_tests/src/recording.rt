@@ -1,5 +1,7 @@
 // The recorders of `hound_callers`, each run once.
-use hound::{Durable, RepairState, FoundFile, Journal, Step, Tape, WavReader, WavSpecEx, WavWriter};
+use hound::{
+    Durable, FoundFile, Journal, RepairState, Step, Tape, WavReader, WavSpecEx, WavWriter,
+};
 use hound_callers::{
     Twelve, append_blocks, append_by_effects, continue_by_effects, finish, finish_durable,
     opened_meanwhile, pack_one, publish_and_continue, publish_durably, record, record_at_once,

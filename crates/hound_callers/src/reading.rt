@@ -1,15 +1,27 @@
 // Reading a block, and opening a file again.
 ghost use Rattle.std.specs.Prelude.{◌≡◌, ◌⊎◌, ℕ, ◌+◌, ◌-◌, ◌*◌, ◌/◌, ◌%◌, ◌≤◌, ◌++◌, ◌∷◌, List, None, Some, Ok, Err, IsSome, IfErr, IfOk, MatchResult, drop, length, map, min, take};
 ghost use Rattle.std.specs.List.{AllByRecursion, concat};
-ghost use Rattle.hound.specs.{Begun, Call, Error, HasPublished, IsUncut, ReadsAs, ReadsBlock, Seeks, Keeps, accepted_by_all, begins_at, field, found_in, mix, moment, publish, start_of, AreContainers, GivesItems, IsIoError, IsNotAppended, IsWhole, IsWritable, ReaderState, WavSpecEx, WhereTells, accepted_samples, canonical, containers, data_fault, data_start, greatest_u32, header, one_more, over_bytes, riff_size, samples_before, samples_left};
+ghost use Rattle.hound.specs.{Begun, Call, Error, HasPublished, IsUncut, ReadsAs, ReadsBlock, Seeks, Keeps, accepted_by_all, begins_at, field, found_in, mix, moment, publish, start_of, AreContainers, GivesItems, IsEncoded, IsIoError, IsNotAppended, IsWhole, IsWritable, ReaderState, WavSpecEx, WhereTells, accepted_samples, canonical, containers, data_fault, data_start, greatest_u32, header, int_container, one_more, over_bytes, riff_size, samples_before, samples_left};
 
 use hound::{
-    Error, Journal, Medium, Placed, Sample, Source, WavReader, WavWriter, a_block_is_its_items,
-    a_checkpoint_holds, a_reader_is_where_it_counts, one_append_answer, written_is_head,
-    written_is_read,
+    Error, Journal, Medium, Placed, Sample, SampleFormat, Source, WavReader, WavWriter,
+    a_block_is_its_items, a_checkpoint_holds, a_reader_is_where_it_counts, integers_come_back,
+    one_append_answer, written_is_head, written_is_read,
 };
 use std::alloc::Global;
 use std::{io, result};
+
+/// What is read of an integer that was written with these bits and bytes: the same integer (`same`). An error
+/// is that of the type, which has no container for it, or a fault of the read (`err`).
+pub fn written_and_read(value: i32, bits: u16, width: u16) -> hound::Result<i32>
+    ensures same { IfOk result (λ read. read ≡ value) }
+    ensures err { IfErr result (λ e. IsIoError e ⊎ IsEncoded (int_container value bits width) (Err e)) }
+{
+    integers_come_back();
+    let container = value.encode(bits, width)?;
+    let mut bytes = &container[..width as usize];
+    i32::read(&mut bytes, SampleFormat::Int, width, bits)
+}
 
 /// Reads a block: at an Ok it has all samples that fit or are left (`all`), those that as many calls
 /// of `next` would have given, and the reader is left as these would have left it (`same`). An error is
