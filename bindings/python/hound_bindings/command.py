@@ -356,10 +356,13 @@ def _opened_to_record(options: argparse.Namespace) -> hound.Writer:
 
 
 def _record(options: argparse.Namespace) -> int:
-    with _opened_to_record(options) as writer:
-        left = _recorded(writer, options.checkpoint)
-    info = writer.info
-    print(f"{options.target}: {_form(info)}, {info.frames} frames, {info.duration:.3f} s", file=sys.stderr)
+    writer = _opened_to_record(options)
+    try:
+        with writer:
+            left = _recorded(writer, options.checkpoint)
+    finally:
+        info = hound.info(options.target)  # Also where a write failed: what its header counts.
+        print(f"{options.target}: {_form(info)}, {info.frames} frames, {info.duration:.3f} s", file=sys.stderr)
     if left:
         _complain(f"the last {left} bytes are no whole frame")
     return 1 if left else 0

@@ -330,6 +330,21 @@ class Command(Folder):
         self.run_command("record", "a.wav", "--append", "--checkpoint", "0", status=2)
         self.assertEqual(os.listdir(self.folder), ["a.wav"])
 
+    @unittest.skipUnless(hasattr(signal, "SIGXFSZ"), "no limit of a file's size")
+    def test_record_says_what_is_kept_where_a_write_fails(self):
+        limited = (
+            "import resource, sys; resource.setrlimit(resource.RLIMIT_FSIZE, (65580, 65580)); "
+            "from hound_bindings import command; sys.exit(command.main(sys.argv[1:]))"
+        )
+        words = ["record", self.path, "--rate", "8000", "--channels", "1", "--bits", "16"]
+        env = {**os.environ, "PYTHONPATH": os.path.dirname(os.path.dirname(hound.__file__))}
+        command = [sys.executable, "-c", limited, *words]
+        ended = subprocess.run(command, input=bytes(200_000), capture_output=True, env=env)
+        kept = hound.info(self.path).frames
+        self.assertEqual((ended.returncode, hound.find_damage(self.path).state), (1, State.WHOLE), ended.stderr)
+        self.assertIn(f" {kept} frames".encode(), ended.stderr)
+        self.assertGreater(kept, 0)
+
     def test_checkpoints_and_the_end_by_a_signal(self):
         for number in signal.SIGINT, signal.SIGTERM, signal.SIGKILL:
             form = ("--rate", "8000", "--channels", "2", "--bits", "16")
