@@ -1,4 +1,4 @@
-// Reading a block, and opening a file again.
+// Reading an integer or a block, and opening a file again.
 ghost use Rattle.std.specs.Prelude.{◌≡◌, ◌⊎◌, ℕ, ◌+◌, ◌-◌, ◌*◌, ◌/◌, ◌%◌, ◌≤◌, ◌++◌, ◌∷◌, List, None, Some, Ok, Err, IsSome, IfErr, IfOk, MatchResult, drop, length, map, min, take};
 ghost use Rattle.std.specs.List.{AllByRecursion, concat};
 ghost use Rattle.hound.specs.{Begun, Call, Error, HasPublished, IsUncut, ReadsAs, ReadsBlock, Seeks, Keeps, accepted_by_all, begins_at, field, found_in, mix, moment, publish, start_of, AreContainers, GivesItems, IsEncoded, IsIoError, IsNotAppended, IsWhole, IsWritable, ReaderState, WavSpecEx, WhereTells, accepted_samples, canonical, containers, data_fault, data_start, greatest_u32, header, int_container, one_more, over_bytes, riff_size, samples_before, samples_left};

@@ -11,8 +11,8 @@ use std::io::ErrorKind;
 
 /// What bytes are read from: any reader, or one whose failed reads contracts count.
 ///
-/// Implemented for every `io::Read`, whose failed reads contracts don't count, and for `Counted`
-/// of `hound_walk`, a source whose failed reads they count.
+/// Implemented for every `io::Read`, whose failed reads contracts don't count, and for
+/// `SourceReader` of `hound_walk`, a source whose failed reads they count.
 pub trait Input {
     /// The bytes that are left, if they are known.
     ghost left: { Self → Option (List ℕ) };

@@ -627,7 +627,7 @@ fn perform_all<M: Medium>(medium: &mut M, damage: Damage) -> io::Result<()>
     Ok(())
 }
 
-/// Repairs a file by the machine.
+/// Repairs a file by its effects.
 pub(crate) fn repair_by_effects<M: Source + Medium>(
     medium: M,
     task: Task,

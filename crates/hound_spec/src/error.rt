@@ -6,7 +6,7 @@ use std::alloc::{AllocError, AllocFailed};
 use std::{io, result};
 use thiserror::Error as DeriveError;
 
-/// Why a call on a `WavReader`, a `WavWriter` or a `Sample` failed.
+/// Why a call on a `WavReader`, a `WavWriter` or a `Sample`, or a repair, failed.
 ///
 /// The page of each call says in which order it looks for its errors, and what each leaves.
 #[derive(Debug, Drop, DeriveError)]
@@ -16,7 +16,7 @@ pub enum Error {
     #[error(transparent)]
     IoError(io::Error),
     /// The bytes are no WAVE file, for this reason. Only `read_wave_header`, the constructors of
-    /// readers and those that append return it.
+    /// readers, those that append, and repairs return it.
     #[error("Ill-formed WAVE file: {0}")]
     FormatError(&'static str),
     /// The sample has more bits than the type that reads it, or than the file that is written

@@ -1,5 +1,5 @@
 //! Tests over the public items of `hound` and of the program alone, for what rows (`hound_rows`) can't do:
-//! allocations that fail, the words that clauses import, and the examples of the documentation.
+//! allocations that fail, the words that clauses import, the program, and the examples of the documentation.
 #![tactic(auto)]
 
 #[cfg(test)]

@@ -36,7 +36,7 @@ pub struct WavWriter<W: Medium> {
     // The file that it writes.
     pub(crate) output: Output<W>,
 
-    // The fault that the medium had last, if it had one.
+    // The fault of the last call that wrote samples and failed.
     pub(crate) fault: io::Error,
 }
 
