@@ -274,6 +274,7 @@ impl<W: Medium> Output<W> {
 
     // Accepts samples, each of which has a container: in the block, which is written first if it
     // has no room for them. At an error none of them is accepted.
+    #[inline(never)]
     fn accept_encoded<S: Sample + Copy>(&mut self, samples: &[S]) -> io::Result<()>
         requires have { IsOk (containers_in S.container self.old.spec_ex samples.now) }
         requires room { HasRoom self.old
