@@ -274,7 +274,6 @@ impl<W: Medium> Output<W> {
 
     // Accepts samples, each of which has a container: in the block, which is written first if it
     // has no room for them. At an error none of them is accepted.
-    #[inline(never)]
     fn accept_encoded<S: Sample + Copy>(&mut self, samples: &[S]) -> io::Result<()>
         requires have { IsOk (containers_in S.container self.old.spec_ex samples.now) }
         requires room { HasRoom self.old
@@ -316,6 +315,21 @@ impl<W: Medium> Output<W> {
             self.accept_samples_in_block(samples);
             return Ok(());
         }
+        self.accept_samples_slowly(samples, fault)
+    }
+
+    // The same of samples that have containers, where the block, or the file, may have no room for them.
+    #[inline(never)]
+    fn accept_samples_slowly<S: Sample + Copy>(
+        &mut self,
+        samples: &[S],
+        fault: &mut io::Error,
+    ) -> result::Result<(), SampleError>
+        requires have { IsOk (containers_in S.container self.old.spec_ex samples.now) }
+        ensures { Accepts W.Placed
+            (containers_in S.container self.old.spec_ex samples.now) (answer_of result fault.new) self.old self.new }
+    {
+        let width = self.spec_ex.bytes_per_sample;
         if samples.len() > u32::MAX as usize {
             return Err(SampleError::TooLong);
         }

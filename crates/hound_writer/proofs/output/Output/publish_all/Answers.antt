@@ -1,4 +1,4 @@
-use Rattle.std.proofs.Common.{ap, arith, refl}
+use Rattle.std.proofs.Common.{ap, arith}
 use Rattle.hound_writer.specs.Publishing.{place_after}
 use Rattle.hound_writer.specs.Writer.{data_end, padded_end}
 use Rattle.hound_writer.proofs.Answers.{is_error}
