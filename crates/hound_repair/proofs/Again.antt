@@ -1,6 +1,6 @@
 -- A file that was repaired is whole.
 use Rattle.std.proofs.lemmas.Grind.{common_steps}
-use Rattle.std.proofs.Common.{◌≡◌, ◌⊎◌, ℕ, ◌+◌, ◌-◌, ◌*◌, ◌/◌, ◌%◌, ◌≤◌, Bool, true, IsTrue, ◌&&◌, List, [], ◌∷◌, ◌++◌, inl, inr, length, drop, refl, sym, ap, ◌∙◌, subst, arith, length-append, length-drop}
+use Rattle.std.proofs.Common.{◌≡◌, ◌⊎◌, ℕ, ◌+◌, ◌-◌, ◌*◌, ◌/◌, ◌%◌, ◌≤◌, Bool, true, false, not, IsTrue, ◌&&◌, List, [], ◌∷◌, ◌++◌, inl, inr, length, drop, refl, sym, ap, ◌∙◌, subst, arith, length-append, length-drop}
 use Rattle.std.proofs.lemmas.List.{append-nil, drop-append-le}
 use Rattle.std.proofs.Math.Nat.{mul-div_cancel, mul-mod_left}
 use Rattle.std.proofs.lemmas.Nat.{div-add-mod'}
@@ -11,12 +11,12 @@ use Rattle.hound_walk.specs.{Head}
 use Rattle.hound_walk.proofs.Unique.{heads_agree}
 use Rattle.hound_writer.proofs.Heads.{head_beyond, head_field, head_inside}
 use Rattle.hound_writer.specs.{field}
-use Rattle.hound_repair.specs.Held.{is_followed, are_right, data_held, ends_with_pad, frame_length, frames_held, held, mended, missing_pad, shown_length, uncounted}
-use Rattle.hound_repair.specs.Repairing.{HasRightSizes, IsFoundAt, LeavesFor, Repairs, found_length, state_of}
+use Rattle.hound_repair.specs.Held.{counts_all, is_followed, are_right, data_held, ends_with_pad, frame_length, frames_held, held, mended, missing_pad, shown_length, uncounted}
+use Rattle.hound_repair.specs.Repairing.{HasRightLength, IsFoundAt, LeavesFor, Repairs, found_length, is_mended, state_of}
 use Rattle.hound_repair.specs.declared.sizes.Repair.{Repair}
 use Rattle.hound_writer.specs.declared.resuming.RepairState.{RepairState}
-use Rattle.hound_writer.specs.declared.resuming.RepairState.TheVariants.{Whole, CutOff, HasChunksAfterData}
-use Rattle.hound_repair.proofs.RightSizes.{frames_are, length_of, not_followed, same_sizes, sizes_of}
+use Rattle.hound_writer.specs.declared.resuming.RepairState.TheVariants.{Whole, CutOff, HasChunksAfterData, AllCounted}
+use Rattle.hound_repair.proofs.RightSizes.{frames_are, is_true, length_of, not_followed, same_sizes, sizes_of}
 
 -- the bytes held are all data, or all but the last, which is the pad byte
 pub held_cases : (f len n : ℕ)
@@ -128,11 +128,9 @@ frames_mended looks contents found len start at apart some =
     frames_padded looks contents (mended start all contents) found len start at apart some
     (rest_mended start all contents (head_beyond contents s len start at.head) (head_inside contents s len start at.head))
 
-module _ (looks again : Bool) (old mid next new : MediumState) (found other : Repair)
-    (first : Repairs looks old found mid)
-    (alone : IsTrue looks → found.state ≡ HasChunksAfterData → ⊥)
-    (sound : 1 ≤ frame_length found.spec_ex) (same : next.contents ≡ mid.contents)
-    (second : Repairs again next other new) where
+-- of a file that is mended, or whose data length was right, the same frames are held
+module _ (looks : Bool) (old mid : MediumState) (found : Repair) (first : Repairs looks old found mid)
+    (apart : found.state ≡ HasChunksAfterData → ⊥) (sound : 1 ≤ frame_length found.spec_ex) where
   abbrev s : WavSpecEx
   s = found.spec_ex
 
@@ -142,48 +140,71 @@ module _ (looks again : Bool) (old mid next new : MediumState) (found other : Re
   abbrev all : ℕ
   all = found_length found
 
-  apart : found.state ≡ HasChunksAfterData → ⊥
-  apart = not_followed looks _ _ found.state first.is.state alone
-
-  right : HasRightSizes found start mid.contents
+  pub right : HasRightLength found start mid.contents
   right = sizes_of found.state found start mid.contents apart first.sizes
 
-  -- the same frames are held
-  frames_same : (state : RepairState) → LeavesFor state found start old mid
-      → (state ≡ HasChunksAfterData → ⊥)
+  held_after : (put : Bool) → LeavesFor put found start old mid
       → frames_held s (shown_length start all mid.contents) (held start mid.contents) ≡ found.frames
-  frames_same HasChunksAfterData leaves not = absurd (not refl)
-  frames_same CutOff leaves not =
+  held_after true leaves =
       ap (λ c. frames_held s (shown_length start all c) (held start c)) leaves.0
       ∙ frames_mended looks old.contents found first.len start first.is apart sound
-  frames_same Whole leaves not =
+  held_after false leaves =
       let says : all ≡ first.len =
       sym right.length_says ∙ ap (field (start - 4)) leaves.stays.contents
       ∙ head_field old.contents s first.len start first.is.head in
       (λ i. frames_held s (shown_length start (says i) (leaves.stays.contents i)) (held start (leaves.stays.contents i)))
       ∙ sym (frames_are looks old.contents found first.len start first.is apart)
 
+  pub frames_same : frames_held s (shown_length start all mid.contents) (held start mid.contents) ≡ found.frames
+  frames_same = held_after (is_mended (not looks) found.state) first.leaves
+
+module _ (looks again : Bool) (old mid next new : MediumState) (found other : Repair)
+    (first : Repairs looks old found mid)
+    (alone : IsTrue looks → found.state ≡ HasChunksAfterData → ⊥)
+    (done : IsTrue looks → found.state ≡ AllCounted → ⊥)
+    (sound : 1 ≤ frame_length found.spec_ex) (same : next.contents ≡ mid.contents)
+    (second : Repairs again next other new) where
+  apart : found.state ≡ HasChunksAfterData → ⊥
+  apart = not_followed looks _ _ _ found.state first.is.state alone
+
+  -- the file was whole, or is mended
+  is_right : (looks : Bool) (state : RepairState) → (state ≡ HasChunksAfterData → ⊥)
+      → (IsTrue looks → state ≡ AllCounted → ⊥) → (state ≡ Whole) ⊎ (is_mended (not looks) state ≡ true)
+  is_right looks Whole not_chunks not_all = inl refl
+  is_right looks CutOff not_chunks not_all = inr refl
+  is_right looks HasChunksAfterData not_chunks not_all = absurd (not_chunks refl)
+  is_right true AllCounted not_chunks not_all = absurd (not_all is_true refl)
+  is_right false AllCounted not_chunks not_all = inr refl
+
   -- a second repair finds the same frames, and writes nothing
-  pub second_repair : (other.state ≡ Whole) × (other.spec_ex ≡ s) × (other.frames ≡ found.frames)
+  pub second_repair : (other.state ≡ Whole) × (other.spec_ex ≡ found.spec_ex) × (other.frames ≡ found.frames)
       × (new.contents ≡ next.contents)
   second_repair =
+      let s = found.spec_ex in
+      let start = first.start in
+      let all = found_length found in
+      let has = right looks old mid found first apart sound in
       let agree =
-      heads_agree next.contents other.spec_ex s second.len right.readable.len second.start start
+      heads_agree next.contents other.spec_ex s second.len has.readable.len second.start start
       second.is.head
-      (subst (λ c. Head c s right.readable.len start) (sym same) right.readable.head) in
+      (subst (λ c. Head c s has.readable.len start) (sym same) has.readable.head) in
       let len : second.len ≡ all = agree.1
-      ∙ sym (head_field mid.contents s right.readable.len start right.readable.head)
-      ∙ right.length_says in
-      let frames = frames_same found.state first.leaves apart in
+      ∙ sym (head_field mid.contents s has.readable.len start has.readable.head)
+      ∙ has.length_says in
+      let frames = frames_same looks old mid found first apart sound in
+      let riff = first.riff (is_right looks found.state apart done) in
       let is_right : are_right other.spec_ex second.start second.len (field 4 next.contents)
       (shown_length second.start second.len next.contents) (held second.start next.contents) ≡ true =
       let there = right_again s start all (field 4 mid.contents) (shown_length start all mid.contents)
-      (held start mid.contents) found.frames refl right.riff_says frames in
+      (held start mid.contents) found.frames refl riff frames in
       cc (agree.0, agree.2, len, same, there) in
       let state : other.state ≡ Whole =
-      second.is.state ∙ ap (λ b. state_of b (again && is_followed second.len (drop second.start next.contents))) is_right in (
+      second.is.state
+      ∙ ap (λ b. state_of b (again && is_followed second.len (drop second.start next.contents))
+      (counts_all other.spec_ex second.len (shown_length second.start second.len next.contents)
+      (held second.start next.contents))) is_right in (
         state,
         agree.0,
         cc (second.is.frames, state, agree.0, len, agree.2, same, frames),
-        (subst (λ w. LeavesFor w other second.start next new) state second.leaves).stays.contents,
+        (subst (λ w. LeavesFor (is_mended (not again) w) other second.start next new) state second.leaves).stays.contents,
       )

@@ -1,5 +1,5 @@
 -- Files in memory that are repaired where they are.
-use Rattle.std.proofs.Common.{◌≡◌, ℕ, ◌+◌, ◌-◌, ◌≤◌, Bool, refl, subst, List, ◌++◌, length, take, drop, sym, ap, ◌∙◌, arith, append_assoc, length-append}
+use Rattle.std.proofs.Common.{◌≡◌, ℕ, ◌+◌, ◌-◌, ◌≤◌, Bool, true, not, refl, subst, List, ◌++◌, length, take, drop, sym, ap, ◌∙◌, arith, append_assoc, length-append}
 use Rattle.std.proofs.lemmas.List.{drop-drop, drop-take, length-take-le}
 use Rattle.std.proofs.lemmas.Slice.{drop-append-drop}
 use Rattle.std.proofs.Math.Seq.{take-append-add}
@@ -10,11 +10,11 @@ use Rattle.hound_medium.specs.{MediumState}
 use Rattle.hound_writer.specs.{with_sizes}
 use Rattle.hound_repair.specs.Damages.{FindsDamage, IsSoundDamage, repair_of, RepairsBytes, as_medium}
 use Rattle.hound_repair.specs.Held.{mended, missing_pad}
-use Rattle.hound_repair.specs.Repairing.{Repairs}
+use Rattle.hound_repair.specs.Repairing.{Repairs, is_mended}
 use Rattle.hound_repair.specs.declared.look.Damage.{Damage}
 use Rattle.hound_repair.specs.declared.sizes.Repair.{Repair}
-use Rattle.hound_writer.specs.declared.resuming.RepairState.TheVariants.{CutOff}
-use Rattle.hound_repair.proofs.Mending.{length_is, mended_by, repairs_cut}
+use Rattle.hound_repair.proofs.Mending.{length_is, mended_by, repairs_mended}
+use Rattle.hound_repair.proofs.RightSizes.{mended_apart}
 
 -- two sizes that were stored in place
 pub two_put : (p riff len : ℕ) (c x y : List ℕ) → 8 ≤ p → p + 4 ≤ length c → x ≡ bytes_of 4 riff
@@ -41,18 +41,18 @@ two_put p riff len c x y beyond inside x_is y_is =
     ∙ append_assoc (take 4 c) x (drop 8 (take p c) ++ (bytes_of 4 len ++ drop (p + 4) c))
     ∙ ap (λ l. take 4 c ++ (l ++ (drop 8 (take p c) ++ (bytes_of 4 len ++ drop (p + 4) c)))) x_is
 
--- a file that was cut off, with its sizes and the missing bytes
+-- a file that is mended, with its sizes and the missing bytes
 pub repairs_in_place : (looks : Bool) (used n : ℕ) (old pad new : List ℕ) (d : Damage) (found : Repair)
     (looked : MediumState) → IsSoundDamage d → FindsDamage looks (as_medium (take used old)) d looked
-    → d.state ≡ CutOff → missing_pad d.sizes.data_length d.held ≡ pad
+    → is_mended (not looks) d.state ≡ true → missing_pad d.sizes.data_length d.held ≡ pad
     → take n new ≡ with_sizes (d.head.data_start - 4) d.sizes.riff_size d.sizes.data_length (take used old) ++ pad
     → drop n new ≡ drop n old → found ≡ repair_of d → RepairsBytes looks used n found old new
-repairs_in_place looks used n old pad new d found looked sound finds cut missing is rest found_is =
+repairs_in_place looks used n old pad new d found looked sound finds put missing is rest found_is =
     let file = take used old in
     record {
       repairs = subst (λ f. Repairs looks (as_medium file) f (as_medium (take n new))) (sym found_is)
-          (repairs_cut looks (as_medium file) (as_medium (take n new)) (repair_of d) _ _ finds.found sound.spec cut
+          (repairs_mended looks (as_medium file) (as_medium (take n new)) (repair_of d) _ _ finds.found sound.spec put
           (mended_by d sound file pad (take n new) finds.held_is missing is
-          ∙ ap (λ k. mended d.head.data_start k file) (length_is d sound cut)) refl refl);
+          ∙ ap (λ k. mended d.head.data_start k file) (length_is d sound (mended_apart (not looks) d.state put))) refl refl);
       rest = rest;
     }

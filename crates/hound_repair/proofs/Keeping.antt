@@ -47,11 +47,11 @@ pub no_pad_shown : (s : WavSpecEx) (len start : ℕ) (c : List ℕ) (list : List
 no_pad_shown s len start c list none = grind (arith, common_steps, uncounted_cases, length-drop)
 
 -- the data stay
-data_stay : (state : RepairState) (found : Repair) (start m : ℕ) (old new : MediumState)
-    → (state ≡ HasChunksAfterData → ⊥) → LeavesFor state found start old new → 20 ≤ start
+data_stay : (put : Bool) (found : Repair) (start m : ℕ) (old new : MediumState)
+    → LeavesFor put found start old new → 20 ≤ start
     → start ≤ length old.contents → m ≤ held start old.contents
     → take m (drop start new.contents) ≡ take m (drop start old.contents)
-data_stay state found start m old new alone leaves beyond inside few = grind (arith, common_steps, same_sizes, drop-append-le, take-append-le)
+data_stay put found start m old new leaves beyond inside few = grind (arith, common_steps, same_sizes, drop-append-le, take-append-le)
 
 module _ (looks : Bool) (old new : MediumState) (found : Repair)
     (r : Repairs looks old found new) (alone : found.state ≡ HasChunksAfterData → ⊥)
@@ -105,7 +105,10 @@ module _ (looks : Bool) (old new : MediumState) (found : Repair)
   not_pad one more = grind (arith, common_steps)
 
   frames : q ≤ found.frames
-  frames = grind (arith, common_steps, frames_kept, frame, bytes, inside, size, long, not_pad, held_frames)
+  frames =
+      let shown = shown_length r.start r.len old.contents in
+      let kept = frames_kept (frame_length s) shown (length rest) q frame (omega (arith, bytes, inside, size, long)) not_pad in
+      subst (λ k. q ≤ k) (sym (r.is.frames ∙ held_frames found.state s r.len shown (length rest) alone)) kept
 
   same : take (n * w) (drop r.start new.contents) ≡ take (n * w) (concat list)
   same = grind (arith, common_steps, data_stay, head_beyond, head_inside, inside, size, long, take-take, there)
@@ -143,7 +146,7 @@ stays_stored looks old new found s len start list r alone head sound wide stored
       agree.0,
       subst (λ h. ReadsFrames found h list new.contents) agree.2
           (reads_frames looks old new found r
-          (not_followed looks _ _ found.state r.is.state alone) list (subst IsSoundSpec (sym agree.0) sound)
+          (not_followed looks _ _ _ found.state r.is.state alone) list (subst IsSoundSpec (sym agree.0) sound)
           (subst (λ (x : WavSpecEx). AreWide x.bytes_per_sample list) (sym agree.0) wide)
           (subst (λ h. IsStored h bytes 0 (length bytes) old.contents) (sym agree.2) stored)
           (subst (λ (x : WavSpecEx × ℕ × ℕ). IsNoPad x.0 (shown_length x.2 x.1 old.contents) (held x.2 old.contents) list)

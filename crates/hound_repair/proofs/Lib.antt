@@ -15,3 +15,4 @@ pub mod Stopped
 pub mod ByEffects
 pub mod Found
 pub mod Lost
+pub mod Ending

@@ -1,17 +1,18 @@
 -- What mending a file leaves.
 use Rattle.std.proofs.lemmas.Grind.{common_steps}
-use Rattle.std.proofs.Common.{◌≡◌, ℕ, ◌-◌, List, ◌++◌, length, Bool, ◌∙◌, arith, eqb-true}
-use Rattle.std.proofs.lemmas.Bool.{and_parts}
+use Rattle.std.proofs.Common.{◌≡◌, ℕ, ◌-◌, Bool, true, false, not, ◌&&◌, List, ◌++◌, length, inl, inr, refl, sym, ap, ◌∙◌, subst, arith, eqb-true}
+use Rattle.hound_spec.specs.{riff_size}
 use Rattle.hound_medium.specs.{MediumState}
 use Rattle.hound_walk.specs.{IsSoundSpec}
-use Rattle.hound_writer.specs.{PutsNothing, with_sizes}
+use Rattle.hound_writer.specs.{PutsNothing, field, with_sizes}
 use Rattle.hound_repair.specs.Damages.{FindsDamage, IsSoundDamage, repair_of}
 use Rattle.hound_repair.specs.Held.{held, mended, missing_pad}
-use Rattle.hound_repair.specs.Repairing.{IsFoundAt, Repairs, found_length}
+use Rattle.hound_repair.specs.Repairing.{HasRightLength, IsFoundAt, Repairs, UnlessFollowed, found_length, is_mended, state_of}
 use Rattle.hound_repair.specs.declared.look.Damage.{Damage}
 use Rattle.hound_repair.specs.declared.sizes.Repair.{Repair}
-use Rattle.hound_writer.specs.declared.resuming.RepairState.TheVariants.{CutOff}
-use Rattle.hound_repair.proofs.RightSizes.{right_sizes_put, right_sizes_there}
+use Rattle.hound_writer.specs.declared.resuming.RepairState.{RepairState}
+use Rattle.hound_writer.specs.declared.resuming.RepairState.TheVariants.{Whole, CutOff, HasChunksAfterData, AllCounted}
+use Rattle.hound_repair.proofs.RightSizes.{held_frames, kept_counts, length_of, mended_apart, right_length_put, right_length_there, right_riff_put}
 
 -- the sizes and the missing bytes are what mends a file
 pub mended_by : (d : Damage) → IsSoundDamage d → (c pad new : List ℕ)
@@ -20,46 +21,72 @@ pub mended_by : (d : Damage) → IsSoundDamage d → (c pad new : List ℕ)
     → new ≡ mended d.head.data_start d.sizes.data_length c
 mended_by d sound c pad new held_is missing is = grind (arith, common_steps)
 
--- a file that wasn't cut off is left as it is
+-- P, of a file that nothing follows
+unless_followed : (state : RepairState) (P : Type 0) → ((state ≡ HasChunksAfterData → ⊥) → P) → UnlessFollowed state P
+unless_followed HasChunksAfterData P holds = tt
+unless_followed Whole P holds = holds (λ here. cc here)
+unless_followed CutOff P holds = holds (λ here. cc here)
+unless_followed AllCounted P holds = holds (λ here. cc here)
+
+-- a whole file has the right RIFF size
+whole_riff : (right counted followed : Bool) → Whole ≡ state_of (right && counted) followed counted → right ≡ true
+whole_riff true counted followed is = refl
+whole_riff false counted true is = cc is
+whole_riff false true false is = cc is
+whole_riff false false false is = cc is
+
+-- a file that isn't mended is left as it is
 pub repairs_kept : (looks : Bool) (old new : MediumState) (found : Repair) (len start : ℕ)
     → IsFoundAt looks old.contents found len start → IsSoundSpec found.spec_ex
-    → (found.state ≡ CutOff → ⊥) → PutsNothing old new → new.faults ≡ old.faults
+    → is_mended (not looks) found.state ≡ false → PutsNothing old new → new.faults ≡ old.faults
     → Repairs looks old found new
-repairs_kept looks old new found len start at sound other nothing faults = record {
+repairs_kept looks old new found len start at sound kept nothing faults = record {
   len = len;
   start = start;
   is = at;
-  leaves = grind (arith, common_steps);
-  sizes = grind (arith, common_steps, right_sizes_there looks old.contents found len start at, and_parts, eqb-true);
+  leaves = rw kept nothing;
+  sizes = unless_followed found.state _ (λ apart. subst (HasRightLength found start) (sym nothing.stays.contents)
+      (right_length_there looks old.contents found len start at apart sound
+      (eqb-true _ _ (kept_counts (not looks) _ _ _ found.state at.state kept apart))));
+  riff = λ either. elim either [
+    | inl whole ↦ ap (field 4) nothing.stays.contents
+        ∙ eqb-true _ _ (whole_riff _ _ _ (sym whole ∙ at.state))
+        ∙ ap (riff_size start) (sym (length_of looks old.contents found len start at (λ here. cc (whole, here))))
+    | inr put ↦ absurd (cc (put, kept))
+  ];
   faults = faults;
 }
 
--- a file that was cut off is mended
-pub repairs_cut : (looks : Bool) (old new : MediumState) (found : Repair) (len start : ℕ)
+-- a file is mended
+pub repairs_mended : (looks : Bool) (old new : MediumState) (found : Repair) (len start : ℕ)
     → IsFoundAt looks old.contents found len start → IsSoundSpec found.spec_ex
-    → found.state ≡ CutOff → new.contents ≡ mended start (found_length found) old.contents
+    → is_mended (not looks) found.state ≡ true → new.contents ≡ mended start (found_length found) old.contents
     → new.flushed ≡ length new.past → new.faults ≡ old.faults → Repairs looks old found new
-repairs_cut looks old new found len start at sound cut is flushed faults = record {
+repairs_mended looks old new found len start at sound put is flushed faults = record {
   len = len;
   start = start;
   is = at;
-  leaves = grind (arith, common_steps, cut, is, flushed);
-  sizes = grind (arith, common_steps, cut, is, right_sizes_put looks old.contents found len start at);
+  leaves = rw put (is, flushed);
+  sizes = unless_followed found.state _ (λ apart. subst (HasRightLength found start) (sym is)
+      (right_length_put looks old.contents found len start at apart sound));
+  riff = λ _. ap (field 4) is
+      ∙ right_riff_put looks old.contents found len start at (mended_apart (not looks) found.state put);
   faults = faults;
 }
 
--- the right data length of a file that was cut off is that of the frames that are reported
-pub length_is : (d : Damage) → IsSoundDamage d → d.state ≡ CutOff
+-- the right data length of a file that nothing follows is that of the frames that are reported
+pub length_is : (d : Damage) → IsSoundDamage d → (d.state ≡ HasChunksAfterData → ⊥)
     → d.sizes.data_length ≡ found_length (repair_of d)
-length_is d sound cut = grind (arith, common_steps)
+length_is d sound apart = grind (arith, common_steps, held_frames)
 
 -- the same, after a look at the file
 module _ (looks : Bool) (old mid new : MediumState) (d : Damage) (sound : IsSoundDamage d)
-    (finds : FindsDamage looks old d mid) (cut : d.state ≡ CutOff) where
+    (finds : FindsDamage looks old d mid) (put : is_mended (not looks) d.state ≡ true) where
   pub put_ok : new.contents ≡ mended d.head.data_start d.sizes.data_length mid.contents
       → new.flushed ≡ length new.past → new.faults ≡ mid.faults
       → Repairs looks old (repair_of d) new
   put_ok contents flushed faults =
-      repairs_cut looks old new (repair_of d) d.head.data_length d.head.data_start finds.found sound.spec cut
-      (contents ∙ (λ i. mended d.head.data_start (length_is d sound cut i) (finds.puts.stays.contents i)))
+      let apart = mended_apart (not looks) d.state put in
+      repairs_mended looks old new (repair_of d) d.head.data_length d.head.data_start finds.found sound.spec put
+      (contents ∙ (λ i. mended d.head.data_start (length_is d sound apart i) (finds.puts.stays.contents i)))
       flushed (faults ∙ finds.faults)

@@ -1,6 +1,6 @@
 -- What a file is read as once its sizes are right.
 use Rattle.std.proofs.lemmas.Grind.{common_steps}
-use Rattle.std.proofs.Common.{◌≡◌, ℕ, ◌+◌, ◌-◌, ◌*◌, ◌/◌, ◌%◌, ◌^◌, ◌≤◌, ◌<◌, Bool, IsTrue, ◌&&◌, List, ◌++◌, length, take, drop, None, refl, sym, ap, ◌∙◌, subst, arith, length-append, length-drop}
+use Rattle.std.proofs.Common.{◌≡◌, ℕ, ◌+◌, ◌-◌, ◌*◌, ◌/◌, ◌%◌, ◌^◌, ◌≤◌, ◌<◌, Bool, true, false, IsTrue, ◌&&◌, List, ◌++◌, length, take, drop, None, refl, sym, ap, ◌∙◌, subst, arith, length-append, length-drop}
 use Rattle.std.proofs.lemmas.List.{take-append-le, drop-append-le}
 use Rattle.std.proofs.Math.Nat.{mul_assoc, mul-div_cancel, mul-mod_left}
 use Rattle.hound_number.specs.{bytes_of, number}
@@ -13,10 +13,10 @@ use Rattle.hound_writer.proofs.Heads.{head_beyond, head_field, head_inside, head
 use Rattle.hound_writer.proofs.Patching.{data_length_of_sizes, riff_size_of_sizes, sizes_put}
 use Rattle.hound_writer.proofs.Sizes.{same_length, same_riff, same_transitive}
 use Rattle.hound_repair.specs.Held.{frame_length, frames_held, held, mended, missing_pad, right_length, shown_length}
-use Rattle.hound_repair.specs.Repairing.{HasRightSizes, IsFoundAt, UnlessFollowed, found_length, frames_found, repair_fault, size_fault, state_of}
+use Rattle.hound_repair.specs.Repairing.{HasRightLength, IsFoundAt, UnlessFollowed, found_length, frames_found, is_mended, repair_fault, size_fault, state_of}
 use Rattle.hound_repair.specs.declared.sizes.Repair.{Repair}
 use Rattle.hound_writer.specs.declared.resuming.RepairState.{RepairState}
-use Rattle.hound_writer.specs.declared.resuming.RepairState.TheVariants.{HasChunksAfterData}
+use Rattle.hound_writer.specs.declared.resuming.RepairState.TheVariants.{Whole, CutOff, HasChunksAfterData, AllCounted}
 
 -- two sizes that were put change nothing else
 pub same_sizes : (p riff n : ℕ) (c : List ℕ) → 8 ≤ p → p + 4 ≤ length c
@@ -86,16 +86,40 @@ pub held_frames : (state : RepairState) (s : WavSpecEx) (len shown n : ℕ)
     → (state ≡ HasChunksAfterData → ⊥) → frames_found state s len shown n ≡ frames_held s shown n
 held_frames state s len shown n alone = grind (arith, common_steps)
 
+pub is_true : IsTrue true
+is_true = grind (arith, common_steps)
+
 -- chunks that aren't looked for aren't found
-pub not_followed : (looks right followed : Bool) (state : RepairState)
-    → state ≡ state_of right (looks && followed)
+pub not_followed : (looks right followed counted : Bool) (state : RepairState)
+    → state ≡ state_of right (looks && followed) counted
     → (IsTrue looks → state ≡ HasChunksAfterData → ⊥) → state ≡ HasChunksAfterData → ⊥
-not_followed looks right followed state is alone here = grind (arith, common_steps)
+not_followed true right followed counted state is alone here = alone is_true here
+not_followed false true followed counted state is alone here = cc (is, here)
+not_followed false false followed true state is alone here = cc (is, here)
+not_followed false false followed false state is alone here = cc (is, here)
+
+-- nor is a file mended that is followed
+pub mended_apart : (all : Bool) (state : RepairState) → is_mended all state ≡ true
+    → state ≡ HasChunksAfterData → ⊥
+mended_apart all HasChunksAfterData is here = cc is
+mended_apart all Whole is here = cc here
+mended_apart all CutOff is here = cc here
+mended_apart all AllCounted is here = cc here
+
+-- the data length of a file that isn't mended and isn't followed is right
+pub kept_counts : (all right followed counted : Bool) (state : RepairState)
+    → state ≡ state_of (right && counted) followed counted → is_mended all state ≡ false
+    → (state ≡ HasChunksAfterData → ⊥) → counted ≡ true
+kept_counts all right followed true state is kept apart = refl
+kept_counts all true true false state is kept apart = absurd (apart is)
+kept_counts all false true false state is kept apart = absurd (apart is)
+kept_counts all true false false state is kept apart = cc (ap (is_mended all) is, kept)
+kept_counts all false false false state is kept apart = cc (ap (is_mended all) is, kept)
 
 -- what the sizes of a file that isn't followed by chunks are
 pub sizes_of : (state : RepairState) (found : Repair) (start : ℕ) (contents : List ℕ)
-    → (state ≡ HasChunksAfterData → ⊥) → UnlessFollowed state (HasRightSizes found start contents)
-    → HasRightSizes found start contents
+    → (state ≡ HasChunksAfterData → ⊥) → UnlessFollowed state (HasRightLength found start contents)
+    → HasRightLength found start contents
 sizes_of state found start contents alone right = grind (arith, common_steps)
 
 -- a length that passes the check fits
@@ -131,29 +155,29 @@ module _ (looks : Bool) (contents : List ℕ) (found : Repair) (len start : ℕ)
   pub length_fits : all < 2 ^ 32
   length_fits = omega (arith, riff_fits, head_beyond contents found.spec_ex len start at.head)
 
-  right_sizes_of : IsSoundSpec found.spec_ex → (new : List ℕ) → Head new found.spec_ex all start
-      → field 4 new ≡ riff_size start all → HasRightSizes found start new
-  right_sizes_of sound new head riff = record {
+  right_length_of : IsSoundSpec found.spec_ex → (new : List ℕ) → Head new found.spec_ex all start
+      → HasRightLength found start new
+  right_length_of sound new head = record {
     length_says = head_field new found.spec_ex all start head;
-    riff_says = riff;
     readable = frames_read found.spec_ex all start found.frames new sound.0 sound.1 refl head;
   }
 
-  pub right_sizes_put : IsSoundSpec found.spec_ex
-      → HasRightSizes found start (mended start all contents)
-  right_sizes_put sound =
+  pub right_length_put : IsSoundSpec found.spec_ex
+      → HasRightLength found start (mended start all contents)
+  right_length_put sound =
       let s = found.spec_ex in
-      let riff = riff_size start all in
       let pad = missing_pad all (held start contents) in
-      right_sizes_of sound (mended start all contents)
-      (head_put s len start contents at.head riff all length_fits riff_fits pad)
-      (riff_put s len start contents at.head riff all length_fits riff_fits pad)
+      right_length_of sound (mended start all contents)
+      (head_put s len start contents at.head (riff_size start all) all length_fits riff_fits pad)
 
-  pub right_sizes_there : IsSoundSpec found.spec_ex
-      → field 4 contents ≡ riff_size start (right_length found.spec_ex shown (held start contents))
+  pub right_riff_put : field 4 (mended start all contents) ≡ riff_size start all
+  right_riff_put =
+      let pad = missing_pad all (held start contents) in
+      riff_put found.spec_ex len start contents at.head (riff_size start all) all length_fits riff_fits pad
+
+  pub right_length_there : IsSoundSpec found.spec_ex
       → len ≡ right_length found.spec_ex shown (held start contents)
-      → HasRightSizes found start contents
-  right_sizes_there sound riff same =
-      right_sizes_of sound contents
+      → HasRightLength found start contents
+  right_length_there sound same =
+      right_length_of sound contents
       (subst (λ n. Head contents found.spec_ex n start) (same ∙ sym length_of) at.head)
-      (riff ∙ ap (riff_size start) (sym length_of))

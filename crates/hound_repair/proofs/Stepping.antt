@@ -16,9 +16,10 @@ use Rattle.hound_repair.proofs.RightSizes.{check_fits}
 use Rattle.hound_repair.specs.declared.look.SeenHead.{SeenHead}
 use Rattle.hound_repair.specs.Held.{are_chunks, begins_chunk, chunk_content, ends_with_id3, has_known_tag, held, is_followed, right_length, shown_length, uncounted}
 use Rattle.hound_repair.specs.Repairing.{repair_fault, size_fault, state_of}
-use Rattle.hound_repair.specs.Steps.{IsAtChunk, IsFoundAs, IsLengthOf, IsMeasured, IsNotWhole, IsShown, else_followed, followed, has_right, steps_left, tagged}
-use Rattle.hound_writer.specs.declared.resuming.RepairState.TheVariants.{CutOff, HasChunksAfterData}
+use Rattle.hound_repair.specs.Steps.{IsAtChunk, IsFoundAs, IsLengthOf, IsMeasured, IsNotWhole, IsShown, LooksTo, else_followed, followed, has_all, has_right, steps_left, tagged}
+use Rattle.hound_writer.specs.declared.resuming.RepairState.TheVariants.{HasChunksAfterData}
 use Rattle.hound_repair.specs.declared.look.Damage.{Damage}
+use Rattle.hound_repair.specs.declared.steps.LookStep.TheVariants.{Found}
 use Rattle.hound_repair.specs.declared.steps.Stage.TheVariants as stages
 use Rattle.hound_repair.specs.Damages.{IsSoundDamage, shown_of}
 use Rattle.hound_writer.specs.{AppendFault, FailsCheck, field, too_long}
@@ -35,16 +36,40 @@ mapped_ok D P (Err e) x same cases = absurd (cc same)
 -- how a file is found whose sizes aren't right, by whether something follows its data
 pub known_by : (looks : Bool) (file : List ℕ) (head : SeenHead) (b : Bool)
     → IsNotWhole looks file head → followed file head ≡ b
-    → state_of false b ≡ state_of (has_right file head) (looks && followed file head)
+    → IsFoundAs looks file head (state_of false b (has_all file head))
 known_by looks file head b not is = cc (not.wrong, not.looks_for, is)
 
 pub found_followed : (looks : Bool) (file : List ℕ) (head : SeenHead) → IsNotWhole looks file head
     → followed file head ≡ true → IsFoundAs looks file head HasChunksAfterData
 found_followed looks file head not is = known_by looks file head true not is
 
-pub found_cut : (looks : Bool) (file : List ℕ) (head : SeenHead) → IsNotWhole looks file head
-    → followed file head ≡ false → IsFoundAs looks file head CutOff
-found_cut looks file head not is = known_by looks file head false not is
+-- a file that is measured and found so is what a look finds
+found_so : (looks : Bool) (file : List ℕ) (d : Damage) → IsMeasured file d
+    → IsFoundAs looks file d.head d.state → LooksTo looks file (Ok (Found d))
+found_so looks file d m state = (
+  record {
+    head = m.head_is;
+    small = m.small;
+    check = m.check;
+    state = state;
+    frames = cc (m.held_is, m.shown_is);
+    left_over = cc (m.held_is, m.shown_is);
+  },
+  m.held_is,
+  λ _. m.shown_is,
+)
+
+-- also where nothing that follows is looked for
+found_to_end : (file : List ℕ) (d : Damage) → IsMeasured file d → has_right file d.head ≡ false
+    → LooksTo false file (Ok (Found d))
+found_to_end file d m wrong =
+    found_so false file d m (m.state ∙ (λ i. state_of (sym wrong i) false (has_all file d.head)))
+
+-- what is measured leads there where nothing follows the data
+pub found_unfollowed : (looks : Bool) (file : List ℕ) (d : Damage) → IsMeasured file d
+    → IsNotWhole looks file d.head → followed file d.head ≡ false → LooksTo looks file (Ok (Found d))
+found_unfollowed looks file d m not is =
+    found_so looks file d m (m.state ∙ known_by looks file d.head false not is)
 
 -- too few bytes for an ID3v1 tag
 pub no_id3 : (len : ℕ) (bytes : List ℕ) → length bytes < len + 128 → ends_with_id3 len bytes ≡ false
@@ -209,6 +234,19 @@ pub sizes_rejected : (s : WavSpecEx) (counted len start n m : ℕ)
     → repair_fault s len start n ≡ Some too_long
 sizes_rejected s counted len start n m fails same pair = written s len start n pair ∙ sym same ∙ fails
 
+-- whether both sizes are right, by those that are measured
+wrong_sizes : (file : List ℕ) (d : Damage) → IsSoundDamage d → IsMeasured file d
+    → ((field 4 file ≡ d.sizes.riff_size) → (d.head.data_length ≡ d.sizes.data_length) → ⊥)
+    → has_right file d.head ≡ false
+wrong_sizes file d sound m wrong =
+    grind (arith, common_steps, sound.sizes.riff, sound.sizes.length_is, m.held_is, m.shown_is)
+
+-- where nothing that follows is looked for
+pub found_wrong : (file : List ℕ) (d : Damage) → IsSoundDamage d → IsMeasured file d
+    → ((field 4 file ≡ d.sizes.riff_size) → (d.head.data_length ≡ d.sizes.data_length) → ⊥)
+    → LooksTo false file (Ok (Found d))
+found_wrong file d sound m wrong = found_to_end file d m (wrong_sizes file d sound m wrong)
+
 -- sizes that aren't right, where chunks are looked for
 pub not_whole : (looks : Bool) (file : List ℕ) (d : Damage) → IsSoundDamage d → IsMeasured file d
     → looks ≡ true
@@ -218,7 +256,7 @@ not_whole looks file d sound m looking wrong = record {
   looks_for = looking;
   head_is = m.head_is;
   shown_is = λ _. m.shown_is;
-  wrong = grind (arith, common_steps, sound.sizes.riff, sound.sizes.length_is, m.held_is, m.shown_is);
+  wrong = wrong_sizes file d sound m wrong;
 }
 
 -- the file ends where what is held ends

@@ -121,7 +121,7 @@ module _ (looks : Bool) (old : List ℕ) (mid : MediumState) (found : Repair) (l
       head_now in (
         agree.0,
         frames_are again mid.contents other second.len second.start second.is
-            (not_followed again _ _ other.state second.is.state alone)
+            (not_followed again _ _ _ other.state second.is.state alone)
             ∙ (λ i. frames_held (agree.0 i) (shown_length (agree.2 i) (agree.1 i) mid.contents) (held (agree.2 i) mid.contents))
             ∙ frames_now,
       )

@@ -1,16 +1,15 @@
 -- What the private parts of a repair find and do, and what a repair of a file in memory leaves.
-use Rattle.std.specs.Prelude.{◌≡◌, ℕ, ◌+◌, ◌≤◌, ◌^◌, Bool, false, [], ◌∷◌, length, take, Some, true, List, drop, Option, None, if◌then◌else◌}
+use Rattle.std.specs.Prelude.{◌≡◌, ℕ, ◌+◌, ◌≤◌, ◌^◌, Bool, not, false, [], ◌∷◌, length, take, Some, true, List, drop, Option, None, if◌then◌else◌}
 use Rattle.hound_spec.specs.{riff_size}
 use Rattle.hound_medium.specs.{MediumState, unknown}
 use Rattle.hound_walk.specs.{IsDataPlace, IsSoundSpec}
 use Rattle.hound_writer.specs.{AppendFault, PutsNothing, by_bytes, too_long}
 use Rattle.hound_repair.specs.Held.{frames_held, held, right_length, shown_length, torn_bytes, missing_pad}
-use Rattle.hound_repair.specs.Repairing.{IsFoundAt, frames_found, repair_fault, torn_found, Repairs, found_length}
+use Rattle.hound_repair.specs.Repairing.{IsFoundAt, frames_found, is_mended, repair_fault, torn_found, Repairs, found_length}
 use Rattle.hound_repair.specs.declared.look.Damage.{Damage}
 use Rattle.hound_repair.specs.declared.look.SeenHead.{SeenHead}
 use Rattle.hound_repair.specs.declared.sizes.Repair.{Repair}
 use Rattle.hound_repair.specs.declared.sizes.Sizes.{Sizes}
-use Rattle.hound_writer.specs.declared.resuming.RepairState.TheVariants.{CutOff}
 
 -- the data length that a file with this head shows
 abbrev pub shown_of : SeenHead → ℕ
@@ -63,12 +62,12 @@ pub record RepairsBytes (looks : Bool) (used n : ℕ) (found : Repair) (old new 
     pub repairs : Repairs looks (as_medium (take used old)) found (as_medium (take n new))
     pub rest : drop n new ≡ drop n old
 
--- a pad byte is missing from a file that was cut off and takes all of the memory
+-- a pad byte is missing from a file that is to be mended and takes all of the memory
 pub record LacksRoom (looks : Bool) (used : ℕ) (bytes : List ℕ) : Type 0 where
   pub found : Repair
   pub len : ℕ
   pub start : ℕ
   pub is : IsFoundAt looks (take used bytes) found len start
-  pub state : found.state ≡ CutOff
+  pub mends : is_mended (not looks) found.state ≡ true
   pub pad : missing_pad (found_length found) (held start (take used bytes)) ≡ 0 ∷ []
   pub full : length bytes ≤ used

@@ -45,10 +45,14 @@ torn_bytes s len n = data_held (frame_length s) len n % frame_length s
 abbrev pub right_length : WavSpecEx → ℕ → ℕ → ℕ
 right_length s len n = frames_held s len n * frame_length s
 
--- both sizes are right, where a file shows this data length: the data length, and the RIFF size with it
+-- the data length counts all whole frames that are held, where a file shows this data length
+abbrev pub counts_all : WavSpecEx → ℕ → ℕ → ℕ → Bool
+counts_all s len shown n = len == right_length s shown n
+
+-- both sizes are right: the data length, and the RIFF size with it
 abbrev pub are_right : WavSpecEx → ℕ → ℕ → ℕ → ℕ → ℕ → Bool
 are_right s start len riff shown n =
-    (riff == riff_size start (right_length s shown n)) && (len == right_length s shown n)
+    (riff == riff_size start (right_length s shown n)) && counts_all s len shown n
 
 -- the pad byte that is missing, where data of an odd length end with the file
 abbrev pub missing_pad : ℕ → ℕ → List ℕ

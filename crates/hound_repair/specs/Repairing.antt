@@ -9,10 +9,10 @@ use Rattle.hound_walk.specs.declared.cause.Cause.{Cause}
 use Rattle.hound_walk.specs.declared.cause.Cause.TheVariants.{Unsupported}
 use Rattle.hound_walk.specs.{Head, Readable, Rejected}
 use Rattle.hound_writer.specs.{IsIoError, AppendFault, by_bytes, too_long, NamesFault, PutsNothing, field}
-use Rattle.hound_repair.specs.Held.{is_followed, are_right, frame_length, frames_held, held, mended, right_length, shown_length, torn_bytes}
+use Rattle.hound_repair.specs.Held.{counts_all, is_followed, are_right, frame_length, frames_held, held, mended, right_length, shown_length, torn_bytes}
 use Rattle.hound_repair.specs.declared.sizes.Repair.{Repair}
 use Rattle.hound_writer.specs.declared.resuming.RepairState.{RepairState}
-use Rattle.hound_writer.specs.declared.resuming.RepairState.TheVariants.{Whole, CutOff, HasChunksAfterData}
+use Rattle.hound_writer.specs.declared.resuming.RepairState.TheVariants.{Whole, CutOff, HasChunksAfterData, AllCounted}
 
 -- the fault of a head that holds so many bytes, of samples that are written: the RIFF size of its
 -- whole frames doesn't fit
@@ -38,11 +38,24 @@ abbrev pub IsRepairFault : List ℕ → AppendFault → Type 0
 IsRepairFault bytes fault =
     ((cause : Cause) × (fault ≡ by_bytes cause) × Rejected bytes cause) ⊎ HasUnfitHead bytes fault
 
--- how a file is found, by whether both sizes are right and whether chunks follow the data
-abbrev pub state_of : Bool → Bool → RepairState
-state_of true followed = Whole
-state_of false true = HasChunksAfterData
-state_of false false = CutOff
+-- how a file is found that isn't whole, and whose data nothing follows, by whether its data length is right
+abbrev pub unfollowed_state : Bool → RepairState
+unfollowed_state true = AllCounted
+unfollowed_state false = CutOff
+
+-- how a file is found, by whether both sizes are right, whether chunks follow the data, and whether the
+-- data length is right
+abbrev pub state_of : Bool → Bool → Bool → RepairState
+state_of true followed counted = Whole
+state_of false true counted = HasChunksAfterData
+state_of false false counted = unfollowed_state counted
+
+-- Whether a file that was found so is mended: one that was cut off, and one whose samples are all counted
+-- only on request.
+abbrev pub is_mended : Bool → RepairState → Bool
+is_mended all CutOff = true
+is_mended all AllCounted = all
+is_mended all _ = false
 
 -- the frames, and the bytes of a torn one, that are reported: those that are held, or where chunks
 -- follow the data those that the data length says
@@ -66,6 +79,7 @@ pub record IsFoundAt (looks : Bool) (contents : List ℕ) (found : Repair) (len 
         ≡ state_of (are_right found.spec_ex start len (field 4 contents)
         (shown_length start len contents) (held start contents))
         (looks && is_followed len (drop start contents))
+        (counts_all found.spec_ex len (shown_length start len contents) (held start contents))
     pub frames : found.frames
         ≡ frames_found found.state found.spec_ex len (shown_length start len contents)
         (held start contents)
@@ -99,19 +113,17 @@ pub record IsNotFound (old new : MediumState) (e : Error) : Type 0 where
 abbrev pub found_length : Repair → ℕ
 found_length found = found.frames * frame_length found.spec_ex
 
--- what is left in a medium by how its file was found: where it was cut off the mended contents,
--- flushed, else what there was
-abbrev pub LeavesFor : RepairState → Repair → ℕ → MediumState → MediumState → Type 0
-LeavesFor CutOff found start old new =
+-- what is left in a medium by whether its file is mended: the mended contents, flushed, or what there was
+abbrev pub LeavesFor : Bool → Repair → ℕ → MediumState → MediumState → Type 0
+LeavesFor true found start old new =
     (new.contents ≡ mended start (found_length found) old.contents)
     × (new.flushed ≡ length new.past)
-LeavesFor _ found start old new = PutsNothing old new
+LeavesFor false found start old new = PutsNothing old new
 
--- Contents with the right sizes for these frames: they are read with this spec, with exactly these
+-- Contents with the right data length for these frames: they are read with this spec, with exactly these
 -- frames.
-pub record HasRightSizes (found : Repair) (start : ℕ) (contents : List ℕ) : Type 0 where
+pub record HasRightLength (found : Repair) (start : ℕ) (contents : List ℕ) : Type 0 where
   pub length_says : field (start - 4) contents ≡ found_length found
-  pub riff_says : field 4 contents ≡ riff_size start (found_length found)
   pub readable : Readable contents found.spec_ex (found.frames * found.spec_ex.spec.channels) start
 
 -- P, unless chunks follow the data
@@ -119,16 +131,19 @@ abbrev pub UnlessFollowed : RepairState → Type 0 → Type 0
 UnlessFollowed HasChunksAfterData P = ⊤
 UnlessFollowed _ P = P
 
--- What an Ok `repair` leaves: what was found, and where the file was cut off the right sizes, and
--- nothing else but a pad byte after all that the file held. Unless chunks follow the data the file is
--- read with exactly the frames that were found.
+-- What an Ok `repair` leaves: what was found, and where the file is mended the right sizes, and nothing else
+-- but a pad byte after all that the file held. A file whose samples are all counted is mended only where no
+-- chunks are looked for. Unless chunks follow the data the file is read with exactly the frames that were
+-- found, and the RIFF size is right, too, of a file that was whole or is mended.
 pub record Repairs (looks : Bool) (old : MediumState) (found : Repair) (new : MediumState) : Type 0
   where
     pub len : ℕ
     pub start : ℕ
     pub is : IsFoundAt looks old.contents found len start
-    pub leaves : LeavesFor found.state found start old new
-    pub sizes : UnlessFollowed found.state (HasRightSizes found start new.contents)
+    pub leaves : LeavesFor (is_mended (not looks) found.state) found start old new
+    pub sizes : UnlessFollowed found.state (HasRightLength found start new.contents)
+    pub riff : (found.state ≡ Whole) ⊎ (is_mended (not looks) found.state ≡ true)
+        → field 4 new.contents ≡ riff_size start (found_length found)
     pub faults : new.faults ≡ old.faults
 
 -- the first of these samples, as many as whole frames have

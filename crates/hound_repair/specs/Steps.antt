@@ -1,5 +1,5 @@
 -- A repair whose caller reads and writes the file.
-use Rattle.std.specs.Prelude.{◌≡◌, ℕ, ◌^◌, min, ◌+◌, ◌-◌, ◌≤◌, ◌<◌, ◌⊎◌, ⊤, MatchResult, Bool, true, false, ◌||◌, ◌&&◌, List, [], ◌∷◌, ◌++◌, length, take, drop, Result, Ok, Err, Option, None, Some}
+use Rattle.std.specs.Prelude.{◌≡◌, ℕ, ◌^◌, min, ◌+◌, ◌-◌, ◌≤◌, ◌<◌, ◌⊎◌, ⊤, MatchResult, Bool, not, true, false, ◌==◌, ◌||◌, ◌&&◌, List, [], ◌∷◌, ◌++◌, length, take, drop, Result, Ok, Err, Option, None, Some}
 use Rattle.hound_spec.specs.{greatest_u32, riff_size}
 use Rattle.hound_walk.specs.{Rejected as HasNoHead}
 use Rattle.hound_walk.specs.{Head, IsAt, IsDataPlace, IsSoundOption, IsSoundSpec, part_length, part_start, parts_left}
@@ -11,13 +11,13 @@ use Rattle.hound_medium.specs.{Flushes, MediumState, moment, one_more}
 use Rattle.hound_writer.specs.{AppendFault, IsIoError, NamesFault, PutsAt, PutsNothing, SameButSizes, by_bytes, field, too_long}
 use Rattle.hound_writer.specs.declared.effects.Effect.{Effect}
 use Rattle.hound_writer.specs.declared.effects.Effect.TheVariants.{Sync, Pad, Size}
-use Rattle.hound_repair.specs.Damages.{IsSoundDamage, repair_of, shown_of}
-use Rattle.hound_repair.specs.Held.{are_chunks, are_right, begins_chunk, ends_with_id3, held, is_followed, mended, missing_pad, shown_length}
-use Rattle.hound_repair.specs.Repairing.{HasUnfitHead, IsFoundAt, IsRepairFault, Looks, Repairs, found_length, repair_fault, state_of}
+use Rattle.hound_repair.specs.Damages.{FindsDamage, IsSoundDamage, repair_of, shown_of}
+use Rattle.hound_repair.specs.Held.{are_chunks, are_right, begins_chunk, counts_all, ends_with_id3, held, is_followed, mended, missing_pad, shown_length}
+use Rattle.hound_repair.specs.Repairing.{HasUnfitHead, IsFoundAt, IsRepairFault, Looks, Repairs, found_length, is_mended, repair_fault, state_of, unfollowed_state}
 use Rattle.hound_repair.specs.declared.look.Damage.{Damage}
 use Rattle.hound_repair.specs.declared.sizes.Repair.{Repair}
 use Rattle.hound_writer.specs.declared.resuming.RepairState.{RepairState}
-use Rattle.hound_writer.specs.declared.resuming.RepairState.TheVariants.{CutOff}
+use Rattle.hound_writer.specs.declared.resuming.RepairState.TheVariants.{HasChunksAfterData}
 use Rattle.hound_repair.specs.declared.steps.Rejection.{Rejection}
 use Rattle.hound_repair.specs.declared.steps.Rejection.TheVariants as rejections
 use Rattle.hound_repair.specs.declared.steps.Stage.{Stage}
@@ -33,7 +33,7 @@ use Rattle.hound_repair.specs.declared.steps.RepairStep.TheVariants.{Asks, Found
 use Rattle.hound_repair.specs.declared.steps.Failure.{Failure}
 use Rattle.hound_repair.specs.declared.steps.Failure.TheVariants.{Sync as SyncFailed, Call as CallFailed}
 use Rattle.hound_repair.specs.declared.steps.Task.{Task}
-use Rattle.hound_repair.specs.declared.steps.Task.TheVariants.{FindDamage, RepairToEnd}
+use Rattle.hound_repair.specs.declared.steps.Task.TheVariants.{FindDamage, Repair as RepairFile, RepairToEnd}
 use Rattle.hound_repair.specs.declared.steps.RepairError.{RepairError}
 use Rattle.hound_repair.specs.declared.steps.RepairError.TheVariants.{Rejected as rejected, Failed as failed}
 use Rattle.hound_repair.specs.declared.steps.Repairing.{Repairing}
@@ -72,6 +72,12 @@ followed file head = is_followed head.data_length (drop head.data_start file)
 abbrev pub has_right : List ℕ → SeenHead → Bool
 has_right file head =
     are_right head.spec_ex head.data_start head.data_length (field 4 file)
+    (shown_length head.data_start head.data_length file) (held head.data_start file)
+
+-- whether the data length of a file with this head is right
+abbrev pub has_all : List ℕ → SeenHead → Bool
+has_all file head =
+    counts_all head.spec_ex head.data_length
     (shown_length head.data_start head.data_length file) (held head.data_start file)
 
 -- the data length that the file shows, unless it has more bytes than any RIFF size says
@@ -127,6 +133,7 @@ pub record IsMeasured (file : List ℕ) (d : Damage) : Type 0 where
   pub shown_is : shown_of d.head ≡ shown_length d.head.data_start d.head.data_length file
   pub check : repair_fault d.head.spec_ex (shown_length d.head.data_start d.head.data_length file)
       d.head.data_start (held d.head.data_start file) ≡ None
+  pub state : d.state ≡ unfollowed_state (has_all file d.head)
 
 -- the fault of the bytes for which a file isn't repaired
 abbrev pub rejected_for : Rejection → AppendFault
@@ -148,7 +155,7 @@ MeasuresTo file (Err why) = IsRejectedFor file why
 -- how a file with this head is found
 abbrev pub IsFoundAs : Bool → List ℕ → SeenHead → RepairState → Type 0
 IsFoundAs looks file head state =
-    state ≡ state_of (has_right file head) (looks && followed file head)
+    state ≡ state_of (has_right file head) (looks && followed file head) (has_all file head)
 
 -- where one part of the file leads: on, to what is found of the whole file, or to its fault
 abbrev pub LooksTo : Bool → List ℕ → Result LookStep Rejection → Type 0
@@ -206,13 +213,14 @@ abbrev pub mending_effects : ℕ → ℕ → ℕ → List Effect
 mending_effects start count n =
     Sync ∷ Size (start - 4) count ∷ Sync ∷ mending_rest start count n
 
-abbrev pub effects_for : RepairState → ℕ → ℕ → ℕ → List Effect
-effects_for CutOff start count n = mending_effects start count n
-effects_for _ start count n = []
-
--- what is to be done to a file that was found so
+-- the effects that mend a file of which this was found
 abbrev pub mending : Damage → List Effect
-mending d = effects_for d.state d.head.data_start d.sizes.data_length d.held
+mending d = mending_effects d.head.data_start d.sizes.data_length d.held
+
+-- the effects that mend a file, or none
+abbrev pub effects_where : Bool → Damage → List Effect
+effects_where true d = mending d
+effects_where false d = []
 
 -- The contents wherever the effects stop: j low bytes of the data length are new, and any of the RIFF
 -- size. A pad byte is there only after the whole data length, and only where it was missing.
@@ -251,13 +259,13 @@ pub record IsLookedAt (looks : Bool) (bytes : List ℕ) (d : Damage) : Type 0 wh
   pub sound : IsSoundDamage d
   pub found : IsFoundAt looks bytes (repair_of d) d.head.data_length d.head.data_start
   pub held_is : d.held ≡ held d.head.data_start bytes
-  pub cut : d.state ≡ CutOff
+  pub apart : d.state ≡ HasChunksAfterData → ⊥
 
 -- what is left where the medium failed: all, or a file that is partly mended
 abbrev pub LeavesPartly : Bool → MediumState → MediumState → Type 0
 LeavesPartly looks old new = PutsNothing old new
     ⊎ ((found : Repair) × (len : ℕ) × (start : ℕ) × IsFoundAt looks old.contents found len start
-    × (found.state ≡ CutOff) × PartlyMended start (found_length found) old.contents new.contents)
+    × (is_mended (not looks) found.state ≡ true) × PartlyMended start (found_length found) old.contents new.contents)
 
 -- A file that isn't repaired, for a fault that its bytes have, and then nothing was written; or since
 -- the medium failed.
@@ -273,12 +281,26 @@ RepairsMedium looks state old result =
     MatchResult result (λ done. Repairs looks (state old) done.1 (state done.0))
     (λ rejected. IsNotRepaired looks (state old) (state rejected.0) rejected.1)
 
+-- A repair of a medium is a look that writes nothing, and then its effects, one after the other, up to the first
+-- that fails: those that mend the file, or none.
+abbrev pub PerformsRepair : {M : Type 0} → Bool → Bool → (M → MediumState) → M
+    → Result (M × Repair) (M × Error) → Type 0
+PerformsRepair keeps looks state old result =
+    MatchResult result
+    (λ done. (d : Damage) × (mid : MediumState) × IsSoundDamage d × FindsDamage looks (state old) d mid
+    × PerformedOn keeps (effects_where (is_mended (not looks) d.state) d) (Ok tt) mid (state done.0)
+    × (done.1 ≡ repair_of d))
+    (λ rejected. PutsNothing (state old) (state rejected.0)
+    ⊎ ((d : Damage) × (mid : MediumState) × (fault : IoFault) × IsSoundDamage d
+    × FindsDamage looks (state old) d mid
+    × PerformedOn keeps (effects_where (is_mended (not looks) d.state) d) (Err fault) mid (state rejected.0)))
+
 -- In each intermediate state nothing was written, or the file is partly mended, for the frames that were
 -- found in it.
 abbrev pub MendsAtEach : Bool → MediumState → MediumState → Type 0
 MendsAtEach looks old new = (new.past ≡ old.past)
     ⊎ ((found : Repair) × (len : ℕ) × (start : ℕ) × IsFoundAt looks old.contents found len start
-    × (found.state ≡ CutOff)
+    × (is_mended (not looks) found.state ≡ true)
     × ((k : ℕ) → length old.past ≤ k → k ≤ length new.past
     → PartlyMended start (found_length found) old.contents (moment new.start new.past k)))
 
@@ -310,10 +332,20 @@ abbrev pub looks_for_chunks : Task → Bool
 looks_for_chunks RepairToEnd = false
 looks_for_chunks _ = true
 
--- what is to be done to a file that was found so: nothing where it is only looked at
+-- whether a file that was found so is mended: one whose samples are all counted only to its end, or into the
+-- canonical form
+abbrev pub mends_for : Task → RepairState → Bool
+mends_for FindDamage state = false
+mends_for RepairFile state = is_mended false state
+mends_for _ state = is_mended true state
+
+-- a task that repairs a file as the two calls do
+abbrev pub IsRepair : Task → Type 0
+IsRepair task = (task ≡ RepairFile) ⊎ (task ≡ RepairToEnd)
+
+-- what is to be done to a file that was found so
 abbrev pub effects_of_task : Task → Damage → List Effect
-effects_of_task FindDamage d = []
-effects_of_task _ d = mending d
+effects_of_task task d = effects_where (mends_for task d.state) d
 
 -- what it means that an effect failed
 abbrev pub failure_of : Effect → Failure
@@ -344,47 +376,74 @@ abbrev pub AsksMore : Task → Damage → ℕ → Report → Repairing → Resul
 AsksMore task d number report new result =
     AsksAfter task d number report (nth (effects_of_task task d) number) new result
 
--- what a look of the file has led to: another part, or what was found of the whole file and the first
--- effect that mends it
-abbrev pub AsksPart : Task → List ℕ → ℕ → Result RepairStep RepairError → Repairing → Repairing → Type 0
-AsksPart task file n (Ok ask) old new =
-    ((stage : Stage) × IsAtStage (looks_for_chunks task) file stage × (new ≡ Looks_for stage)
-    × (ask ≡ Asks (asks_for stage n)))
-    ⊎ ((d : Damage) × AsksEffect task d 0 ask new
-    × IsFoundAt (looks_for_chunks task) file (repair_of d) d.head.data_length d.head.data_start
-    × (d.held ≡ held d.head.data_start file) × IsShown file d.head)
-AsksPart task file n (Err (rejected why)) old new = IsRejectedFor file why × (new ≡ old)
-AsksPart task file n (Err (failed failure)) old new = ⊥
+-- over each file of so many bytes of which the part was handed in that was requested
+abbrev pub WhereRead : Task → ℕ → List ℕ → Stage → (List ℕ → Type 0) → Type 0
+WhereRead task n bytes stage P = (file : List ℕ) → IsLengthOf n file
+    → IsAtStage (looks_for_chunks task) file stage → IsAsked n stage file bytes → P file
 
--- what is measured again of a file of which this was found, as it was looked at, and what then holds
-abbrev pub Remeasures : List ℕ → SeenHead → Result RepairStep RepairError → (Damage → Type 0) → Type 0
-Remeasures file head result P =
-    ((d : Damage) × IsSoundDamage d × IsMeasured file d × (d.head ≡ head) × P d)
-    ⊎ ((why : Rejection) × (result ≡ Err (rejected why)) × IsRejectedFor file why)
+-- the bytes of a part that no file may lack which has a head: its RIFF size
+abbrev pub AreEnough : Stage → List ℕ → Type 0
+AreEnough (stages.Size head) bytes = 4 ≤ length bytes
+AreEnough _ bytes = ⊤
+
+-- What a part that was read leads to, whatever bytes were handed in: another part, after which fewer are left,
+-- or what was found of the whole file and the first effect that mends it. Of a RIFF size of fewer than four bytes
+-- nothing is found.
+abbrev pub AsksPart : Task → ℕ → List ℕ → Stage → Repairing → Result RepairStep RepairError → Type 0
+AsksPart task n bytes stage new (Ok ask) = AreEnough stage bytes
+    × (((next : Stage) × (new ≡ Looks_for next) × (ask ≡ Asks (asks_for next n))
+    × (steps_left n next < steps_left n stage)
+    × WhereRead task n bytes stage (λ file. IsAtStage (looks_for_chunks task) file next))
+    ⊎ ((d : Damage) × IsSoundDamage d × AsksEffect task d 0 ask new
+    × WhereRead task n bytes stage (λ file.
+    IsFoundAt (looks_for_chunks task) file (repair_of d) d.head.data_length d.head.data_start
+    × (d.held ≡ held d.head.data_start file) × IsShown file d.head)))
+AsksPart task n bytes stage new (Err (rejected why)) = (new ≡ Looks_for stage)
+    × WhereRead task n bytes stage (λ file. IsRejectedFor file why)
+AsksPart task n bytes stage new (Err (failed failure)) = ⊥
+
+-- over each file of so many bytes of which this was found, as it was looked at
+abbrev pub WhereFound : ℕ → SeenHead → (List ℕ → Type 0) → Type 0
+WhereFound n head P = (file : List ℕ) → IsLengthOf n file
+    → Head file head.spec_ex head.data_length head.data_start → IsShown file head → P file
+
+-- a file that isn't whole, and whose data nothing follows, was found so
+abbrev pub IsUnfollowed : Damage → Type 0
+IsUnfollowed d = d.state ≡ unfollowed_state (d.head.data_length == d.sizes.data_length)
+
+-- what is measured again of a file, and what then holds, whatever has become of it
+abbrev pub Remeasures : ℕ → SeenHead → Repairing → Repairing → Result RepairStep RepairError
+    → (Damage → Type 0) → Type 0
+Remeasures n head old new result P =
+    ((d : Damage) × IsSoundDamage d × IsUnfollowed d × (d.head ≡ head) × P d
+    × WhereFound n head (λ file. IsMeasured file d))
+    ⊎ ((why : Rejection) × (result ≡ Err (rejected why)) × (new ≡ old)
+    × WhereFound n head (λ file. IsRejectedFor file why))
 
 -- what comes of a part, by how its read has ended: what is pending is requested again
 abbrev pub AsksOfLook : Task → ℕ → List ℕ → Stage → Repairing → Result RepairStep RepairError → Report → Type 0
 AsksOfLook task n bytes stage new result Pending = (new ≡ Looks_for stage)
     × (result ≡ Ok (Asks (asks_for stage n)))
-AsksOfLook task n bytes stage new result Done = (file : List ℕ) → IsLengthOf n file
-    → IsAtStage (looks_for_chunks task) file stage
-    → IsAsked n stage file bytes
-    → AsksPart task file n result (Looks_for stage) new
+AsksOfLook task n bytes stage new result Done = AsksPart task n bytes stage new result
 AsksOfLook task n bytes stage new result NotDone =
     (result ≡ Err (failed CallFailed)) × (new ≡ Failed_with CallFailed)
 
--- What a call leads to: over each file of which the part was handed in that was requested, to another part,
--- to what is found of the whole file and the first effect that mends it, or to its fault; then to one
--- effect after the other, until one fails, which ends it.
+-- What a call leads to, whatever is handed in: a part after which fewer are left, or what is found and the
+-- first effect that mends the file, or its fault; then one effect after the other, until one fails, which
+-- ends it. What is found is that of each file of which the parts were read.
 abbrev pub AsksNext : Task → ℕ → List ℕ → Report → Repairing → Repairing → Result RepairStep RepairError → Type 0
 AsksNext task n bytes report (Looks_for stage) new result =
     AsksOfLook task n bytes stage new result report
-AsksNext task n bytes report (Mends_now head number) new result = (file : List ℕ) → IsLengthOf n file
-    → Head file head.spec_ex head.data_length head.data_start → IsShown file head
-    → Remeasures file head result (λ d. (d.state ≡ CutOff) × AsksMore task d number report new result)
+AsksNext task n bytes report (Mends_now head number) new result =
+    Remeasures n head (Mends_now head number) new result (λ d. AsksMore task d number report new result)
 AsksNext task n bytes report (Found_now head state) new result = (new ≡ Found_now head state)
-    × ((file : List ℕ) → IsLengthOf n file
-    → Head file head.spec_ex head.data_length head.data_start → IsShown file head
-    → Remeasures file head result (λ d. result ≡ Ok (Found_so (record d { state = state }))))
+    × Remeasures n head (Found_now head state) new result
+    (λ d. result ≡ Ok (Found_so (record d { state = state })))
 AsksNext task n bytes report (Failed_with failure) new result =
     (result ≡ Err (failed failure)) × (new ≡ Failed_with failure)
+
+-- how many effects a repair still requests, at most: parts of a file of n bytes, then up to seven that mend it
+abbrev pub effects_left : ℕ → Repairing → ℕ
+effects_left n (Looks_for stage) = 8 + steps_left n stage
+effects_left n (Mends_now head number) = 7 - number
+effects_left n _ = 0

@@ -1,15 +1,14 @@
 // Files in memory, repaired where they are.
-ghost use Rattle.std.specs.Prelude.{◌≡◌, ◌+◌, ◌≤◌, Bool, IfErr, IfOk, IfSome, None, length, take};
+ghost use Rattle.std.specs.Prelude.{◌≡◌, ◌+◌, ◌≤◌, IfErr, IfOk, IfSome, None, length, take};
 ghost use Rattle.std.specs.Option.{IfNone};
 ghost use Rattle.hound_writer.specs.{with_sizes};
 ghost use Rattle.hound_repair.specs.Damages.{FindsDamage, IsSoundDamage, LacksRoom, RepairsBytes, as_medium, repair_of};
-ghost use Rattle.hound_repair.specs.Steps.{IsRejectedFor, looks_for_chunks};
+ghost use Rattle.hound_repair.specs.Steps.{IsRejectedFor, IsRepair, looks_for_chunks};
 
 use crate::look::Damage;
 use crate::steps::{LookStep, Rejection, Stage, Task, take_asked};
 use hound_number::le_u32;
 use hound_walk::bytes_at;
-use hound_writer::RepairState;
 
 /// Puts two sizes into a file in memory: the RIFF size, and the data length at a place.
 pub fn set_sizes(bytes: &mut [u8], place: usize, riff_size: u32, data_length: u32)
@@ -41,23 +40,29 @@ pub fn find_damage_in_bytes(bytes: &[u8], task: Task) -> Result<Damage, Rejectio
     }
 }
 
-/// Repairs the file in the first `used` bytes, in which this was found, as [`repair`](crate::repair)
+/// Repairs the file in the first `used` bytes, in which the task found this, as [`repair`](crate::repair)
 /// does one in a medium, and returns its new length: one more where a pad byte was missing. If there
 /// is no room for that, nothing is written.
-pub fn repair_bytes(bytes: &mut [u8], used: usize, damage: Damage) -> Option<usize>
+pub fn repair_bytes(
+    bytes: &mut [u8],
+    used: usize,
+    task: Task,
+    damage: Damage,
+) -> Option<usize>
+    requires task { IsRepair task }
     requires used { used ≤ length bytes.old }
     requires sound { IsSoundDamage damage }
     requires inside { damage.head.data_start + damage.held ≡ used }
-    ensures repairs { (looks : Bool)
-        → FindsDamage looks (as_medium (take used bytes.old)) damage (as_medium (take used bytes.old))
-        → IfSome result (λ n. RepairsBytes looks used n (repair_of damage) bytes.old bytes.new) }
+    ensures repairs {
+        FindsDamage (looks_for_chunks task) (as_medium (take used bytes.old)) damage (as_medium (take used bytes.old))
+        → IfSome result (λ n. RepairsBytes (looks_for_chunks task) used n (repair_of damage) bytes.old bytes.new) }
     ensures within { IfSome result (λ n. n ≤ length bytes.old) }
     ensures kept { IfNone result (bytes.new ≡ bytes.old) }
-    ensures lacks { (looks : Bool)
-        → FindsDamage looks (as_medium (take used bytes.old)) damage (as_medium (take used bytes.old))
-        → IfNone result (LacksRoom looks used bytes.old) }
+    ensures lacks {
+        FindsDamage (looks_for_chunks task) (as_medium (take used bytes.old)) damage (as_medium (take used bytes.old))
+        → IfNone result (LacksRoom (looks_for_chunks task) used bytes.old) }
 {
-    if damage.state != RepairState::CutOff {
+    if !task.mends(damage.state) {
         return Some(used);
     }
     let lacks_pad = damage.lacks_pad();

@@ -1,5 +1,5 @@
 // What holds of every repair.
-ghost use Rattle.std.specs.Prelude.{◌≡◌, ◌-◌, ◌/◌, ◌≤◌, ℕ, Bool, IsTrue, List, None, Result, length};
+ghost use Rattle.std.specs.Prelude.{◌≡◌, ◌-◌, ◌/◌, ◌<◌, ◌≤◌, ℕ, Bool, IsTrue, List, None, Ok, Result, length};
 ghost use Rattle.std.specs.List.{concat, AllByRecursion};
 ghost use Rattle.hound_medium.specs.{MediumState, Span};
 ghost use Rattle.hound_durable.specs.{SurvivesLoss};
@@ -10,11 +10,16 @@ ghost use Rattle.hound_writer.specs.{IsIoError, IsStored};
 ghost use Rattle.std.specs.declared.io.Error.{Error as IoFault};
 ghost use Rattle.hound_writer.specs.{Log, Performed, field};
 ghost use Rattle.hound_repair.specs.declared.look.Damage.{Damage};
-ghost use Rattle.hound_repair.specs.Steps.{IsLookedAt, IsNotRepaired, Mends, PartlyMended, mending};
+ghost use Rattle.hound_writer.specs.declared.effects.Action.{Action};
+ghost use Rattle.hound_writer.specs.declared.effects.Report.TheVariants.{Done};
+ghost use Rattle.hound_repair.specs.declared.steps.RepairStep.TheVariants.{Asks};
+ghost use Rattle.hound_repair.specs.declared.steps.Repairing.{Repairing};
+ghost use Rattle.hound_repair.specs.declared.steps.Task.{Task};
+ghost use Rattle.hound_repair.specs.Steps.{AsksNext, effects_left, IsLookedAt, IsNotRepaired, Mends, PartlyMended, mending};
 ghost use Rattle.hound_repair.specs.Held.{frame_length, held, shown_length};
 ghost use Rattle.hound_repair.specs.Repairing.{Finds, IsFoundAt, IsNoPad, ReadsFrames, Repairs, found_length, repair_fault};
 ghost use Rattle.hound_repair.specs.declared.sizes.Repair.{Repair};
-ghost use Rattle.hound_writer.specs.declared.resuming.RepairState.TheVariants.{HasChunksAfterData, Whole};
+ghost use Rattle.hound_writer.specs.declared.resuming.RepairState.TheVariants.{AllCounted, HasChunksAfterData, Whole};
 
 /// A repair loses no sample that is stored: samples whose containers are stored from the data on are
 /// read first, as many as whole frames have, with the spec of the head, whatever the sizes said.
@@ -39,10 +44,12 @@ pub fn a_repair_keeps_stored_samples()
 
 /// A second repair of a file finds it whole, with the same frames, and writes nothing.
 ///
-/// It holds of contents as the first repair left them, unless that found chunks after the data.
+/// It holds of contents as the first repair left them, unless that found chunks after the data, or that all samples
+/// were counted. [`repair`](crate::repair) leaves such a file as it is, and finds the same again.
 pub fn a_second_repair_writes_nothing()
     ensures { (looks again : Bool) (old mid next new : MediumState) (found other : Repair)
         → Repairs looks old found mid → (IsTrue looks → found.state ≡ HasChunksAfterData → ⊥)
+        → (IsTrue looks → found.state ≡ AllCounted → ⊥)
         → 1 ≤ frame_length found.spec_ex → next.contents ≡ mid.contents
         → Repairs again next other new →
         (other.state ≡ Whole) × (other.spec_ex ≡ found.spec_ex) × (other.frames ≡ found.frames)
@@ -99,4 +106,12 @@ pub fn a_stopped_repair_is_done_again()
         Head mid.contents found.spec_ex (field (start - 4) mid.contents) start
         × (repair_fault found.spec_ex (shown_length start (field (start - 4) mid.contents) mid.contents)
         start (held start mid.contents) ≡ None) }
+{}
+
+/// A repair ends: after a report of `Done`, whatever was read, fewer effects are left to be requested, of a file of n
+/// bytes at most some 2 n (`effects_left`). A report of `Failed` ends it at once.
+pub fn a_repair_ends()
+    ensures { (task : Task) (n : ℕ) (bytes : List ℕ) (old new : Repairing) (action : Action)
+        → AsksNext task n bytes Done old new (Ok (Asks action)) →
+        effects_left n new < effects_left n old }
 {}

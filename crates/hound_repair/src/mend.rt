@@ -3,7 +3,7 @@ ghost use Rattle.std.specs.Prelude.{◌≡◌, true, false, IfErr, IfOk};
 ghost use Rattle.hound_walk.specs.{IsSoundSpec};
 ghost use Rattle.hound_medium.specs.{WhereKeeps, WhereTells};
 ghost use Rattle.hound_writer.specs.{IsMediumError};
-ghost use Rattle.hound_repair.specs.Steps.{MendsMedium, RepairsMedium};
+ghost use Rattle.hound_repair.specs.Steps.{MendsMedium, PerformsRepair, RepairsMedium};
 
 use crate::sizes::Repair;
 use crate::steps::{Task, repair_by_effects};
@@ -15,7 +15,8 @@ use std::result;
 /// frame that it holds is read again.
 ///
 /// Where both sizes are right, nothing is written. Where chunks or a tag follow the data, by the data
-/// length, it wasn't cut off ([`RepairState::HasChunksAfterData`]): that is reported, and nothing is
+/// length, it wasn't cut off ([`RepairState::HasChunksAfterData`]), nor where the data length counts all whole
+/// frames ([`RepairState::AllCounted`]): that is reported, and nothing is
 /// written ([`repair_to_end`] repairs it all the same). Else the two sizes become those of the whole
 /// frames from the data on: the medium is flushed, the data length is written, then the pad byte where data of an
 /// odd length end with the file, and last the RIFF size, each flushed. No other byte changes.
@@ -41,6 +42,7 @@ pub fn repair<M: Source + Medium>(medium: M) -> result::Result<(M, Repair), (M, 
     ensures reported { IfErr result (λ rejected. IsMediumError rejected.1) }
     ensures repaired { WhereTells M.tells (RepairsMedium true M.state medium result) }
     ensures moments { WhereKeeps M.tells M.keeps (MendsMedium true M.state medium result) }
+    ensures performed { WhereTells M.tells (PerformsRepair M.keeps true M.state medium result) }
 {
     repair_by_effects(medium, Task::Repair)
 }
@@ -53,6 +55,7 @@ pub fn repair_to_end<M: Source + Medium>(medium: M) -> result::Result<(M, Repair
     ensures reported { IfErr result (λ rejected. IsMediumError rejected.1) }
     ensures repaired { WhereTells M.tells (RepairsMedium false M.state medium result) }
     ensures moments { WhereKeeps M.tells M.keeps (MendsMedium false M.state medium result) }
+    ensures performed { WhereTells M.tells (PerformsRepair M.keeps false M.state medium result) }
 {
     repair_by_effects(medium, Task::RepairToEnd)
 }

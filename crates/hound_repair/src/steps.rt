@@ -5,9 +5,8 @@ ghost use Rattle.hound_walk.specs.{Head, IsAt, IsDataPlace, IsSoundOption, IsSou
 ghost use Rattle.hound_writer.specs.{IsMediumError, NamesFault, nth};
 ghost use Rattle.hound_medium.specs.{WhereKeeps, WhereTells};
 ghost use Rattle.hound_repair.specs.Damages.{FindsDamage, IsSoundDamage};
-ghost use Rattle.hound_repair.specs.Repairing.{IsNotFound};
-ghost use Rattle.hound_repair.specs.Steps.{IsAsked, IsAtChunk, IsAtEnd, IsAtStage, IsFoundAs, IsLengthOf, IsMeasured, IsNotWhole, IsSoundHead, IsSoundLook, IsSoundStage, PerformedOn, PerformsOn, AsksEffect, AsksMore, AsksNext, AsksPart, IsShown, IsSoundRepairing, IsSoundRepairStep, StaysAt, MendsMedium, RepairsMedium, LooksTo, MeasuresTo, StageNearer, asked_count, asks_for, stage_place, effects_of_task, failure_of, looks_for_chunks, rejected_for, else_followed, followed, mending, steps_left};
-ghost use Rattle.hound_writer.specs.declared.resuming.RepairState.TheVariants.{CutOff};
+ghost use Rattle.hound_repair.specs.Repairing.{IsNotFound, unfollowed_state};
+ghost use Rattle.hound_repair.specs.Steps.{AreEnough, IsAsked, IsAtChunk, IsAtEnd, IsAtStage, IsFoundAs, IsLengthOf, IsMeasured, IsNotWhole, IsRepair, IsSoundHead, IsSoundLook, IsSoundStage, IsUnfollowed, PerformedOn, PerformsOn, AsksEffect, AsksMore, AsksNext, AsksPart, IsShown, IsSoundRepairing, IsSoundRepairStep, StaysAt, MendsMedium, PerformsRepair, RepairsMedium, LooksTo, MeasuresTo, StageNearer, asked_count, asks_for, stage_place, effects_of_task, failure_of, looks_for_chunks, mends_for, rejected_for, else_followed, followed, mending, steps_left};
 ghost use Rattle.hound_repair.specs.declared.steps.Stage.TheVariants as stages;
 ghost use Rattle.hound_repair.specs.declared.steps.Repairing.TheVariants as states;
 
@@ -113,7 +112,18 @@ impl Stage {
     }
 }
 
-// The right sizes of a file of so many bytes with this head.
+// How a file is found that isn't whole, and whose data nothing follows.
+fn unfollowed_state(counts_all: bool) -> RepairState
+    ensures { result ≡ unfollowed_state counts_all }
+{
+    if counts_all {
+        RepairState::AllCounted
+    } else {
+        RepairState::CutOff
+    }
+}
+
+// What is found of a file of so many bytes with this head that isn't whole, and whose data nothing follows.
 fn measured(size: u64, head: SeenHead) -> Result<Damage, Rejection>
     requires sound { IsSoundHead head }
     ensures measures { (file : List ℕ) → IsLengthOf size file
@@ -121,7 +131,7 @@ fn measured(size: u64, head: SeenHead) -> Result<Damage, Rejection>
         → MeasuresTo file result }
     ensures sound { IfOk result IsSoundDamage }
     ensures head { IfOk result (λ d. d.head ≡ head) }
-    ensures cut { IfOk result (λ d. d.state ≡ CutOff) }
+    ensures unfollowed { IfOk result IsUnfollowed }
     ensures inside { IfOk result (λ d. d.head.data_start + d.held ≤ size) }
 {
     let spec = head.spec_ex.spec;
@@ -135,11 +145,12 @@ fn measured(size: u64, head: SeenHead) -> Result<Damage, Rejection>
     }
     let held = size - head.data_start;
     let sizes = right_sizes(head, head.shown(), held).ok_or(Rejection::TooLong)?;
+    let state = unfollowed_state(head.data_length == sizes.data_length);
     Ok(Damage {
         head,
         held,
         sizes,
-        state: RepairState::CutOff,
+        state,
     })
 }
 
@@ -166,7 +177,7 @@ fn at_end(damage: Damage) -> LookStep
     if length + ID3_LENGTH <= damage.held {
         return LookStep::Next(Stage::Tag(damage.head));
     }
-    found_as(damage, RepairState::CutOff)
+    LookStep::Found(damage)
 }
 
 // On, where no chunk begins at a place, which was that after the pad byte.
@@ -214,6 +225,7 @@ fn take_size(task: Task, damage: Damage, bytes: &[u8]) -> Result<LookStep, Rejec
     ensures sound { IfOk result IsSoundLook }
     ensures nearer { (n : ℕ) → damage.head.data_start + damage.held ≤ n
         → IfOk result (StageNearer n (steps_left n (stages.Size damage.head))) }
+    ensures enough { IfOk result (λ _. 4 ≤ length bytes.now) }
 {
     if bytes.len() < 4 {
         return Err(Rejection::Head(Cause::Ended));
@@ -223,7 +235,7 @@ fn take_size(task: Task, damage: Damage, bytes: &[u8]) -> Result<LookStep, Rejec
         return Ok(found_as(damage, RepairState::Whole));
     }
     if task == Task::RepairToEnd {
-        return Ok(found_as(damage, RepairState::CutOff));
+        return Ok(LookStep::Found(damage));
     }
     Ok(after_sizes(damage))
 }
@@ -263,7 +275,7 @@ fn take_tag(damage: Damage, bytes: &[u8]) -> LookStep
     if bytes == ID3_TAG.as_slice() {
         return found_as(damage, RepairState::HasChunksAfterData);
     }
-    found_as(damage, RepairState::CutOff)
+    LookStep::Found(damage)
 }
 
 // What is requested once the head is found: the byte after the data, if it is the only one, or the RIFF
@@ -339,6 +351,7 @@ pub(crate) fn take_asked(
         → LooksTo (looks_for_chunks task) file result }
     ensures sound { IfOk result IsSoundLook }
     ensures nearer { IfOk result (StageNearer length (steps_left length stage)) }
+    ensures enough { IfOk result (λ _. AreEnough stage bytes.now) }
 {
     match stage {
         Stage::Head(walk) => take_header(length, walk, bytes),
@@ -363,6 +376,25 @@ pub enum Task {
 
     /// What [`repair_to_end`](crate::repair_to_end) does.
     RepairToEnd,
+
+    /// What [`repair`](crate::repair) does, and the same to a file whose samples are all counted: its RIFF size
+    /// and its pad byte become those of the canonical form.
+    MakeCanonical,
+}
+
+impl Task {
+    /// Whether it mends a file that was found so.
+    pub(crate) fn mends(self, state: RepairState) -> bool
+        ensures { result ≡ mends_for self state }
+    {
+        match state {
+            RepairState::CutOff => self != Task::FindDamage,
+            RepairState::AllCounted => {
+                self == Task::RepairToEnd || self == Task::MakeCanonical
+            }
+            RepairState::Whole | RepairState::HasChunksAfterData => false,
+        }
+    }
 }
 
 /// What failed, so that the repair has ended.
@@ -421,20 +453,6 @@ fn failure_of(effect: Effect) -> Failure
     }
 }
 
-impl Damage {
-    // The effect with this number, from 0, that the task has for a file like this; none after the last.
-    fn effect_of(&self, task: Task, number: u32) -> Option<Effect>
-        requires { IsSoundDamage self.now }
-        ensures is { result ≡ nth (effects_of_task task self.now) number }
-        ensures few { IfSome result (λ _. number ≤ 6) }
-    {
-        if task == Task::FindDamage {
-            return None;
-        }
-        self.effect(number)
-    }
-}
-
 // Asks for the effect with this number, if there is one.
 fn ask_for(state: &mut Repairing, task: Task, damage: Damage, number: u32) -> RepairStep
     requires sound { IsSoundDamage damage }
@@ -442,7 +460,7 @@ fn ask_for(state: &mut Repairing, task: Task, damage: Damage, number: u32) -> Re
     ensures sound { IsSoundRepairing state.new }
     ensures spec { IsSoundRepairStep result }
 {
-    match damage.effect_of(task, number) {
+    match damage.effect(task, number) {
         Some(effect) => {
             *state = Repairing::Mends(damage.head, number);
             RepairStep::Asks(Action::Perform(effect))
@@ -468,7 +486,7 @@ fn after_effect(
     ensures spec { IfOk result IsSoundRepairStep }
     ensures stays { StaysAt result state.old state.new }
 {
-    match (report, damage.effect_of(task, number)) {
+    match (report, damage.effect(task, number)) {
         (Report::Done, Some(_)) => Ok(ask_for(state, task, damage, number + 1)),
         (Report::Failed, Some(effect)) => {
             let failure = failure_of(effect);
@@ -489,9 +507,7 @@ fn after_part(
 ) -> Result<RepairStep, RepairError>
     requires sound { IsSoundStage stage }
     requires was { state.old ≡ states.Looks stage }
-    ensures leads { (file : List ℕ) → IsLengthOf length file
-        → IsAtStage (looks_for_chunks task) file stage → IsAsked length stage file bytes.now
-        → AsksPart task file length result state.old state.new }
+    ensures leads { AsksPart task length bytes.now stage state.new result }
     ensures sound { IsSoundRepairing state.new }
     ensures spec { IfOk result IsSoundRepairStep }
     ensures stays { StaysAt result state.old state.new }
@@ -508,7 +524,8 @@ fn after_part(
 /// What the caller of a repair of a file of so many bytes does next, by how it reports what was
 /// requested last. `bytes` are those of the part that was read.
 ///
-/// What is pending is requested again. Where something failed, each later call returns that error.
+/// What is pending is requested again. Where something failed, each later call returns that error. After each report
+/// of `Done` fewer effects are left ([`a_repair_ends`](crate::a_repair_ends)).
 pub fn repair_next(
     state: &mut Repairing,
     length: u64,
@@ -581,13 +598,13 @@ pub(crate) fn look_by_parts<S: Source>(source: &mut S, task: Task) -> Result<Dam
 }
 
 impl Damage {
-    /// The effect with this number, from 0, of those that mend the file; none after the last.
-    pub fn effect(&self, number: u32) -> Option<Effect>
+    /// The effect with this number, from 0, that the task has for a file like this; none after the last.
+    pub fn effect(&self, task: Task, number: u32) -> Option<Effect>
         requires { IsSoundDamage self.now }
-        ensures is { result ≡ nth (mending self.now) number }
+        ensures is { result ≡ nth (effects_of_task task self.now) number }
         ensures few { IfSome result (λ _. number ≤ 6) }
     {
-        if self.state != RepairState::CutOff {
+        if !task.mends(self.state) {
             return None;
         }
         let start = self.head.data_start;
@@ -613,14 +630,14 @@ fn perform<M: Medium>(medium: &mut M, effect: Effect) -> io::Result<()>
     }
 }
 
-// Performs the effects that mend a file, up to one that fails.
-fn perform_all<M: Medium>(medium: &mut M, damage: Damage) -> io::Result<()>
+// Performs the effects that the task has for a file, up to one that fails.
+fn perform_all<M: Medium>(medium: &mut M, task: Task, damage: Damage) -> io::Result<()>
     requires { IsSoundDamage damage }
     ensures { WhereTells M.tells
-        (PerformedOn M.keeps (mending damage) result (M.state medium.old) (M.state medium.new)) }
+        (PerformedOn M.keeps (effects_of_task task damage) result (M.state medium.old) (M.state medium.new)) }
 {
     let mut number = 0;
-    while let Some(effect) = damage.effect(number) {
+    while let Some(effect) = damage.effect(task, number) {
         perform(medium, effect)?;
         number += 1;
     }
@@ -632,17 +649,20 @@ pub(crate) fn repair_by_effects<M: Source + Medium>(
     medium: M,
     task: Task,
 ) -> Result<(M, Repair), (M, Error)>
+    requires { IsRepair task }
     ensures sound { IfOk result (λ done. IsSoundSpec done.1.spec_ex) }
     ensures reported { IfErr result (λ rejected. IsMediumError rejected.1) }
     ensures repaired { WhereTells M.tells (RepairsMedium (looks_for_chunks task) M.state medium result) }
     ensures moments { WhereKeeps M.tells M.keeps (MendsMedium (looks_for_chunks task) M.state medium result) }
+    ensures performed { WhereTells M.tells
+        (PerformsRepair M.keeps (looks_for_chunks task) M.state medium result) }
 {
     let mut medium = medium;
     let damage = match look_by_parts(&mut medium, task) {
         Ok(damage) => damage,
         Err(error) => return Err((medium, error)),
     };
-    match perform_all(&mut medium, damage) {
+    match perform_all(&mut medium, task, damage) {
         Ok(()) => Ok((medium, damage.repair())),
         Err(error) => Err((medium, Error::IoError(error))),
     }

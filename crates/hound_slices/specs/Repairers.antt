@@ -14,7 +14,7 @@ use Rattle.hound_repair.specs.declared.steps.Repairing.{Repairing}
 use Rattle.hound_repair.specs.declared.steps.Repairing.TheVariants as states
 use Rattle.hound_repair.specs.declared.steps.Stage.TheVariants as stages
 use Rattle.hound_repair.specs.declared.steps.Task.{Task}
-use Rattle.hound_repair.specs.declared.steps.Task.TheVariants.{FindDamage, Repair, RepairToEnd}
+use Rattle.hound_repair.specs.declared.steps.Task.TheVariants.{FindDamage, MakeCanonical, Repair, RepairToEnd}
 use Rattle.hound_writer.specs.declared.recorder.RecorderError.TheVariants.{SyncFailed}
 use Rattle.hound_slices.specs.Codes.{error_of_rejection}
 use Rattle.hound_slices.specs.Effects.{effect_of, report_of}
@@ -27,7 +27,9 @@ use Rattle.hound_slices.specs.declared.spec.HoundRepair.{HoundRepair}
 
 -- what the caller requests, by its number
 abbrev pub task_of : ℕ → Task
-task_of mode = if mode == 1 then Repair else if mode == 2 then RepairToEnd else FindDamage
+task_of mode =
+    if mode == 1 then Repair else if mode == 2 then RepairToEnd
+    else if mode == 3 then MakeCanonical else FindDamage
 
 -- what failed, by its number
 abbrev pub failure_of_code : ℕ → Failure

@@ -7,7 +7,7 @@ use Rattle.hound_writer.specs.{by_bytes, too_long}
 use Rattle.hound_repair.specs.{HasUnfitHead, IsFoundAt, LacksRoom, RepairsBytes}
 use Rattle.hound_repair.specs.declared.sizes.Repair.{Repair}
 use Rattle.hound_writer.specs.declared.resuming.RepairState.{RepairState}
-use Rattle.hound_writer.specs.declared.resuming.RepairState.TheVariants.{Whole, CutOff, HasChunksAfterData}
+use Rattle.hound_writer.specs.declared.resuming.RepairState.TheVariants.{Whole, CutOff, HasChunksAfterData, AllCounted}
 use Rattle.hound_slices.specs.Writing.{IsExplicit, spec_from_c}
 use Rattle.hound_slices.specs.declared.error.CallError.{CallError}
 use Rattle.hound_slices.specs.declared.error.CallError.TheVariants.{Head as NoHead, NotWritable, TooLong, NoRoom}
@@ -18,11 +18,13 @@ abbrev pub state_code : RepairState → ℕ
 state_code Whole = 0
 state_code CutOff = 1
 state_code HasChunksAfterData = 2
+state_code AllCounted = 3
 
 -- how a file was found, by that number
 abbrev pub state_of_code : ℕ → RepairState
 state_of_code number =
-    if number == 0 then Whole else if number == 1 then CutOff else HasChunksAfterData
+    if number == 0 then Whole else if number == 1 then CutOff
+    else if number == 3 then AllCounted else HasChunksAfterData
 
 -- what was found, as C has it
 pub record IsReported (found : Repair) (c : HoundRepair) : Type 0 where

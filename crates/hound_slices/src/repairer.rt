@@ -41,6 +41,7 @@ fn task_of(mode: u32) -> Task
     match mode {
         1 => Task::Repair,
         2 => Task::RepairToEnd,
+        3 => Task::MakeCanonical,
         _ => Task::FindDamage,
     }
 }

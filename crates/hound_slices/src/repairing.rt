@@ -1,7 +1,7 @@
 // Files that are repaired.
 ghost use Rattle.std.specs.Prelude.{◌≡◌, ◌<◌, ◌≤◌, IfErr, IfOk, length};
 ghost use Rattle.hound_slices.specs.Repairing.{FindsInFile, IsDamageError, IsReported, RepairsFile, state_code, state_of_code};
-ghost use Rattle.hound_repair.specs.{IsSoundDamage, looks_for_chunks, repair_of};
+ghost use Rattle.hound_repair.specs.{IsRepair, IsSoundDamage, looks_for_chunks, repair_of};
 
 use crate::error::CallError;
 use crate::spec::{HoundRepair, spec_for_c};
@@ -15,6 +15,7 @@ pub(crate) fn state_code(state: RepairState) -> u32
         RepairState::Whole => 0,
         RepairState::CutOff => 1,
         RepairState::HasChunksAfterData => 2,
+        RepairState::AllCounted => 3,
     }
 }
 
@@ -25,6 +26,7 @@ pub(crate) fn state_of_code(number: u32) -> RepairState
     match number {
         0 => RepairState::Whole,
         1 => RepairState::CutOff,
+        3 => RepairState::AllCounted,
         _ => RepairState::HasChunksAfterData,
     }
 }
@@ -67,6 +69,7 @@ pub fn repair_file(
     task: Task,
     found: &mut HoundRepair,
 ) -> Result<usize, CallError>
+    requires { IsRepair task }
     ensures repairs { RepairsFile (looks_for_chunks task) used file.old file.new found.old found.new result }
     ensures within { IfOk result (λ n. n ≤ length file.old) }
 {
@@ -74,7 +77,7 @@ pub fn repair_file(
         return Err(CallError::NoRoom);
     }
     let damage = find_damage_in_bytes(&file[..used], task)?;
-    let length = repair_bytes(file, used, damage).ok_or(CallError::NoRoom)?;
+    let length = repair_bytes(file, used, task, damage).ok_or(CallError::NoRoom)?;
     *found = repair_for_c(damage, used as u64);
     Ok(length)
 }

@@ -5,7 +5,7 @@ use Rattle.hound_writer.specs.declared.recorder.Recorder.{Recorder}
 use Rattle.hound_writer.specs.declared.recorder.RecorderError.{RecorderError}
 use Rattle.hound_writer.specs.declared.recorder.RecorderError.TheVariants.{CutOff, HasChunksAfterData, Truncated}
 use Rattle.hound_writer.specs.declared.resuming.RepairState.{RepairState}
-use Rattle.hound_writer.specs.declared.resuming.RepairState.TheVariants.{Whole, CutOff as WasCutOff, HasChunksAfterData as HasChunks}
+use Rattle.hound_writer.specs.declared.resuming.RepairState.TheVariants.{Whole, CutOff as WasCutOff, HasChunksAfterData as HasChunks, AllCounted}
 use Rattle.hound_writer.specs.declared.resuming.FoundFile.{FoundFile}
 
 -- how many bytes a frame of the file has
@@ -23,6 +23,7 @@ ends_whole f = nat_lt 0 (found_frame f) && ((f.data_length % found_frame f == 0)
 abbrev pub kept_as : RepairState → FoundFile → Bool → Bool → Result ℕ RecorderError
 kept_as Whole f mends overwrites = Ok f.data_length
 kept_as WasCutOff f mends overwrites = if mends then Ok (f.frames * found_frame f) else Err CutOff
+kept_as AllCounted f mends overwrites = Ok f.data_length
 kept_as HasChunks f mends overwrites = if overwrites then Ok f.data_length else Err HasChunksAfterData
 
 -- how many bytes of data are kept: those that the header counts, or of a recording that is mended all

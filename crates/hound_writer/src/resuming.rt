@@ -12,7 +12,7 @@ pub enum RepairState {
     /// Both sizes are right: those of the whole frames that the file holds.
     Whole,
 
-    /// A size is wrong, as where a recording was cut off.
+    /// The data length is wrong, as where a recording was cut off.
     CutOff,
 
     /// Something follows the data, by the data length, so the file wasn't cut off in them: a chunk
@@ -20,6 +20,10 @@ pub enum RepairState {
     /// cut off; chunks with printable tags to the end of the file; or an ID3v1 tag at the end. The
     /// pad byte after the data may lack.
     HasChunksAfterData,
+
+    /// The data length counts all whole frames that the file holds. Only the RIFF size is another one than
+    /// in the canonical form, as where a program writes no pad byte, so no sample is concerned.
+    AllCounted,
 }
 
 /// A sentence without its full stop, for a user.
@@ -30,6 +34,7 @@ impl fmt::Display for RepairState {
             RepairState::CutOff => "the recording was cut off",
             RepairState::HasChunksAfterData =>
                 "something follows the data, so they weren't cut off",
+            RepairState::AllCounted => "all samples are counted, and only the RIFF size differs",
         })
     }
 }
@@ -92,7 +97,7 @@ impl FoundFile {
             return Ok(counted);
         }
         match self.state {
-            RepairState::Whole => Ok(counted),
+            RepairState::Whole | RepairState::AllCounted => Ok(counted),
             RepairState::CutOff if mends => Ok(self.frames as u64 * self.frame_length() as u64),
             RepairState::CutOff => Err(RecorderError::CutOff),
             RepairState::HasChunksAfterData if overwrites => Ok(counted),

@@ -1,6 +1,6 @@
 use Rattle.std.proofs.Common.{true, ◌-◌, ◌<◌, ◌^◌, arith, subst, sym, refl}
 use Rattle.hound_writer.proofs.Heads.{head_beyond, head_inside}
-use Rattle.hound_repair.specs.Steps.{PartlyMended, PerformedOn, effects_for, mending, mending_effects}
+use Rattle.hound_repair.specs.Steps.{PartlyMended, PerformedOn, mending, mending_effects}
 use Rattle.hound_repair.specs.Held.{held}
 use Rattle.hound_repair.specs.Damages.{repair_of}
 use Rattle.hound_repair.proofs.Mending.{length_is}
@@ -18,12 +18,11 @@ returns-clause-leaves c = λ looks d old new result at performed.
     (head_beyond c d.head.spec_ex d.head.data_length start at.found.head)
     (head_inside c d.head.spec_ex d.head.data_length start at.found.head)
     old.small
-    (subst (λ k. k < 2 ^ 32) (sym (length_is d at.sound at.cut))
-    (length_fits looks c (repair_of d) d.head.data_length start at.found (λ chunks. absurd (cc (chunks, at.cut)))))
+    (subst (λ k. k < 2 ^ 32) (sym (length_is d at.sound at.apart))
+    (length_fits looks c (repair_of d) d.head.data_length start at.found at.apart))
     result old.state new.state refl
     (subst (λ h. PerformedOn true (mending_effects start n h) result old.state new.state) at.held_is
-    (subst (λ state. PerformedOn true (effects_for state start n d.held) result old.state new.state) at.cut
-    (on_log (mending d) result old new performed)))
+    (on_log (mending d) result old new performed))
 
 pub returns-clause-moments : goal.returns-clause-moments
 returns-clause-moments c = λ looks d old new result at performed.
@@ -35,12 +34,11 @@ returns-clause-moments c = λ looks d old new result at performed.
     (head_beyond c d.head.spec_ex d.head.data_length start at.found.head)
     (head_inside c d.head.spec_ex d.head.data_length start at.found.head)
     old.small
-    (subst (λ k. k < 2 ^ 32) (sym (length_is d at.sound at.cut))
-    (length_fits looks c (repair_of d) d.head.data_length start at.found (λ chunks. absurd (cc (chunks, at.cut))))))
+    (subst (λ k. k < 2 ^ 32) (sym (length_is d at.sound at.apart))
+    (length_fits looks c (repair_of d) d.head.data_length start at.found at.apart)))
     old.replays
     (subst (λ h. PerformedOn true (mending_effects start n h) result old.state new.state) at.held_is
-    (subst (λ state. PerformedOn true (effects_for state start n d.held) result old.state new.state) at.cut
-    (on_log (mending d) result old new performed)))
+    (on_log (mending d) result old new performed))
 
 pub returns-clause-lost : goal.returns-clause-lost
 returns-clause-lost c = λ looks d old new result sector left at settled wide one performed lost.
@@ -51,13 +49,12 @@ returns-clause-lost c = λ looks d old new result sector left at settled wide on
     let inside = head_inside c d.head.spec_ex d.head.data_length start at.found.head in
     survives sector left (PartlyMended start n c) (mending_effects start n (held start c)) result old.state new.state
     (allowed true start n c beyond inside old.small
-    (subst (λ k. k < 2 ^ 32) (sym (length_is d at.sound at.cut))
-    (length_fits looks c (repair_of d) d.head.data_length start at.found (λ chunks. absurd (cc (chunks, at.cut))))))
+    (subst (λ k. k < 2 ^ 32) (sym (length_is d at.sound at.apart))
+    (length_fits looks c (repair_of d) d.head.data_length start at.found at.apart)))
     (mending_is_safe sector left start n c beyond inside
     (λ i few. same_sector (start - 4) (start - 1) i sector (omega (arith, wide)) (omega (arith, beyond, few)) one)
     (λ i few. first_sector i sector few wide))
     old.replays settled
     (subst (λ h. PerformedOn true (mending_effects start n h) result old.state new.state) at.held_is
-    (subst (λ state. PerformedOn true (effects_for state start n d.held) result old.state new.state) at.cut
-    (on_log (mending d) result old new performed)))
+    (on_log (mending d) result old new performed))
     lost

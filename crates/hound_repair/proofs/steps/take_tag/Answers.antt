@@ -1,5 +1,5 @@
 use Rattle.std.proofs.Common.{◌∙◌, rules}
-use Rattle.hound_repair.proofs.Stepping.{found_cut, found_followed, tag_decides}
+use Rattle.hound_repair.proofs.Stepping.{found_followed, found_unfollowed, tag_decides}
 use Rattle.hound_repair.proofs.steps.take_tag.Goals as goal
 
 pub returns-then-eq-clause-leads : goal.returns-then-eq-clause-leads
@@ -11,5 +11,4 @@ returns-then-eq-clause-leads c = λ looks file m at is.
 pub returns-clause-leads : goal.returns-clause-leads
 returns-clause-leads c = λ looks file m at is.
     let tag = tag_decides file c.args.bytes.now c.args.damage.head at.1 is in
-    c.found_as-2.ensures.leads looks file m
-    (found_cut looks file c.args.damage.head at.0.0 (at.0.1 ∙ tag ∙ search rules))
+    found_unfollowed looks file c.args.damage m at.0.0 (at.0.1 ∙ tag ∙ search rules)
