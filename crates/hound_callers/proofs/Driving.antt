@@ -458,8 +458,9 @@ module _ (asked : Recorder) (n : ℕ) (is_asked : IsAsked asked n) where
         by : (outcome : Result (Unit {0}) RecorderError) → After r outcome mid → ThenGoesOn outcome mid new (Ok (Some action))
             → (over : Option Bool) × ((next : Report) → IsWithin asked next new over) × after over new
             × GoesOn new new (Ok (Some action)) × (come r + step_of report ≤ come new) × (come new ≤ 10)
-        by (Ok x) (o, where_is, known, inl idle) on = absurd (let some = busy mid new action on in omega (arith, some, idle))
-        by (Ok x) (o, where_is, known, inr grows) on =
+        by (Ok x) k (inr (_, never, _)) = cc
+        by (Ok x) (o, where_is, known, inl idle) (inl (_, on)) = absurd (let some = busy mid new action on in omega (arith, some, idle))
+        by (Ok x) (o, where_is, known, inr grows) (inl (_, on)) =
             let (o, w, k, goes, more) = goes_on mid new o action where_is known on in
             (o, w, k, goes, omega (arith, grows, more), few new action o (w Done) goes)
         by (Err error) k (never, _) = cc
@@ -472,7 +473,8 @@ module _ (asked : Recorder) (n : ℕ) (is_asked : IsAsked asked n) where
       where
         by : (outcome : Result (Unit {0}) RecorderError) → After r outcome mid → ThenGoesOn outcome mid new (Ok None)
             → (new ≡ once_done asked) × after (Some true) new
-        by (Ok x) (o, where_is, known, grows) on = finished mid new o where_is known on
+        by (Ok x) (o, where_is, known, grows) (inl (_, on)) = finished mid new o where_is known on
+        by (Ok x) k (inr (_, never, _)) = cc
         by (Err error) k (never, _) = cc
 
     pub next_err : (r new : Recorder) (over : Option Bool) (error : RecorderError)
@@ -484,7 +486,9 @@ module _ (asked : Recorder) (n : ℕ) (is_asked : IsAsked asked n) where
       where
         by : (outcome : Result (Unit {0}) RecorderError) → After r outcome mid → ThenGoesOn outcome mid new (Err error)
             → (new.number ≡ 0) × after (Some false) new
-        by (Ok x) (o, where_is, known, grows) on = absurd (failed o mid known (settled_low mid o where_is) on)
+        by (Ok x) (o, where_is, known, grows) (inl (low, on)) = absurd (failed o mid known low on)
+        by (Ok x) (o, where_is, known, grows) (inr (high, _, _)) =
+            absurd (let low = settled_low mid o where_is in omega (arith, low, high))
         by (Err other) (none, known) (is, same) = rw same (none, known)
 
 -- what is known where nothing is said of the medium

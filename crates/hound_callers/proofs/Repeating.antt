@@ -5,6 +5,7 @@ use Rattle.std.specs.declared.io.Error.{Error as IoFault}
 use Rattle.hound.specs.{Action, Advances, AreBytes, Begun, Directed, Effect, Flushes, Known, WavSpecEx, GoesOn, IsSaid, IsSaved, Log, MediumState, NextEffect, PutsAt, Recorder, RecorderError, Repeats, Report, Settles, bytes_of, ThenGoesOn, written_first}
 use Rattle.hound.specs.declared.Action.TheVariants.{Cut, Perform, Read, WriteBlock}
 use Rattle.hound.specs.declared.Effect.TheVariants.{Pad, Size, Sync}
+use Rattle.hound.specs.declared.RecorderError.TheVariants.{SyncFailed}
 use Rattle.hound.specs.declared.Report.TheVariants.{Done, Failed, Pending}
 use Rattle.hound.proofs.Recorders.{same_next}
 use Rattle.hound_callers.specs.Recorder.{DoesAction, IsReportOf, TriesAction, bytes_for, place_for, report_for}
@@ -140,30 +141,59 @@ module _ (laws : Again) (block : List ℕ) where
   goes_none r new (Cut at) (some, cuts, _, _) (inr (one, rest, _, _, _)) = omega (arith, cuts, rest)
   goes_none r new (Read at len) never none = absurd never
 
-  -- without a report it continues from where it was
+  -- without a report it continues from where it was, unless a sync has failed
   unreported : (report : Report) (r new : Recorder) (next : Result (Option Action) RecorderError) → report ≡ Pending
-      → Advances report r new next → GoesOn r new next
-  unreported report r new next pending (mid, modelled, settles, on) =
-      let (same, ok) = subst (λ x. Settles x r mid modelled) pending settles in
-      subst (λ x. GoesOn x new next) same (subst (λ x. ThenGoesOn x mid new next) ok on)
+      → Advances report r new next → GoesOn r new next ⊎ ((1 < r.condition) × (next ≡ Err SyncFailed))
+  unreported report r new next pending (mid, outcome, settles, on) =
+      let (same, ok) = subst (λ x. Settles x r mid outcome) pending settles in
+      by mid same (subst (λ x. ThenGoesOn x mid new next) ok on)
+    where
+      by : (mid : Recorder) → mid ≡ r → ThenGoesOn (Ok tt) mid new next
+          → GoesOn r new next ⊎ ((1 < r.condition) × (next ≡ Err SyncFailed))
+      by mid same (inl (low, goes)) = inl (subst (λ x. GoesOn x new next) same goes)
+      by mid same (inr (high, is, _)) = inr (subst (λ (x : Recorder). 1 < x.condition) same high, is)
 
   pub is_tried : (report : Report) (r new : Recorder) (action : Action) (m now : MediumState)
       → IsOnTheWay report r block m now → Advances report r new (Ok (Some action)) → Tried action block m now
   is_tried report r new action m now (inl repeats) next = begun action m now repeats
   is_tried report r new action m now (inr (pending, a, goes, was)) next =
-      goes_same r new a action m now goes (unreported report r new (Ok (Some action)) pending next) was
+      by (unreported report r new (Ok (Some action)) pending next)
+    where
+      by : GoesOn r new (Ok (Some action)) ⊎ ((1 < r.condition) × (Ok (Some action) ≡ Err SyncFailed))
+          → Tried action block m now
+      by (inl on) = goes_same r new a action m now goes on was
+      by (inr (_, never)) = cc
 
   pub all_done : (report : Report) (r new : Recorder) (m now : MediumState)
       → IsOnTheWay report r block m now → Advances report r new (Ok None) → Repeats m now
   all_done report r new m now (inl repeats) next = repeats
   all_done report r new m now (inr (pending, a, goes, was)) next =
-      absurd (goes_none r new a goes (unreported report r new (Ok None) pending next))
+      by (unreported report r new (Ok None) pending next)
+    where
+      by : GoesOn r new (Ok None) ⊎ ((1 < r.condition) × (◌≡◌ {A = Result (Option Action) RecorderError} (Ok None) (Err SyncFailed))) → Repeats m now
+      by (inl on) = absurd (goes_none r new a goes on)
+      by (inr (_, never)) = cc
+
+  -- no effect and no block is asked for once a sync has failed, and a cut writes nothing
+  nothing_tried : (r : Recorder) (a : Action) (m now : MediumState) → 1 < r.condition → GoesOn r r (Ok (Some a))
+      → Tried a block m now → Repeats m now
+  nothing_tried r (Perform e) m now high (_, _, _, _, _, after, next) was = absurd (let low = next.0 in omega (arith, low, high))
+  nothing_tried r (WriteBlock at len) m now high (some, rest, saved, inl (clear, same), there, _, _) was =
+      absurd (let none = there.0 in let is = ap (λ (x : Recorder). x.condition) same in omega (arith, none, is, high))
+  nothing_tried r (WriteBlock at len) m now high (some, rest, saved, inr (two, next), there, _, _) was =
+      absurd (let low = next.0 in omega (arith, low, high))
+  nothing_tried r (Cut at) m now high goes was = was
+  nothing_tried r (Read at len) m now high never was = absurd never
 
   pub has_failed : (report : Report) (r new : Recorder) (error : RecorderError) (m now : MediumState)
       → (report ≡ Pending → GoesOn r new (Err error) → ⊥) → IsOnTheWay report r block m now → Advances report r new (Err error) → Repeats m now
   has_failed report r new error m now never (inl repeats) next = repeats
   has_failed report r new error m now never (inr (pending, a, goes, was)) next =
-      absurd (never pending (unreported report r new (Err error) pending next))
+      by (unreported report r new (Err error) pending next)
+    where
+      by : GoesOn r new (Err error) ⊎ ((1 < r.condition) × (◌≡◌ {A = Result (Option Action) RecorderError} (Err error) (Err SyncFailed))) → Repeats m now
+      by (inl on) = absurd (never pending on)
+      by (inr (high, _)) = nothing_tried r a m now high goes was
 
 -- What is known while actions are performed: what came of the last one that is reported, and whether another was
 -- begun.

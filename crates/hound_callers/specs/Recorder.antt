@@ -171,10 +171,9 @@ Mends f r done old end = (start : Log) × (answer : Result (Unit {0}) Error) × 
     × (start.state ≡ old) × (mark_of answer ≡ done)
     × LeavesWriter log_kind answer (writer_of f.spec_ex r start) (writer_of f.spec_ex r end)
 
--- a recorder doesn't continue such a file, or the header counts more than whole frames
+-- a recorder doesn't continue such a file
 abbrev pub IsNotContinued : FoundFile → RecorderError → Type 0
 IsNotContinued f error = Resumes f true false (Err error)
-    ⊎ ((r : Recorder) × Resumes f true false (Ok r) × (r.data_length < f.data_length) × (error ≡ UnfinishedFrame))
 
 -- the first checkpoint has failed
 abbrev pub IsNotMended : FoundFile → MediumState → MediumState → Type 0

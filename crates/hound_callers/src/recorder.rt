@@ -246,9 +246,6 @@ pub fn continue_by_effects<M: Medium>(
     a_recording_is_kept();
     an_effect_may_be_repeated();
     let mut continued = Recorder::resume(found, true, false)?;
-    if continued.data_length < found.data_length {
-        return Err(RecorderError::UnfinishedFrame);
-    }
     let mut made = 0;
     mend(medium, &mut continued, lost, &mut made)?;
     Ok(save_blocks(medium, &mut continued, blocks, lost))

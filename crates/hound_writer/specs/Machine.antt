@@ -81,10 +81,11 @@ GoesOn old new (Err error) = (0 < old.task) × (old.has_rest ≡ 0) × (r : Reco
     (NextEffect true old r (Err error) × (new ≡ record r { task = 0 }))
     ⊎ (IsSaved old r × Places r old.samples (Err error) × (new ≡ r)))
 
--- it continues unless something has failed
+-- it continues unless something has failed, and never once a sync has
 abbrev pub ThenGoesOn : Result (Unit {0}) RecorderError → Recorder → Recorder
     → Result (Option Action) RecorderError → Type 0
-ThenGoesOn (Ok x) mid new result = GoesOn mid new result
+ThenGoesOn (Ok x) mid new result = ((mid.condition ≤ 1) × GoesOn mid new result)
+    ⊎ ((1 < mid.condition) × (result ≡ Err SyncFailed) × (new ≡ mid))
 ThenGoesOn (Err error) mid new result = (result ≡ Err error) × (new ≡ mid)
 
 -- what the call for what comes next does

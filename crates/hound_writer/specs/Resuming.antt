@@ -3,7 +3,7 @@ use Rattle.std.specs.Prelude.{◌≡◌, ℕ, ◌+◌, ◌*◌, ◌%◌, ◌<◌
 use Rattle.hound_writer.specs.Recorder.{AppendsRecorder, recorder_of}
 use Rattle.hound_writer.specs.declared.recorder.Recorder.{Recorder}
 use Rattle.hound_writer.specs.declared.recorder.RecorderError.{RecorderError}
-use Rattle.hound_writer.specs.declared.recorder.RecorderError.TheVariants.{CutOff, HasChunksAfterData, Truncated}
+use Rattle.hound_writer.specs.declared.recorder.RecorderError.TheVariants.{CutOff, HasChunksAfterData, Truncated, UnfinishedFrame}
 use Rattle.hound_writer.specs.declared.resuming.RepairState.{RepairState}
 use Rattle.hound_writer.specs.declared.resuming.RepairState.TheVariants.{Whole, CutOff as WasCutOff, HasChunksAfterData as HasChunks, AllCounted}
 use Rattle.hound_writer.specs.declared.resuming.FoundFile.{FoundFile}
@@ -22,12 +22,14 @@ ends_whole f = nat_lt 0 (found_frame f) && ((f.data_length % found_frame f == 0)
 -- how many bytes of data are kept of a file that continues after those that its header counts
 abbrev pub kept_as : RepairState → FoundFile → Bool → Bool → Result ℕ RecorderError
 kept_as Whole f mends overwrites = Ok f.data_length
-kept_as WasCutOff f mends overwrites = if mends then Ok (f.frames * found_frame f) else Err CutOff
+kept_as WasCutOff f mends overwrites =
+    if mends then (if nat_le f.data_length (f.frames * found_frame f) then Ok (f.frames * found_frame f)
+    else Err UnfinishedFrame) else Err CutOff
 kept_as AllCounted f mends overwrites = Ok f.data_length
 kept_as HasChunks f mends overwrites = if overwrites then Ok f.data_length else Err HasChunksAfterData
 
 -- how many bytes of data are kept: those that the header counts, or of a recording that is mended all
--- whole frames that the file holds
+-- whole frames that the file holds, if the header counts no more
 abbrev pub kept_length : FoundFile → Bool → Bool → Result ℕ RecorderError
 kept_length f mends overwrites =
     if nat_lt f.length (f.data_start + f.data_length) then Err Truncated

@@ -143,11 +143,14 @@ impl Recorder {
     }
 
     /// What the caller does next; nothing if all is done. The report is of what the last call returned: if
-    /// that hasn't ended, it is returned again.
+    /// that hasn't ended, it is returned again. Once a sync has failed, each call returns that error.
     pub fn next(&mut self, report: Report) -> Result<Option<Action>, RecorderError>
         ensures { Advances report self.old self.new result }
     {
         self.settle(report)?;
+        if self.condition > 1 {
+            return Err(RecorderError::SyncFailed);
+        }
         self.go_on()
     }
 }

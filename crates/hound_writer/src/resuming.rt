@@ -1,5 +1,5 @@
 // A file that was found, and is recorded further.
-ghost use Rattle.std.specs.Prelude.{◌≡◌, ◌*◌};
+ghost use Rattle.std.specs.Prelude.{◌≡◌, ◌≤◌, ◌*◌, IfOk};
 ghost use Rattle.hound_writer.specs.Resuming.{ContinuesAfter, Resumes, ends_whole, kept_length};
 
 use crate::recorder::{Recorder, RecorderError};
@@ -87,7 +87,8 @@ impl FoundFile {
 
     // How many bytes of data are kept.
     fn kept_length(&self, mends: bool, overwrites: bool) -> Result<u64, RecorderError>
-        ensures { result ≡ kept_length self.now mends overwrites }
+        ensures is { result ≡ kept_length self.now mends overwrites }
+        ensures counted { IfOk result (λ n. self.now.data_length ≤ n) }
     {
         let counted = self.data_length as u64;
         if self.length < self.data_start || self.length - self.data_start < counted {
@@ -96,9 +97,11 @@ impl FoundFile {
         if self.ends_whole() {
             return Ok(counted);
         }
+        let held = self.frames as u64 * self.frame_length() as u64;
         match self.state {
             RepairState::Whole | RepairState::AllCounted => Ok(counted),
-            RepairState::CutOff if mends => Ok(self.frames as u64 * self.frame_length() as u64),
+            RepairState::CutOff if mends && held >= counted => Ok(held),
+            RepairState::CutOff if mends => Err(RecorderError::UnfinishedFrame),
             RepairState::CutOff => Err(RecorderError::CutOff),
             RepairState::HasChunksAfterData if overwrites => Ok(counted),
             RepairState::HasChunksAfterData => Err(RecorderError::HasChunksAfterData),
@@ -130,12 +133,16 @@ impl Recorder {
     /// A recorder that appends to a file that was found. What follows the samples that the header counts is
     /// cut off, and never without leave: samples of a recording that was cut off are kept instead where `mends`
     /// is true, and chunks are given up where `overwrites` is. It is an error if samples are missing.
+    ///
+    /// So the recorder keeps all that the header counts. A header that counts a part of a frame, too, has to be
+    /// repaired first, since that part would be cut off while it is still counted.
     pub fn resume(
         found: FoundFile,
         mends: bool,
         overwrites: bool,
     ) -> Result<Recorder, RecorderError>
-        ensures { Resumes found mends overwrites result }
+        ensures resumes { Resumes found mends overwrites result }
+        ensures counted { IfOk result (λ recorder. found.data_length ≤ recorder.data_length) }
     {
         let kept = found.kept_length(mends, overwrites)?;
         Recorder::continue_after(found, kept)

@@ -47,7 +47,7 @@ returns-in-Err-clause-why g c =
     } in
     let sound : IsSoundSpec s = rw c.spec_ex-spec_ex.ensures c.in_ok-reader.ensures.sound.0 in
     let counted : f.data_length ≡ samples * s.bytes_per_sample = grind (arith, common_steps) in
-    inl (not_resumed f bytes samples c.in-Err.error c.error_of.result here counted refl refl refl sound.0 sound.1 c.in-Err.ensures
+    inl (not_resumed f bytes samples c.in-Err.error c.error_of.result here counted refl refl refl sound.0 sound.1 c.in-Err.ensures.resumes
     c.error_of.ensures)
 
 pub returns-clause-saved : goal.returns-clause-saved
@@ -76,7 +76,7 @@ returns-clause-saved g c tells keeps =
     } in
     let sound : IsSoundSpec s = rw c.spec_ex-spec_ex.ensures c.in_ok-reader.ensures.sound.0 in
     let counted : f.data_length ≡ samples * s.bytes_per_sample = grind (arith, common_steps) in
-    let size : c.in-Ok.resumed.data_length ≡ f.data_length = kept_all f c.in-Ok.resumed refl c.in-Ok.ensures in
+    let size : c.in-Ok.resumed.data_length ≡ f.data_length = kept_all f c.in-Ok.resumed refl c.in-Ok.ensures.resumes in
     let mid = c.go.new.self in
     let log = log_of _ (g.met.M.Medium.replays mid tells keeps) (g.met.M.Placed.bytes mid tells) in
     let begun = c.a_recorder_directs.ensures.resumed f samples false false old log c.in-Ok.resumed (record {
@@ -85,7 +85,7 @@ returns-clause-saved g c tells keeps =
       counted = counted;
       all = sym (ap length contents);
       goes = rw size at (c.in_ok-go.ensures tells);
-    }) c.in-Ok.ensures size in
+    }) c.in-Ok.ensures.resumes size in
     let goes = c.in_ok-go.ensures tells in
     let once = c.an_effect_may_be_repeated.ensures.once log.state
     (omega (arith, goes.flushed, c.requires.synced tells keeps, ap length goes.stays.past)) in (

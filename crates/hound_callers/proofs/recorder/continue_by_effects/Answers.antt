@@ -14,10 +14,10 @@ returns-in_err-mend-clause-rejected g c = if_err c.from_residual-in_err-mend.res
     let once = c.an_effect_may_be_repeated.ensures.once start.state (omega (arith, c.requires.synced tells keeps)) in
     let (end, result, bad, done, now) = c.in_err-mend.ensures.performed tells keeps start once in
     let failed : is_ok result ≡ false = bad in
-    let cut = is_cut_off f r start.state is_found c.in_ok-continued.ensures
-    (omega (arith, c.if-continued-found.false)) in
-    let ((answer, mark, leaves), on) = c.a_recorder_directs.ensures.mended f true false start end r result c.in_ok-continued.ensures cut done in
-    (r, end, (start, answer, c.in_ok-continued.ensures, refl, mark ∙ failed, leaves), now)))
+    let cut = is_cut_off f r start.state is_found c.in_ok-continued.ensures.resumes
+    c.in_ok-continued.ensures.counted in
+    let ((answer, mark, leaves), on) = c.a_recorder_directs.ensures.mended f true false start end r result c.in_ok-continued.ensures.resumes cut done in
+    (r, end, (start, answer, c.in_ok-continued.ensures.resumes, refl, mark ∙ failed, leaves), now)))
 
 pub returns-clause-saved : goal.returns-clause-saved
 returns-clause-saved g c tells keeps is_found =
@@ -31,17 +31,17 @@ returns-clause-saved g c tells keeps is_found =
     let (end, result, ok, did, now) = c.in_ok-mend.ensures.performed tells keeps start once in
     let done : Performed (effects_of r) result start end = did in
     let all_synced = effects_synced r start end result ok done in
-    let cut = is_cut_off f r start.state is_found c.in_ok-continued.ensures
-    (omega (arith, c.if-continued-found.false)) in
-    let ((answer, mark, leaves), on) = c.a_recorder_directs.ensures.mended f true false start end r result c.in_ok-continued.ensures cut done in
+    let cut = is_cut_off f r start.state is_found c.in_ok-continued.ensures.resumes
+    c.in_ok-continued.ensures.counted in
+    let ((answer, mark, leaves), on) = c.a_recorder_directs.ensures.mended f true false start end r result c.in_ok-continued.ensures.resumes cut done in
     let (m, goes, moved) = at_end (end_of r) end _ now in
     let (samples, counted, directed) = on ok m goes in
-    let begun = is_mended f r c.mend.new.recorder m (resumed_file s samples f.data_start end.state) c.in_ok-continued.ensures
+    let begun = is_mended f r c.mend.new.recorder m (resumed_file s samples f.data_start end.state) c.in_ok-continued.ensures.resumes
     c.in_ok-mend.ensures.done directed in (
       r,
       end,
       samples,
-      (start, answer, c.in_ok-continued.ensures, refl, mark ∙ ok, leaves),
+      (start, answer, c.in_ok-continued.ensures.resumes, refl, mark ∙ ok, leaves),
       counted,
       saves s (resumed_file s samples f.data_start end.state) c.args.blocks.now c.save_blocks.result c.save_blocks.new.recorder _
           c.save_blocks.ensures.within
