@@ -6,7 +6,7 @@
 //! they were proved.
 #![tactic(auto)]
 
-ghost use Rattle.std.specs.Prelude.{◌≡◌, ◌*◌, None, false, length, pos, take, true};
+ghost use Rattle.std.specs.Prelude.{◌≡◌, ℕ, ◌*◌, None, false, length, pos, take, true};
 ghost use Rattle.std.specs.Option.{option_len, option_map_or};
 ghost use Rattle.std.specs.Result.{result_ok, result_unwrap_or};
 ghost use Rattle.hound_number.specs.{bytes_of};
@@ -15,7 +15,7 @@ ghost use Rattle.hound_sample.specs.{int_container, pattern_container, float_rej
 ghost use Rattle.hound_spec.specs.declared.spec.SampleFormat.TheVariants.{Float, Int};
 ghost use Rattle.hound_walk.specs.declared.cause.Cause.{Cause};
 ghost use Rattle.hound_writer.specs.{Advances, AsksForBlock, AsksForCheckpoint, BeginsRecorder, Resumes};
-ghost use Rattle.hound_slices.specs.{AppendsInPlace, BeginsRepairer, CountsWhole, Decodes, Encodes, FindsInFile, GivesHeader, GivesSizes, GuessesData, IsDamageError, IsExplicit, ReadsInto, Records, RepairsFile, Returns, ScalesToFloats, ScalesToIntegers, Sizes, StepsRepairer, TakesPart, WritesFile, effect_of, error_code, found_file, mends, overwrites, recorder_for_c, report_of, spec_from_c};
+ghost use Rattle.hound_slices.specs.{AppendsInPlace, BeginsRepairer, CountsWhole, Decodes, Encodes, FindsInFile, GivesHeader, GivesSizes, GuessesData, IsDamageError, IsExplicit, IsKind, ReadsInto, Records, RepairsFile, Returns, ScalesToFloats, ScalesToIntegers, Sizes, StepsRepairer, TakesPart, WritesFile, effect_of, error_code, found_file, mends, overwrites, recorder_for_c, report_of, spec_from_c};
 ghost use Rattle.hound_slices.specs.declared.error.CallError.{CallError as AnyError};
 ghost use Rattle.hound_slices.specs.declared.error.CallError.TheVariants.{Head};
 
@@ -24,8 +24,8 @@ use hound_sample::FloatBits;
 use hound_slices::{
     CallError, HoundInfo, HoundRecorder, HoundRepair, HoundRepairer, HoundSpec, HoundWalk,
     append_block, begin_repairer, code_of, code_of_error, decode_block, effect_for_c, encode_block,
-    file_size, find_file_damage, find_samples, found_file, guess_data, info_for_c, mends,
-    overwrites, read_block, recorder_for_c, repair_file, report_of, scale_to_floats,
+    file_kind, file_size, find_file_damage, find_samples, found_file, guess_data, info_for_c,
+    mends, overwrites, read_block, recorder_for_c, repair_file, report_of, scale_to_floats,
     scale_to_integers, spec_from_c, step_repairer, step_walk, value_of_8, value_of_16, value_of_24,
     value_of_32, whole_frames, write_file, write_header, write_sizes,
 };
@@ -236,6 +236,14 @@ pub extern "C" fn hound_guess_data(file: &[u8]) -> i64
     ensures { Returns result (GuessesData file.now) }
 {
     code_of(guess_data(file))
+}
+
+/// What a file is, by its first bytes.
+#[unsafe(no_mangle)]
+pub extern "C" fn hound_kind(file: &[u8]) -> i32
+    ensures { (kind : ℕ) × IsKind file.now kind × (result ≡ pos kind) }
+{
+    file_kind(file) as i32
 }
 
 /// Decodes samples of a spec, of eight bits.

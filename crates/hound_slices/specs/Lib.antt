@@ -8,7 +8,8 @@ pub use Rattle.hound_slices.specs.Scaling.{AreBits, IsScaleError, ScalesToFloats
 pub use Rattle.hound_slices.specs.Effects.{effect_of, effect_with, report_of}
 pub use Rattle.hound_slices.specs.Recording.{found_file, mends, overwrites, recorder_for_c}
 pub use Rattle.hound_slices.specs.Repairers.{BeginsRepairer, GivesStep, StepsRepairer, after_head, bytes_read, count_of, error_of, failure_of_code, head_of, head_with, if_head, repairing_of, task_of}
-pub use Rattle.hound_slices.specs.Searching.{CountsWhole, GuessesData, HasFrames, IsDataTag}
+pub use Rattle.hound_slices.specs.Searching.{CountsWhole, GuessesData, HasFrames, IsFirstTag, IsKind, IsKindOfSamples, IsTagAt, format_of_fmt, is_mpeg}
+unfoldable pub use Rattle.hound_slices.specs.Searching.{kind_of_fmt, kind_of_tag}
 pub mod Codes
 pub mod Reading
 pub mod Writing

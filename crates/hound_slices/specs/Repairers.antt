@@ -1,8 +1,8 @@
 -- The repair of a caller who reads and writes the file.
-use Rattle.std.specs.Prelude.{◌≡◌, ℕ, ◌+◌, ◌==◌, nat_lt, if◌then◌else◌, true, false, List, min, take, Option, None, Some, Result, Ok, Err}
+use Rattle.std.specs.Prelude.{◌≡◌, ℕ, ◌+◌, ◌/◌, ◌==◌, nat_lt, if◌then◌else◌, true, false, List, min, take, Option, None, Some, Result, Ok, Err}
 use Rattle.hound_spec.specs.{greatest_u32}
 use Rattle.hound_spec.specs.declared.spec.WavSpecEx.{WavSpecEx}
-use Rattle.hound_repair.specs.{AsksNext, asked_count, repair_of}
+use Rattle.hound_repair.specs.{AsksNext, asked_count, frame_length, repair_of}
 use Rattle.hound_repair.specs.declared.look.SeenHead.{SeenHead}
 use Rattle.hound_repair.specs.declared.steps.Failure.{Failure}
 use Rattle.hound_repair.specs.declared.steps.Failure.TheVariants.{Sync, Call}
@@ -100,6 +100,7 @@ GivesStep old new was now (Ok (Asks action)) outcome =
 GivesStep old new was now (Ok (Found d)) outcome =
     (outcome ≡ Ok 0) × (new.effect ≡ effect_of None) × IsReported (repair_of d) now
     × (now.data_start ≡ d.head.data_start) × (now.data_length ≡ d.head.data_length) × (now.length ≡ old.length)
+    × (now.counted ≡ d.head.data_length / frame_length d.head.spec_ex)
 GivesStep old new was now (Err (Failed failure)) outcome =
     (outcome ≡ Err (error_of (Failed failure))) × (new.effect ≡ effect_of None) × (now ≡ was)
 GivesStep old new was now (Err (Rejected why)) outcome =

@@ -1,10 +1,10 @@
 -- What repairing does.
-use Rattle.std.specs.Prelude.{◌≡◌, ◌⊎◌, ℕ, Bool, ◌==◌, if◌then◌else◌, ◌<◌, ◌≤◌, List, length, take, true, Result, Ok, Err}
+use Rattle.std.specs.Prelude.{◌≡◌, ◌⊎◌, ℕ, ◌/◌, Bool, ◌==◌, if◌then◌else◌, ◌<◌, ◌≤◌, List, length, take, true, Result, Ok, Err}
 use Rattle.hound_walk.specs.declared.cause.Cause.TheVariants.{Unsupported}
 use Rattle.hound_spec.specs.declared.spec.WavSpecEx.{WavSpecEx}
 use Rattle.hound_walk.specs.{Head, Rejected}
 use Rattle.hound_writer.specs.{by_bytes, too_long}
-use Rattle.hound_repair.specs.{HasUnfitHead, IsFoundAt, LacksRoom, RepairsBytes}
+use Rattle.hound_repair.specs.{HasUnfitHead, frame_length, IsFoundAt, LacksRoom, RepairsBytes}
 use Rattle.hound_repair.specs.declared.sizes.Repair.{Repair}
 use Rattle.hound_writer.specs.declared.resuming.RepairState.{RepairState}
 use Rattle.hound_writer.specs.declared.resuming.RepairState.TheVariants.{Whole, CutOff, HasChunksAfterData, AllCounted}
@@ -34,9 +34,10 @@ pub record IsReported (found : Repair) (c : HoundRepair) : Type 0 where
   pub left_over : c.left_over ≡ found.left_over
   pub state : c.state ≡ state_code found.state
 
--- the head of a file, and its length, as C has them
+-- the head of a file, how many whole frames it counts, and its length, as C has them
 abbrev pub HasHeadOf : List ℕ → HoundRepair → Type 0
 HasHeadOf bytes c = (s : WavSpecEx) × Head bytes s c.data_length c.data_start × (c.length ≡ length bytes)
+    × (c.counted ≡ c.data_length / frame_length s)
 
 -- what was found in a file, looked at as a whole, as C has it
 abbrev pub FindsInFile : List ℕ → HoundRepair → Type 0

@@ -28,7 +28,7 @@ pub use recording::{HoundRecorder, found_file, mends, overwrites, recorder_for_c
 pub use repairer::{HoundRepairer, begin_repairer, step_repairer};
 pub use repairing::{find_file_damage, repair_file};
 pub use scaling::{scale_to_floats, scale_to_integers};
-pub use searching::{guess_data, whole_frames};
+pub use searching::{file_kind, guess_data, whole_frames};
 pub use spec::{HoundInfo, HoundRepair, HoundSpec, HoundWalk, info_for_c, spec_from_c};
 pub use value::{value_of_8, value_of_16, value_of_24, value_of_32};
 pub use walking::step_walk;

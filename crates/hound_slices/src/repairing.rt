@@ -1,7 +1,7 @@
 // Files that are repaired.
-ghost use Rattle.std.specs.Prelude.{◌≡◌, ◌<◌, ◌≤◌, IfErr, IfOk, length};
+ghost use Rattle.std.specs.Prelude.{◌≡◌, ◌/◌, ◌<◌, ◌≤◌, IfErr, IfOk, length};
 ghost use Rattle.hound_slices.specs.Repairing.{FindsInFile, IsDamageError, IsReported, RepairsFile, state_code, state_of_code};
-ghost use Rattle.hound_repair.specs.{IsRepair, IsSoundDamage, looks_for_chunks, repair_of};
+ghost use Rattle.hound_repair.specs.{IsRepair, IsSoundDamage, frame_length, looks_for_chunks, repair_of};
 
 use crate::error::CallError;
 use crate::spec::{HoundRepair, spec_for_c};
@@ -36,10 +36,12 @@ pub(crate) fn repair_for_c(damage: Damage, length: u64) -> HoundRepair
     requires { IsSoundDamage damage }
     ensures reported { IsReported (repair_of damage) result }
     ensures start { result.data_start ≡ damage.head.data_start }
-    ensures counted { result.data_length ≡ damage.head.data_length }
+    ensures says { result.data_length ≡ damage.head.data_length }
+    ensures counted { result.counted ≡ damage.head.data_length / frame_length damage.head.spec_ex }
     ensures length { result.length ≡ length }
 {
     let repair = damage.repair();
+    let frame = repair.spec_ex.spec.channels as u32 * repair.spec_ex.bytes_per_sample as u32;
     HoundRepair {
         spec: spec_for_c(repair.spec_ex),
         frames: repair.frames,
@@ -48,7 +50,7 @@ pub(crate) fn repair_for_c(damage: Damage, length: u64) -> HoundRepair
         data_start: damage.head.data_start,
         length,
         data_length: damage.head.data_length,
-        unused: 0,
+        counted: damage.head.data_length / frame,
     }
 }
 

@@ -1,10 +1,12 @@
-// How much of a stream is whole frames, and where the data may begin if the header is damaged.
-ghost use Rattle.std.specs.Prelude.{◌+◌, ◌<◌, ◌≤◌, ◌^◌, IfOk, length};
-ghost use Rattle.hound_slices.specs.Searching.{CountsWhole, GuessesData};
+// How much of a stream is whole frames, where the data may begin if the header is damaged, and what a file is.
+ghost use Rattle.std.specs.Prelude.{◌≡◌, ℕ, ◌+◌, ◌<◌, ◌≤◌, ◌^◌, IfOk, IfSome, length};
+ghost use Rattle.hound_slices.specs.Searching.{CountsWhole, GuessesData, IsFirstTag, IsKind, IsTagAt, is_mpeg, kind_of_fmt, kind_of_tag};
+ghost use Rattle.std.specs.Option.{IfNone};
 ghost use Rattle.hound_slices.specs.Writing.{spec_from_c};
 
 use crate::error::CallError;
 use crate::spec::{HoundSpec, spec_from_c};
+use hound_number::u16_at;
 use hound_walk::{Cause, Reason};
 
 /// How many of so many bytes are whole frames of a spec.
@@ -23,17 +25,106 @@ pub fn whole_frames(spec: HoundSpec, length: u64) -> Result<usize, CallError>
     Ok((length - length % frame) as usize)
 }
 
+// The place of the first chunk's header with this tag after the WAVE tag that so many bytes follow, its own among
+// them, whatever the chunks before it are.
+fn find_tag(file: &[u8], tag: [u8; 4], least: usize) -> Option<usize>
+    requires { (4 ≤ least) × (least < 64) }
+    ensures found { IfSome result (IsFirstTag tag least file.now) }
+    ensures none { IfNone result ((place : ℕ) → IsTagAt tag least file.now place → ⊥) }
+{
+    for place in 12..file.len().saturating_sub(least - 1) {
+        let mut at = [0; 4];
+        at.copy_from_slice(&file[place..place + 4]);
+        if at == tag {
+            return Some(place);
+        }
+    }
+    None
+}
+
 /// The place after the first header of data in a file whose other chunks can't be relied on.
 pub fn guess_data(file: &[u8]) -> Result<usize, CallError>
     ensures guesses { GuessesData file.now result }
     ensures within { IfOk result (λ n. n ≤ length file.now) }
 {
-    for place in 12..file.len().saturating_sub(7) {
-        let mut tag = [0; 4];
-        tag.copy_from_slice(&file[place..place + 4]);
-        if tag == *b"data" {
-            return Ok(place + 8);
-        }
+    match find_tag(file, *b"data", 8) {
+        Some(place) => Ok(place + 8),
+        None => Err(CallError::Head(Cause::Format(Reason::NoDataChunk))),
     }
-    Err(CallError::Head(Cause::Format(Reason::NoDataChunk)))
+}
+
+// Whether MPEG audio begins with these bytes.
+fn is_mpeg(tag: &[u8]) -> bool
+    requires { 4 ≤ length tag.now }
+    ensures { result ≡ is_mpeg tag.now }
+{
+    &tag[..3] == b"ID3".as_slice() || tag[0] == 255 && tag[1] >= 224
+}
+
+// The number of the kind of file that begins with this tag.
+#[tactic(auto, unfolding(crate::specs::Searching::kind_of_tag))]
+fn kind_of_tag(tag: [u8; 4]) -> u32
+    ensures is { result ≡ kind_of_tag tag }
+    ensures few { result < 2 ^ 31 }
+{
+    if tag == *b"RIFX" {
+        65537
+    } else if tag == *b"RF64" {
+        65538
+    } else if tag == *b"BW64" {
+        65539
+    } else if tag == *b"riff" {
+        65540
+    } else if tag == *b"FORM" {
+        65541
+    } else if tag == *b"fLaC" {
+        65542
+    } else if tag == *b"OggS" {
+        65543
+    } else if is_mpeg(&tag) {
+        65544
+    } else {
+        65536
+    }
+}
+
+// The number of the kind of samples that have a fmt chunk with this content.
+#[tactic(auto, unfolding(crate::specs::Searching::kind_of_fmt))]
+fn kind_of_fmt(fmt: &[u8]) -> u32
+    requires { 16 ≤ length fmt.now }
+    ensures is { result ≡ kind_of_fmt fmt.now }
+    ensures few { result < 2 ^ 31 }
+{
+    let tag = u16_at(fmt, 0);
+    let format = if tag == 65534 && fmt.len() >= 26 {
+        u16_at(fmt, 24)
+    } else {
+        tag
+    };
+    if format == 3 && u16_at(fmt, 14) == 64 {
+        return 65545;
+    }
+    format as u32
+}
+
+/// What a file is, by its first bytes: the number of the format of its samples, from 0 to 65535, or of another kind
+/// of file.
+#[tactic(auto, unfolding(crate::specs::Searching::kind_of_tag))]
+pub fn file_kind(file: &[u8]) -> u32
+    ensures is { IsKind file.now result }
+    ensures few { result < 2 ^ 31 }
+{
+    if file.len() < 4 {
+        return 65536;
+    }
+    let mut tag = [0; 4];
+    tag.copy_from_slice(&file[..4]);
+    let kind = kind_of_tag(tag);
+    if kind != 65536 {
+        return kind;
+    }
+    match find_tag(file, *b"fmt ", 24) {
+        Some(place) => kind_of_fmt(&file[place + 8..]),
+        None => kind,
+    }
 }

@@ -48,7 +48,7 @@ pub struct HoundRepair {
     pub data_start: u64,
     pub length: u64,
     pub data_length: u32,
-    pub unused: u32,
+    pub counted: u32,
 }
 
 /// The spec that C's is. Where its format is no number of one, it has no bits: no samples of it are read or written.

@@ -1,7 +1,5 @@
-use Rattle.std.proofs.Common.{◌≡◌, ◌∙◌, ◌⊎◌, ℕ, Bool, true, Result, Ok, Err, inl, inr, ap, refl, rules, subst, sym}
-use Rattle.hound.specs.{AppendFault, Error, IsFoundAt, IsIoError, IsNotRepaired, IsRepairFault, LeavesFor, LeavesPartly, MediumState, NamesFault, PartlyMended, PutsNothing, Repair, Repairs, RepairsMedium, faults_after, found_length, mended, one_more}
-use Rattle.hound.specs.declared.RepairState.{RepairState}
-use Rattle.hound.specs.declared.RepairState.TheVariants.{CutOff, HasChunksAfterData, Whole}
+use Rattle.std.proofs.Common.{◌≡◌, ◌∙◌, ◌⊎◌, ℕ, Bool, true, false, not, Result, Ok, Err, inl, inr, ap, refl, rules, subst, sym}
+use Rattle.hound.specs.{AppendFault, Error, IsFoundAt, IsIoError, IsNotRepaired, IsRepairFault, LeavesFor, LeavesPartly, MediumState, NamesFault, PartlyMended, PutsNothing, Repair, Repairs, RepairsMedium, faults_after, found_length, is_mended, mended, one_more}
 use Rattle.hound_callers.proofs.callers.look_and_repair.Goals as goal
 
 -- two calls that wrote nothing
@@ -31,20 +29,20 @@ module _ (looks : Bool) (old mid new : MediumState) (puts : PutsNothing old mid)
   same : mid.contents ≡ old.contents
   same = puts.stays.contents
 
-  leaves : (state : RepairState) (found : Repair) (start : ℕ) → LeavesFor state found start mid new
-      → LeavesFor state found start old new
-  leaves CutOff found start (mends, flushed) =
+  leaves : (put : Bool) (found : Repair) (start : ℕ) → LeavesFor put found start mid new
+      → LeavesFor put found start old new
+  leaves true found start (mends, flushed) =
       (subst (λ c. new.contents ≡ mended start (found_length found) c) same mends, flushed)
-  leaves Whole found start none = both old mid new puts none
-  leaves HasChunksAfterData found start none = both old mid new puts none
+  leaves false found start none = both old mid new puts none
 
   repairs : (found : Repair) → Repairs looks mid found new → Repairs looks old found new
   repairs found is = record {
     len = is.len;
     start = is.start;
     is = subst (λ c. IsFoundAt looks c found is.len is.start) same is.is;
-    leaves = leaves found.state found is.start is.leaves;
+    leaves = leaves (is_mended (not looks) found.state) found is.start is.leaves;
     sizes = is.sizes;
+    riff = is.riff;
     faults = is.faults ∙ faults;
   }
 

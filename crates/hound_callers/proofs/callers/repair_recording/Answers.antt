@@ -1,9 +1,9 @@
-use Rattle.std.proofs.Common.{◌≡◌, ◌∙◌, ◌≤◌, false, Result, Ok, Err, IfErr, IfOk, MatchResult, inl, inr, subst, sym}
+use Rattle.std.proofs.Common.{◌≡◌, ◌∙◌, ◌≤◌, false, true, ap, Result, Ok, Err, IfErr, IfOk, MatchResult, inl, inr, subst, sym}
 use Rattle.std.proofs.lemmas.Bool.{false≢true}
 use Rattle.std.proofs.lemmas.Nat.{mul-le}
 use Rattle.std.proofs.lemmas.Result.{MatchResult-weaker}
-use Rattle.hound.specs.{IsSoundSpec, PartlyMended, WavSpecEx, found_length, frame_length}
-use Rattle.hound.specs.declared.RepairState.TheVariants.{CutOff, HasChunksAfterData}
+use Rattle.hound.specs.{IsSoundSpec, PartlyMended, WavSpecEx, found_length, frame_length, is_mended}
+use Rattle.hound.specs.declared.RepairState.TheVariants.{HasChunksAfterData}
 use Rattle.hound_callers.proofs.callers.repair_recording.Goals as goal
 
 -- what two clauses of an Ok give
@@ -35,7 +35,8 @@ returns-clause-again g c modelled =
     (λ done repairs sound looks next new other same again.
     let (whole, spec, frames, kept) = c.a_second_repair_writes_nothing.ensures false looks
     (g.N.Placed.state c.args.left) (g.N.Placed.state done.0) next new done.1 other repairs
-    (λ looks here. absurd (false≢true looks)) (some done.1.spec_ex sound) same again in
+    (λ looks here. absurd (false≢true looks)) (λ looks here. absurd (false≢true looks))
+    (some done.1.spec_ex sound) same again in
     (whole, frames, kept))
 
 pub returns-clause-stopped : goal.returns-clause-stopped
@@ -52,7 +53,7 @@ returns-clause-stopped g c modelled =
         is,
         λ positive next new other same again.
             c.a_stopped_repair_is_done_again.ensures.same false false old.contents next new found other len
-            start is (λ here. let h : CutOff ≡ HasChunksAfterData = sym state ∙ here in cc h) positive
+            start is (λ here. let h : false ≡ true = sym (ap (is_mended true) here) ∙ state in cc h) positive
             (subst (PartlyMended start (found_length found) old.contents) (sym same) half)
             again (λ looks here. absurd (false≢true looks)),
       )

@@ -26,7 +26,7 @@ returns-in-Ok-Found-clause-steps c =
       next = step_is _ _ _ _ _ _ _ _ _ _ _ _ c.task_of-task.ensures (grind (arith, common_steps)) c.report_of.ensures
           c.repairing_of-state.ensures.is (sym c.repairer_for_c-in-Ok-Found.ensures.is) c.repair_next-step.ensures.next;
       gives = gives_for _ _ _ _ _ _ _ (let is : c.repair_next-step.result ≡ Ok (Found c.in-Ok-Found.damage) = search rules in is)
-          (refl, c.repairer_for_c-in-Ok-Found.ensures.effect, seen.reported, seen.start, seen.counted, seen.length);
+          (refl, c.repairer_for_c-in-Ok-Found.ensures.effect, seen.reported, seen.start, seen.says, seen.length, seen.counted);
       length = c.repairer_for_c-in-Ok-Found.ensures.length;
       mode = c.repairer_for_c-in-Ok-Found.ensures.mode;
     }
