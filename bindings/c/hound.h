@@ -39,6 +39,7 @@ extern "C" {
 #define HOUND_VERSION_MINOR 2
 #define HOUND_VERSION_PATCH 0
 #define HOUND_VERSION "0.2.0"
+#define HOUND_VERSION_NUMBER (HOUND_VERSION_MAJOR * 65536 + HOUND_VERSION_MINOR * 256 + HOUND_VERSION_PATCH)
 
 /* No pointer that is passed is NULL. */
 #ifdef __GNUC__
@@ -99,8 +100,11 @@ enum { HOUND_INT = 0, HOUND_FLOAT = 1 };
 /* How hound_repair found a file. */
 enum {
     HOUND_WHOLE = 0,                 /* both sizes were right */
-    HOUND_CUT_OFF = 1,               /* a size was wrong, as after a recording that was cut off */
-    HOUND_HAS_CHUNKS_AFTER_DATA = 2  /* chunks or a tag follow the data */
+    HOUND_CUT_OFF = 1,               /* the data length was wrong, as after a recording that was cut off */
+    HOUND_HAS_CHUNKS_AFTER_DATA = 2, /* chunks or a tag follow the data */
+    HOUND_ALL_COUNTED = 3            /* the data length counts all whole frames, so no sample is concerned: only the
+                                        RIFF size isn't that of the canonical form, as where a program writes no pad
+                                        byte after data of an odd length */
 };
 
 /* Integers are written with 8, 16, 24 (in 3 or 4 bytes) and 32 bits, floats with 32 bits. */
@@ -123,12 +127,15 @@ typedef struct {
     hound_spec spec;
     uint32_t frames;      /* how many whole frames the file holds */
     uint32_t left_over;   /* how many bytes of a torn frame follow them */
-    uint32_t state;       /* HOUND_WHOLE, HOUND_CUT_OFF or HOUND_HAS_CHUNKS_AFTER_DATA */
+    uint32_t state;       /* HOUND_WHOLE, HOUND_CUT_OFF, HOUND_HAS_CHUNKS_AFTER_DATA or HOUND_ALL_COUNTED */
     uint64_t data_start;  /* how many bytes are before the first sample */
     uint64_t length;      /* how many bytes the file had */
     uint32_t data_length; /* how many bytes of samples its header counted */
-    uint32_t unused;
+    uint32_t counted;     /* how many whole frames these are: a repair adds `frames - counted` to them */
 } hound_repair_t;
+
+/* Returns the HOUND_VERSION_NUMBER of the library, so that a program can compare it with that of this header. */
+uint32_t hound_version(void);
 
 /* Finds what is before the data. Returns 0 or an error, and looks at no byte of the data. */
 int32_t hound_info(const uint8_t *file, size_t length, hound_info_t *info) HOUND_NONNULL;
@@ -194,6 +201,25 @@ int64_t hound_whole_frames(const hound_spec *spec, uint64_t length) HOUND_NONNUL
    its first twelve bytes, or HOUND_NO_DATA_CHUNK. It is a guess, since samples may look like this. */
 int64_t hound_guess_data(const uint8_t *file, size_t length) HOUND_NONNULL;
 
+/* Kinds of files whose samples have no number of a format. */
+enum {
+    HOUND_KIND_UNKNOWN = 65536,
+    HOUND_KIND_RIFX,
+    HOUND_KIND_RF64,
+    HOUND_KIND_BW64,
+    HOUND_KIND_W64,
+    HOUND_KIND_AIFF,
+    HOUND_KIND_FLAC,
+    HOUND_KIND_OGG,
+    HOUND_KIND_MPEG,
+    HOUND_KIND_FLOAT64
+};
+
+/* Returns what a file is, by its first bytes, for a sentence about one that isn't read: the format tag of its samples,
+   from 0 to 65535, which is that of the first "fmt " after the twelfth byte, or of its subformat; or one of these
+   kinds. hound_kind_text names it. */
+int32_t hound_kind(const uint8_t *file, size_t length) HOUND_NONNULL;
+
 /* Reads samples from number `first` on, counted from 0, and returns how many: as many as fit, as the
    header counts and as the bytes hold. So 0 means the end, or that count is 0. HOUND_TRUNCATED means
    that the header counts sample `first` and the bytes don't hold it. The rest of `out` stays.
@@ -238,13 +264,13 @@ int64_t hound_append_f32(uint8_t *file, size_t capacity, size_t used, const floa
 
 /* Repairs the file in the first `used` bytes, and returns its length: where its recording was cut off,
    both sizes become those of the whole frames that it holds. Where a pad byte is missing, which needs a
-   capacity of one byte more, the length is one more. Where chunks follow data of the right length, or both
-   sizes are right, nothing is written. */
+   capacity of one byte more, the length is one more. Where chunks follow data of the right length, or the data length
+   counts all whole frames, nothing is written. */
 int64_t hound_repair(uint8_t *file, size_t capacity, size_t used, hound_repair_t *found) HOUND_NONNULL;
 
 /* Repairs a file in which all that follows the header of the data is samples, also what looks like chunks or a tag:
-   a recording that was cut off, and that hound_repair takes for one with chunks after the data. It finds HOUND_WHOLE
-   or HOUND_CUT_OFF. */
+   a recording that was cut off, and that hound_repair takes for one with chunks after the data. It finds no chunks, and
+   makes both sizes right also where it finds HOUND_ALL_COUNTED. */
 int64_t hound_repair_to_end(uint8_t *file, size_t capacity, size_t used, hound_repair_t *found) HOUND_NONNULL;
 
 /* Looks at a file as hound_repair does, and changes nothing of it. Returns 0, and reports in `found` what hound_repair
@@ -263,7 +289,9 @@ typedef struct {
 enum {
     HOUND_FIND_DAMAGE,  /* it only reads, and finds what HOUND_REPAIR would */
     HOUND_REPAIR,       /* it repairs as hound_repair does */
-    HOUND_REPAIR_TO_END /* it repairs as hound_repair_to_end does */
+    HOUND_REPAIR_TO_END, /* it repairs as hound_repair_to_end does */
+    HOUND_MAKE_CANONICAL /* it repairs as HOUND_REPAIR does, and also writes the RIFF size and the pad byte of a file that
+                            it finds HOUND_ALL_COUNTED */
 };
 
 /* Begins a repairer of a file of so many bytes. */
@@ -272,8 +300,10 @@ void hound_repairer_begin(uint64_t length, uint32_t mode, hound_repairer *repair
 /* Returns 1 for the next effect; 0 if all are done, and then `found` is what the file was; or an error of
    hound_repair, or what an effect was reported as, which ends the repairer. What it writes are the sizes and a missing
    pad byte, in the order in which a kill or a loss of power loses no sample and invents none, and a sync comes
-   between two writes: of all that there is, the data length, the pad byte, the RIFF size. After an error, or where
-   it was stopped, the file can be repaired by another repairer. */
+   between two writes: of all that there is, the data length, the pad byte, the RIFF size. So there are at most seven
+   effects that write or sync, and a look at a file reads few parts of it: after each effect that is reported as done
+   fewer are left, whatever was read. After an error, or where it was stopped, the file can be repaired by another
+   repairer. */
 int32_t hound_repairer_next(hound_repairer *repairer, hound_repair_t *found) HOUND_NONNULL;
 
 /* Samples without a file around them: containers one after the other, as in the data of a file. They
@@ -343,7 +373,9 @@ enum {
 
 /* Begins a recorder of a file as a repairer of HOUND_FIND_DAMAGE found it; `allowed` is a sum of what it may do. A file
    that ends with the samples that its header counts, or with their pad byte, needs neither. Where samples are missing
-   that the header counts it is HOUND_TRUNCATED. Returns 0 or an error. */
+   that the header counts it is HOUND_TRUNCATED; where the header counts a part of a frame, too, HOUND_MEND is rejected
+   as HOUND_UNFINISHED_FRAME, since a recorder never cuts off what is counted: repair the file first. Returns 0 or an
+   error. */
 int32_t hound_recorder_resume(const hound_repair_t *found, uint32_t allowed, hound_recorder *recorder) HOUND_NONNULL;
 
 /* Requests that a block of so many samples is written, as hound_encode_.. gives them: whole frames, which have
@@ -355,8 +387,9 @@ int32_t hound_recorder_write(hound_recorder *recorder, uint64_t samples) HOUND_N
 void hound_recorder_checkpoint(hound_recorder *recorder) HOUND_NONNULL;
 
 /* Returns 1 for the next effect of what was requested, and 0 if all of it is done: after a checkpoint the header counts
-   all samples. After a block or an effect that failed it returns HOUND_NEEDS_CHECKPOINT; after a sync that failed
-   HOUND_SYNC_FAILED, and so for each later request. An error ends the request: after it there is nothing to do. */
+   all samples. After a block or an effect that failed it returns HOUND_NEEDS_CHECKPOINT, and that ends the request:
+   after it there is nothing to do. After a sync that failed it returns HOUND_SYNC_FAILED, and so does each later
+   call: look at the file again, and begin another recorder. */
 int32_t hound_recorder_next(hound_recorder *recorder) HOUND_NONNULL;
 
 /* A sentence for an error, without its full stop. */
@@ -405,6 +438,33 @@ static inline const char *hound_error_text(int64_t code) {
     }
 }
 
+/* The name of what hound_kind returned; NULL for samples that the library reads, and for what it doesn't know. The numbers
+   below 65536 are those of mmreg.h, the list of registered wave formats. */
+static inline const char *hound_kind_text(int32_t kind) {
+    switch (kind) {
+    case 2: return "Microsoft ADPCM";
+    case 6: return "A-law";
+    case 7: return "mu-law";
+    case 17: return "IMA ADPCM";
+    case 34: return "TrueSpeech";
+    case 49: return "GSM 6.10";
+    case 64: return "G.721 ADPCM";
+    case 80: return "MPEG";
+    case 85: return "MP3";
+    case 8192: return "AC-3";
+    case HOUND_KIND_RIFX: return "RIFX, whose numbers have their highest byte first";
+    case HOUND_KIND_RF64: return "RF64, which is for more than 4 GiB";
+    case HOUND_KIND_BW64: return "BW64, which is for more than 4 GiB";
+    case HOUND_KIND_W64: return "Wave64";
+    case HOUND_KIND_AIFF: return "AIFF";
+    case HOUND_KIND_FLAC: return "FLAC";
+    case HOUND_KIND_OGG: return "Ogg";
+    case HOUND_KIND_MPEG: return "MP3, or another MPEG audio";
+    case HOUND_KIND_FLOAT64: return "floats of 64 bits";
+    default: return (const char *)0;
+    }
+}
+
 #ifdef __cplusplus
 }
 #endif
@@ -429,7 +489,7 @@ HOUND_ASSERT(sizeof(hound_info_t) == 24 && offsetof(hound_info_t, samples) == 12
 HOUND_ASSERT(sizeof(hound_repair_t) == 48 && offsetof(hound_repair_t, frames) == 12
              && offsetof(hound_repair_t, left_over) == 16 && offsetof(hound_repair_t, state) == 20
              && offsetof(hound_repair_t, data_start) == 24 && offsetof(hound_repair_t, length) == 32
-             && offsetof(hound_repair_t, data_length) == 40 && offsetof(hound_repair_t, unused) == 44);
+             && offsetof(hound_repair_t, data_length) == 40 && offsetof(hound_repair_t, counted) == 44);
 HOUND_ASSERT(sizeof(hound_effect) == 56 && offsetof(hound_effect, length) == 8
              && offsetof(hound_effect, kind) == 12 && offsetof(hound_effect, report) == 14
              && offsetof(hound_effect, bytes) == 16);

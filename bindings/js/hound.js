@@ -77,7 +77,7 @@ const [FIND_DAMAGE, REPAIR, REPAIR_TO_END, OVERWRITE] = [0, 1, 2, 2];
 const LAYOUT = {
   spec: { sampleRate: 0, channels: 4, bitsPerSample: 6, bytesPerSample: 8, sampleFormat: 10, size: 12 },
   info: { spec: 0, samples: 12, dataStart: 16, size: 24 },
-  repair: { spec: 0, frames: 12, leftOver: 16, state: 20, dataStart: 24, length: 32, dataLength: 40, unused: 44,
+  repair: { spec: 0, frames: 12, leftOver: 16, state: 20, dataStart: 24, length: 32, dataLength: 40, counted: 44,
     size: 48 },
   effect: { place: 0, length: 8, kind: 12, report: 14, bytes: 16, size: 56 },
   walk: { effect: 0, spec: 56, taken: 68, part: 72, fmtLength: 76, size: 80 },

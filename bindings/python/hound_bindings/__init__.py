@@ -206,7 +206,7 @@ class _Repair(ctypes.Structure):
         ("data_start", ctypes.c_uint64),
         ("length", ctypes.c_uint64),
         ("data_length", ctypes.c_uint32),
-        ("unused", ctypes.c_uint32),
+        ("counted", ctypes.c_uint32),
     ]
 
 

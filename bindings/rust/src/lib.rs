@@ -213,7 +213,7 @@ mod c {
         pub data_start: u64,
         pub length: u64,
         pub data_length: u32,
-        pub unused: u32,
+        pub counted: u32,
     }
     const _: () = assert!(size_of::<Repair>() == 48);
 

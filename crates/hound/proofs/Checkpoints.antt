@@ -10,8 +10,8 @@ use Rattle.hound_walk.specs.{data_fault}
 use Rattle.hound_sample.proofs.Joined.{length-concat}
 use Rattle.hound_writer.specs.{AreKnown, Begun, Call, Counts, Known, ReadsAs, returned, field, found_in, mark_of, publish, start_of}
 use Rattle.hound_repair.proofs.Joining.{AreWide, wide_front}
-use Rattle.hound.specs.Headline.{BeginInOrder, CountedAtEach, HasPublished, HoldsAtEnd, Keeps, SaysFrames, accepted_by_all, begins_at}
-use Rattle.hound.proofs.Knowing.{among, publish_none}
+use Rattle.hound.specs.Headline.{BeginInOrder, CountedAtEach, HasPublished, HoldsAtEnd, Keeps, SaysFrames, accepted_by_all, accepted_of, begins_at}
+use Rattle.hound.proofs.Knowing.{among}
 use Rattle.hound.proofs.PowerLoss.{accepted_parts}
 
 -- if the length field counts exactly these samples, which are whole frames, they are read
@@ -31,7 +31,7 @@ reads_front s start samples more contents some wide frames says counts =
     }
 
 -- what the calls accepted after some of them
-accepted_after : (found : List (List ℕ)) (before after : List Call)
+pub accepted_after : (found : List (List ℕ)) (before after : List Call)
     → found ++ accepted_by_all (before ++ after) ≡ (found ++ accepted_by_all before) ++ accepted_by_all after
 accepted_after found before after =
     ap (λ l. found ++ l) (accepted_parts before after)
@@ -103,7 +103,7 @@ holds_at_each s file calls m keeps before later after flush k is published none 
     (p.published before later after flush k is published none from to) counts
 
 -- an Ok flush among the calls: those before it, which left whole frames, and those after it
-ok_among : (s : WavSpecEx) (file : Begun) (before after : List Known) (calls : List Call)
+pub ok_among : (s : WavSpecEx) (file : Begun) (before after : List Known) (calls : List Call)
     (m : MediumState) → HoldsAtEnd s file calls m
     → AreKnown (before ++ (returned publish (Ok tt) ∷ after)) calls
     → (first last : List Call) × (flush : Call) × (calls ≡ first ++ (flush ∷ last)) × HasPublished flush
@@ -123,40 +123,28 @@ ok_among s file before after calls m end are =
           (end.says first last flush parts is.0),
     )
 
--- what an Ok flush has published is read, if only samples were written since
-pub ok_holds : (s : WavSpecEx) (file : Begun) (before after : List Known) (calls : List Call)
-    (m : MediumState) → HoldsAtEnd s file calls m
-    → AreKnown (before ++ (returned publish (Ok tt) ∷ after)) calls
-    → AllByRecursion (λ (one : Known). one.asked ≡ publish → ⊥) after
-    → (first : List Call) × AreKnown before first
-    × ReadsAs s (start_of s file) (found_in file ++ accepted_by_all first) m.contents
-ok_holds s file before after calls m end are none =
-    let (first, last, flush, parts, published, before_are, after_are, frames) =
-    ok_among s file before after calls m end are in (
-      first,
-      before_are,
-      holds_at_end s file calls m end first last flush parts published
-          (publish_none after last after_are none) frames,
-    )
-
 -- So it is in each state since the flush returned, if the calls after it began there and publish nothing.
 pub ok_holds_at_each : (s : WavSpecEx) (file : Begun) (known : List Known) (calls later : List Call)
     (m : MediumState) → Keeps s file (calls ++ later) m
     → AreKnown (known ++ returned publish (Ok tt) ∷ []) calls
     → AllByRecursion (λ (call : Call). call.asked ≡ publish → ⊥) later
-    → (before : List Call) × AreKnown known before
+    → (before : List Call) × AreKnown known before × (accepted_by_all calls ≡ accepted_by_all before)
     × ((k : ℕ) → begins_at later m.past ≤ k → k ≤ length m.past →
     ReadsAs s (start_of s file) (found_in file ++ accepted_by_all before) (moment m.start m.past k))
 ok_holds_at_each s file known calls later m keeps are none =
     let (first, last, flush, parts, before_are, is, after_are) = among known [] (returned publish (Ok tt)) calls are in
+    let parts_are : calls ≡ first ++ (flush ∷ []) =
+    parts ∙ ap (λ l. first ++ (flush ∷ l)) (none_known last after_are) in
     let all : calls ++ later ≡ first ++ (flush ∷ later) =
-    ap (λ l. l ++ later) (parts ∙ ap (λ l. first ++ (flush ∷ l)) (none_known last after_are))
-    ∙ append_assoc first (flush ∷ []) later in
+    ap (λ l. l ++ later) parts_are ∙ append_assoc first (flush ∷ []) later in
     let end = append-nil later in
     let frames = subst (λ answer. SaysFrames s (found_in file ++ accepted_by_all first) answer) is.1
     (keeps.at_end.says first later flush all is.0) in (
       first,
       before_are,
+      ap accepted_by_all parts_are ∙ accepted_parts first (flush ∷ [])
+          ∙ ap (λ asked. accepted_by_all first ++ (accepted_of asked (mark_of flush.answer) ++ [])) is.0
+          ∙ append-nil (accepted_by_all first),
       λ k from to. holds_at_each s file (calls ++ later) m keeps first later [] flush k
           (all ∙ ap (λ l. first ++ (flush ∷ l)) (sym end)) (is.0, ap mark_of is.1) none
           (subst (λ l. begins_at l m.past ≤ k) (sym end) from) to frames,

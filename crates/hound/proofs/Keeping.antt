@@ -18,7 +18,7 @@ use Rattle.hound_medium.proofs.Overlays.{front_part}
 use Rattle.hound_medium.proofs.Spans.{moment_last}
 use Rattle.hound_durable.specs.{Ascends, SurvivesLoss}
 use Rattle.hound_walk.specs.{Head, IsSoundSpec}
-use Rattle.hound_writer.specs.{AreKnown, Ghosts, Begun, Call, Does, Known, Lead, Left, Opens, Recorded, appended, found_in, handed_in, new_file, publish, start_of, with_memory, Counts, ChangesSizesOnly, field, WriterState, HasHeader, IsBegun, IsCounted, IsPublishing, IsSound, IsWhole, accepted_bytes, accepted_samples, data_length, sample_count}
+use Rattle.hound_writer.specs.{AreKnown, Ghosts, Begun, Call, Does, Known, Lead, Left, Opens, Recorded, RecordedBy, appended, found_in, handed_in, new_file, publish, start_of, with_memory, Counts, ChangesSizesOnly, field, WriterState, HasHeader, IsBegun, IsCounted, IsPublishing, IsSound, IsWhole, accepted_bytes, accepted_samples, data_length, sample_count}
 use Rattle.hound_writer.proofs.Containers.{none_whole, zero_div}
 use Rattle.hound_writer.proofs.Fresh.{none_accepted}
 use Rattle.hound_writer.proofs.Publishing.{reads_all}
@@ -394,6 +394,15 @@ module _ {W : Type 0} (kind : Ghosts W) where
   unfolding Recorded Left
   left_so_far s file known w recorded = record { last = w; recorded = recorded; is = refl }
 
+  -- a writer holds what the calls accepted that led to it
+  pub accepts_calls : IsTrue kind.tells → (s : WavSpecEx) (file : Begun) (known : List Known)
+      (w : WriterState W) → (r : RecordedBy kind s file known w) →
+      accepted_samples kind.state w ≡ found_in file ++ accepted_by_all r.calls
+  accepts_calls modelled s file known w r =
+      let first = first_of s file r.first r.opens in
+      (went kind modelled r.calls r.first w r.lead).accepted (first.whole modelled)
+      ∙ ap (λ l. l ++ accepted_by_all r.calls) (first.found modelled)
+
   -- and a writer is of its file, and holds what its calls accepted
   pub holds_calls : IsTrue kind.tells → (s : WavSpecEx) (file : Begun) (known : List Known)
       (w : WriterState W) → Recorded kind s file known w →
@@ -405,8 +414,7 @@ module _ {W : Type 0} (kind : Ghosts W) where
   holds_calls modelled s file known w r =
       let first = first_of s file r.first r.opens in
       let went = went kind modelled r.calls r.first w r.lead in
-      let here = went.accepted (first.whole modelled)
-      ∙ ap (λ l. l ++ accepted_by_all r.calls) (first.found modelled) in
+      let here = accepts_calls modelled s file known w r in
       let count = length-containers w.spec_ex.bytes_per_sample (sample_count w) (accepted_bytes kind.state w) in (
         went.spec_ex ∙ first.spec,
         went.data_start ∙ first.start,
@@ -439,6 +447,7 @@ module _ {W : Type 0} (kind : Ghosts W) where
       → (s : WavSpecEx) (file : Begun) (known : List Known) (mid w : WriterState W) (later : List Call)
       → Recorded kind s file known mid → Lead kind later mid w
       → WhereKeeps kind.tells kind.keeps ((calls : List Call) × AreKnown known calls
+      × (accepted_samples kind.state mid ≡ found_in file ++ accepted_by_all calls)
       × Keeps s file (calls ++ later) (kind.state w.medium))
   unfolding Recorded
   kept_on replays s file known mid w later r lead modelled kept =
@@ -446,6 +455,7 @@ module _ {W : Type 0} (kind : Ghosts W) where
       let all = lead_join kind r.calls later r.first mid w r.lead lead in (
         r.calls,
         r.are_known,
+        accepts_calls modelled s file known mid r,
         record {
           at_end = holds_at_end s file (r.calls ++ later) r.first w first all modelled;
           promises = keeps_promises s file (r.calls ++ later) r.first w first all modelled kept (λ m. replays m modelled kept);

@@ -5,6 +5,7 @@ pub mod Lengths
 pub mod Losing
 pub mod PowerLoss
 pub mod Keeping
+pub mod OkFlush
 pub mod Recovering
 pub mod Running
 pub mod Knowing

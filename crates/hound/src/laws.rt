@@ -155,11 +155,13 @@ pub fn a_checkpoint_holds()
 /// When `flush` returns Ok, a reader finds every sample accepted so far, until the next call that
 /// publishes, whatever becomes of those between (`now`), and in each state of a medium that records every
 /// byte written, from the return of the `flush` on (`at_each`). So it is of what an Ok end has left (`at_end`).
+/// These samples are those that the writer holds: then (`at_each`, `at_end`), or with those accepted since (`now`).
 pub fn an_ok_flush_is_kept<M: Medium>()
     ensures now { WhereTells M.tells ((s : WavSpecEx) (file : Begun) (before after : List Known)
         (w : WriterState M) → Recorded M.Placed s file (before ++ (returned publish (Ok tt) ∷ after)) w
         → AllByRecursion (λ (one : Known). one.asked ≡ publish → ⊥) after
-        → (calls : List Call) × AreKnown before calls
+        → (calls later : List Call) × AreKnown before calls × AreKnown after later
+        × (accepted_samples M.state w ≡ (found_in file ++ accepted_by_all calls) ++ accepted_by_all later)
         × ReadsAs s (start_of s file) (found_in file ++ accepted_by_all calls) (M.state w.medium).contents) }
     ensures at_each { WhereKeeps M.tells M.keeps ((s : WavSpecEx) (file : Begun) (known : List Known)
         (mid w : WriterState M) (later : List Call)
@@ -167,11 +169,14 @@ pub fn an_ok_flush_is_kept<M: Medium>()
         → Lead M.Placed later mid w
         → AllByRecursion (λ (call : Call). call.asked ≡ publish → ⊥) later
         → let m = M.state w.medium in (calls : List Call) × AreKnown known calls
+        × (accepted_samples M.state mid ≡ found_in file ++ accepted_by_all calls)
         × ((k : ℕ) → length (M.state mid.medium).past ≤ k → k ≤ length m.past →
         ReadsAs s (start_of s file) (found_in file ++ accepted_by_all calls) (moment m.start m.past k))) }
-    ensures at_end { WhereTells M.tells ((s : WavSpecEx) (file : Begun) (known : List Known) (medium : M)
-        → Left M.Placed s file (known ++ returned publish (Ok tt) ∷ []) medium
+    ensures at_end { WhereTells M.tells ((s : WavSpecEx) (file : Begun) (known : List Known)
+        (w : WriterState M) (medium : M) → Recorded M.Placed s file known w
+        → Finishes M.Placed w (Ok tt) medium
         → (calls : List Call) × AreKnown known calls
+        × (accepted_samples M.state w ≡ found_in file ++ accepted_by_all calls)
         × ReadsAs s (start_of s file) (found_in file ++ accepted_by_all calls) (M.state medium).contents) }
 {}
 

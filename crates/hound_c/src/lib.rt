@@ -238,6 +238,14 @@ pub extern "C" fn hound_guess_data(file: &[u8]) -> i64
     code_of(guess_data(file))
 }
 
+/// The version of the library: its three numbers, of eight bits each.
+#[unsafe(no_mangle)]
+pub extern "C" fn hound_version() -> u32
+    ensures { result ≡ 512 }
+{
+    512
+}
+
 /// What a file is, by its first bytes.
 #[unsafe(no_mangle)]
 pub extern "C" fn hound_kind(file: &[u8]) -> i32

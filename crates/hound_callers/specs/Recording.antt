@@ -93,9 +93,10 @@ abbrev pub as_item : {A : Type 0} → Option A → Option (Result A Error)
 as_item None = None
 as_item (Some value) = Some (Ok value)
 
--- in each state of this medium, once so many bytes were written, the file is read as its samples and those
--- that calls accepted of which these are known
-abbrev pub ReadsSince : WavSpecEx → Begun → List Known → ℕ → MediumState → Type 0
-ReadsSince s file known from medium = (calls : List Call) × AreKnown known calls
+-- in each state of this medium, once so many bytes were written, the file is read as these samples: its own
+-- and those that calls accepted of which these are known
+abbrev pub ReadsSince : WavSpecEx → Begun → List Known → List (List ℕ) → ℕ → MediumState → Type 0
+ReadsSince s file known samples from medium = (calls : List Call) × AreKnown known calls
+    × (samples ≡ found_in file ++ accepted_by_all calls)
     × ((k : ℕ) → from ≤ k → k ≤ length medium.past → ReadsAs s (start_of s file)
     (found_in file ++ accepted_by_all calls) (moment medium.start medium.past k))

@@ -1,7 +1,7 @@
 // Functions of a user of the library, whose contracts follow from its public ones.
 ghost use Rattle.std.specs.Prelude.{◌≡◌, ℕ, ◌/◌, ◌<◌, ◌≤◌, ◌++◌, Bool, ◌⊎◌, false, true, List, length, map, ◌∷◌, None, Some, Ok, Err, Result, IfErr, IfOk, IfSome, MatchResult, OnOk};
 ghost use Rattle.std.specs.List.{AllByRecursion, concat};
-ghost use Rattle.hound.specs.{AreKnown, Begun, Call, Checkpoints, Finishes, Known, ReadsAs, Recorded, found_in, start_of, IsSameFile, ReaderState, RepairsMedium, Seeks, Repair, Repairs, IsFoundAt, Head, IsSoundSpec, IsStored, IsNoPad, shown_length, held, frame_length, containers, AreContainers, canonical, HasPublished, IsLeftAfter, Keeps, accepted_by_all, begins_at, one_more, samples_left, OpensAs, ReadsFrames, IsIoError, IsNext, IsSixteen, MediumState, WhereTells, Error, IsWritable, sample_count, WavSpecEx, container_at, meaning_at, rejection_at, samples_before, unread};
+ghost use Rattle.hound.specs.{AreKnown, accepted_samples, Begun, Call, Checkpoints, Finishes, Known, ReadsAs, Recorded, found_in, start_of, IsSameFile, ReaderState, RepairsMedium, Seeks, Repair, Repairs, IsFoundAt, Head, IsSoundSpec, IsStored, IsNoPad, shown_length, held, frame_length, containers, AreContainers, canonical, HasPublished, IsLeftAfter, Keeps, accepted_by_all, begins_at, one_more, samples_left, OpensAs, ReadsFrames, IsIoError, IsNext, IsSixteen, MediumState, WhereTells, Error, IsWritable, sample_count, WavSpecEx, container_at, meaning_at, rejection_at, samples_before, unread};
 ghost use Rattle.hound.specs.declared.Error.TheVariants.{OutOfMemory};
 ghost use Rattle.hound.specs.declared.RepairState.TheVariants.{HasChunksAfterData, Whole};
 ghost use Rattle.hound_callers.specs.Recording.{IsNoBatch, as_item};
@@ -41,6 +41,7 @@ pub fn finish<M: Medium>(writer: WavWriter<M>) -> (M, hound::Result<()>)
     ensures finishes { Finishes M.Placed writer result.1 result.0 }
     ensures reads { WhereTells M.tells (OnOk result.1 ((s : WavSpecEx) (file : Begun) (known : List Known)
         → Recorded M.Placed s file known writer → (calls : List Call) × AreKnown known calls
+        × (accepted_samples M.state writer ≡ found_in file ++ accepted_by_all calls)
         × ReadsAs s (start_of s file) (found_in file ++ accepted_by_all calls) (M.state result.0).contents)) }
 {
     let (medium, result) = writer.finalize_into();

@@ -287,7 +287,8 @@ pub fn publish_and_continue<S: Sample + Copy, M: Medium>(
         field (start_of s file - 4) (M.state writer.new.medium).contents
         ≡ length (concat (found_in file ++ accepted_as_seen before)))) }
     ensures reads { WhereTells M.tells (OnOk result ((s : WavSpecEx) (file : Begun) (known : List Known)
-        → Recorded M.Placed s file known writer.old → (calls : List Call) × AreKnown known calls
+        → Recorded M.Placed s file known writer.old → (calls later : List Call) × AreKnown known calls
+        × (accepted_samples M.state writer.new ≡ (found_in file ++ accepted_by_all calls) ++ accepted_by_all later)
         × ReadsAs s (start_of s file) (found_in file ++ accepted_by_all calls)
         (M.state writer.new.medium).contents)) }
     ensures calls { MatchResult result (λ _. (mid : WriterState M) × (answer : Result Unit Error)
@@ -295,7 +296,8 @@ pub fn publish_and_continue<S: Sample + Copy, M: Medium>(
         × Accepts M.Placed (containers_in S.container mid.spec_ex samples.now) answer mid writer.new
         × WhereKeeps M.tells M.keeps ((s : WavSpecEx) (file : Begun) (known : List Known)
         → Recorded M.Placed s file known writer.old
-        → ReadsSince s file known (length (M.state mid.medium).past) (M.state writer.new.medium)))
+        → ReadsSince s file known (accepted_samples M.state mid) (length (M.state mid.medium).past)
+        (M.state writer.new.medium)))
         (λ e. Checkpoints M.Placed (Err e) writer.old writer.new) }
 {
     what_is_kept::<M>();

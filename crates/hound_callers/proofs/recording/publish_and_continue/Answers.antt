@@ -26,7 +26,9 @@ returns-clause-reads g c modelled s file known recorded =
     subst (λ l. Recorded M s file l w)
     (append_assoc known (returned publish (Ok tt) ∷ []) (call ∷ []))
     (c.write_samples.ensures.recorded s file _ (c.in_ok-flush.ensures.returned s file _ recorded)) in
-    c.an_ok_flush_is_kept.ensures.now modelled s file known (call ∷ []) w all ((λ same. cc), tt)
+    let (calls, later, are, later_are, holds, reads) =
+    c.an_ok_flush_is_kept.ensures.now modelled s file known (call ∷ []) w all ((λ same. cc), tt) in
+    (calls, later, are, holds, reads)
 
 pub returns-clause-calls : goal.returns-clause-calls
 returns-clause-calls g c =
