@@ -135,7 +135,7 @@ typedef struct {
 } hound_repair_t;
 
 /* Returns the HOUND_VERSION_NUMBER of the library, so that a program can compare it with that of this header. */
-uint32_t hound_version(void);
+int32_t hound_version(void);
 
 /* Finds what is before the data. Returns 0 or an error, and looks at no byte of the data. */
 int32_t hound_info(const uint8_t *file, size_t length, hound_info_t *info) HOUND_NONNULL;
@@ -300,7 +300,7 @@ void hound_repairer_begin(uint64_t length, uint32_t mode, hound_repairer *repair
 /* Returns 1 for the next effect; 0 if all are done, and then `found` is what the file was; or an error of
    hound_repair, or what an effect was reported as, which ends the repairer. What it writes are the sizes and a missing
    pad byte, in the order in which a kill or a loss of power loses no sample and invents none, and a sync comes
-   between two writes: of all that there is, the data length, the pad byte, the RIFF size. So there are at most seven
+   between two writes: of all that there is, the RIFF size, the data length, the pad byte. So there are at most seven
    effects that write or sync, and a look at a file reads few parts of it: after each effect that is reported as done
    fewer are left, whatever was read. After an error, or where it was stopped, the file can be repaired by another
    repairer. */

@@ -1140,14 +1140,15 @@ class Damage:
             self.was = "followed"
             self.frames, self.left = divmod(length, frame)
         else:
-            self.was = "cut_off"
+            self.was = "all_counted" if length == self.length else "cut_off"
+        self.is_mended = self.was == "cut_off" or self.was == "all_counted" and not looks
 
     def words(self):
         spec = [*self.spec.words(), str(self.spec.width)]
         return [self.was, "frames", str(self.frames), "left", str(self.left), ":", *spec]
 
     def mend(self, data):
-        if self.was != "cut_off":
+        if not self.is_mended:
             return data
         size, length = struct.pack("<I", self.size), struct.pack("<I", self.length)
         pad = bytes(self.length % 2 if self.held == self.length else 0)

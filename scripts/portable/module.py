@@ -101,6 +101,7 @@ STORES = {
     0x38: ("f", "store_f32({}, {})"),  # f32.store
     0x3A: ("i", "store8({}, {})"),  # i32.store8
     0x3B: ("i", "store16({}, {})"),  # i32.store16
+    0x3C: ("l", "store8({}, (uint32_t)({}))"),  # i64.store8
     0x3D: ("l", "store16({}, (uint32_t)({}))"),  # i64.store16
     0x3E: ("l", "store32({}, (uint32_t)({}))"),  # i64.store32
 }

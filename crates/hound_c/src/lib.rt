@@ -240,8 +240,8 @@ pub extern "C" fn hound_guess_data(file: &[u8]) -> i64
 
 /// The version of the library: its three numbers, of eight bits each.
 #[unsafe(no_mangle)]
-pub extern "C" fn hound_version() -> u32
-    ensures { result ≡ 512 }
+pub extern "C" fn hound_version() -> i32
+    ensures { result ≡ pos 512 }
 {
     512
 }

@@ -495,14 +495,16 @@ fn floats_are_the_patterns_of_their_numbers(rt: HostRuntime) -> Result<(), Fail>
 
 #[test]
 fn a_state_is_a_sentence_for_a_user(rt: HostRuntime) -> Result<(), Fail> {
-    let [whole, cut_off, followed] = [
+    let [whole, cut_off, followed, all_counted] = [
         RepairState::Whole,
         RepairState::CutOff,
         RepairState::HasChunksAfterData,
+        RepairState::AllCounted,
     ];
-    let said = format!(in rt.alloc(); "{whole}; {cut_off}; {followed}")?;
+    let said = format!(in rt.alloc(); "{whole}; {cut_off}; {followed}; {all_counted}")?;
     let wanted = "the file is whole; the recording was cut off; \
-        something follows the data, so they weren't cut off";
+        something follows the data, so they weren't cut off; \
+        all samples are counted, and only the RIFF size differs";
     assert_eq!(rt; said.as_str(), wanted);
     Ok(())
 }

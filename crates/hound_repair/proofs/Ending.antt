@@ -1,11 +1,11 @@
 -- A repair ends.
-use Rattle.std.proofs.Common.{◌≡◌, ℕ, zero, suc, ◌+◌, ◌-◌, ◌<◌, ◌≤◌, Bool, true, false, List, [], ◌∷◌, ◌++◌, length, inl, inr, Option, None, Some, Ok, refl, sym, subst, arith}
+use Rattle.std.proofs.Common.{◌≡◌, ℕ, zero, suc, ◌+◌, ◌-◌, ◌<◌, ◌≤◌, Bool, true, false, List, [], ◌∷◌, length, inl, inr, Option, None, Some, Ok, refl, sym, subst, arith}
 use Rattle.hound_writer.specs.{nth}
 use Rattle.hound_writer.specs.declared.effects.Action.{Action}
 use Rattle.hound_writer.specs.declared.effects.Effect.{Effect}
 use Rattle.hound_writer.specs.declared.effects.Report.TheVariants.{Done}
 use Rattle.hound_repair.specs.Held.{missing_pad}
-use Rattle.hound_repair.specs.Steps.{AsksAfter, AsksNext, effects_left, effects_of_task, effects_where, mending_end, mends_for, pads, steps_left}
+use Rattle.hound_repair.specs.Steps.{AsksAfter, AsksNext, effects_left, effects_of_task, effects_where, mends_for, pads, steps_left}
 use Rattle.hound_repair.specs.declared.look.Damage.{Damage}
 use Rattle.hound_repair.specs.declared.steps.RepairStep.TheVariants.{Asks}
 use Rattle.hound_repair.specs.declared.steps.Repairing.{Repairing}
@@ -18,15 +18,15 @@ nth_inside [] k effect is = cc
 nth_inside (one ∷ list) zero effect is = omega arith
 nth_inside (one ∷ list) (suc k) effect is = let less = nth_inside list k effect is in omega (arith, less)
 
--- at most four effects come after the data length
-few_pads : (end : ℕ) (pad : List ℕ) (start count : ℕ) → length (pads end pad ++ mending_end start count) ≤ 4
-few_pads end [] start count = omega arith
-few_pads end (b ∷ pad) start count = omega arith
+-- at most two effects come after the sizes
+few_pads : (end : ℕ) (pad : List ℕ) → length (pads end pad) ≤ 2
+few_pads end [] = omega arith
+few_pads end (b ∷ pad) = omega arith
 
 few_effects : (put : Bool) (d : Damage) → length (effects_where put d) ≤ 7
 few_effects false d = omega arith
 few_effects true d =
-    let few = few_pads (d.head.data_start + d.held) (missing_pad d.sizes.data_length d.held) d.head.data_start d.sizes.data_length in
+    let few = few_pads (d.head.data_start + d.held) (missing_pad d.sizes.data_length d.held) in
     omega (arith, few)
 
 -- after an effect the next one is nearer to the last

@@ -7,6 +7,7 @@ use Rattle.std.proofs.Math.Nat.{div-eq_of_lt, div-mul-le_self, le_antisymm}
 use Rattle.std.proofs.lemmas.List.{take-take, take_all, ext_get_or}
 use Rattle.std.specs.declared.io.Error.{Error as IoFault}
 use Rattle.hound_number.specs.{bytes_of}
+use Rattle.hound_spec.specs.{riff_size}
 use Rattle.hound_medium.specs.{MediumState, moment, overlay, placed}
 use Rattle.hound_medium.proofs.Overlays.{overlay_at_end, overlay_is}
 use Rattle.hound_medium.proofs.Spans.{span_puts}
@@ -14,9 +15,9 @@ use Rattle.hound_durable.specs.{SurvivesLoss}
 use Rattle.hound_writer.specs.{PutsAt}
 use Rattle.hound_writer.specs.declared.effects.Effect.{Effect}
 use Rattle.hound_writer.specs.declared.effects.Effect.TheVariants.{Sync, Pad, Size}
-use Rattle.hound_writer.proofs.Sizes.{same_length}
+use Rattle.hound_writer.proofs.Sizes.{same_length, same_riff}
 use Rattle.hound_repair.specs.Held.{held, missing_pad}
-use Rattle.hound_repair.specs.Steps.{PerformedOn, mending_effects, mending_end, pads}
+use Rattle.hound_repair.specs.Steps.{PerformedOn, mending_effects, pads}
 use Rattle.hound_repair.proofs.Performing.{Allowed, replays_on}
 
 -- bytes inside contents change no other byte, and not the length
@@ -228,23 +229,25 @@ module _ (sector : ℕ) (contents : List ℕ) where
     abbrev p : ℕ
     p = start - 4
 
+    abbrev y : List ℕ
+    y = overlay c (placed 4 (bytes_of 4 (riff_size start n)))
+
+    y_long : length y ≡ length c
+    y_long = (same_riff p c (omega (arith, beyond)) (omega (arith, beyond, inside)) (bytes_of 4 (riff_size start n)) (omega arith)).long
+
     abbrev x : List ℕ
-    x = overlay c (placed p (bytes_of 4 n))
+    x = overlay y (placed p (bytes_of 4 n))
 
-    x_long : length x ≡ length c
-    x_long = (same_length p c (omega (arith, beyond)) (omega (arith, beyond, inside)) (bytes_of 4 n) (omega arith)).long
+    x_long : length x ≡ length y
+    x_long = (same_length p y (omega (arith, beyond)) (omega (arith, beyond, inside, y_long)) (bytes_of 4 n) (omega arith)).long
 
-    safe_end : (y : List ℕ) → length c ≤ length y → IsSafe (mending_end start n) y
-    safe_end y long = (omega (arith, beyond, inside, long), first, tt)
-
-    safe_pads : (pad : List ℕ) → IsSafe (pads (start + held start c) pad ++ mending_end start n) x
-    safe_pads [] = safe_end x (omega (arith, x_long))
-    safe_pads (b ∷ more) =
-        let end : start + held start c ≡ length x = omega (arith, x_long, inside, length-drop start c) in (
-          end,
-          safe_end (overlay x (placed (start + held start c) (0 ∷ [])))
-              (omega (arith, x_long, ap length (overlay_at_end x (start + held start c) (0 ∷ []) end), length-append x (0 ∷ []))),
-        )
+    safe_pads : (pad : List ℕ) → IsSafe (pads (start + held start c) pad) x
+    safe_pads [] = tt
+    safe_pads (b ∷ more) = (omega (arith, x_long, y_long, inside, length-drop start c), tt)
 
     pub mending_is_safe : IsSafe (mending_effects start n (held start c)) c
-    mending_is_safe = (omega (arith, beyond, inside), one, safe_pads (missing_pad n (held start c)))
+    mending_is_safe = (
+      omega (arith, beyond, inside),
+      first,
+      (omega (arith, beyond, inside, y_long), one, safe_pads (missing_pad n (held start c))),
+    )

@@ -1,61 +1,28 @@
 -- What the effects of a repair leave, wherever they stop.
 use Rattle.std.proofs.lemmas.Grind.{common_steps}
-use Rattle.std.proofs.Common.{◌≡◌, ℕ, ◌+◌, ◌-◌, ◌^◌, ◌≤◌, ◌<◌, Bool, List, None, Some, zero, suc, true, [], ◌∷◌, ◌++◌, length, take, drop, inl, Result, Ok, Err, refl, sym, ap, ◌∙◌, subst, arith, append-nil, append_assoc, length-append, length-drop, length-take}
+use Rattle.std.proofs.Common.{◌≡◌, ℕ, ◌+◌, ◌-◌, ◌/◌, ◌^◌, ◌≤◌, ◌<◌, Bool, List, None, Some, zero, suc, true, [], ◌∷◌, ◌++◌, length, take, drop, inl, Result, Ok, Err, refl, sym, ap, ◌∙◌, subst, arith, append-nil, append_assoc, length-append, length-drop, length-take}
 use Rattle.std.proofs.lemmas.List.{drop-append-le, take-append-le, take-take, take_at}
 use Rattle.std.specs.declared.io.Error.{Error as IoFault}
-use Rattle.hound_number.specs.{AreBytes, bytes_of}
+use Rattle.hound_number.specs.{AreBytes, bytes_of, mix}
 use Rattle.hound_number.proofs.Mixing.{mix_all, mix_none}
 use Rattle.hound_spec.specs.{riff_size}
 use Rattle.hound_medium.specs.{MediumState, Span, faults_after, overlay, placed}
-use Rattle.hound_medium.proofs.Inside.{drop_to}
-use Rattle.hound_medium.proofs.Overlays.{overlay-append, overlay_at_end, overlay_is}
+use Rattle.hound_medium.proofs.Overlays.{overlay-append, overlay_at_end, small_overlay}
 use Rattle.hound_medium.proofs.Spans.{flushed_since, join, span_puts, span_still}
 use Rattle.hound_medium.proofs.Torn.{number_at_mix, number_at_small}
 use Rattle.hound_writer.specs.{Log, Performed, PutsAt, nth, SameButSizes, field, with_sizes}
 use Rattle.hound_writer.specs.declared.effects.Effect.{Effect}
 use Rattle.hound_writer.specs.declared.effects.Effect.TheVariants.{Sync, Pad, Size}
-use Rattle.hound_writer.proofs.Heads.{in_parts}
-use Rattle.hound_writer.proofs.Sizes.{drop_overlay_after, field_riff, same_length, same_riff, same_transitive}
+use Rattle.hound_writer.proofs.Patching.{sizes_put}
+use Rattle.hound_writer.proofs.Sizes.{field_riff, same_length, same_riff, same_transitive}
 use Rattle.hound_repair.specs.Held.{held, mended, missing_pad}
-use Rattle.hound_repair.specs.Steps.{Mends, PartlyMended, PerformedOn, PerformsOn, mending_effects, mending_end, mending_rest, pads}
+use Rattle.hound_repair.specs.Steps.{Mends, PartlyMended, PerformedOn, PerformsOn, mending_effects, pads}
 
--- both sizes written, the data length first
-pub length_then_riff : (p size n : ℕ) (c : List ℕ) → 8 ≤ p → p + 4 ≤ length c
-    → overlay (overlay c (placed p (bytes_of 4 n))) (placed 4 (bytes_of 4 size)) ≡ with_sizes p size n c
-unfolding with_sizes
-length_then_riff p size n c beyond inside =
-    let bs = bytes_of 4 size in
-    let ls = bytes_of 4 n in
-    let d = overlay c (placed p ls) in
-    let e = overlay d (placed 4 bs) in
-    let first = same_length p c beyond inside ls (omega arith) in
-    let long : p + 4 ≤ length d = omega (arith, inside, first.long) in
-    let then = same_riff p d beyond long bs (omega arith) in
-    cc (
-      in_parts p e beyond,
-      then.front,
-      first.front,
-      drop_to d 4 bs (omega (arith, long)),
-      take_at bs (drop (4 + 4) d) 4 refl,
-      then.middle,
-      first.middle,
-      drop_overlay_after bs p 4 d (omega (arith, beyond)),
-      drop_to c p ls (omega (arith, inside)),
-      take_at ls (drop (p + 4) c) 4 refl,
-      then.beyond,
-      first.beyond,
-    )
-
--- bytes inside the front of contents
-pub overlay_front : (p : ℕ) (bs x pad : List ℕ) → p + length bs ≤ length x
-    → overlay (x ++ pad) (placed p bs) ≡ overlay x (placed p bs) ++ pad
-overlay_front p bs x pad inside =
-    overlay_is (x ++ pad) p bs (omega (arith, inside, length-append x pad))
-    ∙ (λ i. take-append-le p x pad (omega (arith, inside)) i
-    ++ (bs ++ drop-append-le (p + length bs) x pad inside i))
-    ∙ ap (λ l. take p x ++ l) (sym (append_assoc bs (drop (p + length bs) x) pad))
-    ∙ sym (append_assoc (take p x) (bs ++ drop (p + length bs) x) pad)
-    ∙ ap (λ l. l ++ pad) (sym (overlay_is x p bs (omega (arith, inside))))
+-- the bytes of a number are bytes
+small_bytes : (k n : ℕ) → AreBytes (bytes_of k n)
+small_bytes zero n i = omega arith
+small_bytes (suc k) n zero = omega arith
+small_bytes (suc k) n (suc i) = small_bytes k (n / 256) i
 
 -- from these contents, each beginning of what the effects write leaves contents that P holds of
 abbrev pub Allowed : (List ℕ → Type 0) → List Effect → List ℕ → Type 0
@@ -130,17 +97,42 @@ module _ (keeps : Bool) (start n : ℕ) (c : List ℕ) (beyond : 20 ≤ start) (
   eight : 8 ≤ p
   eight = omega (arith, beyond)
 
-  -- the contents with the data length
+  abbrev riff : List ℕ
+  riff = bytes_of 4 (riff_size start n)
+
+  -- the contents with the RIFF size
+  abbrev y : List ℕ
+  y = overlay c (placed 4 riff)
+
+  y_same : SameButSizes p c y
+  y_same = same_riff p c eight there riff (omega arith)
+
+  y_says : field p y ≡ field p c
+  y_says = field_riff p c eight there riff (omega arith)
+
+  y_there : p + 4 ≤ length y
+  y_there = omega (arith, there, y_same.long)
+
+  y_small : AreBytes y
+  y_small = small_overlay c 4 riff small (small_bytes 4 (riff_size start n))
+
+  -- and with the data length
   abbrev x : List ℕ
-  x = overlay c (placed p (bytes_of 4 n))
+  x = overlay y (placed p (bytes_of 4 n))
 
   x_same : SameButSizes p c x
-  x_same = same_length p c eight there (bytes_of 4 n) (omega arith)
+  x_same = same_transitive p c y x y_same (same_length p y eight y_there (bytes_of 4 n) (omega arith))
 
   x_says : field p x ≡ n
-  x_says = number_at_mix p c there small n 4 (omega arith) ∙ mix_all (field p c) n fits
+  x_says = number_at_mix p y y_there y_small n 4 (omega arith) ∙ mix_all (field p y) n fits
 
-  -- nothing is written
+  x_is : x ≡ with_sizes p (riff_size start n) n c
+  x_is = sizes_put p (riff_size start n) n c eight there
+
+  x_long : start + h ≡ length x
+  x_long = omega (arith, inside, x_same.long, length-drop start c)
+
+  -- no size is written
   partly_none : PartlyMended start n c c
   partly_none = record {
     sizes = c;
@@ -153,154 +145,148 @@ module _ (keeps : Bool) (start n : ℕ) (c : List ℕ) (beyond : 20 ≤ start) (
     last = λ some. absurd (omega (arith, some));
   }
 
-  -- a beginning of the data length
-  partly_length : (j : ℕ) → j ≤ 4
-      → PartlyMended start n c (overlay c (placed p (take j (bytes_of 4 n))))
-  partly_length j within =
-      let bytes = take j (bytes_of 4 n) in
+  -- a beginning of the RIFF size
+  partly_riff : (k : ℕ) → k ≤ 4 → PartlyMended start n c (overlay c (placed 4 (take k riff)))
+  partly_riff k within =
+      let few : length (take k riff) ≤ 4 = omega (arith, length-take k riff) in
       record {
-        sizes = overlay c (placed p bytes);
-        j = j;
-        within = within;
-        same = same_length p c eight there bytes (omega (arith, length-take j (bytes_of 4 n)));
-        length_says = number_at_mix p c there small n j within;
+        sizes = overlay c (placed 4 (take k riff));
+        j = 0;
+        within = omega arith;
+        same = same_riff p c eight there (take k riff) few;
+        length_says = field_riff p c eight there (take k riff) few
+            ∙ sym (mix_none (field p c) n (number_at_small p c there small));
         pad = [];
-        is = sym (append-nil (overlay c (placed p bytes)));
+        is = sym (append-nil (overlay c (placed 4 (take k riff))));
         last = λ some. absurd (omega (arith, some));
       }
 
-  -- the data length is whole
-  partly_whole : (y pad new : List ℕ) → SameButSizes p c y → field p y ≡ n
-      → new ≡ y ++ pad → (1 ≤ length pad → pad ≡ m) → PartlyMended start n c new
-  partly_whole y pad new same says is pad_is = record {
-    sizes = y;
+  -- and a beginning of the data length
+  partly_length : (j : ℕ) → j ≤ 4
+      → PartlyMended start n c (overlay y (placed p (take j (bytes_of 4 n))))
+  partly_length j within =
+      let bytes = take j (bytes_of 4 n) in
+      record {
+        sizes = overlay y (placed p bytes);
+        j = j;
+        within = within;
+        same = same_transitive p c y (overlay y (placed p bytes)) y_same
+            (same_length p y eight y_there bytes (omega (arith, length-take j (bytes_of 4 n))));
+        length_says = number_at_mix p y y_there y_small n j within ∙ ap (λ k. mix j k n) y_says;
+        pad = [];
+        is = sym (append-nil (overlay y (placed p bytes)));
+        last = λ some. absurd (omega (arith, some));
+      }
+
+  -- both sizes are whole
+  partly_whole : (pad new : List ℕ) → new ≡ x ++ pad → (1 ≤ length pad → pad ≡ m) → PartlyMended start n c new
+  partly_whole pad new is pad_is = record {
+    sizes = x;
     j = 4;
     within = omega arith;
-    same = same;
-    length_says = says ∙ sym (mix_all (field p c) n fits);
+    same = x_same;
+    length_says = x_says ∙ sym (mix_all (field p c) n fits);
     pad = pad;
     is = is;
-    last = λ some. (says, pad_is some);
+    last = λ some. (x_says, pad_is some);
   }
 
-  -- and a beginning of the RIFF size
-  partly_riff : (k : ℕ) → k ≤ 4
-      → PartlyMended start n c (overlay (x ++ m) (placed 4 (take k (bytes_of 4 (riff_size start n)))))
-  partly_riff k within =
-      let bytes = take k (bytes_of 4 (riff_size start n)) in
-      let few : length bytes ≤ 4 = omega (arith, length-take k (bytes_of 4 (riff_size start n))) in
-      let long : p + 4 ≤ length x = omega (arith, there, x_same.long) in
-      partly_whole (overlay x (placed 4 bytes)) m (overlay (x ++ m) (placed 4 bytes))
-      (same_transitive p c x (overlay x (placed 4 bytes)) x_same (same_riff p x eight long bytes few))
-      (field_riff p x eight long bytes few ∙ x_says)
-      (overlay_front 4 bytes x m (omega (arith, few, long, eight))) (λ _. refl)
+  partly_sizes : PartlyMended start n c x
+  partly_sizes = partly_whole [] x (sym (append-nil x)) (λ some. absurd (omega (arith, some)))
 
-  all_riff : overlay (x ++ m) (placed 4 (bytes_of 4 (riff_size start n))) ≡ mended start n c
-  all_riff =
-      overlay_front 4 (bytes_of 4 (riff_size start n)) x m
-      (omega (arith, there, eight, x_same.long))
-      ∙ ap (λ l. l ++ m) (length_then_riff p (riff_size start n) n c eight there)
+  -- and a beginning of the pad byte
+  partly_pad : (j : ℕ) → j ≤ 1 → m ≡ 0 ∷ []
+      → PartlyMended start n c (overlay x (placed (start + h) (take j (0 ∷ []))))
+  partly_pad j within is =
+      partly_whole (take j (0 ∷ [])) (overlay x (placed (start + h) (take j (0 ∷ []))))
+      (overlay_at_end x (start + h) (take j (0 ∷ [])) x_long)
+      (λ some. ap (λ k. take k (0 ∷ [])) (let e : j ≡ 1 = omega (arith, some, within, length-take {A = ℕ} j (0 ∷ [])) in e)
+      ∙ sym is)
 
-  -- the last effects
-  after_riff : (result : Result (Unit {0}) IoFault) (old new : MediumState)
-      → PartlyMended start n c old.contents → old.contents ≡ mended start n c
-      → PerformedOn keeps (Sync ∷ []) result old new → Mends start n result c new
-  after_riff result old new partly all (mid, Ok u, flushes, (is, last)) =
+  m_zero : 1 ≤ length m → m ≡ 0 ∷ []
+  m_zero some = grind (arith, common_steps)
+
+  -- all is done once the last effect is synced
+  ends : (result : Result (Unit {0}) IoFault) (old new : MediumState) → old.contents ≡ mended start n c
+      → PartlyMended start n c old.contents → PerformedOn keeps (Sync ∷ []) result old new → Mends start n result c new
+  ends result old new all partly (mid, Ok u, flushes, (is, last)) =
       let same : new.contents ≡ old.contents =
       ap (λ (l : MediumState). l.contents) last ∙ flushes.stays.contents in (
         subst (PartlyMended start n c) (sym same) partly,
         λ _. (same ∙ all, subst (λ (l : MediumState). l.flushed ≡ length l.past) (sym last) flushes.flushed),
       )
-  after_riff result old new partly all (mid, Err e, flushes, (is, last)) =
+  ends result old new all partly (mid, Err e, flushes, (is, last)) =
       let same : new.contents ≡ old.contents =
       ap (λ (l : MediumState). l.contents) last ∙ flushes.stays.contents in
       (subst (PartlyMended start n c) (sym same) partly, λ ok. absurd (cc (is, ok)))
 
-  at_end : (result : Result (Unit {0}) IoFault) (old new : MediumState) → old.contents ≡ x ++ m
-      → PerformedOn keeps (mending_end start n) result old new → Mends start n result c new
-  at_end result old new here (mid, Ok u, puts, rest) =
-      let put : mid.contents ≡ overlay (x ++ m) (placed 4 (take puts.count (bytes_of 4 (riff_size start n)))) =
-      puts.contents ∙ ap (λ l. overlay l (placed 4 (take puts.count (bytes_of 4 (riff_size start n))))) here in
-      after_riff result mid new
-      (subst (PartlyMended start n c) (sym put) (partly_riff puts.count puts.within))
-      (put ∙ ap (λ k. overlay (x ++ m) (placed 4 (take k (bytes_of 4 (riff_size start n))))) puts.whole ∙ all_riff) rest
-  at_end result old new here (mid, Err e, puts, (is, last)) =
-      let put : new.contents ≡ overlay (x ++ m) (placed 4 (take puts.count (bytes_of 4 (riff_size start n)))) =
-      ap (λ (l : MediumState). l.contents) last ∙ puts.contents
-      ∙ ap (λ l. overlay l (placed 4 (take puts.count (bytes_of 4 (riff_size start n))))) here in (
-        subst (PartlyMended start n c) (sym put) (partly_riff puts.count puts.within),
-        λ ok. absurd (cc (is, ok)),
-      )
-
-  x_long : start + h ≡ length x
-  x_long = omega (arith, inside, x_same.long, length-drop start c)
-
-  -- the pad byte, all of it or none
-  after_pad : (result : Result (Unit {0}) IoFault) (old new : MediumState) → old.contents ≡ x ++ m
-      → PerformedOn keeps (Sync ∷ mending_end start n) result old new → Mends start n result c new
-  after_pad result old new here (mid, Ok u, flushes, rest) =
-      at_end result mid new (flushes.stays.contents ∙ here) rest
-  after_pad result old new here (mid, Err e, flushes, (is, last)) =
-      let same : new.contents ≡ x ++ m =
-      ap (λ (l : MediumState). l.contents) last ∙ flushes.stays.contents ∙ here in (
-        partly_whole x m new.contents x_same x_says same (λ _. refl),
-        λ ok. absurd (cc (is, ok)),
-      )
-
-  at_pad : (pad : List ℕ) (result : Result (Unit {0}) IoFault) (old new : MediumState) → pad ≡ m
-      → length pad ≤ 1 → (1 ≤ length pad → pad ≡ 0 ∷ []) → old.contents ≡ x
-      → PerformedOn keeps (pads (start + h) pad ++ mending_end start n) result old new
+  -- the sync after the data length, and the pad byte
+  at_pad : (pad : List ℕ) (result : Result (Unit {0}) IoFault) (old new : MediumState) → m ≡ pad
+      → old.contents ≡ x → PerformedOn keeps (Sync ∷ pads (start + h) pad) result old new
       → Mends start n result c new
-  at_pad [] result old new is one zero_is here rest =
-      at_end result old new (here ∙ sym (append-nil x) ∙ ap (λ l. x ++ l) is) rest
-  at_pad (b ∷ more) result old new is one zero_is here (mid, Ok u, puts, rest) =
-      let put : mid.contents ≡ x ++ take puts.count (0 ∷ []) =
-      puts.contents ∙ ap (λ l. overlay l (placed (start + h) (take puts.count (0 ∷ [])))) here
-      ∙ overlay_at_end x (start + h) (take puts.count (0 ∷ [])) x_long in
-      after_pad result mid new
-      (put ∙ ap (λ k. x ++ take k (0 ∷ [])) puts.whole ∙ ap (λ l. x ++ l) (sym (zero_is (omega arith)) ∙ is)) rest
-  at_pad (b ∷ more) result old new is one zero_is here (mid, Err e, puts, (was, last)) =
-      let given : List ℕ = take puts.count (0 ∷ []) in
-      let put : new.contents ≡ x ++ given =
+  at_pad [] result old new is here rest =
+      ends result old new (here ∙ x_is ∙ sym (append-nil (with_sizes p (riff_size start n) n c))
+      ∙ ap (λ l. with_sizes p (riff_size start n) n c ++ l) (sym is))
+      (subst (PartlyMended start n c) (sym here) partly_sizes) rest
+  at_pad (b ∷ more) result old new is here (mid, Err e, flushes, (was, last)) =
+      let same : new.contents ≡ x =
+      ap (λ (l : MediumState). l.contents) last ∙ flushes.stays.contents ∙ here in
+      (subst (PartlyMended start n c) (sym same) partly_sizes, λ ok. absurd (cc (was, ok)))
+  at_pad (b ∷ more) result old new is here (mid, Ok u, flushes, (then, Ok v, puts, rest)) =
+      let zero_is : m ≡ 0 ∷ [] = m_zero (subst (λ l. 1 ≤ length l) (sym is) (omega arith)) in
+      let put : then.contents ≡ overlay x (placed (start + h) (take puts.count (0 ∷ []))) =
+      puts.contents ∙ ap (λ l. overlay l (placed (start + h) (take puts.count (0 ∷ [])))) (flushes.stays.contents ∙ here) in
+      let all : then.contents ≡ x ++ m =
+      put ∙ ap (λ k. overlay x (placed (start + h) (take k (0 ∷ [])))) puts.whole
+      ∙ overlay_at_end x (start + h) (0 ∷ []) x_long ∙ ap (λ l. x ++ l) (sym zero_is) in
+      ends result then new (all ∙ ap (λ l. l ++ m) x_is)
+      (subst (PartlyMended start n c) (sym put) (partly_pad puts.count puts.within zero_is)) rest
+  at_pad (b ∷ more) result old new is here (mid, Ok u, flushes, (then, Err e, puts, (was, last))) =
+      let zero_is : m ≡ 0 ∷ [] = m_zero (subst (λ l. 1 ≤ length l) (sym is) (omega arith)) in
+      let put : new.contents ≡ overlay x (placed (start + h) (take puts.count (0 ∷ []))) =
       ap (λ (l : MediumState). l.contents) last ∙ puts.contents
-      ∙ ap (λ l. overlay l (placed (start + h) given)) here
-      ∙ overlay_at_end x (start + h) given x_long in (
-        partly_whole x given new.contents x_same x_says put
-            (λ some. ap (λ k. take k (0 ∷ [])) (let e : puts.count ≡ 1 = omega (arith, some, puts.within, length-take {A = ℕ} puts.count (0 ∷ [])) in e)
-            ∙ sym (zero_is (omega arith)) ∙ is),
+      ∙ ap (λ l. overlay l (placed (start + h) (take puts.count (0 ∷ [])))) (flushes.stays.contents ∙ here) in (
+        subst (PartlyMended start n c) (sym put) (partly_pad puts.count puts.within zero_is),
         λ ok. absurd (cc (was, ok)),
       )
 
-  m_short : length m ≤ 1
-  m_short = grind (arith, common_steps)
-
-  m_zero : 1 ≤ length m → m ≡ 0 ∷ []
-  m_zero some = grind (arith, common_steps)
-
-  -- the data length, and the sync after it
-  after_length : (result : Result (Unit {0}) IoFault) (old new : MediumState) → old.contents ≡ x
-      → PerformedOn keeps (Sync ∷ mending_rest start n h) result old new → Mends start n result c new
-  after_length result old new here (mid, Ok u, flushes, rest) =
-      at_pad m result mid new refl m_short m_zero (flushes.stays.contents ∙ here) rest
-  after_length result old new here (mid, Err e, flushes, (is, last)) =
-      let same : new.contents ≡ x ++ [] =
-      ap (λ (l : MediumState). l.contents) last ∙ flushes.stays.contents ∙ here ∙ sym (append-nil x) in (
-        partly_whole x [] new.contents x_same x_says same (λ some. absurd (omega (arith, some))),
-        λ ok. absurd (cc (is, ok)),
-      )
-
-  at_length : (result : Result (Unit {0}) IoFault) (old new : MediumState) → old.contents ≡ c
-      → PerformedOn keeps (Size p n ∷ Sync ∷ mending_rest start n h) result old new
-      → Mends start n result c new
+  -- the data length
+  at_length : (result : Result (Unit {0}) IoFault) (old new : MediumState) → old.contents ≡ y
+      → PerformedOn keeps (Size p n ∷ Sync ∷ pads (start + h) m) result old new → Mends start n result c new
   at_length result old new here (mid, Ok u, puts, rest) =
-      after_length result mid new
+      at_pad m result mid new refl
       (puts.contents ∙ ap (λ l. overlay l (placed p (take puts.count (bytes_of 4 n)))) here
-      ∙ ap (λ k. overlay c (placed p (take k (bytes_of 4 n)))) puts.whole) rest
+      ∙ ap (λ k. overlay y (placed p (take k (bytes_of 4 n)))) puts.whole) rest
   at_length result old new here (mid, Err e, puts, (is, last)) =
-      let put : new.contents ≡ overlay c (placed p (take puts.count (bytes_of 4 n))) =
+      let put : new.contents ≡ overlay y (placed p (take puts.count (bytes_of 4 n))) =
       ap (λ (l : MediumState). l.contents) last ∙ puts.contents
       ∙ ap (λ l. overlay l (placed p (take puts.count (bytes_of 4 n)))) here in (
         subst (PartlyMended start n c) (sym put) (partly_length puts.count puts.within),
+        λ ok. absurd (cc (is, ok)),
+      )
+
+  -- the RIFF size, and the sync after it
+  after_riff : (result : Result (Unit {0}) IoFault) (old new : MediumState) → old.contents ≡ y
+      → PerformedOn keeps (Sync ∷ Size p n ∷ Sync ∷ pads (start + h) m) result old new → Mends start n result c new
+  after_riff result old new here (mid, Ok u, flushes, rest) =
+      at_length result mid new (flushes.stays.contents ∙ here) rest
+  after_riff result old new here (mid, Err e, flushes, (is, last)) =
+      let same : new.contents ≡ y =
+      ap (λ (l : MediumState). l.contents) last ∙ flushes.stays.contents ∙ here in
+      (subst (PartlyMended start n c) (sym same) (partly_riff 4 (omega arith)), λ ok. absurd (cc (is, ok)))
+
+  at_riff : (result : Result (Unit {0}) IoFault) (old new : MediumState) → old.contents ≡ c
+      → PerformedOn keeps (Size 4 (riff_size start n) ∷ Sync ∷ Size p n ∷ Sync ∷ pads (start + h) m) result old new
+      → Mends start n result c new
+  at_riff result old new here (mid, Ok u, puts, rest) =
+      after_riff result mid new
+      (puts.contents ∙ ap (λ l. overlay l (placed 4 (take puts.count riff))) here
+      ∙ ap (λ k. overlay c (placed 4 (take k riff))) puts.whole) rest
+  at_riff result old new here (mid, Err e, puts, (is, last)) =
+      let put : new.contents ≡ overlay c (placed 4 (take puts.count riff)) =
+      ap (λ (l : MediumState). l.contents) last ∙ puts.contents
+      ∙ ap (λ l. overlay l (placed 4 (take puts.count riff))) here in (
+        subst (PartlyMended start n c) (sym put) (partly_riff puts.count puts.within),
         λ ok. absurd (cc (is, ok)),
       )
 
@@ -308,44 +294,27 @@ module _ (keeps : Bool) (start n : ℕ) (c : List ℕ) (beyond : 20 ≤ start) (
   pub mends : (result : Result (Unit {0}) IoFault) (old new : MediumState) → old.contents ≡ c
       → PerformedOn keeps (mending_effects start n h) result old new → Mends start n result c new
   mends result old new here (mid, Ok u, flushes, rest) =
-      at_length result mid new (flushes.stays.contents ∙ here) rest
+      at_riff result mid new (flushes.stays.contents ∙ here) rest
   mends result old new here (mid, Err e, flushes, (is, last)) =
       let same : new.contents ≡ c =
       ap (λ (l : MediumState). l.contents) last ∙ flushes.stays.contents ∙ here in
       (subst (PartlyMended start n c) (sym same) partly_none, λ ok. absurd (cc (is, ok)))
 
   -- wherever they stop the contents are partly mended
-  allowed_end : Allowed (PartlyMended start n c) (mending_end start n) (x ++ m)
-  allowed_end = (
-    partly_riff,
-    (partly_riff 4 (omega arith), partly_riff 4 (omega arith)),
-  )
-
-  allowed_pads : (pad : List ℕ) → pad ≡ m → (1 ≤ length pad → pad ≡ 0 ∷ [])
-      → Allowed (PartlyMended start n c) (pads (start + h) pad ++ mending_end start n) x
-  allowed_pads [] is zero_is =
-      subst (Allowed (PartlyMended start n c) (mending_end start n)) (sym (sym (append-nil x) ∙ ap (λ l. x ++ l) is)) allowed_end
-  allowed_pads (b ∷ more) is zero_is =
-      let end = overlay_at_end x (start + h) (0 ∷ []) x_long in
-      let all : overlay x (placed (start + h) (0 ∷ [])) ≡ x ++ m =
-      end ∙ ap (λ l. x ++ l) (sym (zero_is (omega arith)) ∙ is) in (
-        λ j within. partly_whole x (take j (0 ∷ [])) (overlay x (placed (start + h) (take j (0 ∷ [])))) x_same x_says
-            (overlay_at_end x (start + h) (take j (0 ∷ [])) x_long)
-            (λ some. ap (λ k. take k (0 ∷ [])) (let e : j ≡ 1 = omega (arith, some, within, length-take {A = ℕ} j (0 ∷ [])) in e)
-            ∙ sym (zero_is (omega arith)) ∙ is),
-        subst (λ l. PartlyMended start n c l × Allowed (PartlyMended start n c) (mending_end start n) l) (sym all)
-            (partly_whole x m (x ++ m) x_same x_says refl (λ _. refl), allowed_end),
+  allowed_pads : (pad : List ℕ) → m ≡ pad → Allowed (PartlyMended start n c) (pads (start + h) pad) x
+  allowed_pads [] is = partly_sizes
+  allowed_pads (b ∷ more) is =
+      let zero_is : m ≡ 0 ∷ [] = m_zero (subst (λ l. 1 ≤ length l) (sym is) (omega arith)) in (
+        λ j within. partly_pad j within zero_is,
+        (partly_pad 1 (omega arith) zero_is, partly_pad 1 (omega arith) zero_is),
       )
 
   pub allowed : Allowed (PartlyMended start n c) (mending_effects start n h) c
   allowed = (
     partly_none,
     (
-      partly_length,
-      (
-        partly_whole x [] x x_same x_says (sym (append-nil x)) (λ some. absurd (omega (arith, some))),
-        allowed_pads m refl m_zero,
-      ),
+      partly_riff,
+      (partly_riff 4 (omega arith), (partly_length, (partly_sizes, allowed_pads m refl))),
     ),
   )
 

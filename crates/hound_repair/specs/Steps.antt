@@ -198,20 +198,13 @@ abbrev pub pads : ℕ → List ℕ → List Effect
 pads end [] = []
 pads end (b ∷ bytes) = Pad end ∷ Sync ∷ []
 
--- the RIFF size, which says that all is done
-abbrev pub mending_end : ℕ → ℕ → List Effect
-mending_end start count = Size 4 (riff_size start count) ∷ Sync ∷ []
-
--- what comes once the data length is synced
-abbrev pub mending_rest : ℕ → ℕ → ℕ → List Effect
-mending_rest start count n = pads (start + n) (missing_pad count n) ++ mending_end start count
-
 -- The effects that mend a file whose data begin at `start`, hold n bytes and are to count so many: all
--- that it counts is synced first. The data length comes alone, then a missing pad byte, which no data
--- length takes for a sample then, and last the RIFF size.
+-- that it counts is synced first. The RIFF size comes first, so that a file whose data length is right is mended;
+-- then the data length alone, and last a missing pad byte, which no data length takes for a sample then.
 abbrev pub mending_effects : ℕ → ℕ → ℕ → List Effect
 mending_effects start count n =
-    Sync ∷ Size (start - 4) count ∷ Sync ∷ mending_rest start count n
+    Sync ∷ Size 4 (riff_size start count) ∷ Sync ∷ Size (start - 4) count ∷ Sync
+    ∷ pads (start + n) (missing_pad count n)
 
 -- the effects that mend a file of which this was found
 abbrev pub mending : Damage → List Effect

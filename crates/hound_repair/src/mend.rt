@@ -18,8 +18,8 @@ use std::result;
 /// length, it wasn't cut off ([`RepairState::HasChunksAfterData`]), nor where the data length counts all whole
 /// frames ([`RepairState::AllCounted`]): that is reported, and nothing is
 /// written ([`repair_to_end`] repairs it all the same). Else the two sizes become those of the whole
-/// frames from the data on: the medium is flushed, the data length is written, then the pad byte where data of an
-/// odd length end with the file, and last the RIFF size, each flushed. No other byte changes.
+/// frames from the data on: the medium is flushed, the RIFF size is written, then the data length, and last the pad byte where
+/// data of an odd length end with the file, each flushed. No other byte changes.
 /// All other bytes after the data are taken for samples.
 ///
 /// The errors, in their order: those of a reader's walk to the data, by the bytes; `Unsupported`,

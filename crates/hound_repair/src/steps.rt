@@ -609,9 +609,9 @@ impl Damage {
         }
         let start = self.head.data_start;
         match (number, self.lacks_pad()) {
-            (1, _) => Some(Effect::Size(start - 4, self.sizes.data_length)),
-            (3, true) => Some(Effect::Pad(start + self.held)),
-            (3, false) | (5, true) => Some(Effect::Size(4, self.sizes.riff_size)),
+            (1, _) => Some(Effect::Size(4, self.sizes.riff_size)),
+            (3, _) => Some(Effect::Size(start - 4, self.sizes.data_length)),
+            (5, true) => Some(Effect::Pad(start + self.held)),
             (0 | 2 | 4, _) | (6, true) => Some(Effect::Sync),
             _ => None,
         }

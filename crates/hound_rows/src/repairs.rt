@@ -61,6 +61,7 @@ fn show_found(row: &mut Row, found: Repair) {
         RepairState::Whole => "whole",
         RepairState::CutOff => "cut_off",
         RepairState::HasChunksAfterData => "followed",
+        RepairState::AllCounted => "all_counted",
     });
     row.line.count("frames", found.frames);
     row.line.count("left", found.left_over);
