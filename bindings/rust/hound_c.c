@@ -1,6 +1,6 @@
 /* The functions of hound.h in C99, for computers that bindings/lib has no library for.
    scripts/portable/convert.py makes this file from the proved module hound_c.wasm, whose sha256 is
-   fce002e8335f1718116280c60393730659322087eba19e4bca06da5dd118a143: don't edit it.
+   68f6f92ae0223b63cbbac3bc5513a230362a2382aa51e053d76a73d3a4a3bb94: don't edit it.
      cc -O3 -c bindings/rust/hound_c.c
 
    Numbers are the module's: an i32 is a uint32_t, an i64 or an address a uint64_t, and an address is
@@ -20,6 +20,7 @@ extern "C" {
 #define HOUND_VERSION_MINOR 2
 #define HOUND_VERSION_PATCH 0
 #define HOUND_VERSION "0.2.0"
+#define HOUND_VERSION_NUMBER (HOUND_VERSION_MAJOR * 65536 + HOUND_VERSION_MINOR * 256 + HOUND_VERSION_PATCH)
 #ifdef __GNUC__
 #define HOUND_NONNULL __attribute__((nonnull))
 #else
@@ -62,7 +63,8 @@ enum { HOUND_INT = 0, HOUND_FLOAT = 1 };
 enum {
     HOUND_WHOLE = 0,
     HOUND_CUT_OFF = 1,
-    HOUND_HAS_CHUNKS_AFTER_DATA = 2
+    HOUND_HAS_CHUNKS_AFTER_DATA = 2,
+    HOUND_ALL_COUNTED = 3
 };
 typedef struct {
     uint32_t sample_rate;
@@ -84,8 +86,9 @@ typedef struct {
     uint64_t data_start;
     uint64_t length;
     uint32_t data_length;
-    uint32_t unused;
+    uint32_t counted;
 } hound_repair_t;
+int32_t hound_version(void);
 int32_t hound_info(const uint8_t *file, size_t length, hound_info_t *info) HOUND_NONNULL;
 enum {
     HOUND_NOTHING,
@@ -114,6 +117,19 @@ int32_t hound_walk_next(hound_walk *walk, hound_info_t *info) HOUND_NONNULL;
 int32_t hound_walk_to_end(hound_walk *walk, hound_info_t *info) HOUND_NONNULL;
 int64_t hound_whole_frames(const hound_spec *spec, uint64_t length) HOUND_NONNULL;
 int64_t hound_guess_data(const uint8_t *file, size_t length) HOUND_NONNULL;
+enum {
+    HOUND_KIND_UNKNOWN = 65536,
+    HOUND_KIND_RIFX,
+    HOUND_KIND_RF64,
+    HOUND_KIND_BW64,
+    HOUND_KIND_W64,
+    HOUND_KIND_AIFF,
+    HOUND_KIND_FLAC,
+    HOUND_KIND_OGG,
+    HOUND_KIND_MPEG,
+    HOUND_KIND_FLOAT64
+};
+int32_t hound_kind(const uint8_t *file, size_t length) HOUND_NONNULL;
 int64_t hound_read_i16(const uint8_t *file, size_t length, uint64_t first, int16_t *out, size_t count) HOUND_NONNULL;
 int64_t hound_read_i32(const uint8_t *file, size_t length, uint64_t first, int32_t *out, size_t count) HOUND_NONNULL;
 int64_t hound_read_f32(const uint8_t *file, size_t length, uint64_t first, float *out, size_t count) HOUND_NONNULL;
@@ -139,7 +155,8 @@ typedef struct {
 enum {
     HOUND_FIND_DAMAGE,
     HOUND_REPAIR,
-    HOUND_REPAIR_TO_END
+    HOUND_REPAIR_TO_END,
+    HOUND_MAKE_CANONICAL
 };
 void hound_repairer_begin(uint64_t length, uint32_t mode, hound_repairer *repairer) HOUND_NONNULL;
 int32_t hound_repairer_next(hound_repairer *repairer, hound_repair_t *found) HOUND_NONNULL;
@@ -195,7 +212,7 @@ HOUND_ASSERT(sizeof(hound_info_t) == 24 && offsetof(hound_info_t, samples) == 12
 HOUND_ASSERT(sizeof(hound_repair_t) == 48 && offsetof(hound_repair_t, frames) == 12
              && offsetof(hound_repair_t, left_over) == 16 && offsetof(hound_repair_t, state) == 20
              && offsetof(hound_repair_t, data_start) == 24 && offsetof(hound_repair_t, length) == 32
-             && offsetof(hound_repair_t, data_length) == 40 && offsetof(hound_repair_t, unused) == 44);
+             && offsetof(hound_repair_t, data_length) == 40 && offsetof(hound_repair_t, counted) == 44);
 HOUND_ASSERT(sizeof(hound_effect) == 56 && offsetof(hound_effect, length) == 8
              && offsetof(hound_effect, kind) == 12 && offsetof(hound_effect, report) == 14
              && offsetof(hound_effect, bytes) == 16);
@@ -342,30 +359,31 @@ static uint64_t f52_hound_from_f32(uint64_t l0, uint64_t l1, uint32_t l2, uint64
 static uint64_t f54_hound_guess_data(uint64_t l0, uint64_t l1);
 static uint64_t f56_hound_header(uint64_t sp, uint64_t l0, uint64_t l1, uint64_t l2, uint64_t l3);
 static uint32_t f58_hound_info(uint64_t sp, uint64_t l0, uint64_t l1, uint64_t l2);
-static uint64_t f60_hound_read_f32(uint64_t sp, uint64_t l0, uint64_t l1, uint64_t l2, uint64_t l3, uint64_t l4);
-static uint64_t f62_hound_read_i16(uint64_t sp, uint64_t l0, uint64_t l1, uint64_t l2, uint64_t l3, uint64_t l4);
-static uint64_t f64_hound_read_i32(uint64_t sp, uint64_t l0, uint64_t l1, uint64_t l2, uint64_t l3, uint64_t l4);
-static uint32_t f66_hound_recorder_begin(uint64_t l0, uint64_t l1);
-static void f68_hound_recorder_checkpoint(uint64_t sp, uint64_t l0);
-static uint32_t f70_hound_recorder_next(uint64_t sp, uint64_t l0);
-static uint32_t f72_hound_recorder_resume(uint64_t l0, uint32_t l1, uint64_t l2);
-static uint32_t f74_hound_recorder_write(uint64_t sp, uint64_t l0, uint64_t l1);
-static uint64_t f76_hound_repair(uint64_t sp, uint64_t l0, uint64_t l1, uint64_t l2, uint64_t l3);
-static uint64_t f78_hound_repair_to_end(uint64_t sp, uint64_t l0, uint64_t l1, uint64_t l2, uint64_t l3);
-static void f80_hound_repairer_begin(uint64_t l0, uint32_t l1, uint64_t l2);
-static uint32_t f82_hound_repairer_next(uint64_t sp, uint64_t l0, uint64_t l1);
-static uint64_t f84_hound_size(uint64_t l0, uint64_t l1);
-static uint64_t f86_hound_sizes(uint64_t l0, uint64_t l1, uint64_t l2, uint64_t l3, uint64_t l4);
-static uint64_t f88_hound_to_f32(uint64_t l0, uint64_t l1, uint32_t l2, uint64_t l3, uint64_t l4);
-static uint32_t f90_hound_value_16(uint32_t l0);
-static uint32_t f92_hound_value_24(uint32_t l0);
-static uint32_t f96_hound_value_8(uint32_t l0);
-static uint32_t f98_hound_walk_next(uint64_t sp, uint64_t l0, uint64_t l1);
-static uint32_t f100_hound_walk_to_end(uint64_t sp, uint64_t l0, uint64_t l1);
-static uint64_t f102_hound_whole_frames(uint64_t l0, uint64_t l1);
-static uint64_t f104_hound_write_f32(uint64_t sp, uint64_t l0, uint64_t l1, uint64_t l2, uint64_t l3, uint64_t l4);
-static uint64_t f106_hound_write_i16(uint64_t sp, uint64_t l0, uint64_t l1, uint64_t l2, uint64_t l3, uint64_t l4);
-static uint64_t f108_hound_write_i32(uint64_t sp, uint64_t l0, uint64_t l1, uint64_t l2, uint64_t l3, uint64_t l4);
+static uint32_t f60_hound_kind(uint64_t l0, uint64_t l1);
+static uint64_t f62_hound_read_f32(uint64_t sp, uint64_t l0, uint64_t l1, uint64_t l2, uint64_t l3, uint64_t l4);
+static uint64_t f64_hound_read_i16(uint64_t sp, uint64_t l0, uint64_t l1, uint64_t l2, uint64_t l3, uint64_t l4);
+static uint64_t f66_hound_read_i32(uint64_t sp, uint64_t l0, uint64_t l1, uint64_t l2, uint64_t l3, uint64_t l4);
+static uint32_t f68_hound_recorder_begin(uint64_t l0, uint64_t l1);
+static void f70_hound_recorder_checkpoint(uint64_t sp, uint64_t l0);
+static uint32_t f72_hound_recorder_next(uint64_t sp, uint64_t l0);
+static uint32_t f74_hound_recorder_resume(uint64_t l0, uint32_t l1, uint64_t l2);
+static uint32_t f76_hound_recorder_write(uint64_t sp, uint64_t l0, uint64_t l1);
+static uint64_t f78_hound_repair(uint64_t sp, uint64_t l0, uint64_t l1, uint64_t l2, uint64_t l3);
+static uint64_t f80_hound_repair_to_end(uint64_t sp, uint64_t l0, uint64_t l1, uint64_t l2, uint64_t l3);
+static void f82_hound_repairer_begin(uint64_t l0, uint32_t l1, uint64_t l2);
+static uint32_t f84_hound_repairer_next(uint64_t sp, uint64_t l0, uint64_t l1);
+static uint64_t f86_hound_size(uint64_t l0, uint64_t l1);
+static uint64_t f88_hound_sizes(uint64_t l0, uint64_t l1, uint64_t l2, uint64_t l3, uint64_t l4);
+static uint64_t f90_hound_to_f32(uint64_t l0, uint64_t l1, uint32_t l2, uint64_t l3, uint64_t l4);
+static uint32_t f92_hound_value_16(uint32_t l0);
+static uint32_t f94_hound_value_24(uint32_t l0);
+static uint32_t f98_hound_value_8(uint32_t l0);
+static uint32_t f102_hound_walk_next(uint64_t sp, uint64_t l0, uint64_t l1);
+static uint32_t f104_hound_walk_to_end(uint64_t sp, uint64_t l0, uint64_t l1);
+static uint64_t f106_hound_whole_frames(uint64_t l0, uint64_t l1);
+static uint64_t f108_hound_write_f32(uint64_t sp, uint64_t l0, uint64_t l1, uint64_t l2, uint64_t l3, uint64_t l4);
+static uint64_t f110_hound_write_i16(uint64_t sp, uint64_t l0, uint64_t l1, uint64_t l2, uint64_t l3, uint64_t l4);
+static uint64_t f112_hound_write_i32(uint64_t sp, uint64_t l0, uint64_t l1, uint64_t l2, uint64_t l3, uint64_t l4);
 
 /* hound_slices::head::find_samples */
 static void f3_find_samples(uint64_t sp, uint64_t l0, uint64_t l1, uint64_t l2) {
@@ -948,7 +966,7 @@ L11:;
     l3 = l3 + 32ull;
     l5 = l5 + 32ull;
     l7 = l7 - 32ull;
-    if (l7 >= 32ull) goto L11;
+    if (l7 > 31ull) goto L11;
     goto L9;
 L10:;
     if (l7 > 31ull) goto L1;
@@ -3189,8 +3207,8 @@ L1:;
 
 /* hound_repair::steps::take_asked */
 static void f19_take_asked(uint64_t sp, uint64_t l0, uint64_t l1, uint32_t l2, uint64_t l3, uint64_t l4, uint64_t l5) {
-    uint32_t l7 = 0, l8 = 0, l11 = 0, l12 = 0, l17 = 0, l18 = 0, l19 = 0, l20 = 0, l21 = 0, l22 = 0, l28 = 0, l29 = 0, l30 = 0, l31 = 0, l32 = 0;
-    uint64_t l6 = 0, l9 = 0, l10 = 0, l13 = 0, l14 = 0, l15 = 0, l16 = 0, l23 = 0, l24 = 0, l25 = 0, l26 = 0, l27 = 0;
+    uint32_t l7 = 0, l8 = 0, l11 = 0, l12 = 0, l17 = 0, l18 = 0, l19 = 0, l20 = 0, l21 = 0, l22 = 0, l29 = 0, l30 = 0, l31 = 0, l32 = 0, l33 = 0, l34 = 0;
+    uint64_t l6 = 0, l9 = 0, l10 = 0, l13 = 0, l14 = 0, l15 = 0, l16 = 0, l23 = 0, l24 = 0, l25 = 0, l26 = 0, l27 = 0, l28 = 0;
     l6 = sp - 528ull;
     sp = l6;
     l7 = load8(l3 + 4ull);
@@ -3245,14 +3263,14 @@ L18:;
     default: goto L29;
     }
 L29:;
-    l11 = 0u;
+    l2 = 0u;
     FILL(l6 + 392ull, 0u, 104ull);
     store64(l6 + 504, l5);
     store64(l6 + 496, l4);
     f4_read_riff_header(sp, l6 + 392ull, l6 + 496ull);
-    l2 = load8(l6 + 392);
-    if (l2 != 0) goto L31;
-    l1 = 0x100000000ull;
+    l11 = load8(l6 + 392);
+    if (l11 != 0) goto L31;
+    l10 = 1ull;
     l8 = 0u;
     l17 = 0u;
     goto L30;
@@ -3260,7 +3278,7 @@ L31:;
     l12 = (uint32_t)(load8(l6 + 400) == 1u);
     l17 = l12 != 0 ? load8(l6 + 402) : 0u;
     l8 = l12 != 0 ? load8(l6 + 401) : 0u;
-    l1 = 0ull;
+    l10 = 0ull;
 L30:;
     l14 = 0ull;
     l13 = 0ull;
@@ -3268,13 +3286,13 @@ L30:;
     goto L21;
 L28:;
     l17 = 2u;
-    l2 = 1u;
+    l11 = 1u;
     l3 = 0ull;
     if (l12 > 0xfffffff7u) goto L5;
-    l11 = 0u;
+    l2 = 0u;
     if (l5 < 8ull) goto L26;
     l18 = load8(l4 + 4);
-    l11 = (((load8(l4 + 5) << 8) | (load8(l4 + 6) << 16)) | (load8(l4 + 7) << 24)) | l18;
+    l2 = (((load8(l4 + 5) << 8) | (load8(l4 + 6) << 16)) | (load8(l4 + 7) << 24)) | l18;
     l19 = load8(l4 + 3ull);
     l20 = load8(l4 + 1ull);
     l8 = load8(l4);
@@ -3288,7 +3306,7 @@ L28:;
     if ((l7 & 255u) != 0) goto L24;
     goto L6;
 L32:;
-    l15 = (uint64_t)l11;
+    l15 = (uint64_t)l2;
     l22 = l12 + 8u;
     if (((l15 + ((uint64_t)l22)) + (l15 & 1ull)) > 0xffffffffull) goto L5;
     if (l21 != 116u) goto L20;
@@ -3301,28 +3319,28 @@ L32:;
 L27:;
     l3 = 0ull;
     if (!(l5 == 0)) goto L33;
-    l11 = 0u;
-    l2 = 1u;
+    l2 = 0u;
+    l11 = 1u;
     goto L26;
 L33:;
     l17 = 2u;
-    l2 = 1u;
+    l11 = 1u;
     if (l12 > 0xfffffff7u) goto L5;
-    l11 = 0u;
+    l2 = 0u;
     if (l5 >= 9ull) goto L25;
 L26:;
     l14 = 0ull;
     l13 = 0ull;
-    l1 = 0ull;
+    l10 = 0ull;
     l15 = 0ull;
     l8 = 0u;
     l17 = 0u;
-    l10 = 0ull;
+    l1 = 0ull;
     goto L4;
 L25:;
     l16 = l4 + 1ull;
     l18 = load8(l4 + 5ull);
-    l11 = (((load8(l4 + 6ull) << 8) | (load8(l4 + 7ull) << 16)) | (load8(l4 + 8ull) << 24)) | l18;
+    l2 = (((load8(l4 + 6ull) << 8) | (load8(l4 + 7ull) << 16)) | (load8(l4 + 8ull) << 24)) | l18;
     l19 = load8(l4 + 4ull);
     l20 = load8(l4 + 2ull);
     l8 = load8(l4 + 1ull);
@@ -3335,16 +3353,16 @@ L25:;
     if (t3 == 0) goto L23;
     if ((l7 & 255u) == 0) goto L6;
 L24:;
-    l2 = 0u;
+    l11 = 0u;
     store32(l6 + 387, 0u);
     store32(l6 + 384, 0u);
     l15 = ((uint64_t)l12) + 20ull;
-    l10 = l1 == ((((uint64_t)l11) + l15) + 1ull) ? 1ull : 2ull;
+    l1 = l1 == ((((uint64_t)l2) + l15) + 1ull) ? 1ull : 2ull;
     l3 = 0ull;
-    l1 = 0ull;
+    l10 = 0ull;
     goto L7;
 L23:;
-    l15 = (uint64_t)l11;
+    l15 = (uint64_t)l2;
     l22 = l12 + 8u;
     if (((l15 + ((uint64_t)l22)) + (l15 & 1ull)) > 0xffffffffull) goto L5;
     if (l21 != 116u) goto L34;
@@ -3354,61 +3372,60 @@ L23:;
     const uint32_t t4 = f5_groups_equal(l16, 4ull, DATA(12));
     if (t4 != 0) goto L10;
 L34:;
-    l12 = l11 + (l18 & 1u);
-    l1 = l12 != 0 ? 0x200000000ull : 0x100000000ull;
-    l11 = l12 + l22;
+    l12 = l2 + (l18 & 1u);
+    l10 = l12 != 0 ? 2ull : 1ull;
+    l2 = l12 + l22;
     goto L19;
 L22:;
-    l11 = 0u;
+    l2 = 0u;
     FILL(l6 + 392ull, 0u, 104ull);
     l14 = 0ull;
     if ((((((uint64_t)l12) + (l15 & 0xffffffffull)) + (l15 & 1ull)) + 8ull) <= 0xffffffffull) goto L36;
     l17 = 2u;
-    l2 = 1u;
+    l11 = 1u;
     l13 = 0ull;
     l8 = 1u;
     goto L35;
 L36:;
     store64(l6 + 504, l5);
     store64(l6 + 496, l4);
-    l11 = (uint32_t)l15;
-    f6_read_fmt_chunk(sp, l6 + 392ull, l6 + 496ull, l11);
-    l2 = load8(l6 + 392);
-    if (l2 != 0) goto L37;
-    const uint32_t t5 = l11 < 40u ? l11 : 40u;
-    l11 = (l11 & 1u) + l11;
-    l1 = t5 == l11 ? 0x100000000ull : 0x200000000ull;
-    l11 = (l12 + l11) + 8u;
+    l2 = (uint32_t)l15;
+    f6_read_fmt_chunk(sp, l6 + 392ull, l6 + 496ull, l2);
+    l11 = load8(l6 + 392);
+    if (l11 != 0) goto L37;
     l3 = 1ull;
-    l2 = 0u;
+    l11 = (l2 & 1u) + l2;
+    l10 = (l2 < 40u ? l2 : 40u) == l11 ? 1ull : 2ull;
+    l2 = (l12 + l11) + 8u;
+    l11 = 0u;
     l13 = load64(l6 + 404);
     l14 = load64(l6 + 396);
     l8 = 0u;
     l17 = 0u;
     goto L21;
 L37:;
-    l11 = 0u;
+    l2 = 0u;
     l12 = (uint32_t)(load8(l6 + 400) == 1u);
     l17 = l12 != 0 ? load8(l6 + 402) : 0u;
     l8 = l12 != 0 ? load8(l6 + 401) : 0u;
     l13 = 0ull;
 L35:;
     l3 = 0ull;
-    l1 = 0ull;
+    l10 = 0ull;
 L21:;
     l15 = 0ull;
-    if (l2 == 0) goto L8;
-    l11 = 0u;
+    if (l11 == 0) goto L8;
+    l2 = 0u;
     l14 = 0ull;
     l13 = 0ull;
     l3 = 0ull;
-    l1 = 0ull;
     l10 = 0ull;
+    l1 = 0ull;
     goto L4;
 L20:;
-    l12 = l11 + (l18 & 1u);
-    l1 = l12 != 0 ? 0x200000000ull : 0x100000000ull;
-    l11 = l12 + l22;
+    l12 = l2 + (l18 & 1u);
+    l10 = l12 != 0 ? 2ull : 1ull;
+    l2 = l12 + l22;
 L19:;
     l15 = 0ull;
     goto L9;
@@ -3416,17 +3433,17 @@ L17:;
     if (l5 != 1ull) goto L38;
     l16 = (uint64_t)(uint32_t)(load8(l4) != 0u);
 L38:;
-    l2 = 0u;
+    l11 = 0u;
     store32(l6 + 379, 0u);
     store32(l6 + 376, 0u);
-    l3 = 0ull;
-    l10 = 2ull;
+    l1 = 2ull;
+    l5 = 0ull;
     l8 = 0u;
     l17 = 0u;
-    l7 = 0u;
-    l11 = l12;
-    l1 = 0ull;
-    goto L3;
+    l3 = 0ull;
+    l2 = l12;
+    l10 = 0ull;
+    goto L11;
 L16:;
     store64(l6 + 288, l10);
     store64(l6 + 280, l15);
@@ -3440,96 +3457,98 @@ L16:;
     l8 = 0u;
     store32(l6 + 379, 0u);
     store32(l6 + 376, 0u);
-    l10 = 0ull;
-    l2 = 1u;
+    l5 = 0ull;
+    l11 = 1u;
     l17 = 0u;
-    l7 = 0u;
+    l1 = 0ull;
     l3 = 0ull;
     l14 = 0ull;
     l13 = 0ull;
-    l11 = 0u;
-    l1 = 0ull;
+    l2 = 0u;
+    l10 = 0ull;
     l15 = 0ull;
     l16 = 0ull;
-    goto L3;
+    goto L11;
 L40:;
     l3 = l6 + 361ull;
-    l20 = load8(l6 + 360);
+    l9 = load64(l6 + 368);
+    l7 = load8(l6 + 360);
     l16 = load64(l6 + 344);
     l23 = load64(l6 + 336);
     l15 = load64(l6 + 328);
+    l24 = load64(l6 + 320);
     l13 = load64(l6 + 312);
-    l9 = load64(l6 + 304);
-    l1 = load64(l6 + 320);
-    l11 = (uint32_t)l1;
-    l24 = load64(l6 + 352);
-    if (load32(l4) != ((uint32_t)l24)) goto L41;
-    if (l11 != ((uint32_t)(l24 >> 32))) goto L41;
+    l14 = load64(l6 + 304);
+    l25 = load64(l6 + 352);
+    if (load32(l4) != ((uint32_t)l25)) goto L43;
+    if (((uint32_t)l24) != ((uint32_t)(l25 >> 32))) goto L43;
     store32(l6 + 379, load32(l3 + 3));
     store32(l6 + 376, load32(l3));
     l4 = l16 & 0xffffffffffffff00ull;
-    l3 = l9 >> 32;
-    l11 = (uint32_t)l15;
-    l5 = 0ull;
-    l7 = 1u;
-    l2 = 0u;
-    l8 = 0u;
-    goto L11;
-L41:;
-    if ((l2 & 255u) != 2u) goto L42;
-    store32(l6 + 379, load32(l3 + 3));
-    store32(l6 + 376, load32(l3));
-    l4 = l16 & 0xffffffffffffff00ull;
-    l3 = l9 >> 32;
-    l11 = (uint32_t)l15;
+    l10 = l15 >> 32;
+    l3 = l14 >> 32;
+    l2 = (uint32_t)l15;
+    l9 = 0ull;
     l5 = 1ull;
-    l7 = 1u;
+    l11 = 0u;
     l8 = 0u;
-    l2 = 0u;
-    goto L11;
+    goto L42;
+L43:;
+    if ((l2 & 255u) != 2u) goto L41;
+    store32(l6 + 379, load32(l3 + 3));
+    store32(l6 + 376, load32(l3));
+    l4 = l16 & 0xffffffffffffff00ull;
+    l10 = l15 >> 32;
+    l3 = l14 >> 32;
+    l2 = (uint32_t)l15;
+    l5 = 1ull;
+    l8 = 0u;
+    l11 = 0u;
 L42:;
-    l5 = l1 & 0xffffffffull;
-    l14 = (l1 & 1ull) + l5;
-    if (l14 >= l16) goto L44;
+    l17 = 0u;
+    l1 = l14;
+    l14 = l13;
+    l13 = l24;
+    l15 = l23;
+    goto L2;
+L41:;
+    l26 = l24 & 0xffffffffull;
+    l1 = (l24 & 1ull) + l26;
+    if (l1 >= l16) goto L47;
+    store32(l6 + 515, 0u);
+    store32(l6 + 512, 0u);
+    l25 = l1 + l15;
+    l7 = 1u;
+    goto L46;
+L47:;
+    if (l16 <= l26) goto L45;
     l7 = 0u;
     store32(l6 + 515, 0u);
     store32(l6 + 512, 0u);
-    l24 = l14 + l15;
-    l20 = 1u;
-    l10 = 3ull;
-    l14 = l9;
-    l16 = l23;
-    goto L43;
-L44:;
-    if (l16 <= l5) goto L46;
-    l20 = 0u;
-    store32(l6 + 515, 0u);
-    store32(l6 + 512, 0u);
-    l24 = l15 + l5;
-    l10 = 3ull;
-    l14 = l9;
-    l16 = l23;
-    l7 = 0u;
-    goto L45;
+    l25 = l15 + l26;
 L46:;
+    l1 = 3ull;
+    l5 = 0ull;
+    l16 = l23;
+    l9 = 0ull;
+    goto L44;
+L45:;
     store32(l6 + 515, load32(l3 + 3));
     store32(l6 + 512, load32(l3));
-    l5 = l15 & 0xffffffffull;
-    l7 = 1u;
+    l5 = 1ull;
+    l26 = l15;
+    l1 = l14;
     l14 = l13;
-    l13 = l1;
-    l1 = l15;
+    l13 = l24;
+    l24 = l15;
     l15 = l23;
-    l10 = l9;
-L45:;
-    l1 = (l1 & 0xffffffff00000000ull) | l5;
-    l11 = (uint32_t)l5;
-L43:;
+L44:;
     store32(l6 + 379, load32(l6 + 515));
     store32(l6 + 376, load32(l6 + 512));
     l4 = l16 & 0xffffffffffffff00ull;
-    l3 = l10 >> 32;
-    l5 = (uint64_t)l7;
+    l3 = l1 >> 32;
+    l10 = l24 >> 32;
+    l2 = (uint32_t)l26;
     goto L12;
 L39:;
     store8(l0, 1u);
@@ -3545,56 +3564,61 @@ L15:;
     store64(l6 + 144, l13);
     store64(l6 + 136, l14);
     f20_measured(sp, l6 + 176ull, l1, l6 + 136ull);
-    if (load8(l6 + 176) != 0) goto L47;
-    l20 = load8(l6 + 240);
-    l24 = load64(l6 + 232);
+    if (load8(l6 + 176) != 0) goto L48;
+    l3 = (uint64_t)load8(l6 + 255ull);
+    l10 = (uint64_t)load16(l6 + 253ull);
+    l20 = load8(l6 + 248);
+    l7 = load8(l6 + 240);
+    l25 = load64(l6 + 232);
     l15 = load64(l6 + 216);
     l14 = load64(l6 + 192);
-    l10 = load64(l6 + 184);
+    l1 = load64(l6 + 184);
     l16 = load64(l6 + 224);
-    l1 = load64(l6 + 208);
+    l23 = load64(l6 + 208);
     l13 = load64(l6 + 200);
+    l24 = (uint64_t)load32(l6 + 249);
     store32(l6 + 499, 0u);
     store32(l6 + 496, 0u);
-    l25 = l6 + 241ull;
-    l26 = l16 + l1;
-    if (l26 <= l9) goto L53;
-    l27 = l13 >> 32;
+    l26 = l6 + 241ull;
+    l27 = l16 + l23;
+    if (l27 <= l9) goto L53;
+    l28 = l24 | ((l3 << 48) | (l10 << 32));
+    l10 = l13 >> 32;
     if (l5 < 4ull) goto L51;
-    l19 = load32(l4);
-    l28 = l19 >> 8;
-    l11 = l28 & 255u;
-    l29 = l19 >> 16;
-    l12 = l29 & 255u;
-    l17 = l19 >> 24;
-    l2 = l19 & 255u;
+    l21 = load32(l4);
+    l29 = l21 >> 8;
+    l11 = l29 & 255u;
+    l30 = l21 >> 16;
+    l12 = l30 & 255u;
+    l17 = l21 >> 24;
+    l2 = l21 & 255u;
     l3 = l2 == 73u ? (l17 == 79u ? (l12 == 70u ? (l11 == 78u ? 0ull : 16ull) : 16ull) : 16ull) : 16ull;
-    l18 = (uint32_t)(l11 == 73u);
-    l22 = (uint32_t)(l12 == 83u);
-    l3 = l22 != 0 ? (l18 != 0 ? (l17 == 84u ? (l2 == 76u ? 0ull : l3) : l3) : l3) : l3;
-    l30 = (uint32_t)(l11 == 97u);
-    l7 = (uint32_t)(l17 == 116u);
-    l3 = l7 != 0 ? (l30 != 0 ? (l2 == 102u ? (l12 == 99u ? 0ull : l3) : l3) : l3) : l3;
-    l21 = (uint32_t)(l2 == 99u);
-    l31 = (uint32_t)(l17 == 32u);
-    l3 = l31 != 0 ? (l21 != 0 ? (l12 == 101u ? (l11 == 117u ? 0ull : l3) : l3) : l3) : l3;
-    l32 = (uint32_t)(l12 == 115u);
-    l3 = l7 != 0 ? (l32 != 0 ? (l2 == 112u ? (l11 == 108u ? 0ull : l3) : l3) : l3) : l3;
+    l22 = (uint32_t)(l11 == 73u);
+    l31 = (uint32_t)(l12 == 83u);
+    l3 = l31 != 0 ? (l22 != 0 ? (l17 == 84u ? (l2 == 76u ? 0ull : l3) : l3) : l3) : l3;
+    l32 = (uint32_t)(l11 == 97u);
+    l19 = (uint32_t)(l17 == 116u);
+    l3 = l19 != 0 ? (l32 != 0 ? (l2 == 102u ? (l12 == 99u ? 0ull : l3) : l3) : l3) : l3;
+    l18 = (uint32_t)(l2 == 99u);
+    l33 = (uint32_t)(l17 == 32u);
+    l3 = l33 != 0 ? (l18 != 0 ? (l12 == 101u ? (l11 == 117u ? 0ull : l3) : l3) : l3) : l3;
+    l34 = (uint32_t)(l12 == 115u);
+    l3 = l19 != 0 ? (l34 != 0 ? (l2 == 112u ? (l11 == 108u ? 0ull : l3) : l3) : l3) : l3;
     l3 = l17 == 75u ? (l12 == 78u ? (l2 == 74u ? (l11 == 85u ? 0ull : l3) : l3) : l3) : l3;
-    l3 = l31 != 0 ? (l2 == 80u ? (l12 == 68u ? (l11 == 65u ? 0ull : l3) : l3) : l3) : l3;
-    l3 = l22 != 0 ? (l18 != 0 ? (l17 == 80u ? (l2 == 68u ? 0ull : l3) : l3) : l3) : l3;
-    l22 = (uint32_t)(l2 == 105u);
-    l3 = l7 != 0 ? (l32 != 0 ? (l22 != 0 ? (l11 == 110u ? 0ull : l3) : l3) : l3) : l3;
-    l18 = (uint32_t)(l17 == 108u);
-    l3 = l18 != 0 ? (l2 == 115u ? (l12 == 112u ? (l11 == 109u ? 0ull : l3) : l3) : l3) : l3;
-    l31 = (uint32_t)(l11 == 101u);
-    l3 = l7 != 0 ? (l31 != 0 ? (l2 == 98u ? (l12 == 120u ? 0ull : l3) : l3) : l3) : l3;
-    l3 = l18 != 0 ? (l31 != 0 ? (l2 == 108u ? (l12 == 118u ? 0ull : l3) : l3) : l3) : l3;
-    l3 = l7 != 0 ? (l12 == 114u ? (l21 != 0 ? (l30 != 0 ? 0ull : l3) : l3) : l3) : l3;
-    l3 = l18 != 0 ? (l2 == 97u ? (l12 == 109u ? (l11 == 120u ? 0ull : l3) : l3) : l3) : l3;
-    l3 = l21 != 0 ? (l17 == 97u ? (l12 == 110u ? (l11 == 104u ? 0ull : l3) : l3) : l3) : l3;
-    l3 = l12 == 77u ? (l22 != 0 ? (l17 == 76u ? (l11 == 88u ? 0ull : l3) : l3) : l3) : l3;
-    l23 = l3 ^ 25ull;
+    l3 = l33 != 0 ? (l2 == 80u ? (l12 == 68u ? (l11 == 65u ? 0ull : l3) : l3) : l3) : l3;
+    l3 = l31 != 0 ? (l22 != 0 ? (l17 == 80u ? (l2 == 68u ? 0ull : l3) : l3) : l3) : l3;
+    l31 = (uint32_t)(l2 == 105u);
+    l3 = l19 != 0 ? (l34 != 0 ? (l31 != 0 ? (l11 == 110u ? 0ull : l3) : l3) : l3) : l3;
+    l22 = (uint32_t)(l17 == 108u);
+    l3 = l22 != 0 ? (l2 == 115u ? (l12 == 112u ? (l11 == 109u ? 0ull : l3) : l3) : l3) : l3;
+    l33 = (uint32_t)(l11 == 101u);
+    l3 = l19 != 0 ? (l33 != 0 ? (l2 == 98u ? (l12 == 120u ? 0ull : l3) : l3) : l3) : l3;
+    l3 = l22 != 0 ? (l33 != 0 ? (l2 == 108u ? (l12 == 118u ? 0ull : l3) : l3) : l3) : l3;
+    l3 = l19 != 0 ? (l12 == 114u ? (l18 != 0 ? (l32 != 0 ? 0ull : l3) : l3) : l3) : l3;
+    l3 = l22 != 0 ? (l2 == 97u ? (l12 == 109u ? (l11 == 120u ? 0ull : l3) : l3) : l3) : l3;
+    l3 = l18 != 0 ? (l17 == 97u ? (l12 == 110u ? (l11 == 104u ? 0ull : l3) : l3) : l3) : l3;
+    l3 = l12 == 77u ? (l31 != 0 ? (l17 == 76u ? (l11 == 88u ? 0ull : l3) : l3) : l3) : l3;
+    l24 = l3 ^ 25ull;
     l3 = (l3 << 2) + DATA(48);
 L56:;
     if (((((uint32_t)(load8(l3) == l2) & (uint32_t)(load8(l3 + 1ull) == l11)) & (uint32_t)(load8(l3 + 2ull) == l12)) & (uint32_t)(load8(l3 + 3ull) == l17)) != 0) goto L55;
@@ -3606,87 +3630,91 @@ L56:;
     if (((((uint32_t)(load8(l3 + 24ull) == l2) & (uint32_t)(load8(l3 + 25ull) == l11)) & (uint32_t)(load8(l3 + 26ull) == l12)) & (uint32_t)(load8(l3 + 27ull) == l17)) != 0) goto L55;
     if (((((uint32_t)(load8(l3 + 28ull) == l2) & (uint32_t)(load8(l3 + 29ull) == l11)) & (uint32_t)(load8(l3 + 30ull) == l12)) & (uint32_t)(load8(l3 + 31ull) == l17)) != 0) goto L55;
     l3 = l3 + 32ull;
-    l23 = l23 - 8ull;
-    if (l23 != 1ull) goto L56;
+    l24 = l24 - 8ull;
+    if (l24 != 1ull) goto L56;
     goto L54;
 L55:;
-    if ((0ull - l23) < 0xfffffffffffffff8ull) goto L53;
+    if ((0ull - l24) < 0xfffffffffffffff8ull) goto L53;
 L54:;
-    l11 = l29 & 255u;
-    l2 = l19 & 255u;
-    l12 = l28 & 255u;
+    l11 = l30 & 255u;
+    l2 = l21 & 255u;
+    l12 = l29 & 255u;
     if (((uint32_t)(l17 == 82u) & ((uint32_t)(l11 == 76u) & ((uint32_t)(l2 == 70u) & (uint32_t)(l12 == 76u)))) != 0) goto L53;
     if (((uint32_t)(l17 == 75u) & ((uint32_t)(l2 == 80u) & ((uint32_t)(l11 == 65u) & (uint32_t)(l12 == 69u)))) != 0) goto L53;
-    l7 = (uint32_t)(l2 == 97u);
-    if (((uint32_t)(l11 == 115u) & (l7 & ((uint32_t)(l17 == 112u) & (uint32_t)(l12 == 102u)))) != 0) goto L53;
+    l19 = (uint32_t)(l2 == 97u);
+    if (((uint32_t)(l11 == 115u) & (l19 & ((uint32_t)(l17 == 112u) & (uint32_t)(l12 == 102u)))) != 0) goto L53;
     if (((uint32_t)(l11 == 114u) & ((uint32_t)(l2 == 115u) & ((uint32_t)(l17 == 99u) & (uint32_t)(l12 == 116u)))) != 0) goto L53;
-    if ((l7 & ((uint32_t)(l17 == 100u) & ((uint32_t)(l11 == 105u) & (uint32_t)(l12 == 99u)))) != 0) goto L53;
+    if ((l19 & ((uint32_t)(l17 == 100u) & ((uint32_t)(l11 == 105u) & (uint32_t)(l12 == 99u)))) != 0) goto L53;
     if (((uint32_t)(l11 == 77u) & ((uint32_t)(l17 == 88u) & ((uint32_t)(l2 == 95u) & (uint32_t)(l12 == 80u)))) != 0) goto L53;
     if (((uint32_t)(l17 == 32u) & ((uint32_t)(l11 == 51u) & (((uint32_t)(l2 == 105u) & (uint32_t)(l12 == 100u)) | ((uint32_t)(l2 == 73u) & (uint32_t)(l12 == 68u))))) == 0) goto L52;
 L53:;
-    store32(l6 + 131, load32(l25 + 3));
-    store32(l6 + 128, load32(l25));
-    l12 = 2u;
-    l7 = 1u;
-    goto L48;
+    store32(l6 + 131, load32(l26 + 3));
+    store32(l6 + 128, load32(l26));
+    l10 = l23 >> 32;
+    l20 = 2u;
+    l5 = 1ull;
+    l28 = 0ull;
+    goto L49;
 L52:;
     if (l5 > 7ull) goto L50;
 L51:;
     l3 = l13 & 0xffffffffull;
     if ((l8 & 1u) == 0) goto L58;
     if (l16 <= l3) goto L58;
-    l20 = 0u;
+    l7 = 0u;
     store32(l6 + 523, 0u);
     store32(l6 + 520, 0u);
-    l24 = l1 + l3;
-    l5 = 3ull;
-    l3 = l10;
-    l4 = l14;
-    l9 = l13;
-    l23 = l1;
+    l25 = l23 + l3;
+    l4 = 3ull;
+    l28 = 0ull;
+    l5 = 0ull;
+    l9 = l1;
+    l3 = l14;
+    l24 = l13;
+    l26 = l23;
     l16 = l15;
-    l7 = 0u;
+    l20 = 0u;
     goto L57;
 L58:;
     if ((l3 + 128ull) > l16) goto L60;
-    l7 = 0u;
+    l20 = 0u;
     store32(l6 + 523, 0u);
     store32(l6 + 520, 0u);
-    l13 = l14 & 0xffffffffull;
-    l14 = l14 >> 32;
-    l5 = 4ull;
-    l24 = 0ull;
-    l4 = l3;
-    l3 = l10;
-    l23 = l1;
+    l3 = l14 & 0xffffffffull;
+    l27 = l14 >> 32;
+    l4 = 4ull;
+    l28 = 0ull;
+    l5 = 0ull;
+    l9 = l1;
+    l24 = l13;
+    l26 = l23;
     l16 = l15;
-    l20 = 0u;
+    l25 = 0ull;
+    l7 = 0u;
     goto L59;
 L60:;
-    store32(l6 + 523, load32(l25 + 3));
-    store32(l6 + 520, load32(l25));
-    l4 = l1 & 0xffffffffull;
-    l7 = 1u;
-    l13 = l3;
-    l3 = l14;
-    l14 = l27;
-    l27 = l1 >> 32;
-    l23 = l15;
-    l5 = l10;
+    store32(l6 + 523, load32(l26 + 3));
+    store32(l6 + 520, load32(l26));
+    l5 = 1ull;
+    l27 = l10;
+    l9 = l14;
+    l24 = l23;
+    l10 = l23 >> 32;
+    l26 = l15;
+    l4 = l1;
 L59:;
-    l9 = (l27 << 32) | l4;
-    l4 = (l14 << 32) | l13;
+    l3 = (l27 << 32) | l3;
 L57:;
     store32(l6 + 131, load32(l6 + 523));
     store32(l6 + 128, load32(l6 + 520));
-    l10 = l5;
-    l14 = l3;
-    l13 = l4;
-    l1 = l9;
-    l15 = l23;
+    l1 = l4;
+    l14 = l9;
+    l13 = l3;
+    l23 = l24;
+    l15 = l26;
     goto L49;
 L50:;
-    l3 = l26 - l9;
+    l3 = l27 - l9;
     if (l3 < 8ull) goto L62;
     if (((load8(l4) - 32u) & 255u) > 94u) goto L62;
     if (((load8(l4 + 1) - 32u) & 255u) > 94u) goto L62;
@@ -3695,80 +3723,82 @@ L50:;
     l5 = (uint64_t)load8(l4 + 4);
     l4 = (((((uint64_t)load8(l4 + 5)) << 8) | (((uint64_t)load8(l4 + 6)) << 16)) | (((uint64_t)load8(l4 + 7)) << 24)) | l5;
     if ((l4 + 8ull) > l3) goto L62;
-    l20 = l8 & 1u;
-    l24 = ((l9 + (l5 & 1ull)) + l4) + 8ull;
-    l7 = 0u;
-    l3 = l10;
-    l5 = l14;
-    l4 = l13;
-    l9 = l1;
+    l7 = l8 & 1u;
+    l25 = ((l9 + (l5 & 1ull)) + l4) + 8ull;
+    l28 = 0ull;
+    l20 = 0u;
+    l5 = 0ull;
+    l4 = l1;
+    l3 = l14;
+    l9 = l13;
+    l24 = l23;
     l16 = l15;
-    l10 = 3ull;
+    l1 = 3ull;
     goto L61;
 L62:;
     l3 = l13 & 0xffffffffull;
     if ((l8 & 1u) == 0) goto L63;
     if (l16 <= l3) goto L63;
-    l7 = 0u;
+    l20 = 0u;
     store32(l6 + 499, 0u);
     store32(l6 + 496, 0u);
-    l24 = l1 + l3;
-    l3 = l10;
-    l5 = l14;
-    l4 = l13;
-    l9 = l1;
+    l25 = l23 + l3;
+    l28 = 0ull;
+    l5 = 0ull;
+    l4 = l1;
+    l3 = l14;
+    l9 = l13;
+    l24 = l23;
     l16 = l15;
-    l20 = 0u;
-    l10 = 3ull;
+    l7 = 0u;
+    l1 = 3ull;
     goto L61;
 L63:;
     if ((l3 + 128ull) > l16) goto L65;
-    l7 = 0u;
+    l20 = 0u;
     store32(l6 + 395, 0u);
     store32(l6 + 392, 0u);
-    l13 = l14 & 0xffffffffull;
-    l14 = l14 >> 32;
-    l24 = 0ull;
-    l5 = l3;
-    l3 = l10;
-    l9 = l1;
+    l3 = l14 & 0xffffffffull;
+    l26 = l14 >> 32;
+    l5 = 0ull;
+    l28 = 0ull;
+    l4 = l1;
+    l9 = l13;
+    l24 = l23;
     l16 = l15;
-    l20 = 0u;
-    l10 = 4ull;
+    l25 = 0ull;
+    l7 = 0u;
+    l1 = 4ull;
     goto L64;
 L65:;
-    store32(l6 + 395, load32(l25 + 3));
-    store32(l6 + 392, load32(l25));
-    l5 = l1 & 0xffffffffull;
-    l7 = 1u;
-    l13 = l3;
-    l3 = l14;
-    l14 = l27;
-    l27 = l1 >> 32;
-    l9 = l15;
+    store32(l6 + 395, load32(l26 + 3));
+    store32(l6 + 392, load32(l26));
+    l5 = 1ull;
+    l26 = l10;
+    l4 = l14;
+    l9 = l23;
+    l10 = l23 >> 32;
+    l24 = l15;
 L64:;
     store32(l6 + 499, load32(l6 + 395));
     store32(l6 + 496, load32(l6 + 392));
-    l4 = (l27 << 32) | l5;
-    l5 = (l14 << 32) | l13;
+    l3 = (l26 << 32) | l3;
 L61:;
     store32(l6 + 131, load32(l6 + 499));
     store32(l6 + 128, load32(l6 + 496));
-    l14 = l3;
-    l13 = l5;
-    l1 = l4;
-    l15 = l9;
+    l14 = l4;
+    l13 = l3;
+    l23 = l9;
+    l15 = l24;
 L49:;
-    l12 = l7;
-L48:;
     store32(l6 + 376, load32(l6 + 128));
     store32(l6 + 379, load32(l6 + 131));
+    l9 = (l28 << 8) | (((uint64_t)l20) & 255ull);
     l4 = l16 & 0xffffffffffffff00ull;
-    l3 = l10 >> 32;
-    l5 = (uint64_t)l12;
-    l11 = (uint32_t)l1;
+    l3 = l1 >> 32;
+    l2 = (uint32_t)l23;
     goto L12;
-L47:;
+L48:;
     store8(l0, 1u);
     store8(l0 + 3ull, load8(l6 + 179));
     store16(l0 + 1ull, load16(l6 + 177));
@@ -3784,33 +3814,34 @@ L14:;
     f20_measured(sp, l6 + 40ull, l1, l6);
     if (load8(l6 + 40) != 0) goto L66;
     l3 = l6 + 105ull;
+    l9 = load64(l6 + 112);
     l16 = load64(l6 + 88);
-    l1 = load64(l6 + 72);
-    l10 = load64(l6 + 48);
+    l24 = load64(l6 + 72);
+    l1 = load64(l6 + 48);
     if (l5 != 3ull) goto L68;
     if (load8(l4) != 84u) goto L68;
     if (load8(l4 + 1ull) != 65u) goto L68;
-    l5 = 2ull;
     if (load8(l4 + 2ull) != 71u) goto L68;
     store32(l6 + 123, load32(l3 + 3));
     store32(l6 + 120, load32(l3));
+    l9 = 2ull;
     goto L67;
 L68:;
     store32(l6 + 123, load32(l3 + 3));
     store32(l6 + 120, load32(l3));
-    l5 = 1ull;
 L67:;
-    l20 = load8(l6 + 104);
-    l24 = load64(l6 + 96);
+    l7 = load8(l6 + 104);
+    l25 = load64(l6 + 96);
     l15 = load64(l6 + 80);
     l13 = load64(l6 + 64);
     l14 = load64(l6 + 56);
     store32(l6 + 379, load32(l6 + 123));
     store32(l6 + 376, load32(l6 + 120));
     l4 = l16 & 0xffffffffffffff00ull;
-    l3 = l10 >> 32;
-    l11 = (uint32_t)l1;
-    l7 = 1u;
+    l10 = l24 >> 32;
+    l3 = l1 >> 32;
+    l2 = (uint32_t)l24;
+    l5 = 1ull;
     goto L12;
 L66:;
     store8(l0, 1u);
@@ -3820,28 +3851,25 @@ L66:;
     goto L1;
     TRAP();
 L12:;
-    l2 = 0u;
+    l11 = 0u;
     l8 = 0u;
     l17 = 0u;
     goto L2;
 L11:;
-    l17 = 0u;
-    l10 = l9;
-    l14 = l13;
-    l13 = l1;
-    l1 = l15;
-    l15 = l23;
-    goto L2;
+    l4 = 0ull;
+    l25 = 0ull;
+    l7 = 0u;
+    goto L3;
 L10:;
-    l1 = 0x300000000ull;
-    l11 = l12;
+    l10 = 3ull;
+    l2 = l12;
 L9:;
     l3 = ((uint64_t)l7) & 255ull;
 L8:;
-    l2 = 0u;
+    l11 = 0u;
     store32(l6 + 387, 0u);
     store32(l6 + 384, 0u);
-    l10 = 0ull;
+    l1 = 0ull;
 L7:;
     l8 = 0u;
     l17 = 0u;
@@ -3849,40 +3877,40 @@ L7:;
 L6:;
     l17 = 3u;
 L5:;
-    l11 = 0u;
+    l2 = 0u;
     l14 = 0ull;
     l13 = 0ull;
-    l1 = 0ull;
+    l10 = 0ull;
     l15 = 0ull;
     l8 = 1u;
-    l10 = 0ull;
+    l1 = 0ull;
 L4:;
     store32(l6 + 379, load32(l6 + 387));
     store32(l6 + 376, load32(l6 + 384));
-    l16 = 0ull;
     l7 = 0u;
-L3:;
-    l4 = 0ull;
-    l24 = 0ull;
-    l20 = 0u;
     l5 = 0ull;
+    l16 = 0ull;
+    l4 = 0ull;
+    l25 = 0ull;
+L3:;
+    l9 = 0ull;
 L2:;
-    store8(l0, l2);
-    store8(l0 + 72ull, l20);
-    store64(l0 + 64ull, l24);
+    store8(l0, l11);
+    store8(l0 + 72ull, l7);
+    store64(l0 + 64ull, l25);
     store64(l0 + 48ull, l15);
     store64(l0 + 32ull, l13);
     store64(l0 + 24ull, l14);
-    store64(l0 + 8ull, (uint64_t)l7);
+    store64(l0 + 8ull, l5);
     store8(l0 + 3ull, l17);
     store8(l0 + 2ull, l8);
     store8(l0 + 1ull, 0u);
     store32(l0 + 73ull, load32(l6 + 376));
     store32(l0 + 76ull, load32(l6 + 379));
-    store64(l0 + 80ull, l5);
+    store64(l0 + 80ull, l9);
     store64(l0 + 56ull, l4 | (l16 & 255ull));
-    store64(l0 + 40ull, (l1 & 0xffffffff00000000ull) | ((uint64_t)l11));
-    store64(l0 + 16ull, (l3 << 32) | (l10 & 0xffffffffull));
+    store64(l0 + 40ull, (l10 << 32) | ((uint64_t)l2));
+    store64(l0 + 16ull, (l3 << 32) | (l1 & 0xffffffffull));
 L1:;
 }
 
@@ -3949,9 +3977,8 @@ L6:;
     store32(l0, 0u);
     store32(l0 + 10ull, l15);
     store16(l0 + 14ull, l14);
-    store8(l0 + 72ull, 1u);
-    store32(l0 + 64ull, (uint32_t)(l18));
-    store32(l0 + 60ull, (uint32_t)(l1));
+    l5 = (uint32_t)l1;
+    store32(l0 + 60ull, l5);
     store64(l0 + 48ull, l17);
     store64(l0 + 40ull, l6);
     store64(l0 + 32ull, l7);
@@ -3962,8 +3989,9 @@ L6:;
     store8(l0 + 19ull, l11);
     store8(l0 + 18ull, l13);
     store16(l0 + 16ull, l12);
-    store32(l0 + 68ull, (uint32_t)(l16 - l1));
+    store8(l0 + 72ull, l9 == l5 ? 3u : 1u);
     store32(l0 + 56ull, (uint32_t)(l19 + 0xfffffff8ull));
+    store64(l0 + 64ull, ((l16 - l1) << 32) | (l18 & 0xffffffffull));
     store16(l3 + 12, l14);
     store32(l3 + 8, l15);
     store32(l0 + 76ull, 0u);
@@ -4419,100 +4447,111 @@ L1:;
 
 /* hound_slices::repairing::repair_file */
 static void f25_repair_file(uint64_t sp, uint64_t l0, uint64_t l1, uint64_t l2, uint64_t l3, uint32_t l4, uint64_t l5) {
-    uint32_t l7 = 0, l8 = 0, l10 = 0, l11 = 0, l12 = 0, l13 = 0, l14 = 0, l15 = 0, l16 = 0, l17 = 0, l18 = 0;
-    uint64_t l6 = 0, l9 = 0;
+    uint32_t l7 = 0, l8 = 0, l9 = 0, l10 = 0, l13 = 0, l14 = 0, l15 = 0, l16 = 0, l17 = 0, l18 = 0, l20 = 0;
+    uint64_t l6 = 0, l11 = 0, l12 = 0, l19 = 0;
     l6 = sp - 80ull;
     sp = l6;
     FILL(l6, 0u, 80ull);
     if (l2 >= l3) goto L3;
     store32(l0, 1793u);
     store64(l0 + 8ull, 0ull);
-    goto L1;
+    goto L2;
 L3:;
     f18_find_damage_in_bytes(sp, l6, l1, l3, l4);
-    if (load8(l6) != 0) goto L8;
+    if (load8(l6) != 0) goto L7;
     l7 = load32(l6 + 68);
     l8 = load32(l6 + 64);
-    l9 = load64(l6 + 32);
-    l10 = load32(l6 + 24);
-    l11 = load16(l6 + 20);
-    l12 = load8(l6 + 18);
-    l13 = load16(l6 + 16);
-    l14 = load32(l6 + 12);
-    l15 = load16(l6 + 8);
-    l4 = load8(l6 + 72);
-    if (l4 != 1u) goto L7;
-    l16 = load32(l6 + 56);
-    l17 = load32(l6 + 60);
-    l18 = (uint32_t)(load64(l6 + 48) == ((uint64_t)l17)) & l17;
-    if (l3 != l2) goto L9;
-    if (l18 != 0) goto L4;
-L9:;
-    store32(l1 + 4ull, l16);
-    store32((l1 + l9) - 4ull, l17);
-    if (l18 != 0) goto L6;
-    l2 = l3;
-    goto L5;
-L8:;
-    l4 = load8(l6 + 3);
-    l10 = load8(l6 + 2);
-    l11 = load8(l6 + 1);
-    switch ((uint32_t)(((uint64_t)l11) & 255ull)) {
-    case 1: goto L13;
-    case 2: goto L12;
-    default: goto L10;
+    l9 = load32(l6 + 60);
+    l10 = load32(l6 + 56);
+    l11 = load64(l6 + 48);
+    l12 = load64(l6 + 32);
+    l13 = load32(l6 + 24);
+    l14 = load16(l6 + 20);
+    l15 = load8(l6 + 18);
+    l16 = load16(l6 + 16);
+    l17 = load32(l6 + 12);
+    l18 = load16(l6 + 8);
+    l19 = l3;
+    l20 = load8(l6 + 72);
+    switch (l20) {
+    case 1: goto L9;
+    case 3: goto L10;
+    default: goto L8;
     }
-L13:;
-    l10 = 0u;
-    l11 = 3u;
-    goto L11;
-L12:;
-    l10 = 0u;
-    l11 = 5u;
-L11:;
-    l4 = 0u;
 L10:;
+    if ((l4 & 255u) > 1u) goto L9;
+    l19 = l3;
+    l4 = l14 * l18;
+    if (l4 != 0) goto L5;
+    goto L1;
+L9:;
+    l4 = (uint32_t)(l11 == ((uint64_t)l9)) & l9;
+    if (l3 != l2) goto L11;
+    if (l4 != 0) goto L4;
+L11:;
+    store32(l1 + 4ull, l10);
+    store32((l1 + l12) - 4ull, l9);
+    l19 = l3;
+    if (l4 == 0) goto L8;
+    store8(l1 + l3, 0u);
+    l19 = l3 + 1ull;
+L8:;
+    l4 = l14 * l18;
+    if (l20 != 2u) goto L6;
+    if (l4 == 0) goto L1;
+    l8 = div32(l13, l4);
+    l7 = l13 - (l8 * l4);
+    goto L5;
+L7:;
+    l4 = load8(l6 + 3);
+    l13 = load8(l6 + 2);
+    l14 = load8(l6 + 1);
+    switch ((uint32_t)(((uint64_t)l14) & 255ull)) {
+    case 1: goto L15;
+    case 2: goto L14;
+    default: goto L12;
+    }
+L15:;
+    l13 = 0u;
+    l14 = 3u;
+    goto L13;
+L14:;
+    l13 = 0u;
+    l14 = 5u;
+L13:;
+    l4 = 0u;
+L12:;
     store8(l0, 1u);
     store64(l0 + 8ull, 0ull);
     store8(l0 + 3ull, l4);
-    store8(l0 + 2ull, l10);
-    store8(l0 + 1ull, l11);
-    goto L1;
-L7:;
-    l2 = l3;
-    if (l4 != 2u) goto L5;
-    l7 = l11 * l15;
-    if (l7 == 0) goto L2;
-    l8 = div32(l10, l7);
-    l7 = l10 - (l8 * l7);
-    l2 = l3;
-    goto L5;
+    store8(l0 + 2ull, l13);
+    store8(l0 + 1ull, l14);
+    goto L2;
 L6:;
-    store8(l1 + l3, 0u);
-    l2 = l3 + 1ull;
+    if (l4 == 0) goto L1;
 L5:;
-    store32(l5 + 44, 0u);
-    store32(l5 + 40, l10);
+    store32(l5 + 40, l13);
     store64(l5 + 32, l3);
-    store64(l5 + 24, l9);
-    store32(l5 + 20, l4);
+    store64(l5 + 24, l12);
+    store32(l5 + 20, l20);
     store32(l5 + 16, l7);
     store32(l5 + 12, l8);
-    store16(l5 + 8, l11);
-    store16(l5 + 6, l13);
-    store16(l5 + 4, l15);
-    store32(l5, l14);
-    store16(l5 + 10, (uint32_t)((l12 & 255u) != 1u));
-    store64(l0 + 8ull, l2);
+    store16(l5 + 8, l14);
+    store16(l5 + 6, l16);
+    store16(l5 + 4, l18);
+    store32(l5, l17);
+    store32(l5 + 44, div32(l13, l4));
+    store16(l5 + 10, (uint32_t)((l15 & 255u) != 1u));
+    store64(l0 + 8ull, l19);
     store32(l0, 0u);
-    goto L1;
+    goto L2;
 L4:;
     store32(l0, 1793u);
     store64(l0 + 8ull, 0ull);
-    goto L1;
 L2:;
-    TRAP();
+    return;
 L1:;
+    TRAP();
 }
 
 /* hound_slices::repairer::repairer_for_c */
@@ -6364,37 +6403,40 @@ static uint32_t f50_hound_find_damage(uint64_t sp, uint64_t l0, uint64_t l1, uin
     FILL(l3, 0u, 80ull);
     f18_find_damage_in_bytes(sp, l3, l0 + (l0 == 0 ? 4096ull : 0ull), l1, 0u);
     if (load8(l3) != 0) goto L2;
-    l4 = load16(l3 + 8);
-    l5 = load16(l3 + 20);
+    l4 = load16(l3 + 20);
+    l5 = load16(l3 + 8);
+    l6 = l4 * l5;
     l0 = load64(l3 + 32);
-    l6 = load32(l3 + 24);
-    l7 = load8(l3 + 18);
-    l8 = load16(l3 + 16);
-    l9 = load32(l3 + 12);
-    l10 = load8(l3 + 72);
-    if (l10 == 2u) goto L5;
-    l11 = load32(l3 + 68);
-    l12 = load32(l3 + 64);
+    l7 = load32(l3 + 24);
+    l8 = load8(l3 + 18);
+    l9 = load16(l3 + 16);
+    l10 = load32(l3 + 12);
+    l11 = load8(l3 + 72);
+    if (l11 != 2u) goto L5;
+    if (l6 == 0) goto L3;
+    l12 = rem32(l7, l6);
+    l6 = div32(l7, l6);
+    l13 = l6;
     goto L4;
 L5:;
-    l13 = l5 * l4;
-    if (l13 == 0) goto L3;
-    l12 = div32(l6, l13);
-    l11 = l6 - (l12 * l13);
+    if (l6 == 0) goto L3;
+    l12 = load32(l3 + 68);
+    l13 = load32(l3 + 64);
+    l6 = div32(l7, l6);
 L4:;
-    l13 = 0u;
-    store32(l2 + 44, 0u);
-    store32(l2 + 40, l6);
+    store32(l2 + 44, l6);
+    store32(l2 + 40, l7);
     store64(l2 + 32, l1);
     store64(l2 + 24, l0);
-    store32(l2 + 20, l10);
-    store32(l2 + 16, l11);
-    store32(l2 + 12, l12);
-    store16(l2 + 8, l5);
-    store16(l2 + 6, l8);
-    store16(l2 + 4, l4);
-    store32(l2, l9);
-    store16(l2 + 10, (uint32_t)((l7 & 255u) != 1u));
+    store32(l2 + 20, l11);
+    store32(l2 + 16, l12);
+    store32(l2 + 12, l13);
+    store16(l2 + 8, l4);
+    store16(l2 + 6, l9);
+    store16(l2 + 4, l5);
+    store32(l2, l10);
+    store16(l2 + 10, (uint32_t)((l8 & 255u) != 1u));
+    l6 = 0u;
     goto L1;
 L3:;
     TRAP();
@@ -6405,25 +6447,25 @@ L2:;
     default: goto L6;
     }
 L8:;
-    l13 = 0xfffffff9u;
+    l6 = 0xfffffff9u;
     goto L1;
 L7:;
-    l13 = 0xfffffffbu;
+    l6 = 0xfffffffbu;
     goto L1;
 L6:;
-    l13 = 0xffffffffu;
+    l6 = 0xffffffffu;
     switch ((uint32_t)((uint64_t)load8(l3 + 2))) {
     case 1: goto L10;
     case 2: goto L9;
     default: goto L1;
     }
 L10:;
-    l13 = 0xfffffff6u - load8(l3 + 3);
+    l6 = 0xfffffff6u - load8(l3 + 3);
     goto L1;
 L9:;
-    l13 = 0xfffffffeu;
+    l6 = 0xfffffffeu;
 L1:;
-    return l13;
+    return l6;
 }
 
 /* rattle::export hound_from_f32 */
@@ -6681,8 +6723,98 @@ L1:;
     return l4;
 }
 
+/* rattle::export hound_kind */
+static uint32_t f60_hound_kind(uint64_t l0, uint64_t l1) {
+    uint32_t l2 = 0, l3 = 0, l4 = 0, l5 = 0, l6 = 0, l7 = 0;
+    uint64_t l8 = 0, l9 = 0, l10 = 0;
+    l2 = 0x10000u;
+    if (l1 < 4ull) goto L2;
+    l0 = l0 + (l0 == 0 ? 4096ull : 0ull);
+    l3 = load32(l0);
+    l4 = l3 >> 16;
+    l5 = l3 >> 8;
+    l6 = l3 >> 24;
+    if ((l3 & 255u) != 82u) goto L3;
+    if (l6 != 88u) goto L3;
+    if ((l5 & 255u) != 73u) goto L3;
+    if ((l4 & 255u) != 70u) goto L3;
+    return 0x10001u;
+L3:;
+    l7 = (uint32_t)(l6 != 52u);
+    if (l7 != 0) goto L4;
+    if ((l4 & 255u) != 54u) goto L4;
+    if ((l3 & 255u) != 82u) goto L4;
+    if ((l5 & 255u) != 70u) goto L4;
+    return 0x10002u;
+L4:;
+    if (l7 != 0) goto L5;
+    if ((l4 & 255u) != 54u) goto L5;
+    if ((l3 & 255u) != 66u) goto L5;
+    if ((l5 & 255u) != 87u) goto L5;
+    return 0x10003u;
+L5:;
+    if (l6 != 102u) goto L6;
+    if ((l4 & 255u) != 102u) goto L6;
+    if ((l3 & 255u) != 114u) goto L6;
+    if ((l5 & 255u) != 105u) goto L6;
+    return 0x10004u;
+L6:;
+    if (l6 != 77u) goto L7;
+    if ((l4 & 255u) != 82u) goto L7;
+    if ((l3 & 255u) != 70u) goto L7;
+    if ((l5 & 255u) != 79u) goto L7;
+    return 0x10005u;
+L7:;
+    if (l6 != 67u) goto L8;
+    if ((l4 & 255u) != 97u) goto L8;
+    if ((l3 & 255u) != 102u) goto L8;
+    if ((l5 & 255u) != 76u) goto L8;
+    return 0x10006u;
+L8:;
+    if (l6 != 83u) goto L9;
+    if ((l4 & 255u) != 103u) goto L9;
+    if ((l3 & 255u) != 79u) goto L9;
+    if ((l5 & 255u) != 103u) goto L9;
+    return 0x10007u;
+L9:;
+    l3 = l3 & 255u;
+    if (l3 == 255u) goto L11;
+    if (l3 != 73u) goto L10;
+    if ((l5 & 255u) != 68u) goto L10;
+    if ((l4 & 255u) != 51u) goto L10;
+    return 0x10008u;
+L11:;
+    if ((l5 & 255u) <= 223u) goto L10;
+    return 0x10008u;
+L10:;
+    l8 = 0ull;
+    l9 = l1 - 23ull;
+    l10 = l9 > l1 ? 0ull : l9;
+    if (l10 < 13ull) goto L2;
+L13:;
+    l9 = l0 + l8;
+    if (load32(l9 + 12ull) == 0x20746d66u) goto L12;
+    l9 = l8 + 13ull;
+    l8 = l8 + 1ull;
+    if (l9 < l10) goto L13;
+    goto L2;
+L12:;
+    l3 = load16(l9 + 20ull);
+    if (((l1 - l8) - 20ull) < 26ull) goto L14;
+    if ((l3 & 65535u) != 65534u) goto L14;
+    l3 = load16(l9 + 44ull);
+L14:;
+    l2 = l3 & 65535u;
+    if (l2 != 3u) goto L2;
+    if (load16(l9 + 34ull) != 64u) goto L2;
+    l2 = 0x10009u;
+L2:;
+    return l2;
+    TRAP();
+}
+
 /* rattle::export hound_read_f32 */
-static uint64_t f60_hound_read_f32(uint64_t sp, uint64_t l0, uint64_t l1, uint64_t l2, uint64_t l3, uint64_t l4) {
+static uint64_t f62_hound_read_f32(uint64_t sp, uint64_t l0, uint64_t l1, uint64_t l2, uint64_t l3, uint64_t l4) {
     uint32_t l7 = 0, l8 = 0;
     uint64_t l5 = 0, l6 = 0, l9 = 0, l10 = 0;
     l5 = sp - 48ull;
@@ -6774,7 +6906,7 @@ L1:;
 }
 
 /* rattle::export hound_read_i16 */
-static uint64_t f62_hound_read_i16(uint64_t sp, uint64_t l0, uint64_t l1, uint64_t l2, uint64_t l3, uint64_t l4) {
+static uint64_t f64_hound_read_i16(uint64_t sp, uint64_t l0, uint64_t l1, uint64_t l2, uint64_t l3, uint64_t l4) {
     uint32_t l7 = 0, l8 = 0, l9 = 0;
     uint64_t l5 = 0, l6 = 0, l10 = 0, l11 = 0;
     l5 = sp - 48ull;
@@ -6870,7 +7002,7 @@ L1:;
 }
 
 /* rattle::export hound_read_i32 */
-static uint64_t f64_hound_read_i32(uint64_t sp, uint64_t l0, uint64_t l1, uint64_t l2, uint64_t l3, uint64_t l4) {
+static uint64_t f66_hound_read_i32(uint64_t sp, uint64_t l0, uint64_t l1, uint64_t l2, uint64_t l3, uint64_t l4) {
     uint32_t l7 = 0, l8 = 0, l9 = 0, l12 = 0;
     uint64_t l5 = 0, l6 = 0, l10 = 0, l11 = 0;
     l5 = sp - 48ull;
@@ -6970,7 +7102,7 @@ L1:;
 }
 
 /* rattle::export hound_recorder_begin */
-static uint32_t f66_hound_recorder_begin(uint64_t l0, uint64_t l1) {
+static uint32_t f68_hound_recorder_begin(uint64_t l0, uint64_t l1) {
     uint32_t l2 = 0, l3 = 0, l4 = 0, l5 = 0, l6 = 0, l7 = 0;
     l2 = load16(l0 + 10);
     l3 = load16(l0 + 6);
@@ -7021,7 +7153,7 @@ L6:;
 }
 
 /* rattle::export hound_recorder_checkpoint */
-static void f68_hound_recorder_checkpoint(uint64_t sp, uint64_t l0) {
+static void f70_hound_recorder_checkpoint(uint64_t sp, uint64_t l0) {
     uint32_t l2 = 0, l3 = 0;
     uint64_t l1 = 0, l4 = 0;
     l1 = sp - 16ull;
@@ -7047,25 +7179,37 @@ L2:;
 }
 
 /* rattle::export hound_recorder_next */
-static uint32_t f70_hound_recorder_next(uint64_t sp, uint64_t l0) {
-    uint32_t l3 = 0, l6 = 0, l7 = 0, l8 = 0, l9 = 0;
-    uint64_t l1 = 0, l2 = 0, l4 = 0, l5 = 0, l10 = 0, l11 = 0;
+static uint32_t f72_hound_recorder_next(uint64_t sp, uint64_t l0) {
+    uint32_t l3 = 0, l4 = 0, l7 = 0, l8 = 0, l9 = 0;
+    uint64_t l1 = 0, l2 = 0, l5 = 0, l6 = 0, l10 = 0, l11 = 0;
     l1 = sp - 96ull;
     sp = l1;
     l2 = l0 + 56ull;
     l3 = load16(l0 + 14);
     f22_settle(sp, l1 + 8ull, l2, load16(l0 + 12) != 0 ? (l3 == 1u ? 1u : (l3 == 2u ? 2u : 0u)) : 0u);
     if (load8(l1 + 8) != 0) goto L5;
+    l4 = load16(l0 + 80ull);
+    if (l4 < 2u) goto L6;
+    store64(l0 + 48, 0ull);
+    store64(l0 + 40, 0ull);
+    store64(l0 + 32, 0ull);
+    store64(l0 + 24, 0ull);
+    store64(l0 + 16, 0ull);
+    store64(l0 + 8, 0ull);
+    store64(l0, 0ull);
+    l3 = 0xffffffe4u;
+    goto L1;
+L6:;
     l3 = load16(l0 + 82ull);
-    if (l3 == 0) goto L11;
-    if (load16(l0 + 84ull) != 0) goto L8;
-    if (l3 > 2u) goto L10;
-    if (l3 != 2u) goto L12;
-    if (load16(l0 + 80ull) != 0) goto L12;
-    if (load32(l0 + 68ull) == 0) goto L10;
-L12:;
-    l4 = load64(l2 + 24);
-    store64(l1 + 40, l4);
+    if (l3 == 0) goto L14;
+    if (load16(l0 + 84ull) != 0) goto L9;
+    if (l3 > 2u) goto L12;
+    if (l4 != 0) goto L15;
+    if (l3 != 2u) goto L15;
+    if (load32(l0 + 68ull) == 0) goto L11;
+L15:;
+    l5 = load64(l2 + 24);
+    store64(l1 + 40, l5);
     store64(l1 + 32, load64(l2 + 16));
     store64(l1 + 24, load64(l2 + 8));
     store64(l1 + 16, load64(l2));
@@ -7073,22 +7217,22 @@ L12:;
     store64(l1 + 72, 0ull);
     store64(l1 + 64, 0ull);
     store64(l1 + 56, 0ull);
-    if ((((uint32_t)l4) & 65535u) < 2u) goto L13;
+    if ((((uint32_t)l5) & 65535u) < 2u) goto L16;
     store16(l1 + 40, 2u);
     store32(l1 + 28, 0u);
     l3 = 7u;
     goto L3;
-L13:;
+L16:;
     l3 = 0u;
-    l4 = load64(l1 + 16);
-    if (l4 < 20ull) goto L3;
+    l5 = load64(l1 + 16);
+    if (l5 < 20ull) goto L3;
     if ((load16(l1 + 36) & 65535u) == 0) goto L3;
     l3 = 2u;
-    if (l4 > 0x100000007ull) goto L3;
-    l5 = (uint64_t)load32(l1 + 24);
-    if ((((l5 + l4) + (l5 & 1ull)) - 8ull) > 0xffffffffull) goto L3;
+    if (l5 > 0x100000007ull) goto L3;
+    l6 = (uint64_t)load32(l1 + 24);
+    if ((((l6 + l5) + (l6 & 1ull)) - 8ull) > 0xffffffffull) goto L3;
     f23_effect(l1 + 56ull, l1 + 16ull, load32(l1 + 28));
-    if (load8(l1 + 56) == 1u) goto L9;
+    if (load8(l1 + 56) == 1u) goto L10;
     store32(l1 + 28, 0u);
     store16(l1 + 40, 0u);
     store64(l2 + 24, load64(l1 + 40));
@@ -7096,9 +7240,9 @@ L13:;
     store64(l2 + 8, load64(l1 + 24));
     store64(l2, load64(l1 + 16));
     l2 = l0 + 82ull;
-    if (load16(l2) != 1u) goto L10;
+    if (load16(l2) != 1u) goto L13;
     store16(l2, 0u);
-L11:;
+L14:;
     l3 = 0u;
     store32(l1 + 88, 0u);
     l2 = 0ull;
@@ -7106,17 +7250,19 @@ L11:;
     store64(l1 + 72, 0ull);
     store64(l1 + 64, 0ull);
     store64(l1 + 56, 0ull);
-    l6 = 0u;
+    l4 = 0u;
     l7 = 0u;
     l8 = 0u;
-    goto L6;
-L10:;
+    goto L7;
+L13:;
     l3 = 7u;
-    l6 = load16(l0 + 80ull);
-    if (l6 > 1u) goto L2;
+    l4 = load16(l0 + 80ull);
+    if (l4 > 1u) goto L2;
+L12:;
     l3 = 6u;
-    if (l6 == 1u) goto L2;
+    if (l4 == 1u) goto L2;
     if (load32(l0 + 68ull) != 0) goto L2;
+L11:;
     l3 = 0u;
     l7 = load16(l0 + 76ull);
     if (l7 == 0) goto L2;
@@ -7125,27 +7271,27 @@ L10:;
     l3 = 2u;
     if (l2 > 0x100000007ull) goto L2;
     l9 = load32(l0 + 72ull);
-    l5 = (uint64_t)load32(l0 + 64ull);
-    l4 = (((uint64_t)l7) * ((uint64_t)l9)) + l5;
-    if (l4 > 0xffffffffull) goto L2;
-    if ((((l2 + l4) + (l4 & 1ull)) - 8ull) >= 0x100000000ull) goto L2;
+    l6 = (uint64_t)load32(l0 + 64ull);
+    l5 = (((uint64_t)l7) * ((uint64_t)l9)) + l6;
+    if (l5 > 0xffffffffull) goto L2;
+    if ((((l2 + l5) + (l5 & 1ull)) - 8ull) >= 0x100000000ull) goto L2;
     l8 = 3u;
     store16(l0 + 82ull, 3u);
-    l6 = 0u;
+    l4 = 0u;
     store32(l1 + 88, 0u);
     store64(l1 + 80, 0ull);
     store64(l1 + 72, 0ull);
     store64(l1 + 64, 0ull);
     store64(l1 + 56, 0ull);
     l7 = l9 * l7;
-    l2 = l2 + l5;
+    l2 = l2 + l6;
     l3 = 1u;
-    goto L6;
-L9:;
+    goto L7;
+L10:;
     l9 = load32(l1 + 80);
     l2 = load64(l1 + 72);
     l3 = load8(l1 + 64);
-    l6 = 0u;
+    l4 = 0u;
     store32(l1 + 88, 0u);
     store64(l1 + 80, 0ull);
     store64(l1 + 72, 0ull);
@@ -7154,56 +7300,56 @@ L9:;
     l8 = 2u;
     l7 = l3;
     switch (l3) {
-    case 1: goto L6;
-    case 2: goto L15;
-    default: goto L14;
+    case 1: goto L7;
+    case 2: goto L18;
+    default: goto L17;
     }
-L15:;
+L18:;
     l7 = 4u;
     l3 = 1u;
-    l6 = l9;
-    goto L6;
-L14:;
+    l4 = l9;
+    goto L7;
+L17:;
     l8 = 4u;
-    l6 = 0u;
+    l4 = 0u;
     l3 = 1u;
     l2 = 0ull;
-    goto L7;
-L8:;
+    goto L8;
+L9:;
     l2 = (uint64_t)load32(l0 + 64ull);
-    l4 = load64(l0 + 56ull);
-    l6 = 0u;
+    l5 = load64(l0 + 56ull);
+    l4 = 0u;
     store32(l1 + 88, 0u);
     store64(l1 + 80, 0ull);
     store64(l1 + 72, 0ull);
     store64(l1 + 64, 0ull);
     store64(l1 + 56, 0ull);
-    l4 = l2 + l4;
-    l2 = l4 < l2 ? 0xffffffffffffffffull : l4;
+    l5 = l2 + l5;
+    l2 = l5 < l2 ? 0xffffffffffffffffull : l5;
     l8 = 5u;
     l3 = 1u;
-L7:;
+L8:;
     l7 = 0u;
-L6:;
+L7:;
     l9 = load32(l1 + 88);
     store32(l1 + 48, l9);
-    l4 = load64(l1 + 80);
-    store64(l1 + 40, l4);
-    l5 = load64(l1 + 72);
-    store64(l1 + 32, l5);
+    l5 = load64(l1 + 80);
+    store64(l1 + 40, l5);
+    l6 = load64(l1 + 72);
+    store64(l1 + 32, l6);
     l10 = load64(l1 + 64);
     store64(l1 + 24, l10);
     l11 = load64(l1 + 56);
     store64(l1 + 16, l11);
-    store32(l0 + 16, l6);
+    store32(l0 + 16, l4);
     store16(l0 + 14, 0u);
     store16(l0 + 12, l8);
     store32(l0 + 8, l7);
     store64(l0, l2);
     store64(l0 + 20, l11);
     store64(l0 + 28, l10);
-    store64(l0 + 36, l5);
-    store64(l0 + 44, l4);
+    store64(l0 + 36, l6);
+    store64(l0 + 44, l5);
     store32(l0 + 52, l9);
     goto L1;
 L5:;
@@ -7230,7 +7376,7 @@ L1:;
 }
 
 /* rattle::export hound_recorder_resume */
-static uint32_t f72_hound_recorder_resume(uint64_t l0, uint32_t l1, uint64_t l2) {
+static uint32_t f74_hound_recorder_resume(uint64_t l0, uint32_t l1, uint64_t l2) {
     uint32_t l3 = 0, l4 = 0, l5 = 0, l9 = 0, l11 = 0, l13 = 0, l14 = 0;
     uint64_t l6 = 0, l7 = 0, l8 = 0, l10 = 0, l12 = 0;
     l3 = load16(l0 + 6);
@@ -7260,20 +7406,22 @@ L2:;
     if (l8 <= (((uint64_t)(l9 & 1u)) + l10)) goto L4;
 L5:;
     l0 = l10;
-    switch (l5 != 0 ? (l5 == 1u ? 1u : 2u) : 0u) {
-    case 1: goto L8;
-    case 2: goto L7;
+    switch ((uint32_t)(((uint64_t)(l5 < 4u ? l5 : 2u)) & 255ull)) {
+    case 1: goto L7;
+    case 2: goto L6;
     default: goto L4;
     }
-L8:;
-    if ((l1 & 1u) != 0) goto L6;
-    return 0xffffffe3u;
 L7:;
+    l5 = l1 & 1u;
+    if (l5 == 0) goto L8;
+    l0 = l12 * ((uint64_t)l14);
+    if (l0 >= l10) goto L4;
+L8:;
+    return l5 != 0 ? 0xfffffff8u : 0xffffffe3u;
+L6:;
     l0 = l10;
     if ((l1 & 2u) != 0) goto L4;
     return 0xffffffe2u;
-L6:;
-    l0 = l12 * ((uint64_t)l14);
 L4:;
     l5 = l11 & 65535u;
     if (l5 != 0) goto L10;
@@ -7330,7 +7478,7 @@ L1:;
 }
 
 /* rattle::export hound_recorder_write */
-static uint32_t f74_hound_recorder_write(uint64_t sp, uint64_t l0, uint64_t l1) {
+static uint32_t f76_hound_recorder_write(uint64_t sp, uint64_t l0, uint64_t l1) {
     uint32_t l3 = 0, l4 = 0;
     uint64_t l2 = 0, l5 = 0, l6 = 0;
     l2 = sp - 16ull;
@@ -7378,7 +7526,7 @@ L2:;
 }
 
 /* rattle::export hound_repair */
-static uint64_t f76_hound_repair(uint64_t sp, uint64_t l0, uint64_t l1, uint64_t l2, uint64_t l3) {
+static uint64_t f78_hound_repair(uint64_t sp, uint64_t l0, uint64_t l1, uint64_t l2, uint64_t l3) {
     uint32_t l5 = 0;
     uint64_t l4 = 0;
     l4 = sp - 16ull;
@@ -7446,7 +7594,7 @@ L1:;
 }
 
 /* rattle::export hound_repair_to_end */
-static uint64_t f78_hound_repair_to_end(uint64_t sp, uint64_t l0, uint64_t l1, uint64_t l2, uint64_t l3) {
+static uint64_t f80_hound_repair_to_end(uint64_t sp, uint64_t l0, uint64_t l1, uint64_t l2, uint64_t l3) {
     uint32_t l5 = 0;
     uint64_t l4 = 0;
     l4 = sp - 16ull;
@@ -7514,7 +7662,7 @@ L1:;
 }
 
 /* rattle::export hound_repairer_begin */
-static void f80_hound_repairer_begin(uint64_t l0, uint32_t l1, uint64_t l2) {
+static void f82_hound_repairer_begin(uint64_t l0, uint32_t l1, uint64_t l2) {
     store64(l2 + 48, 0ull);
     store64(l2 + 40, 0ull);
     store64(l2 + 32, 0ull);
@@ -7534,9 +7682,9 @@ static void f80_hound_repairer_begin(uint64_t l0, uint32_t l1, uint64_t l2) {
 }
 
 /* rattle::export hound_repairer_next */
-static uint32_t f82_hound_repairer_next(uint64_t sp, uint64_t l0, uint64_t l1) {
-    uint32_t l5 = 0, l6 = 0, l7 = 0, l8 = 0, l9 = 0, l10 = 0, l11 = 0, l12 = 0, l13 = 0, l14 = 0, l16 = 0, l17 = 0, l18 = 0, l19 = 0, l20 = 0, l23 = 0, l24 = 0, l25 = 0, l26 = 0, l27 = 0, l28 = 0, l29 = 0, l30 = 0, l31 = 0, l32 = 0, l33 = 0, l34 = 0, l35 = 0, l36 = 0, l37 = 0, l38 = 0, l39 = 0, l40 = 0, l41 = 0, l42 = 0, l43 = 0, l44 = 0;
-    uint64_t l2 = 0, l3 = 0, l4 = 0, l15 = 0, l21 = 0, l22 = 0, l45 = 0, l46 = 0, l47 = 0, l48 = 0, l49 = 0, l50 = 0, l51 = 0, l52 = 0;
+static uint32_t f84_hound_repairer_next(uint64_t sp, uint64_t l0, uint64_t l1) {
+    uint32_t l5 = 0, l6 = 0, l7 = 0, l8 = 0, l9 = 0, l10 = 0, l11 = 0, l12 = 0, l13 = 0, l14 = 0, l16 = 0, l17 = 0, l18 = 0, l19 = 0, l20 = 0, l21 = 0, l22 = 0, l24 = 0, l25 = 0, l26 = 0, l27 = 0, l28 = 0, l29 = 0, l31 = 0, l32 = 0, l33 = 0, l34 = 0, l35 = 0, l36 = 0, l37 = 0, l38 = 0, l39 = 0, l40 = 0, l41 = 0, l42 = 0, l43 = 0, l44 = 0;
+    uint64_t l2 = 0, l3 = 0, l4 = 0, l15 = 0, l23 = 0, l30 = 0, l45 = 0, l46 = 0, l47 = 0, l48 = 0, l49 = 0, l50 = 0, l51 = 0;
     l2 = sp - 1216ull;
     sp = l2;
     FILL(l2 + 584ull, 0u, 120ull);
@@ -7594,50 +7742,52 @@ static uint32_t f82_hound_repairer_next(uint64_t sp, uint64_t l0, uint64_t l1) {
     store64(l2 + 720, load64(l0 + 16));
     store64(l2 + 712, load64(l0 + 8));
     store64(l2 + 704, load64(l0));
+    l16 = (uint32_t)((l15 & 0xfffffffcull) == 0);
+    l17 = (uint32_t)l15;
     if (l12 > 3u) goto L19;
     if ((l8 & 65535u) != 0) goto L20;
     l8 = ((l7 & 65528u) >> 3) + (uint32_t)((l7 & 7u) != 0u);
 L20:;
-    l16 = 0u;
-    l17 = 0u;
     l18 = 0u;
     l19 = 0u;
-    l10 = 0u;
     l20 = 0u;
+    l21 = 0u;
+    l10 = 0u;
+    l22 = 0u;
     if (l6 == 0) goto L21;
-    l17 = 0u;
-    l18 = 0u;
     l19 = 0u;
-    l10 = 0u;
     l20 = 0u;
+    l21 = 0u;
+    l10 = 0u;
+    l22 = 0u;
     l14 = l8 & 65535u;
     if (l14 == 0) goto L21;
-    l17 = 0u;
-    l18 = 0u;
     l19 = 0u;
-    l10 = 0u;
     l20 = 0u;
+    l21 = 0u;
+    l10 = 0u;
+    l22 = 0u;
     if (((l6 * l14) >> 16) != 0) goto L21;
     l10 = ((l9 & 65535u) != 0 ? 0u : 0x10000u) | (((l9 & 65535u) > 1u ? 0u : l7) & 65535u);
-    l20 = l8 & 65535u;
-    l17 = 1u;
-    l18 = l6;
-    l19 = l5;
+    l22 = l8 & 65535u;
+    l19 = 1u;
+    l20 = l6;
+    l21 = l5;
 L21:;
     l7 = l12 == 3u ? l13 : 0u;
-    l21 = 12ull;
-    l22 = 0ull;
-    l23 = l12;
+    l23 = 12ull;
+    l15 = 0ull;
     l24 = l12;
+    l25 = l12;
     l14 = l12;
-    l25 = 0u;
+    l26 = 0u;
     l13 = l12;
     l9 = l12;
-    l26 = l12;
+    l27 = l12;
     l8 = l12;
     l4 = 0ull;
-    l27 = l12;
     l28 = l12;
+    l29 = l12;
     switch (l12) {
     case 1: goto L18;
     case 2: goto L17;
@@ -7646,33 +7796,33 @@ L21:;
     }
 L19:;
     if (l12 != 11u) goto L22;
-    l23 = 0u;
-    l27 = (uint32_t)(l14 != 0u);
-    l28 = 3u;
-    l22 = 0ull;
+    l24 = 0u;
+    l28 = (uint32_t)(l14 != 0u);
+    l29 = 3u;
+    l15 = 0ull;
     goto L5;
 L22:;
     if ((l8 & 65535u) != 0) goto L23;
     l8 = ((l7 & 65528u) >> 3) + (uint32_t)((l7 & 7u) != 0u);
 L23:;
-    l27 = 1u;
-    l23 = 0u;
-    l28 = 3u;
-    l22 = 0ull;
-    if (l6 == 0) goto L5;
-    l18 = l8 & 65535u;
-    if (l18 == 0) goto L5;
+    l28 = 1u;
     l24 = 0u;
-    if (((l6 * l18) >> 16) != 0) goto L6;
+    l29 = 3u;
+    l15 = 0ull;
+    if (l6 == 0) goto L5;
+    l20 = l8 & 65535u;
+    if (l20 == 0) goto L5;
+    l25 = 0u;
+    if (((l6 * l20) >> 16) != 0) goto L6;
     if ((l4 - 4294967316ull) < 0xffffffff00000000ull) goto L6;
-    l18 = (l9 & 65535u) > 1u ? 0u : l7;
-    l23 = 0u;
-    l18 = ((l9 & 65535u) != 0 ? 0u : 0x10000u) | (l18 & 65535u);
+    l20 = (l9 & 65535u) > 1u ? 0u : l7;
+    l24 = 0u;
+    l20 = ((l9 & 65535u) != 0 ? 0u : 0x10000u) | (l20 & 65535u);
     l7 = (uint32_t)(l11 == 1u);
-    l19 = l8 & 65535u;
-    l21 = l4 >> 32;
-    l8 = (uint32_t)l21;
-    l17 = (uint32_t)l4;
+    l21 = l8 & 65535u;
+    l30 = l4 >> 32;
+    l8 = (uint32_t)l30;
+    l19 = (uint32_t)l4;
     l9 = 1u;
     switch (l12 - 4u) {
     case 0: goto L27;
@@ -7684,185 +7834,185 @@ L23:;
     default: goto L25;
     }
 L27:;
-    l24 = 1u;
+    l25 = 1u;
     l14 = (uint32_t)(l11 == 1u);
     l4 = 1ull;
-    l23 = 0u;
-    l16 = 0u;
+    l24 = 0u;
+    l18 = 0u;
     l12 = 0u;
-    l25 = 0u;
+    l26 = 0u;
     l13 = 1u;
     l9 = 0u;
-    l26 = l7;
-    l7 = l17;
+    l27 = l7;
+    l7 = l19;
     l11 = l10;
-    l20 = l19;
-    l10 = l18;
-    l19 = l5;
-    l18 = l6;
-    l17 = 0u;
-    l27 = 0u;
+    l22 = l21;
+    l10 = l20;
+    l21 = l5;
+    l20 = l6;
+    l19 = 0u;
     l28 = 0u;
-    l21 = 1ull;
+    l29 = 0u;
+    l23 = 1ull;
     goto L3;
 L26:;
     l12 = l14 & 0xffffff00u;
-    l28 = 1u;
+    l29 = 1u;
     goto L24;
 L25:;
-    l28 = 2u;
+    l29 = 2u;
+    l14 = l14 < 4u ? l14 : 2u;
     l12 = 0u;
-    l14 = l14 != 0 ? (l14 == 1u ? 1u : 2u) : 0u;
 L24:;
     l4 = (uint64_t)l6;
-    l24 = l6 & 255u;
-    l16 = l12 >> 8;
-    l25 = l6 >> 8;
-    l26 = l12 | (l14 & 255u);
-    l23 = (uint32_t)l21;
+    l25 = l6 & 255u;
+    l18 = l12 >> 8;
+    l26 = l6 >> 8;
+    l27 = l12 | (l14 & 255u);
+    l24 = (uint32_t)l30;
     l9 = 0u;
     l12 = l8;
     l13 = l6;
     l8 = 0u;
-    l11 = l17;
-    l20 = 0u;
-    l17 = l5;
-    l27 = 0u;
-    l21 = 0ull;
+    l11 = l19;
+    l22 = 0u;
+    l19 = l5;
+    l28 = 0u;
+    l23 = 0ull;
     goto L3;
 L18:;
-    l21 = 8ull;
+    l23 = 8ull;
     goto L9;
 L17:;
-    l21 = 9ull;
+    l23 = 9ull;
     goto L9;
 L16:;
-    l21 = (uint64_t)(l7 < 40u ? l7 : 40u);
-    l24 = 0u;
-    l23 = 3u;
+    l23 = (uint64_t)(l7 < 40u ? l7 : 40u);
+    l25 = 0u;
+    l24 = 3u;
     goto L8;
 L15:;
     l14 = (uint32_t)(l11 == 1u);
-    l21 = 4ull;
+    l23 = 4ull;
     l4 = 2ull;
-    l24 = 2u;
-    l23 = 0u;
-    l16 = 0u;
+    l25 = 2u;
+    l24 = 0u;
+    l18 = 0u;
     l12 = 0u;
-    l25 = 0u;
+    l26 = 0u;
     l13 = 2u;
     goto L11;
 L14:;
     l9 = 0u;
 L13:;
     l14 = (uint32_t)(l11 == 1u);
-    l21 = 8ull;
+    l23 = 8ull;
     l4 = 3ull;
-    l24 = 3u;
-    l23 = 0u;
-    l16 = 0u;
+    l25 = 3u;
+    l24 = 0u;
+    l18 = 0u;
     l12 = 0u;
-    l25 = 0u;
+    l26 = 0u;
     l13 = 3u;
-    l22 = l3;
+    l15 = l3;
     goto L10;
 L12:;
     l14 = (uint32_t)(l11 == 1u);
-    l21 = 3ull;
+    l23 = 3ull;
     l4 = 4ull;
-    l24 = 4u;
-    l16 = 0u;
+    l25 = 4u;
+    l18 = 0u;
     l12 = 0u;
-    l25 = 0u;
+    l26 = 0u;
     l13 = 4u;
 L11:;
     l9 = 0u;
 L10:;
-    l26 = l7;
-    l7 = l17;
+    l27 = l7;
+    l7 = l19;
     l11 = l10;
-    l20 = l19;
-    l10 = l18;
-    l19 = l5;
-    l18 = l6;
-    l17 = 0u;
+    l22 = l21;
+    l10 = l20;
+    l21 = l5;
+    l20 = l6;
+    l19 = 0u;
     goto L7;
 L9:;
-    l24 = 0u;
-    l23 = l12;
-L8:;
-    l16 = 0u;
-    l14 = 0u;
     l25 = 0u;
+    l24 = l12;
+L8:;
+    l18 = 0u;
+    l14 = 0u;
+    l26 = 0u;
     l13 = 0u;
     l9 = 0u;
-    l26 = 0u;
+    l27 = 0u;
     l8 = 0u;
     l4 = 0ull;
 L7:;
-    l27 = 0u;
     l28 = 0u;
+    l29 = 0u;
     goto L3;
 L6:;
-    l23 = 0u;
+    l24 = 0u;
     goto L4;
 L5:;
-    l24 = 0u;
+    l25 = 0u;
 L4:;
-    l16 = 0u;
+    l18 = 0u;
     l14 = 0u;
     l12 = 0u;
-    l25 = 0u;
+    l26 = 0u;
     l13 = 0u;
     l9 = 0u;
-    l26 = 0u;
+    l27 = 0u;
     l8 = 0u;
     l7 = 0u;
     l11 = 0u;
-    l20 = 0u;
+    l22 = 0u;
     l10 = 0u;
+    l21 = 0u;
+    l20 = 0u;
     l19 = 0u;
-    l18 = 0u;
-    l17 = 0u;
     l4 = 0ull;
-    l21 = 0ull;
+    l23 = 0ull;
 L3:;
-    l29 = (uint32_t)l15;
+    l31 = l16 != 0 ? l17 : 0u;
     l3 = load64(l2 + 760);
-    l30 = load32(l2 + 712);
+    l32 = load32(l2 + 712);
     l5 = load16(l2 + 716);
     l6 = load16(l2 + 718);
     FILL(l2 + 904ull, 0u, 80ull);
     FILL(l2 + 824ull, 0u, 80ull);
-    l31 = l5 != 0 ? (l6 == 1u ? 1u : (l6 == 2u ? 2u : 0u)) : 0u;
+    l33 = l5 != 0 ? (l6 == 1u ? 1u : (l6 == 2u ? 2u : 0u)) : 0u;
     l5 = l13;
-    l32 = l25;
-    l33 = l17;
-    l34 = l18;
-    l35 = l19;
+    l16 = l26;
+    l17 = l19;
+    l34 = l20;
+    l35 = l21;
     l36 = l10;
-    l37 = l20;
+    l37 = l22;
     l38 = l11;
     l39 = l12;
     l40 = l7;
     l41 = l8;
     l42 = l14;
-    l43 = l16;
-    l15 = l22;
+    l43 = l18;
+    l30 = l15;
     l44 = l9;
-    l6 = l27;
-    switch ((uint32_t)(((uint64_t)l28) & 255ull)) {
-    case 1: goto L47;
-    case 2: goto L44;
-    case 3: goto L46;
-    default: goto L48;
+    l6 = l28;
+    switch ((uint32_t)(((uint64_t)l29) & 255ull)) {
+    case 1: goto L48;
+    case 2: goto L45;
+    case 3: goto L47;
+    default: goto L49;
     }
-L48:;
+L49:;
     l45 = (((uint64_t)l8) << 32) | ((uint64_t)l7);
-    l15 = 0ull;
+    l30 = 0ull;
     l5 = 0u;
-    l32 = 0u;
-    l33 = 0u;
+    l16 = 0u;
+    l17 = 0u;
     l34 = 0u;
     l35 = 0u;
     l36 = 0u;
@@ -7875,350 +8025,394 @@ L48:;
     l43 = 0u;
     l44 = 0u;
     l6 = 1u;
-    switch (l31) {
-    case 1: goto L49;
-    case 2: goto L46;
-    default: goto L50;
+    switch (l33) {
+    case 1: goto L50;
+    case 2: goto L47;
+    default: goto L51;
     }
-L50:;
-    l32 = 0u;
+L51:;
+    l16 = 0u;
     l4 = 4ull;
-    l15 = 0ull;
-    l6 = 0u;
-    l21 = 4ull;
+    l30 = 0ull;
+    l29 = l14;
     l5 = 0u;
-    l33 = 0u;
-    l46 = 0ull;
-    l28 = 0u;
+    l46 = 4ull;
+    l17 = 0u;
+    l34 = 0u;
+    l23 = 0ull;
+    l6 = 0u;
     switch ((uint32_t)(((uint64_t)l13) & 255ull)) {
-    case 1: goto L56;
+    case 1: goto L57;
     case 2: goto L29;
-    case 3: goto L52;
-    case 4: goto L51;
-    default: goto L57;
-    }
-L57:;
-    l21 = 12ull;
-    l15 = 0ull;
-    l13 = l23;
-    l32 = l23;
-    l6 = l23;
-    l4 = 0ull;
-    l5 = l23 & 255u;
-    l33 = l5;
-    l46 = 0ull;
-    l28 = l23;
-    switch ((uint32_t)(((uint64_t)l23) & 255ull)) {
-    case 1: goto L55;
-    case 2: goto L54;
     case 3: goto L53;
+    case 4: goto L52;
+    default: goto L58;
+    }
+L58:;
+    l46 = 12ull;
+    l30 = 0ull;
+    l13 = l24;
+    l29 = l14;
+    l16 = l24;
+    l5 = l24;
+    l4 = 0ull;
+    l17 = l24 & 255u;
+    l34 = l17;
+    l23 = 0ull;
+    l6 = l24;
+    switch ((uint32_t)(((uint64_t)l24) & 255ull)) {
+    case 1: goto L56;
+    case 2: goto L55;
+    case 3: goto L54;
     default: goto L29;
     }
-L56:;
+L57:;
     l4 = l45 + ((uint64_t)l11);
-    l32 = 0u;
-    l21 = 1ull;
+    l16 = 0u;
+    l46 = 1ull;
     l13 = 1u;
-    goto L31;
-L55:;
+    goto L32;
+L56:;
     l4 = ((uint64_t)l11) + 12ull;
     l13 = 0u;
-    l21 = 8ull;
-    goto L32;
-L54:;
+    l46 = 8ull;
+    goto L33;
+L55:;
     l4 = ((uint64_t)l11) + 11ull;
     l13 = 0u;
-    l21 = 9ull;
-    goto L32;
-L53:;
+    l46 = 9ull;
+    goto L33;
+L54:;
     l4 = ((uint64_t)l11) + 20ull;
-    l21 = (uint64_t)(l7 < 40u ? l7 : 40u);
+    l46 = (uint64_t)(l7 < 40u ? l7 : 40u);
     l13 = 0u;
-    goto L32;
-L52:;
-    l32 = 0u;
-    l21 = 8ull;
-    l6 = 0u;
-    l4 = l22;
+    goto L33;
+L53:;
+    l16 = 0u;
+    l46 = 8ull;
+    l29 = l14;
+    l5 = 0u;
+    l4 = l15;
     goto L30;
-L51:;
-    l15 = 0ull;
+L52:;
+    l30 = 0ull;
     l4 = l3 - 128ull;
     l4 = l4 > l3 ? 0ull : l4;
-    l32 = 0u;
-    l21 = 3ull;
+    l16 = 0u;
+    l46 = 3ull;
     l13 = 4u;
-    goto L31;
-L49:;
+    goto L32;
+L50:;
     store64(l2 + 1208, 0ull);
-    store64(l2 + 1200, l22);
+    store64(l2 + 1200, l15);
     store64(l2 + 1184, l45);
     store32(l2 + 1180, l12);
     store32(l2 + 1176, l11);
-    store32(l2 + 1156, l17);
-    store32(l2 + 1152, l24);
+    store32(l2 + 1156, l19);
+    store32(l2 + 1152, l25);
     store8(l2 + 1208, l9);
-    store64(l2 + 1192, (uint64_t)l26);
-    store64(l2 + 1168, (((uint64_t)l20) << 32) | ((uint64_t)l10));
-    store64(l2 + 1160, (((uint64_t)l19) << 32) | ((uint64_t)l18));
+    store64(l2 + 1192, (uint64_t)l27);
+    store64(l2 + 1168, (((uint64_t)l22) << 32) | ((uint64_t)l10));
+    store64(l2 + 1160, (((uint64_t)l21) << 32) | ((uint64_t)l20));
     FILL(l2 + 1064ull, 0u, 88ull);
-    l22 = (uint64_t)(l30 < 40u ? l30 : 40u);
-    f19_take_asked(sp, l2 + 1064ull, l3, l29 == 1u ? 1u : (l29 == 2u ? 2u : 0u), l2 + 1152ull, l2 + 720ull, l21 < l22 ? l21 : l22);
-    if (load8(l2 + 1064) != 0) goto L41;
-    l4 = ((uint64_t)load32(l2 + 1081)) | ((((uint64_t)load8(l2 + 1087ull)) << 48) | (((uint64_t)load16(l2 + 1085ull)) << 32));
+    l15 = (uint64_t)(l32 < 40u ? l32 : 40u);
+    f19_take_asked(sp, l2 + 1064ull, l3, l31, l2 + 1152ull, l2 + 720ull, l23 < l15 ? l23 : l15);
+    if (load8(l2 + 1064) != 0) goto L42;
+    l30 = ((uint64_t)load32(l2 + 1081)) | ((((uint64_t)load8(l2 + 1087ull)) << 48) | (((uint64_t)load16(l2 + 1085ull)) << 32));
     l13 = load8(l2 + 1080);
-    l46 = load64(l2 + 1136);
+    l23 = load64(l2 + 1136);
     l47 = load64(l2 + 1112);
-    l48 = load64(l2 + 1104);
-    l49 = load64(l2 + 1096);
-    l50 = load64(l2 + 1088);
-    if (load8(l2 + 1072) != 0) goto L58;
-    l22 = load64(l2 + 1128);
-    l15 = load64(l2 + 1120);
-    l45 = l15 & 0xffffffff00000000ull;
-    l51 = l48 >> 32;
-    l52 = l48 & 0xffffffffull;
-    l14 = (uint32_t)l15;
-    l16 = l14 >> 8;
-    l17 = (uint32_t)(l4 >> 24);
+    l4 = load64(l2 + 1104);
+    l48 = load64(l2 + 1096);
+    l49 = load64(l2 + 1088);
+    if (load8(l2 + 1072) != 0) goto L59;
+    l15 = load64(l2 + 1128);
+    l46 = load64(l2 + 1120);
+    l45 = l46 & 0xffffffff00000000ull;
+    l50 = l4 & 0xffffffffull;
+    l29 = (uint32_t)l46;
+    l18 = l29 >> 8;
+    l51 = l4 >> 32;
+    l12 = (uint32_t)l51;
+    l19 = (uint32_t)(l30 >> 24);
     l7 = (uint32_t)l47;
-    l9 = (uint32_t)l46;
+    l11 = (uint32_t)l4;
+    l9 = (uint32_t)l23;
     l4 = 4ull;
-    l46 = 0ull;
-    l25 = 0u;
-    l32 = 0u;
-    l33 = 0u;
-    l28 = 0u;
+    l23 = 0ull;
+    l26 = 0u;
+    l16 = 0u;
+    l34 = 0u;
     l6 = 0u;
-    l15 = 0ull;
-    l21 = 4ull;
     l5 = 0u;
+    l30 = 0ull;
+    l46 = 4ull;
+    l17 = 0u;
     switch (l13) {
+    case 1: goto L65;
+    case 2: goto L34;
+    case 3: goto L61;
+    case 4: goto L60;
+    default: goto L66;
+    }
+L66:;
+    l46 = 12ull;
+    l23 = 0ull;
+    l26 = 0u;
+    l16 = (uint32_t)l51;
+    l6 = l16;
+    l5 = l16;
+    l30 = 0ull;
+    l4 = 0ull;
+    l34 = l16 & 255u;
+    l17 = l34;
+    switch ((uint32_t)(l51 & 255ull)) {
     case 1: goto L64;
-    case 2: goto L33;
-    case 3: goto L60;
-    case 4: goto L59;
-    default: goto L65;
+    case 2: goto L63;
+    case 3: goto L62;
+    default: goto L34;
     }
 L65:;
-    l21 = 12ull;
-    l46 = 0ull;
-    l25 = 0u;
-    l32 = (uint32_t)l51;
-    l28 = l32;
-    l6 = l32;
-    l15 = 0ull;
-    l4 = 0ull;
-    l33 = l32 & 255u;
-    l5 = l33;
-    switch ((uint32_t)(l51 & 255ull)) {
-    case 1: goto L63;
-    case 2: goto L62;
-    case 3: goto L61;
-    default: goto L33;
-    }
+    l4 = l47 + l50;
+    l46 = 1ull;
+    goto L35;
 L64:;
-    l4 = l47 + l52;
-    l21 = 1ull;
-    goto L34;
+    l4 = l50 + 12ull;
+    l46 = 8ull;
+    goto L35;
 L63:;
-    l4 = l52 + 12ull;
-    l21 = 8ull;
-    goto L34;
+    l4 = l50 + 11ull;
+    l46 = 9ull;
+    goto L35;
 L62:;
-    l4 = l52 + 11ull;
-    l21 = 9ull;
-    goto L34;
+    l4 = l50 + 20ull;
+    l46 = (uint64_t)(l7 < 40u ? l7 : 40u);
+    goto L35;
 L61:;
-    l4 = l52 + 20ull;
-    l21 = (uint64_t)(l7 < 40u ? l7 : 40u);
+    l46 = 8ull;
+    l26 = 0u;
+    l16 = 0u;
+    l34 = 0u;
+    l6 = 0u;
+    l5 = 0u;
+    l30 = 0ull;
+    l4 = l15;
+    l17 = 0u;
     goto L34;
 L60:;
-    l21 = 8ull;
-    l25 = 0u;
-    l32 = 0u;
-    l33 = 0u;
-    l28 = 0u;
-    l6 = 0u;
-    l15 = 0ull;
-    l4 = l22;
-    l5 = 0u;
-    goto L33;
-L59:;
-    l46 = 0ull;
+    l23 = 0ull;
     l4 = l3 - 128ull;
     l4 = l4 > l3 ? 0ull : l4;
-    l21 = 3ull;
-    goto L34;
-L58:;
-    l14 = load8(l2 + 1144);
-    l22 = l4 << 8;
-    l3 = l4 & 0xffffffffffffffull;
-    l6 = 1u;
-    if ((l29 - 1u) > 1u) goto L67;
-    l32 = 1u;
-    if ((l14 & 255u) != 1u) goto L67;
-    l51 = l48 >> 32;
-    l15 = 1ull;
-    l46 = 0ull;
-    l14 = 0u;
-    l33 = 0u;
-    l6 = 0u;
-    l4 = 0ull;
-    l21 = 0ull;
-    l5 = 0u;
-    goto L66;
-L67:;
-    l15 = l22 | ((uint64_t)l13);
-    l51 = l48 >> 32;
-    l33 = (uint32_t)l51;
-    l5 = (uint32_t)l48;
-    l32 = 2u;
-    l4 = l50;
-    l21 = l49;
-L66:;
-    l25 = ((uint32_t)l22) >> 8;
-    l17 = (uint32_t)(l3 >> 24);
-    l7 = (uint32_t)l47;
-    l16 = 0u;
-    l22 = 0ull;
-    l45 = 0ull;
-    l9 = 0u;
-    l28 = l14;
-    goto L33;
-L47:;
-    store64(l2 + 1056, (((uint64_t)l8) << 32) | ((uint64_t)l7));
-    store64(l2 + 1048, (((uint64_t)l12) << 32) | ((uint64_t)l11));
-    store64(l2 + 1040, (((uint64_t)l20) << 32) | ((uint64_t)l10));
-    store64(l2 + 1032, (((uint64_t)l19) << 32) | ((uint64_t)l18));
-    store64(l2 + 1024, (((uint64_t)l17) << 32) | l4);
-    f20_measured(sp, l2 + 904ull, l3, l2 + 1024ull);
-    if (load8(l2 + 904) != 0) goto L43;
-    l6 = 0u;
-    l10 = load32(l2 + 964);
-    l50 = load64(l2 + 952);
-    l9 = load8(l2 + 976);
-    l18 = (uint32_t)((l29 - 1u) < 2u) & (uint32_t)((l9 & 255u) == 1u);
-    if (l18 == 1u) goto L69;
-    l12 = 0u;
-    goto L68;
-L69:;
-    l11 = (uint32_t)(l50 == ((uint64_t)l10)) & l10;
-    l12 = 0u;
-    switch (l26) {
-    case 0: case 2: case 4: goto L70;
+    l46 = 3ull;
+    goto L35;
+L59:;
+    l3 = l30 & 0xffffffffffffffull;
+    l15 = l30 << 8;
+    l12 = (uint32_t)(l4 >> 32);
+    l11 = (uint32_t)l4;
+    l29 = load8(l2 + 1144);
+    switch (l29) {
     case 1: goto L71;
-    case 3: goto L72;
-    case 5: goto L74;
-    case 6: goto L73;
+    case 3: goto L70;
     default: goto L68;
     }
-L74:;
-    l12 = 0u;
-    if (l11 != 0) goto L71;
-    goto L68;
-L73:;
-    if (l11 != 0) goto L70;
-    l12 = 0u;
-    goto L68;
-L72:;
-    l12 = 1u;
-    l6 = 1u;
-    if (l11 != 0) goto L68;
 L71:;
+    if ((l31 & 255u) == 0) goto L68;
+    l30 = 1ull;
+    l23 = 0ull;
+    l29 = 0u;
+    l16 = 1u;
+    goto L69;
+L70:;
+    l16 = 1u;
+    if ((l31 & 255u) <= 1u) goto L68;
+    l30 = 1ull;
+    l23 = 0ull;
+    l29 = 0u;
+L69:;
+    l34 = 0u;
+    l5 = 0u;
+    l4 = 0ull;
+    l46 = 0ull;
+    l17 = 0u;
+    goto L67;
+L68:;
+    l30 = l15 | ((uint64_t)l13);
+    l5 = 1u;
+    l16 = 2u;
+    l34 = l12;
+    l4 = l49;
+    l46 = l48;
+    l17 = l11;
+L67:;
+    l26 = ((uint32_t)l15) >> 8;
+    l19 = (uint32_t)(l3 >> 24);
+    l7 = (uint32_t)l47;
+    l18 = 0u;
+    l45 = 0ull;
+    l15 = 0ull;
+    l9 = 0u;
+    l6 = l29;
+    goto L34;
+L48:;
+    store64(l2 + 1056, (((uint64_t)l8) << 32) | ((uint64_t)l7));
+    store64(l2 + 1048, (((uint64_t)l12) << 32) | ((uint64_t)l11));
+    store64(l2 + 1040, (((uint64_t)l22) << 32) | ((uint64_t)l10));
+    store64(l2 + 1032, (((uint64_t)l21) << 32) | ((uint64_t)l20));
+    store64(l2 + 1024, (((uint64_t)l19) << 32) | l4);
+    f20_measured(sp, l2 + 904ull, l3, l2 + 1024ull);
+    if (load8(l2 + 904) != 0) goto L44;
+    l6 = 0u;
+    l10 = load32(l2 + 964);
+    l47 = load64(l2 + 952);
+    l12 = 0u;
+    l29 = load8(l2 + 976);
+    switch (l29) {
+    case 1: goto L75;
+    case 3: goto L74;
+    default: goto L72;
+    }
+L75:;
+    if ((l31 & 255u) != 0) goto L73;
+    l12 = 0u;
+    goto L72;
+L74:;
+    if ((l31 & 255u) >= 2u) goto L73;
+    l12 = 0u;
+    goto L72;
+L73:;
+    l11 = (uint32_t)(l47 == ((uint64_t)l10)) & l10;
+    l12 = 0u;
+    switch (l27) {
+    case 0: case 2: case 4: goto L76;
+    case 1: case 3: goto L79;
+    case 5: goto L78;
+    case 6: goto L77;
+    default: goto L72;
+    }
+L79:;
     l12 = 1u;
     l6 = 1u;
-    goto L68;
-L70:;
+    goto L72;
+L78:;
+    l12 = l11;
+    l6 = l11;
+    goto L72;
+L77:;
+    if (l11 != 0) goto L76;
+    l12 = 0u;
+    goto L72;
+L76:;
     l12 = 1u;
-L68:;
-    l47 = load64(l2 + 968);
-    l19 = load32(l2 + 960);
+L72:;
+    l23 = load64(l2 + 968);
+    l24 = load32(l2 + 960);
     l49 = load64(l2 + 944);
     l48 = load64(l2 + 936);
-    l22 = load64(l2 + 928);
+    l15 = load64(l2 + 928);
     l3 = load64(l2 + 920);
     l45 = load64(l2 + 912);
-    switch (l31) {
-    case 1: goto L76;
-    case 2: goto L75;
-    default: goto L45;
-    }
-L76:;
-    if (l12 == 0) goto L45;
-    l12 = (uint32_t)(l48 >> 32);
-    l11 = (uint32_t)l48;
-    l6 = 1u;
-    l32 = 2u;
-    if (l18 != 0) goto L77;
-    l33 = l12;
-    l28 = l9;
-    l15 = l45;
-    l4 = l3;
-    l21 = l22;
-    l5 = l11;
-    goto L35;
-L77:;
-    l9 = 1u;
-    l8 = (uint32_t)(l50 == ((uint64_t)l10)) & l10;
-    l46 = 0ull;
-    l51 = 0ull;
-    l18 = 0u;
-    l33 = l12;
-    l28 = 1u;
-    l6 = 1u;
-    l15 = l45;
-    l4 = l3;
-    l21 = l22;
-    l5 = l11;
-    switch (l26 + 1u) {
-    case 0: case 2: case 4: goto L36;
+    switch (l33) {
     case 1: goto L81;
-    case 3: goto L80;
-    case 5: goto L79;
-    case 6: goto L78;
-    default: goto L35;
+    case 2: goto L80;
+    default: goto L46;
     }
 L81:;
+    if (l12 == 0) goto L46;
+    l5 = 1u;
+    l16 = 2u;
+    l12 = (uint32_t)(l48 >> 32);
+    l34 = l12;
+    l6 = l29;
+    l30 = l45;
+    l4 = l3;
+    l46 = l15;
+    l11 = (uint32_t)l48;
+    l17 = l11;
+    switch (l29) {
+    case 1: goto L84;
+    case 3: goto L83;
+    default: goto L36;
+    }
+L84:;
+    if ((l31 & 255u) != 0) goto L82;
+    l29 = 1u;
+    l34 = l12;
+    l6 = 1u;
+    l5 = 1u;
+    goto L37;
+L83:;
+    if ((l31 & 255u) >= 2u) goto L82;
+    l29 = 3u;
+    l16 = 2u;
+    l34 = l12;
+    l6 = 3u;
+    goto L37;
+L82:;
+    l5 = 1u;
+    l20 = (uint32_t)(l47 == ((uint64_t)l10)) & l10;
+    l50 = 2ull;
+    l51 = 4ull;
+    l34 = l12;
+    l6 = l29;
+    l30 = l45;
+    l4 = l3;
+    l46 = l15;
+    l17 = l11;
+    switch (l27 + 1u) {
+    case 0: case 2: case 4: goto L86;
+    case 1: goto L85;
+    case 3: goto L89;
+    case 5: goto L88;
+    case 6: goto L87;
+    default: goto L36;
+    }
+L89:;
     l51 = l48 - 4ull;
-    l46 = 2ull;
-    l18 = l10;
+    l24 = l10;
+    goto L85;
+L88:;
+    l34 = l12;
+    l6 = l29;
+    l30 = l45;
+    l4 = l3;
+    l46 = l15;
+    l17 = l11;
+    if (l20 == 0) goto L36;
+    l51 = l47 + l48;
+    l50 = 1ull;
+    l24 = 0u;
+    goto L85;
+L87:;
+    l34 = l12;
+    l6 = l29;
+    l30 = l45;
+    l4 = l3;
+    l46 = l15;
+    l17 = l11;
+    if (l20 == 0) goto L36;
+L86:;
+    l51 = 0ull;
+    l24 = 0u;
+    l50 = 0ull;
+L85:;
+    l16 = 1u;
+    l29 = l14 + 1u;
+    l30 = 1ull;
+    l34 = 0u;
+    l23 = 0ull;
+    l6 = 0u;
+    l5 = 0u;
+    l4 = l50;
+    l46 = l51;
+    l17 = l24;
     goto L36;
 L80:;
-    if (l8 == 0) goto L37;
-    l51 = l50 + l48;
-    l46 = 1ull;
-    l18 = 0u;
-    goto L36;
-L79:;
-    l33 = l12;
-    l28 = 1u;
-    l6 = 1u;
-    l15 = l45;
-    l4 = l3;
-    l21 = l22;
-    l5 = l11;
-    if (l8 != 0) goto L37;
-    goto L35;
-L78:;
-    l46 = 0ull;
-    l51 = 0ull;
-    l18 = 0u;
-    l33 = l12;
-    l28 = 1u;
-    l6 = 1u;
-    l15 = l45;
-    l4 = l3;
-    l21 = l22;
-    l5 = l11;
-    if (l8 == 0) goto L35;
-    goto L36;
-L75:;
-    if (l12 == 0) goto L45;
-    l15 = 0ull;
+    if (l12 == 0) goto L46;
+    l30 = 0ull;
     l5 = 0u;
-    l32 = 0u;
-    l33 = 0u;
+    l16 = 0u;
+    l17 = 0u;
     l34 = 0u;
     l35 = 0u;
     l36 = 0u;
@@ -8230,9 +8424,9 @@ L75:;
     l42 = 0u;
     l43 = 0u;
     l44 = 0u;
-L46:;
+L47:;
     store8(l2 + 112, l44);
-    store64(l2 + 104, l15);
+    store64(l2 + 104, l30);
     store8(l2 + 48, 3u);
     store64(l2 + 8, 0ull);
     store64(l2 + 96, (((uint64_t)l43) << 8) | (((uint64_t)l42) & 255ull));
@@ -8240,284 +8434,282 @@ L46:;
     store64(l2 + 80, (((uint64_t)l39) << 32) | ((uint64_t)l38));
     store64(l2 + 72, (((uint64_t)l37) << 32) | ((uint64_t)l36));
     store64(l2 + 64, (((uint64_t)l35) << 32) | ((uint64_t)l34));
-    store64(l2 + 56, (((uint64_t)l33) << 32) | ((((uint64_t)l32) << 8) | (((uint64_t)l5) & 255ull)));
+    store64(l2 + 56, (((uint64_t)l17) << 32) | ((((uint64_t)l16) << 8) | (((uint64_t)l5) & 255ull)));
     store8(l2 + 49, l6);
     f26_repairer_for_c(sp, l2 + 120ull, l2 + 704ull, l2 + 48ull, l2 + 8ull);
     MOVE(l0, l2 + 120ull, 120ull);
-    l6 = (l6 & 255u) != 0 ? 0xffffffe1u : 0xffffffe4u;
+    l12 = (l6 & 255u) != 0 ? 0xffffffe1u : 0xffffffe4u;
     goto L1;
-L45:;
+L46:;
     l12 = (uint32_t)(l48 >> 32);
     l11 = (uint32_t)l48;
-    if (l18 == 0) goto L82;
-    l18 = (uint32_t)(l50 == ((uint64_t)l10)) & l10;
-    l15 = 1ull;
-    l33 = 0u;
-    l46 = 0ull;
-    l32 = 1u;
-    l28 = 0u;
-    l6 = 0u;
-    l4 = 0ull;
-    l21 = 0ull;
-    l5 = 0u;
-    switch (l26) {
-    case 0: case 2: case 4: goto L38;
-    case 1: goto L86;
-    case 3: goto L85;
-    case 5: goto L84;
-    case 6: goto L83;
-    default: goto L82;
+    switch (l29) {
+    case 1: goto L90;
+    case 3: goto L91;
+    default: goto L39;
     }
-L86:;
-    l21 = l48 - 4ull;
-    l4 = 2ull;
-    l33 = 0u;
-    l28 = 0u;
-    l6 = 0u;
-    l5 = l10;
-    goto L38;
-L85:;
-    if (l18 == 0) goto L39;
-    l21 = l50 + l48;
-    l15 = 1ull;
-    l33 = 0u;
-    l28 = 0u;
-    l6 = 0u;
-    l4 = 1ull;
-    l5 = 0u;
-    goto L38;
-L84:;
-    if (l18 != 0) goto L39;
-    goto L82;
-L83:;
-    l33 = 0u;
-    l28 = 0u;
-    l6 = 0u;
-    l4 = 0ull;
-    l21 = 0ull;
-    l5 = 0u;
-    if (l18 != 0) goto L38;
-L82:;
-    l6 = 1u;
-    l32 = 2u;
-    l16 = 0u;
-    l14 = l9;
-    l33 = l12;
-    l46 = l47;
-    l28 = l9;
-    l15 = l45;
-    l4 = l3;
-    l21 = l22;
-    l5 = l11;
-    goto L38;
-L44:;
+L91:;
+    if ((l31 & 255u) < 2u) goto L39;
+    goto L40;
+L90:;
+    if ((l31 & 255u) != 0) goto L40;
+    goto L39;
+L45:;
     store64(l2 + 1016, (((uint64_t)l8) << 32) | ((uint64_t)l7));
     store64(l2 + 1008, (((uint64_t)l12) << 32) | ((uint64_t)l11));
-    store64(l2 + 1000, (((uint64_t)l20) << 32) | ((uint64_t)l10));
-    store64(l2 + 992, (((uint64_t)l19) << 32) | ((uint64_t)l18));
-    store64(l2 + 984, (((uint64_t)l17) << 32) | l4);
+    store64(l2 + 1000, (((uint64_t)l22) << 32) | ((uint64_t)l10));
+    store64(l2 + 992, (((uint64_t)l21) << 32) | ((uint64_t)l20));
+    store64(l2 + 984, (((uint64_t)l19) << 32) | l4);
     f20_measured(sp, l2 + 824ull, l3, l2 + 984ull);
-    if (load8(l2 + 824) != 0) goto L42;
-    l6 = 1u;
-    l32 = 2u;
-    l46 = load64(l2 + 888);
-    l33 = load32(l2 + 860);
-    l5 = load32(l2 + 856);
-    l21 = load64(l2 + 848);
+    if (load8(l2 + 824) != 0) goto L43;
+    l5 = 1u;
+    l16 = 2u;
+    l23 = load64(l2 + 888);
+    l34 = load32(l2 + 860);
+    l17 = load32(l2 + 856);
+    l46 = load64(l2 + 848);
     l4 = load64(l2 + 840);
-    l15 = load64(l2 + 832);
-    l28 = l14;
+    l30 = load64(l2 + 832);
+    l29 = l14;
+    l6 = l14;
     goto L29;
+L44:;
+    l11 = load8(l2 + 907);
+    l14 = load8(l2 + 906);
+    l10 = load8(l2 + 905);
+    goto L41;
 L43:;
-    l14 = load8(l2 + 907);
-    l10 = load8(l2 + 906);
-    l12 = load8(l2 + 905);
-    goto L40;
+    l11 = load8(l2 + 827);
+    l14 = load8(l2 + 826);
+    l10 = load8(l2 + 825);
+    goto L41;
 L42:;
-    l14 = load8(l2 + 827);
-    l10 = load8(l2 + 826);
-    l12 = load8(l2 + 825);
-    goto L40;
+    l11 = load8(l2 + 1067);
+    l14 = load8(l2 + 1066);
+    l10 = load8(l2 + 1065);
 L41:;
-    l14 = load8(l2 + 1067);
-    l10 = load8(l2 + 1066);
-    l12 = load8(l2 + 1065);
-L40:;
-    l6 = 0xfffffffbu;
-    switch ((uint32_t)(((uint64_t)l12) & 255ull)) {
-    case 1: goto L1;
-    case 2: goto L88;
-    default: goto L89;
-    }
-L89:;
-    l6 = 0xffffffffu;
+    l12 = 0xfffffffbu;
     switch ((uint32_t)(((uint64_t)l10) & 255ull)) {
-    case 1: goto L90;
-    case 2: goto L87;
+    case 1: goto L1;
+    case 2: goto L93;
+    default: goto L94;
+    }
+L94:;
+    l12 = 0xffffffffu;
+    switch ((uint32_t)(((uint64_t)l14) & 255ull)) {
+    case 1: goto L95;
+    case 2: goto L92;
     default: goto L1;
     }
-L90:;
-    l6 = 0xfffffff6u - (l14 & 255u);
+L95:;
+    l12 = 0xfffffff6u - (l11 & 255u);
     goto L1;
-L88:;
-    l6 = 0xfffffff9u;
+L93:;
+    l12 = 0xfffffff9u;
     goto L1;
-L87:;
-    l6 = 0xfffffffeu;
+L92:;
+    l12 = 0xfffffffeu;
     goto L1;
-L39:;
-    l21 = 4ull;
+L40:;
+    l20 = (uint32_t)(l47 == ((uint64_t)l10)) & l10;
+    l46 = 4ull;
     l4 = 2ull;
-    l33 = 0u;
-    l28 = 0u;
+    l30 = 1ull;
+    l34 = 0u;
+    l51 = 0ull;
+    l16 = 1u;
     l6 = 0u;
-    l5 = l19;
+    l5 = 0u;
+    switch (l27) {
+    case 0: case 2: case 4: goto L96;
+    case 1: goto L38;
+    case 3: goto L99;
+    case 5: goto L98;
+    case 6: goto L97;
+    default: goto L39;
+    }
+L99:;
+    l46 = l48 - 4ull;
+    l34 = 0u;
+    l6 = 0u;
+    l5 = 0u;
+    l24 = l10;
+    goto L38;
+L98:;
+    if (l20 == 0) goto L39;
+    l46 = l47 + l48;
+    l30 = 1ull;
+    l34 = 0u;
+    l6 = 0u;
+    l5 = 0u;
+    l4 = 1ull;
+    l24 = 0u;
+    goto L38;
+L97:;
+    if (l20 == 0) goto L39;
+L96:;
+    l34 = 0u;
+    l51 = 0ull;
+    l6 = 0u;
+    l5 = 0u;
+    l4 = 0ull;
+    l46 = 0ull;
+    l24 = 0u;
+    goto L38;
+L39:;
+    l5 = 1u;
+    l16 = 2u;
+    l18 = 0u;
+    l14 = l29;
+    l34 = l12;
+    l51 = l23;
+    l6 = l29;
+    l30 = l45;
+    l4 = l3;
+    l46 = l15;
+    l24 = l11;
 L38:;
     l13 = (uint32_t)l45;
-    l25 = l13 >> 8;
-    l17 = (uint32_t)(l45 >> 32);
-    l19 = (uint32_t)(l3 >> 32);
-    l20 = (uint32_t)(l22 >> 32);
+    l26 = l13 >> 8;
+    l19 = (uint32_t)(l45 >> 32);
+    l21 = (uint32_t)(l3 >> 32);
+    l22 = (uint32_t)(l15 >> 32);
     l8 = (uint32_t)(l49 >> 32);
-    l18 = (uint32_t)l3;
-    l10 = (uint32_t)l22;
+    l20 = (uint32_t)l3;
+    l10 = (uint32_t)l15;
     l7 = (uint32_t)l49;
     l9 = 0u;
-    l22 = 0ull;
-    l27 = 0u;
+    l15 = 0ull;
+    l29 = l14;
+    l28 = 0u;
+    l17 = l24;
+    l23 = l51;
     goto L29;
 L37:;
-    l51 = 4ull;
-    l46 = 2ull;
-    l18 = l19;
+    l30 = l45;
+    l4 = l3;
+    l46 = l15;
+    l17 = l11;
 L36:;
-    l32 = 1u;
-    l9 = l14 + 1u;
-    l15 = 1ull;
-    l33 = 0u;
-    l47 = 0ull;
-    l28 = 0u;
-    l6 = 0u;
-    l4 = l46;
-    l21 = l51;
-    l5 = l18;
-L35:;
     l13 = (uint32_t)l45;
-    l25 = l13 >> 8;
-    l17 = (uint32_t)(l45 >> 32);
-    l19 = (uint32_t)(l3 >> 32);
-    l20 = (uint32_t)(l22 >> 32);
+    l26 = l13 >> 8;
+    l19 = (uint32_t)(l45 >> 32);
+    l21 = (uint32_t)(l3 >> 32);
+    l22 = (uint32_t)(l15 >> 32);
     l8 = (uint32_t)(l49 >> 32);
-    l18 = (uint32_t)l3;
-    l10 = (uint32_t)l22;
+    l20 = (uint32_t)l3;
+    l10 = (uint32_t)l15;
     l7 = (uint32_t)l49;
-    l16 = 0u;
-    l22 = 0ull;
-    l14 = l9;
-    l9 = 0u;
-    l27 = 0u;
-    l46 = l47;
-    goto L29;
-L34:;
-    l25 = 0u;
-    l32 = 0u;
-    l33 = 0u;
-    l28 = 0u;
-    l6 = 0u;
+    l18 = 0u;
     l15 = 0ull;
-    l5 = 0u;
-L33:;
-    l19 = (uint32_t)(l50 >> 32);
-    l20 = (uint32_t)(l49 >> 32);
-    l8 = (uint32_t)(l47 >> 32);
-    l18 = (uint32_t)l50;
-    l10 = (uint32_t)l49;
-    l11 = (uint32_t)l48;
-    l12 = (uint32_t)l51;
-    l27 = 0u;
-    goto L28;
-L32:;
-    l32 = 0u;
-L31:;
-    l6 = 0u;
-L30:;
-    l5 = 0u;
-    l33 = 0u;
-    l46 = 0ull;
+    l9 = 0u;
     l28 = 0u;
+    goto L29;
+L35:;
+    l26 = 0u;
+    l16 = 0u;
+    l34 = 0u;
+    l6 = 0u;
+    l5 = 0u;
+    l30 = 0ull;
+    l17 = 0u;
+L34:;
+    l21 = (uint32_t)(l49 >> 32);
+    l22 = (uint32_t)(l48 >> 32);
+    l8 = (uint32_t)(l47 >> 32);
+    l20 = (uint32_t)l49;
+    l10 = (uint32_t)l48;
+    l28 = 0u;
+    goto L28;
+L33:;
+    l29 = l14;
+    l16 = 0u;
+    goto L31;
+L32:;
+    l29 = l14;
+L31:;
+    l5 = 0u;
+L30:;
+    l17 = 0u;
+    l34 = 0u;
+    l23 = 0ull;
+    l6 = 0u;
 L29:;
     l45 = 0ull;
 L28:;
-    if ((l6 & 255u) != 0) goto L91;
+    if ((l5 & 255u) != 0) goto L100;
     store8(l2 + 576, l9);
-    store64(l2 + 568, l22);
-    store8(l2 + 513, l27);
-    store8(l2 + 512, l32);
-    store32(l2 + 504, l5);
-    store64(l2 + 496, l21);
+    store64(l2 + 568, l15);
+    store8(l2 + 513, l28);
+    store8(l2 + 512, l16);
+    store32(l2 + 504, l17);
+    store64(l2 + 496, l46);
     store64(l2 + 488, l4);
     store64(l2 + 472, 1ull);
-    store64(l2 + 480, l15 & 255ull);
+    store64(l2 + 480, l30 & 255ull);
     store64(l2 + 552, (((uint64_t)l8) << 32) | ((uint64_t)l7));
     store64(l2 + 544, (((uint64_t)l12) << 32) | ((uint64_t)l11));
-    store64(l2 + 536, (((uint64_t)l20) << 32) | ((uint64_t)l10));
-    store64(l2 + 528, (((uint64_t)l19) << 32) | ((uint64_t)l18));
-    store64(l2 + 560, ((((uint64_t)l16) << 8) | (((uint64_t)l14) & 255ull)) | l45);
-    store64(l2 + 520, ((((uint64_t)l25) << 8) | (((uint64_t)l13) & 255ull)) | (((uint64_t)l17) << 32));
+    store64(l2 + 536, (((uint64_t)l22) << 32) | ((uint64_t)l10));
+    store64(l2 + 528, (((uint64_t)l21) << 32) | ((uint64_t)l20));
+    store64(l2 + 560, ((((uint64_t)l18) << 8) | (((uint64_t)l29) & 255ull)) | l45);
+    store64(l2 + 520, ((((uint64_t)l26) << 8) | (((uint64_t)l13) & 255ull)) | (((uint64_t)l19) << 32));
     f26_repairer_for_c(sp, l2 + 584ull, l2 + 704ull, l2 + 512ull, l2 + 472ull);
     MOVE(l0, l2 + 584ull, 120ull);
-    l6 = 1u;
+    l12 = 1u;
     goto L1;
-L91:;
-    l34 = (uint32_t)(l4 >> 32);
-    l23 = (uint32_t)l21;
-    l35 = (uint32_t)l15;
+L100:;
+    l5 = (uint32_t)l46;
+    l24 = (uint32_t)(l4 >> 32);
+    l35 = (uint32_t)l30;
+    l14 = (l24 & 65535u) * (l35 & 65535u);
     l3 = load64(l2 + 760);
-    if ((l28 & 255u) == 2u) goto L93;
-    l36 = (uint32_t)(l46 >> 32);
-    l37 = (uint32_t)l46;
-    goto L92;
-L93:;
-    l6 = (l34 & 65535u) * (l35 & 65535u);
-    if (l6 == 0) goto L2;
-    l37 = div32(l23, l6);
-    l36 = l23 - (l37 * l6);
-L92:;
-    l6 = 0u;
-    store32(l1 + 44, 0u);
-    store32(l1 + 40, l23);
+    if ((l6 & 255u) != 2u) goto L102;
+    if (l14 == 0) goto L2;
+    l36 = rem32(l5, l14);
+    l14 = div32(l5, l14);
+    l37 = l14;
+    goto L101;
+L102:;
+    if (l14 == 0) goto L2;
+    l36 = (uint32_t)(l23 >> 32);
+    l37 = (uint32_t)l23;
+    l14 = div32(l5, l14);
+L101:;
+    store32(l1 + 44, l14);
+    store32(l1 + 40, l5);
     store64(l1 + 32, l3);
-    store64(l1 + 24, (((uint64_t)l33) << 32) | ((uint64_t)l5));
+    store64(l1 + 24, (((uint64_t)l34) << 32) | ((uint64_t)l17));
     store32(l1 + 16, l36);
     store32(l1 + 12, l37);
-    store16(l1 + 8, l34);
+    store16(l1 + 8, l24);
     store16(l1 + 6, (uint32_t)l4);
     store16(l1 + 4, l35);
-    store32(l1, (uint32_t)(l15 >> 32));
-    store32(l1 + 20, l28 & 255u);
+    store32(l1, (uint32_t)(l30 >> 32));
+    store32(l1 + 20, l6 & 255u);
     store16(l1 + 10, (uint32_t)((l4 & 0xff0000ull) != 0x10000ull));
     store8(l2 + 344, l9);
-    store64(l2 + 336, l22);
-    store8(l2 + 281, l27);
-    store8(l2 + 280, l32);
+    store64(l2 + 336, l15);
+    store8(l2 + 281, l28);
+    store8(l2 + 280, l16);
     store64(l2 + 320, (((uint64_t)l8) << 32) | ((uint64_t)l7));
     store64(l2 + 312, (((uint64_t)l12) << 32) | ((uint64_t)l11));
-    store64(l2 + 304, (((uint64_t)l20) << 32) | ((uint64_t)l10));
-    store64(l2 + 296, (((uint64_t)l19) << 32) | ((uint64_t)l18));
-    store64(l2 + 328, ((((uint64_t)l16) << 8) | (((uint64_t)l14) & 255ull)) | l45);
-    store64(l2 + 288, ((((uint64_t)l25) << 8) | (((uint64_t)l13) & 255ull)) | (((uint64_t)l17) << 32));
+    store64(l2 + 304, (((uint64_t)l22) << 32) | ((uint64_t)l10));
+    store64(l2 + 296, (((uint64_t)l21) << 32) | ((uint64_t)l20));
+    store64(l2 + 328, ((((uint64_t)l18) << 8) | (((uint64_t)l29) & 255ull)) | l45);
+    store64(l2 + 288, ((((uint64_t)l26) << 8) | (((uint64_t)l13) & 255ull)) | (((uint64_t)l19) << 32));
     store64(l2 + 240, 0ull);
     f26_repairer_for_c(sp, l2 + 352ull, l2 + 704ull, l2 + 280ull, l2 + 240ull);
     MOVE(l0, l2 + 352ull, 120ull);
+    l12 = 0u;
     goto L1;
 L2:;
     TRAP();
 L1:;
-    return l6;
+    return l12;
 }
 
 /* rattle::export hound_size */
-static uint64_t f84_hound_size(uint64_t l0, uint64_t l1) {
+static uint64_t f86_hound_size(uint64_t l0, uint64_t l1) {
     uint32_t l2 = 0, l3 = 0, l4 = 0, l5 = 0, l6 = 0;
     uint64_t l7 = 0;
     l2 = load16(l0 + 10);
@@ -8568,7 +8760,7 @@ L6:;
 }
 
 /* rattle::export hound_sizes */
-static uint64_t f86_hound_sizes(uint64_t l0, uint64_t l1, uint64_t l2, uint64_t l3, uint64_t l4) {
+static uint64_t f88_hound_sizes(uint64_t l0, uint64_t l1, uint64_t l2, uint64_t l3, uint64_t l4) {
     uint32_t l5 = 0, l6 = 0, l7 = 0, l8 = 0, l9 = 0;
     l5 = load16(l0 + 10);
     l6 = load16(l0 + 6);
@@ -8619,7 +8811,7 @@ L3:;
 }
 
 /* rattle::export hound_to_f32 */
-static uint64_t f88_hound_to_f32(uint64_t l0, uint64_t l1, uint32_t l2, uint64_t l3, uint64_t l4) {
+static uint64_t f90_hound_to_f32(uint64_t l0, uint64_t l1, uint32_t l2, uint64_t l3, uint64_t l4) {
     float l5 = 0, l6 = 0;
     if (((l2 - 33u) & 65535u) >= 65504u) goto L2;
     return 0xfffffffffffffffbull;
@@ -8654,22 +8846,22 @@ L6:;
 }
 
 /* rattle::export hound_value_16 */
-static uint32_t f90_hound_value_16(uint32_t l0) {
+static uint32_t f92_hound_value_16(uint32_t l0) {
     return extend16(l0);
 }
 
 /* rattle::export hound_value_24 */
-static uint32_t f92_hound_value_24(uint32_t l0) {
+static uint32_t f94_hound_value_24(uint32_t l0) {
     return ((shr_s32((l0 << 8), 8)) & 0xffff0000u) | (l0 & 65535u);
 }
 
 /* rattle::export hound_value_8 */
-static uint32_t f96_hound_value_8(uint32_t l0) {
+static uint32_t f98_hound_value_8(uint32_t l0) {
     return extend8(l0) ^ 0xffffff80u;
 }
 
 /* rattle::export hound_walk_next */
-static uint32_t f98_hound_walk_next(uint64_t sp, uint64_t l0, uint64_t l1) {
+static uint32_t f102_hound_walk_next(uint64_t sp, uint64_t l0, uint64_t l1) {
     uint32_t l4 = 0, l5 = 0, l6 = 0, l7 = 0, l8 = 0, l9 = 0, l10 = 0, l11 = 0, l12 = 0, l13 = 0, l14 = 0, l15 = 0, l16 = 0, l17 = 0, l18 = 0;
     uint64_t l2 = 0, l3 = 0, l19 = 0;
     l2 = sp - 128ull;
@@ -9038,7 +9230,7 @@ L1:;
 }
 
 /* rattle::export hound_walk_to_end */
-static uint32_t f100_hound_walk_to_end(uint64_t sp, uint64_t l0, uint64_t l1) {
+static uint32_t f104_hound_walk_to_end(uint64_t sp, uint64_t l0, uint64_t l1) {
     uint32_t l4 = 0, l5 = 0, l6 = 0, l7 = 0, l8 = 0, l9 = 0, l10 = 0, l11 = 0, l12 = 0, l13 = 0, l14 = 0, l15 = 0, l16 = 0, l17 = 0, l18 = 0, l20 = 0, l21 = 0;
     uint64_t l2 = 0, l3 = 0, l19 = 0;
     l2 = sp - 128ull;
@@ -9399,7 +9591,7 @@ L1:;
 }
 
 /* rattle::export hound_whole_frames */
-static uint64_t f102_hound_whole_frames(uint64_t l0, uint64_t l1) {
+static uint64_t f106_hound_whole_frames(uint64_t l0, uint64_t l1) {
     uint32_t l2 = 0, l3 = 0;
     l2 = load16(l0 + 4);
     l3 = load16(l0 + 8);
@@ -9420,7 +9612,7 @@ L1:;
 }
 
 /* rattle::export hound_write_f32 */
-static uint64_t f104_hound_write_f32(uint64_t sp, uint64_t l0, uint64_t l1, uint64_t l2, uint64_t l3, uint64_t l4) {
+static uint64_t f108_hound_write_f32(uint64_t sp, uint64_t l0, uint64_t l1, uint64_t l2, uint64_t l3, uint64_t l4) {
     uint32_t l6 = 0, l7 = 0, l8 = 0, l9 = 0, l10 = 0, l11 = 0, l12 = 0, l13 = 0, l14 = 0;
     uint64_t l5 = 0, l15 = 0, l16 = 0, l17 = 0, l18 = 0, l19 = 0, l20 = 0, l21 = 0, l22 = 0;
     l5 = sp - 16ull;
@@ -9521,7 +9713,7 @@ L1:;
 }
 
 /* rattle::export hound_write_i16 */
-static uint64_t f106_hound_write_i16(uint64_t sp, uint64_t l0, uint64_t l1, uint64_t l2, uint64_t l3, uint64_t l4) {
+static uint64_t f110_hound_write_i16(uint64_t sp, uint64_t l0, uint64_t l1, uint64_t l2, uint64_t l3, uint64_t l4) {
     uint32_t l6 = 0, l7 = 0, l8 = 0, l9 = 0, l10 = 0, l11 = 0, l12 = 0, l13 = 0;
     uint64_t l5 = 0, l14 = 0, l15 = 0;
     l5 = sp - 32ull;
@@ -9645,7 +9837,7 @@ L1:;
 }
 
 /* rattle::export hound_write_i32 */
-static uint64_t f108_hound_write_i32(uint64_t sp, uint64_t l0, uint64_t l1, uint64_t l2, uint64_t l3, uint64_t l4) {
+static uint64_t f112_hound_write_i32(uint64_t sp, uint64_t l0, uint64_t l1, uint64_t l2, uint64_t l3, uint64_t l4) {
     uint32_t l6 = 0, l7 = 0, l8 = 0, l9 = 0, l10 = 0, l11 = 0, l12 = 0, l13 = 0;
     uint64_t l5 = 0, l14 = 0, l15 = 0;
     l5 = sp - 32ull;
@@ -9768,6 +9960,10 @@ L1:;
     return l0;
 }
 
+int32_t hound_version(void) {
+    return s32(512);
+}
+
 int32_t hound_info(const uint8_t *file, size_t length, hound_info_t *info) {
     STACK(544);
     return s32(f58_hound_info(sp, (uint64_t)(uintptr_t)file, length, (uint64_t)(uintptr_t)info));
@@ -9775,39 +9971,43 @@ int32_t hound_info(const uint8_t *file, size_t length, hound_info_t *info) {
 
 int32_t hound_walk_next(hound_walk *walk, hound_info_t *info) {
     STACK(416);
-    return s32(f98_hound_walk_next(sp, (uint64_t)(uintptr_t)walk, (uint64_t)(uintptr_t)info));
+    return s32(f102_hound_walk_next(sp, (uint64_t)(uintptr_t)walk, (uint64_t)(uintptr_t)info));
 }
 
 int32_t hound_walk_to_end(hound_walk *walk, hound_info_t *info) {
     STACK(416);
-    return s32(f100_hound_walk_to_end(sp, (uint64_t)(uintptr_t)walk, (uint64_t)(uintptr_t)info));
+    return s32(f104_hound_walk_to_end(sp, (uint64_t)(uintptr_t)walk, (uint64_t)(uintptr_t)info));
 }
 
 int64_t hound_whole_frames(const hound_spec *spec, uint64_t length) {
-    return s64(f102_hound_whole_frames((uint64_t)(uintptr_t)spec, length));
+    return s64(f106_hound_whole_frames((uint64_t)(uintptr_t)spec, length));
 }
 
 int64_t hound_guess_data(const uint8_t *file, size_t length) {
     return s64(f54_hound_guess_data((uint64_t)(uintptr_t)file, length));
 }
 
+int32_t hound_kind(const uint8_t *file, size_t length) {
+    return s32(f60_hound_kind((uint64_t)(uintptr_t)file, length));
+}
+
 int64_t hound_read_i16(const uint8_t *file, size_t length, uint64_t first, int16_t *out, size_t count) {
     STACK(544);
-    return s64(f62_hound_read_i16(sp, (uint64_t)(uintptr_t)file, length, first, (uint64_t)(uintptr_t)out, count));
+    return s64(f64_hound_read_i16(sp, (uint64_t)(uintptr_t)file, length, first, (uint64_t)(uintptr_t)out, count));
 }
 
 int64_t hound_read_i32(const uint8_t *file, size_t length, uint64_t first, int32_t *out, size_t count) {
     STACK(544);
-    return s64(f64_hound_read_i32(sp, (uint64_t)(uintptr_t)file, length, first, (uint64_t)(uintptr_t)out, count));
+    return s64(f66_hound_read_i32(sp, (uint64_t)(uintptr_t)file, length, first, (uint64_t)(uintptr_t)out, count));
 }
 
 int64_t hound_read_f32(const uint8_t *file, size_t length, uint64_t first, float *out, size_t count) {
     STACK(544);
-    return s64(f60_hound_read_f32(sp, (uint64_t)(uintptr_t)file, length, first, (uint64_t)(uintptr_t)out, count));
+    return s64(f62_hound_read_f32(sp, (uint64_t)(uintptr_t)file, length, first, (uint64_t)(uintptr_t)out, count));
 }
 
 int64_t hound_size(const hound_spec *spec, uint64_t samples) {
-    return s64(f84_hound_size((uint64_t)(uintptr_t)spec, samples));
+    return s64(f86_hound_size((uint64_t)(uintptr_t)spec, samples));
 }
 
 int64_t hound_header(const hound_spec *spec, uint64_t samples, uint8_t *out, size_t capacity) {
@@ -9816,22 +10016,22 @@ int64_t hound_header(const hound_spec *spec, uint64_t samples, uint8_t *out, siz
 }
 
 int64_t hound_sizes(const hound_spec *spec, uint64_t data_start, uint64_t samples, uint8_t *out, size_t capacity) {
-    return s64(f86_hound_sizes((uint64_t)(uintptr_t)spec, data_start, samples, (uint64_t)(uintptr_t)out, capacity));
+    return s64(f88_hound_sizes((uint64_t)(uintptr_t)spec, data_start, samples, (uint64_t)(uintptr_t)out, capacity));
 }
 
 int64_t hound_write_i16(const hound_spec *spec, const int16_t *samples, size_t count, uint8_t *out, size_t capacity) {
     STACK(272);
-    return s64(f106_hound_write_i16(sp, (uint64_t)(uintptr_t)spec, (uint64_t)(uintptr_t)samples, count, (uint64_t)(uintptr_t)out, capacity));
+    return s64(f110_hound_write_i16(sp, (uint64_t)(uintptr_t)spec, (uint64_t)(uintptr_t)samples, count, (uint64_t)(uintptr_t)out, capacity));
 }
 
 int64_t hound_write_i32(const hound_spec *spec, const int32_t *samples, size_t count, uint8_t *out, size_t capacity) {
     STACK(272);
-    return s64(f108_hound_write_i32(sp, (uint64_t)(uintptr_t)spec, (uint64_t)(uintptr_t)samples, count, (uint64_t)(uintptr_t)out, capacity));
+    return s64(f112_hound_write_i32(sp, (uint64_t)(uintptr_t)spec, (uint64_t)(uintptr_t)samples, count, (uint64_t)(uintptr_t)out, capacity));
 }
 
 int64_t hound_write_f32(const hound_spec *spec, const float *samples, size_t count, uint8_t *out, size_t capacity) {
     STACK(256);
-    return s64(f104_hound_write_f32(sp, (uint64_t)(uintptr_t)spec, (uint64_t)(uintptr_t)samples, count, (uint64_t)(uintptr_t)out, capacity));
+    return s64(f108_hound_write_f32(sp, (uint64_t)(uintptr_t)spec, (uint64_t)(uintptr_t)samples, count, (uint64_t)(uintptr_t)out, capacity));
 }
 
 int64_t hound_append_i16(uint8_t *file, size_t capacity, size_t used, const int16_t *samples, size_t count) {
@@ -9851,12 +10051,12 @@ int64_t hound_append_f32(uint8_t *file, size_t capacity, size_t used, const floa
 
 int64_t hound_repair(uint8_t *file, size_t capacity, size_t used, hound_repair_t *found) {
     STACK(1072);
-    return s64(f76_hound_repair(sp, (uint64_t)(uintptr_t)file, capacity, used, (uint64_t)(uintptr_t)found));
+    return s64(f78_hound_repair(sp, (uint64_t)(uintptr_t)file, capacity, used, (uint64_t)(uintptr_t)found));
 }
 
 int64_t hound_repair_to_end(uint8_t *file, size_t capacity, size_t used, hound_repair_t *found) {
     STACK(1072);
-    return s64(f78_hound_repair_to_end(sp, (uint64_t)(uintptr_t)file, capacity, used, (uint64_t)(uintptr_t)found));
+    return s64(f80_hound_repair_to_end(sp, (uint64_t)(uintptr_t)file, capacity, used, (uint64_t)(uintptr_t)found));
 }
 
 int32_t hound_find_damage(const uint8_t *file, size_t length, hound_repair_t *found) {
@@ -9865,12 +10065,12 @@ int32_t hound_find_damage(const uint8_t *file, size_t length, hound_repair_t *fo
 }
 
 void hound_repairer_begin(uint64_t length, uint32_t mode, hound_repairer *repairer) {
-    f80_hound_repairer_begin(length, (uint32_t)mode, (uint64_t)(uintptr_t)repairer);
+    f82_hound_repairer_begin(length, (uint32_t)mode, (uint64_t)(uintptr_t)repairer);
 }
 
 int32_t hound_repairer_next(hound_repairer *repairer, hound_repair_t *found) {
     STACK(2032);
-    return s32(f82_hound_repairer_next(sp, (uint64_t)(uintptr_t)repairer, (uint64_t)(uintptr_t)found));
+    return s32(f84_hound_repairer_next(sp, (uint64_t)(uintptr_t)repairer, (uint64_t)(uintptr_t)found));
 }
 
 int64_t hound_decode_i8(const hound_spec *spec, const uint8_t *bytes, size_t length, int8_t *out, size_t count) {
@@ -9912,15 +10112,15 @@ int64_t hound_encode_f32(const hound_spec *spec, const float *samples, size_t co
 }
 
 int32_t hound_value_8(uint32_t container) {
-    return s32(f96_hound_value_8((uint32_t)container));
+    return s32(f98_hound_value_8((uint32_t)container));
 }
 
 int32_t hound_value_16(uint32_t container) {
-    return s32(f90_hound_value_16((uint32_t)container));
+    return s32(f92_hound_value_16((uint32_t)container));
 }
 
 int32_t hound_value_24(uint32_t container) {
-    return s32(f92_hound_value_24((uint32_t)container));
+    return s32(f94_hound_value_24((uint32_t)container));
 }
 
 int32_t hound_value_32(uint32_t container) {
@@ -9928,7 +10128,7 @@ int32_t hound_value_32(uint32_t container) {
 }
 
 int64_t hound_to_f32(const int32_t *samples, size_t count, uint16_t bits, float *out, size_t capacity) {
-    return s64(f88_hound_to_f32((uint64_t)(uintptr_t)samples, count, (uint32_t)bits, (uint64_t)(uintptr_t)out, capacity));
+    return s64(f90_hound_to_f32((uint64_t)(uintptr_t)samples, count, (uint32_t)bits, (uint64_t)(uintptr_t)out, capacity));
 }
 
 int64_t hound_from_f32(const float *samples, size_t count, uint16_t bits, int32_t *out, size_t capacity, uint64_t *clipped) {
@@ -9936,24 +10136,24 @@ int64_t hound_from_f32(const float *samples, size_t count, uint16_t bits, int32_
 }
 
 int32_t hound_recorder_begin(const hound_spec *spec, hound_recorder *recorder) {
-    return s32(f66_hound_recorder_begin((uint64_t)(uintptr_t)spec, (uint64_t)(uintptr_t)recorder));
+    return s32(f68_hound_recorder_begin((uint64_t)(uintptr_t)spec, (uint64_t)(uintptr_t)recorder));
 }
 
 int32_t hound_recorder_resume(const hound_repair_t *found, uint32_t allowed, hound_recorder *recorder) {
-    return s32(f72_hound_recorder_resume((uint64_t)(uintptr_t)found, (uint32_t)allowed, (uint64_t)(uintptr_t)recorder));
+    return s32(f74_hound_recorder_resume((uint64_t)(uintptr_t)found, (uint32_t)allowed, (uint64_t)(uintptr_t)recorder));
 }
 
 int32_t hound_recorder_write(hound_recorder *recorder, uint64_t samples) {
     STACK(192);
-    return s32(f74_hound_recorder_write(sp, (uint64_t)(uintptr_t)recorder, samples));
+    return s32(f76_hound_recorder_write(sp, (uint64_t)(uintptr_t)recorder, samples));
 }
 
 void hound_recorder_checkpoint(hound_recorder *recorder) {
     STACK(192);
-    f68_hound_recorder_checkpoint(sp, (uint64_t)(uintptr_t)recorder);
+    f70_hound_recorder_checkpoint(sp, (uint64_t)(uintptr_t)recorder);
 }
 
 int32_t hound_recorder_next(hound_recorder *recorder) {
     STACK(272);
-    return s32(f70_hound_recorder_next(sp, (uint64_t)(uintptr_t)recorder));
+    return s32(f72_hound_recorder_next(sp, (uint64_t)(uintptr_t)recorder));
 }

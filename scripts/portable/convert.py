@@ -349,7 +349,7 @@ def exported(module, name, declaration):
     export, (called,) = module.exports[name], module.called_by(module.exports[name])
     returned, parameters = re.match(r"(\w+) \w+\((.*)\)", declaration).groups()
     arguments = []
-    for parameter in parameters.split(", "):
+    for parameter in [] if parameters == "void" else parameters.split(", "):
         word = re.search(r"\w+$", parameter)[0]
         is_narrow = re.search(r"int(16|32)_t ", parameter) and "*" not in parameter
         if "*" in parameter:
@@ -370,8 +370,9 @@ def exported(module, name, declaration):
         is_result = [code for code, _ in rest] == [LOCAL_SET, LOCAL_GET] and rest[0][1] == rest[1][1]
         need(is_result, "the result is returned")
     else:
-        need(rest == [(LOCAL_GET, 0)] and not called.code, "or the first argument, and the call does nothing")
-        result = arguments[0]
+        is_constant = len(rest) == 1 and rest[0][0] == I32_CONST
+        need((rest == [(LOCAL_GET, 0)] or is_constant) and not called.code, "or the first argument, or a number")
+        result = str(rest[0][1]) if is_constant else arguments[0]
     stack = [f"    STACK({called.depth});"] * (called.depth > 0)
     last = f"    return s{returned[3:5]}({result});" if export.result else f"    {result};"
     return "\n".join([f"{returned} {name}({parameters}) {{", *stack, last, "}", ""])

@@ -43,23 +43,16 @@ pub fn find_damage_in_bytes(bytes: &[u8], task: Task) -> Result<Damage, Rejectio
 /// Repairs the file in the first `used` bytes, in which the task found this, as [`repair`](crate::repair)
 /// does one in a medium, and returns its new length: one more where a pad byte was missing. If there
 /// is no room for that, nothing is written.
-pub fn repair_bytes(
-    bytes: &mut [u8],
-    used: usize,
-    task: Task,
-    damage: Damage,
-) -> Option<usize>
+pub fn repair_bytes(bytes: &mut [u8], used: usize, task: Task, damage: Damage) -> Option<usize>
     requires task { IsRepair task }
     requires used { used ≤ length bytes.old }
     requires sound { IsSoundDamage damage }
     requires inside { damage.head.data_start + damage.held ≡ used }
-    ensures repairs {
-        FindsDamage (looks_for_chunks task) (as_medium (take used bytes.old)) damage (as_medium (take used bytes.old))
+    ensures repairs { FindsDamage (looks_for_chunks task) (as_medium (take used bytes.old)) damage (as_medium (take used bytes.old))
         → IfSome result (λ n. RepairsBytes (looks_for_chunks task) used n (repair_of damage) bytes.old bytes.new) }
     ensures within { IfSome result (λ n. n ≤ length bytes.old) }
     ensures kept { IfNone result (bytes.new ≡ bytes.old) }
-    ensures lacks {
-        FindsDamage (looks_for_chunks task) (as_medium (take used bytes.old)) damage (as_medium (take used bytes.old))
+    ensures lacks { FindsDamage (looks_for_chunks task) (as_medium (take used bytes.old)) damage (as_medium (take used bytes.old))
         → IfNone result (LacksRoom (looks_for_chunks task) used bytes.old) }
 {
     if !task.mends(damage.state) {

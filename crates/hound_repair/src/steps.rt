@@ -389,9 +389,7 @@ impl Task {
     {
         match state {
             RepairState::CutOff => self != Task::FindDamage,
-            RepairState::AllCounted => {
-                self == Task::RepairToEnd || self == Task::MakeCanonical
-            }
+            RepairState::AllCounted => { self == Task::RepairToEnd || self == Task::MakeCanonical }
             RepairState::Whole | RepairState::HasChunksAfterData => false,
         }
     }

@@ -8,8 +8,7 @@ pub returns-in-Next-clause-leads : goal.returns-in-Next-clause-leads
 returns-in-Next-clause-leads c =
     let led = mapped_ok _ _ _ _ c.in_ok-next.ensures.variant c.in_ok-next.ensures.cases in
     let is = led ∙ ap Ok c.in-Next.is in
-    let n = c.args.length in
-    (
+    let n = c.args.length in (
       subst (λ r. IfOk r (λ _. AreEnough c.args.stage c.args.bytes.now)) is c.take_asked.ensures.enough,
       inl (
         c.in-Next.next,
@@ -24,8 +23,7 @@ returns-in-Next-clause-leads c =
 pub returns-in-Found-clause-leads : goal.returns-in-Found-clause-leads
 returns-in-Found-clause-leads c =
     let led = mapped_ok _ _ _ _ c.in_ok-next.ensures.variant c.in_ok-next.ensures.cases in
-    let is = led ∙ ap Ok c.in-Found.is in
-    (
+    let is = led ∙ ap Ok c.in-Found.is in (
       subst (λ r. IfOk r (λ _. AreEnough c.args.stage c.args.bytes.now)) is c.take_asked.ensures.enough,
       inr (
         c.in-Found.damage,
