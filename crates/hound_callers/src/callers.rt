@@ -1,10 +1,10 @@
 // Functions of a user of the library, whose contracts follow from its public ones.
-ghost use Rattle.std.specs.Prelude.{◌≡◌, ℕ, ◌/◌, ◌<◌, ◌≤◌, ◌++◌, Bool, ◌⊎◌, false, true, List, length, map, ◌∷◌, None, Some, Ok, Err, Result, IfErr, IfOk, IfSome, MatchResult, OnOk};
+ghost use Rattle.std.specs.Prelude.{◌≡◌, ℕ, ◌/◌, ◌<◌, ◌≤◌, ◌++◌, Bool, ◌⊎◌, false, true, ⊤, List, length, map, ◌∷◌, None, Some, Ok, Err, Result, IfErr, IfOk, IfSome, MatchResult, OnOk};
 ghost use Rattle.std.specs.List.{AllByRecursion, concat};
-ghost use Rattle.hound.specs.{AreKnown, accepted_samples, Begun, Call, Checkpoints, Finishes, Known, ReadsAs, Recorded, found_in, start_of, IsSameFile, ReaderState, RepairsMedium, Seeks, Repair, Repairs, IsFoundAt, Head, IsSoundSpec, IsStored, IsNoPad, shown_length, held, frame_length, containers, AreContainers, canonical, HasPublished, IsLeftAfter, Keeps, accepted_by_all, begins_at, one_more, samples_left, OpensAs, ReadsFrames, IsIoError, IsNext, IsSixteen, MediumState, WhereTells, Error, IsWritable, sample_count, WavSpecEx, container_at, meaning_at, rejection_at, samples_before, unread};
+ghost use Rattle.hound.specs.{AreKnown, accepted_samples, Begun, Call, Checkpoints, Finishes, Known, ReadsAs, Recorded, found_in, start_of, IsSameFile, ReaderState, RepairsMedium, Seeks, Repair, Repairs, IsFoundAt, Head, IsSoundSpec, IsStored, IsNoPad, shown_length, held, frame_length, containers, AreContainers, canonical, HasPublished, IsLeftAfter, Keeps, accepted_by_all, begins_at, one_more, samples_left, OpensAs, ReadsFrames, IsIoError, IsNext, IsSixteen, MediumState, WhereKeeps, WhereTells, Error, IsWritable, sample_count, WavSpecEx, container_at, meaning_at, rejection_at, samples_before, unread};
 ghost use Rattle.hound.specs.declared.Error.TheVariants.{OutOfMemory};
 ghost use Rattle.hound.specs.declared.RepairState.TheVariants.{HasChunksAfterData, Whole};
-ghost use Rattle.hound_callers.specs.Recording.{IsNoBatch, as_item};
+ghost use Rattle.hound_callers.specs.Recording.{IsDoneAgain, IsDoneAgainAfterLoss, IsNoBatch, as_item};
 
 use hound::{
     Error, Medium, Repair, Sample, Source, WavReader, WavWriter, a_look_finds_what_a_repair_does,
@@ -52,7 +52,8 @@ pub fn finish<M: Medium>(writer: WavWriter<M>) -> (M, hound::Result<()>)
 /// Repairs what a recorder has left, whoever made its calls, over whichever medium: it does what
 /// `repair_to_end` does (`repaired`), and no sample is missing that one of the recorder's flushes has
 /// published, whether calls failed or the power went (`none_lost`). Another repair then finds the file whole
-/// (`again`). One that failed has written nothing, or is done again: that finds the same frames (`stopped`).
+/// (`again`). One that failed has written nothing, or is done again: that finds the same frames (`stopped`). So it is
+/// where the power goes meanwhile (`lost`).
 pub fn repair_recording<N: Source + Medium>(left: N) -> result::Result<(N, Repair), (N, Error)>
     requires place { WhereTells N.tells ((N.state left).place ≡ 0) }
     ensures repaired { WhereTells N.tells (RepairsMedium false N.state left result) }
@@ -67,11 +68,10 @@ pub fn repair_recording<N: Source + Medium>(left: N) -> result::Result<(N, Repai
         (other : Repair) → next.contents ≡ (N.state done.0).contents → Repairs looks next other new →
         (other.state ≡ Whole) × (other.frames ≡ done.1.frames) × (new.contents ≡ next.contents))) }
     ensures stopped { WhereTells N.tells (IfErr result (λ rejected.
-        ((N.state rejected.0).contents ≡ (N.state left).contents)
-        ⊎ ((found : Repair) × (len start : ℕ) × IsFoundAt false (N.state left).contents found len start
-        × (1 ≤ frame_length found.spec_ex → (next new : MediumState) (other : Repair)
-        → next.contents ≡ (N.state rejected.0).contents → Repairs false next other new →
-        (other.spec_ex ≡ found.spec_ex) × (other.frames ≡ found.frames))))) }
+        IsDoneAgain (N.state left).contents (N.state rejected.0).contents (λ _. ⊤))) }
+    ensures lost { WhereKeeps N.tells N.keeps (MatchResult result
+        (λ done. IsDoneAgainAfterLoss (N.state left) (N.state done.0))
+        (λ rejected. IsDoneAgainAfterLoss (N.state left) (N.state rejected.0))) }
 {
     a_repair_loses_no_published_sample();
     a_second_repair_writes_nothing();

@@ -1,6 +1,6 @@
 -- What a repair by effects leaves of a medium.
 use Rattle.std.proofs.lemmas.Grind.{common_steps}
-use Rattle.std.proofs.Common.{◌≡◌, ℕ, ◌<◌, ◌^◌, Bool, IsTrue, true, false, not, List, length, inl, inr, Result, Ok, Err, refl, sym, ap, ◌∙◌, subst, arith}
+use Rattle.std.proofs.Common.{◌≡◌, ℕ, ◌-◌, ◌≤◌, ◌<◌, ◌^◌, Bool, IsTrue, true, false, not, List, length, inl, inr, Result, Ok, Err, refl, sym, ap, ◌∙◌, subst, arith}
 use Rattle.std.specs.declared.io.Error.{Error as IoFault}
 use Rattle.hound_number.specs.{AreBytes}
 use Rattle.hound_spec.specs.declared.error.Error.{Error}
@@ -11,13 +11,14 @@ use Rattle.hound_writer.proofs.Heads.{head_beyond, head_inside}
 use Rattle.hound_repair.specs.Damages.{FindsDamage, IsSoundDamage, repair_of}
 use Rattle.hound_repair.specs.Held.{held}
 use Rattle.hound_repair.specs.Repairing.{IsNotFound, IsRepairFault, Repairs, is_mended}
-use Rattle.hound_repair.specs.Steps.{IsNotRepaired, IsRejectedFor, IsRepair, Mends, MendsAtEach, PartlyMended, PerformedOn, effects_of_task, effects_where, looks_for_chunks, mending, mending_effects, mends_for, rejected_for}
+use Rattle.hound_repair.specs.Steps.{IsNotRepaired, IsRejectedFor, IsRepair, Mends, MendsAtEach, MendsThroughLoss, PartlyMended, PerformedOn, effects_of_task, effects_where, looks_for_chunks, mending, mending_effects, mends_for, rejected_for}
 use Rattle.hound_repair.specs.declared.look.Damage.{Damage}
 use Rattle.hound_repair.specs.declared.steps.Task.{Task}
 use Rattle.hound_writer.specs.declared.resuming.RepairState.{RepairState}
 use Rattle.hound_writer.specs.declared.resuming.RepairState.TheVariants.{HasChunksAfterData}
 use Rattle.hound_repair.specs.declared.steps.Rejection.{Rejection}
 use Rattle.hound_repair.specs.declared.steps.Rejection.TheVariants as rejections
+use Rattle.hound_repair.proofs.Lost.{first_sector, kept_loss, mending_is_safe, same_sector, survives}
 use Rattle.hound_repair.proofs.Mending.{length_is, put_ok, repairs_kept}
 use Rattle.hound_repair.proofs.Performing.{allowed, faults_of, mends, spans}
 use Rattle.hound_repair.proofs.RightSizes.{length_fits, mended_apart}
@@ -161,4 +162,45 @@ module _ (looks keeps : Bool) (old mid new : MediumState) (d : Damage) (sound : 
       → MendsAtEach looks old new
   moments_by result kept replays performed =
       moments_as (is_mended (not looks) d.state) result refl replays
+      (subst (λ k. PerformedOn k (effects_where (is_mended (not looks) d.state) d) result mid new) (truth kept) performed)
+
+  -- what a loss of power leaves
+  lost_as : (put : Bool) (result : Result (Unit {0}) IoFault) → is_mended (not looks) d.state ≡ put
+      → mid.contents ≡ overlay mid.start mid.past → PerformedOn true (effects_where put d) result mid new
+      → MendsThroughLoss looks old new
+  lost_as true result is replays left sector contents settled wide lost =
+      let same = finds.puts.stays.contents in
+      let beyond = head_beyond old.contents d.head.spec_ex d.head.data_length start finds.found.head in
+      let inside : start ≤ length mid.contents =
+      omega (arith, ap length same, head_inside old.contents d.head.spec_ex d.head.data_length start finds.found.head) in
+      inr (
+        repair_of d,
+        d.head.data_length,
+        start,
+        finds.found,
+        is,
+        λ one.
+            subst (λ i. PartlyMended start i old.contents contents) (length_is d sound (apart_by is))
+            (subst (λ c. PartlyMended start n c contents) same
+            (survives sector contents (PartlyMended start n mid.contents) (mending_effects start n (held start mid.contents))
+            result mid new (allowed true start n mid.contents beyond inside small (fits is))
+            (mending_is_safe sector contents start n mid.contents beyond inside
+            (λ i few. same_sector (start - 4) (start - 1) i sector (omega (arith, wide)) (omega (arith, beyond, few)) one)
+            (λ i few. first_sector i sector few wide))
+            replays (finds.puts.flushed ∙ settled ∙ sym (ap length finds.puts.stays.past))
+            (subst (λ h. PerformedOn true (mending_effects start n h) result mid new)
+            (finds.held_is ∙ ap (λ c. held start c) (sym same)) left) lost)),
+      )
+  lost_as false result is replays (ok, same) sector contents settled wide lost =
+      inl (kept_loss sector contents mid new
+      (subst (PutsNothing mid) (sym same) (record { stays = record { contents = refl; start = refl; past = refl }; flushed = refl }))
+      replays (finds.puts.flushed ∙ settled ∙ sym (ap length finds.puts.stays.past)) lost
+      ∙ finds.puts.stays.contents)
+
+  pub lost_by : (result : Result (Unit {0}) IoFault) → IsTrue keeps
+      → mid.contents ≡ overlay mid.start mid.past
+      → PerformedOn keeps (effects_where (is_mended (not looks) d.state) d) result mid new
+      → MendsThroughLoss looks old new
+  lost_by result kept replays performed =
+      lost_as (is_mended (not looks) d.state) result refl replays
       (subst (λ k. PerformedOn k (effects_where (is_mended (not looks) d.state) d) result mid new) (truth kept) performed)

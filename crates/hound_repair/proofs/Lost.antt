@@ -12,7 +12,7 @@ use Rattle.hound_medium.specs.{MediumState, moment, overlay, placed}
 use Rattle.hound_medium.proofs.Overlays.{overlay_at_end, overlay_is}
 use Rattle.hound_medium.proofs.Spans.{span_puts}
 use Rattle.hound_durable.specs.{SurvivesLoss}
-use Rattle.hound_writer.specs.{PutsAt}
+use Rattle.hound_writer.specs.{PutsAt, PutsNothing}
 use Rattle.hound_writer.specs.declared.effects.Effect.{Effect}
 use Rattle.hound_writer.specs.declared.effects.Effect.TheVariants.{Sync, Pad, Size}
 use Rattle.hound_writer.proofs.Sizes.{same_length, same_riff}
@@ -75,6 +75,12 @@ module _ (sector : ℕ) (contents : List ℕ) where
       let l = lost.long in
       ext_get_or 0 contents m.contents (l.3 ∙ ap length (all l.0 l.1))
       (λ i few. let s = lost.sectors (i / sector) in s.3 i refl few ∙ ap (λ c. get_or c i 0) (all s.0 s.1))
+
+  -- nor where nothing was written after that
+  pub kept_loss : (old new : MediumState) → PutsNothing old new → old.contents ≡ overlay old.start old.past
+      → old.flushed ≡ length old.past → LostFrom new → contents ≡ old.contents
+  kept_loss old new puts replays settled lost =
+      settled_loss old replays settled (lost_before old new puts.stays.start puts.stays.past puts.flushed lost)
 
   -- of one write into contents, a beginning is left, if its bytes are in one sector
   module _ (p : ℕ) (bs : List ℕ) (result : Result (Unit {0}) IoFault) (old new : MediumState)

@@ -1,5 +1,5 @@
 -- A repair whose caller reads and writes the file.
-use Rattle.std.specs.Prelude.{◌≡◌, ℕ, ◌^◌, min, ◌+◌, ◌-◌, ◌≤◌, ◌<◌, ◌⊎◌, ⊤, MatchResult, Bool, not, true, false, ◌==◌, ◌||◌, ◌&&◌, List, [], ◌∷◌, ◌++◌, length, take, drop, Result, Ok, Err, Option, None, Some}
+use Rattle.std.specs.Prelude.{◌≡◌, ℕ, ◌^◌, min, ◌+◌, ◌-◌, ◌/◌, ◌≤◌, ◌<◌, ◌⊎◌, ⊤, MatchResult, Bool, not, true, false, ◌==◌, ◌||◌, ◌&&◌, List, [], ◌∷◌, ◌++◌, length, take, drop, Result, Ok, Err, Option, None, Some}
 use Rattle.hound_spec.specs.{greatest_u32, riff_size}
 use Rattle.hound_walk.specs.{Rejected as HasNoHead}
 use Rattle.hound_walk.specs.{Head, IsAt, IsDataPlace, IsSoundOption, IsSoundSpec, part_length, part_start, parts_left}
@@ -7,6 +7,7 @@ use Rattle.hound_walk.specs.declared.cause.Cause.TheVariants as causes
 use Rattle.hound_repair.specs.declared.look.SeenHead.{SeenHead}
 use Rattle.std.specs.declared.io.Error.{Error as IoFault}
 use Rattle.hound_number.specs.{bytes_of, mix}
+use Rattle.hound_durable.specs.{SurvivesLoss}
 use Rattle.hound_medium.specs.{Flushes, MediumState, moment, one_more}
 use Rattle.hound_writer.specs.{AppendFault, IsIoError, NamesFault, PutsAt, PutsNothing, SameButSizes, by_bytes, field, too_long}
 use Rattle.hound_writer.specs.declared.effects.Effect.{Effect}
@@ -302,6 +303,22 @@ abbrev pub MendsMedium : {M : Type 0} → Bool → (M → MediumState) → M
 MendsMedium looks state old result =
     MatchResult result (λ done. MendsAtEach looks (state old) (state done.0))
     (λ rejected. MendsAtEach looks (state old) (state rejected.0))
+
+-- What a loss of power leaves of a file that was flushed at first is what there was, or the file partly mended, if
+-- each size is within one sector.
+abbrev pub MendsThroughLoss : Bool → MediumState → MediumState → Type 0
+MendsThroughLoss looks old new = (sector : ℕ) (left : List ℕ) → old.flushed ≡ length old.past → 8 ≤ sector
+    → SurvivesLoss sector new.start new.past new.flushed (length new.past) left →
+    (left ≡ old.contents)
+    ⊎ ((found : Repair) × (len : ℕ) × (start : ℕ) × IsFoundAt looks old.contents found len start
+    × (is_mended (not looks) found.state ≡ true)
+    × ((start - 4) / sector ≡ (start - 1) / sector → PartlyMended start (found_length found) old.contents left))
+
+abbrev pub SurvivesMending : {M : Type 0} → Bool → (M → MediumState) → M
+    → Result (M × Repair) (M × Error) → Type 0
+SurvivesMending looks state old result =
+    MatchResult result (λ done. MendsThroughLoss looks (state old) (state done.0))
+    (λ rejected. MendsThroughLoss looks (state old) (state rejected.0))
 
 -- a repair, between two calls, over every file
 abbrev pub IsSoundRepairing : Repairing → Type 0

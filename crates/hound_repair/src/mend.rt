@@ -3,7 +3,7 @@ ghost use Rattle.std.specs.Prelude.{◌≡◌, true, false, IfErr, IfOk};
 ghost use Rattle.hound_walk.specs.{IsSoundSpec};
 ghost use Rattle.hound_medium.specs.{WhereKeeps, WhereTells};
 ghost use Rattle.hound_writer.specs.{IsMediumError};
-ghost use Rattle.hound_repair.specs.Steps.{MendsMedium, PerformsRepair, RepairsMedium};
+ghost use Rattle.hound_repair.specs.Steps.{MendsMedium, PerformsRepair, RepairsMedium, SurvivesMending};
 
 use crate::sizes::Repair;
 use crate::steps::{Task, repair_by_effects};
@@ -42,6 +42,7 @@ pub fn repair<M: Source + Medium>(medium: M) -> result::Result<(M, Repair), (M, 
     ensures reported { IfErr result (λ rejected. IsMediumError rejected.1) }
     ensures repaired { WhereTells M.tells (RepairsMedium true M.state medium result) }
     ensures moments { WhereKeeps M.tells M.keeps (MendsMedium true M.state medium result) }
+    ensures lost { WhereKeeps M.tells M.keeps (SurvivesMending true M.state medium result) }
     ensures performed { WhereTells M.tells (PerformsRepair M.keeps true M.state medium result) }
 {
     repair_by_effects(medium, Task::Repair)
@@ -55,6 +56,7 @@ pub fn repair_to_end<M: Source + Medium>(medium: M) -> result::Result<(M, Repair
     ensures reported { IfErr result (λ rejected. IsMediumError rejected.1) }
     ensures repaired { WhereTells M.tells (RepairsMedium false M.state medium result) }
     ensures moments { WhereKeeps M.tells M.keeps (MendsMedium false M.state medium result) }
+    ensures lost { WhereKeeps M.tells M.keeps (SurvivesMending false M.state medium result) }
     ensures performed { WhereTells M.tells (PerformsRepair M.keeps false M.state medium result) }
 {
     repair_by_effects(medium, Task::RepairToEnd)

@@ -6,7 +6,7 @@ ghost use Rattle.hound_writer.specs.{IsMediumError, NamesFault, nth};
 ghost use Rattle.hound_medium.specs.{WhereKeeps, WhereTells};
 ghost use Rattle.hound_repair.specs.Damages.{FindsDamage, IsSoundDamage};
 ghost use Rattle.hound_repair.specs.Repairing.{IsNotFound, unfollowed_state};
-ghost use Rattle.hound_repair.specs.Steps.{AreEnough, IsAsked, IsAtChunk, IsAtEnd, IsAtStage, IsFoundAs, IsLengthOf, IsMeasured, IsNotWhole, IsRepair, IsSoundHead, IsSoundLook, IsSoundStage, IsUnfollowed, PerformedOn, PerformsOn, AsksEffect, AsksMore, AsksNext, AsksPart, IsShown, IsSoundRepairing, IsSoundRepairStep, StaysAt, MendsMedium, PerformsRepair, RepairsMedium, LooksTo, MeasuresTo, StageNearer, asked_count, asks_for, stage_place, effects_of_task, failure_of, looks_for_chunks, mends_for, rejected_for, else_followed, followed, mending, steps_left};
+ghost use Rattle.hound_repair.specs.Steps.{AreEnough, IsAsked, IsAtChunk, IsAtEnd, IsAtStage, IsFoundAs, IsLengthOf, IsMeasured, IsNotWhole, IsRepair, IsSoundHead, IsSoundLook, IsSoundStage, IsUnfollowed, PerformedOn, PerformsOn, AsksEffect, AsksMore, AsksNext, AsksPart, IsShown, IsSoundRepairing, IsSoundRepairStep, StaysAt, MendsMedium, PerformsRepair, RepairsMedium, SurvivesMending, LooksTo, MeasuresTo, StageNearer, asked_count, asks_for, stage_place, effects_of_task, failure_of, looks_for_chunks, mends_for, rejected_for, else_followed, followed, mending, steps_left};
 ghost use Rattle.hound_repair.specs.declared.steps.Stage.TheVariants as stages;
 ghost use Rattle.hound_repair.specs.declared.steps.Repairing.TheVariants as states;
 
@@ -652,6 +652,7 @@ pub(crate) fn repair_by_effects<M: Source + Medium>(
     ensures reported { IfErr result (λ rejected. IsMediumError rejected.1) }
     ensures repaired { WhereTells M.tells (RepairsMedium (looks_for_chunks task) M.state medium result) }
     ensures moments { WhereKeeps M.tells M.keeps (MendsMedium (looks_for_chunks task) M.state medium result) }
+    ensures lost { WhereKeeps M.tells M.keeps (SurvivesMending (looks_for_chunks task) M.state medium result) }
     ensures performed { WhereTells M.tells
         (PerformsRepair M.keeps (looks_for_chunks task) M.state medium result) }
 {
