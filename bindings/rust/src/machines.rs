@@ -18,6 +18,8 @@ pub enum Kind {
     Sync,
     /// It cuts the file off, where it is longer than its place.
     Cut,
+    /// What only a newer library requests. It has to be reported as failed.
+    Unknown,
 }
 
 /// What a walk, a repairer or a recorder requests: something that is done to a file, at a place of it.
@@ -33,12 +35,13 @@ impl Effect {
     /// What it does.
     pub fn kind(&self) -> Kind {
         match self.0.kind {
+            c::NOTHING => Kind::Nothing,
             c::READ => Kind::Read,
             c::WRITE => Kind::Write,
             c::WRITE_BLOCK => Kind::WriteBlock,
             c::SYNC => Kind::Sync,
             c::CUT => Kind::Cut,
-            _ => Kind::Nothing,
+            _ => Kind::Unknown,
         }
     }
 
@@ -100,6 +103,7 @@ impl Effect {
                 medium.sync()
             }
             Kind::Cut => medium.cut(place),
+            Kind::Unknown => Err(unknown_effect()),
         };
         match result {
             Ok(()) => self.done(),
@@ -107,6 +111,11 @@ impl Effect {
         }
         result
     }
+}
+
+fn unknown_effect() -> io::Error {
+    let why = "the library requests what this version of hound_bindings can't do: unset HOUND_C_LIB";
+    io::Error::new(io::ErrorKind::Unsupported, why)
 }
 
 // Reads until the bytes are full or the file ends, and returns how many there are.
@@ -307,7 +316,8 @@ impl Walk {
         let (mut place, mut skipped) = (0, [0; 1024]);
         loop {
             let effect = match self.next() {
-                Ok(Next::Effect(effect)) => effect,
+                Ok(Next::Effect(effect)) if effect.kind() == Kind::Read => effect,
+                Ok(Next::Effect(_)) => return Err(unknown_effect()),
                 Ok(Next::Done(info)) => return Ok(Ok(info)),
                 Err(error) => return Ok(Err(error)),
             };
@@ -509,5 +519,38 @@ impl Recorder {
     /// first error, where what was requested isn't done because of it. A cut may fail.
     pub fn run<M: Medium + ?Sized>(&mut self, medium: &mut M, block: &[u8]) -> io::Result<Result<()>> {
         self.perform_all(medium, block)
+    }
+}
+
+#[cfg(test)]
+mod tests {
+    use super::*;
+
+    /// It requests an effect of a newer library, and ends by its report.
+    struct Newer(Effect);
+
+    impl Machine for Newer {
+        type Found = ();
+
+        fn next_effect(&mut self) -> Result<Next<'_, ()>> {
+            match self.0 .0.report {
+                c::PENDING => Ok(Next::Effect(&mut self.0)),
+                c::DONE => Ok(Next::Done(())),
+                _ => Err(crate::Error::NotPerformed),
+            }
+        }
+    }
+
+    #[test]
+    fn an_unknown_effect_is_an_error() {
+        struct Nothing;
+        impl Medium for Nothing {}
+        for kind in [c::CUT + 1, u16::MAX] {
+            let mut newer = Newer(Effect(c::Effect { kind, length: 4, ..c::Effect::default() }));
+            assert_eq!(newer.0.kind(), Kind::Unknown);
+            let error = newer.perform_all(&mut Nothing, &[]).unwrap_err();
+            assert_eq!((error.kind(), newer.0 .0.report), (io::ErrorKind::Unsupported, c::FAILED));
+            assert!(error.to_string().contains("HOUND_C_LIB"));
+        }
     }
 }
