@@ -170,7 +170,35 @@ pub trait Medium {
     }
 }
 
-/// A file, which a sync stores.
+// Whether a file was opened to append: then the system writes at its end, and at no place.
+#[cfg(unix)]
+fn is_open_to_append(file: &fs::File) -> bool {
+    use std::os::{raw::c_int, unix::io::AsRawFd};
+    extern "C" {
+        fn fcntl(file: c_int, command: c_int, ...) -> c_int;
+    }
+    const GET_FLAGS: c_int = 3;
+    const IS_OF_LINUX: bool = cfg!(any(target_os = "linux", target_os = "android"))
+        && !cfg!(any(target_arch = "mips", target_arch = "mips64", target_arch = "sparc64"));
+    const APPEND: c_int = if IS_OF_LINUX { 0x400 } else { 8 };
+    // SAFETY: the file is open, and no pointer is passed.
+    let flags = unsafe { fcntl(file.as_raw_fd(), GET_FLAGS) };
+    flags >= 0 && flags & APPEND != 0
+}
+
+// It isn't known before a write.
+#[cfg(not(unix))]
+fn is_open_to_append(_: &fs::File) -> bool {
+    false
+}
+
+fn open_to_append() -> io::Error {
+    let why = "the file was opened to append, and nothing is written at a place of it: open it by write(true)";
+    io::Error::new(io::ErrorKind::InvalidInput, why)
+}
+
+/// A file, which a sync stores. One that was opened by `append(true)` is an error (`InvalidInput`), and stays as it is;
+/// on Windows the first write is at its end.
 impl Medium for fs::File {
     fn read_at(&mut self, place: u64, bytes: &mut [u8]) -> io::Result<usize> {
         io::Seek::seek(self, io::SeekFrom::Start(place))?;
@@ -178,8 +206,15 @@ impl Medium for fs::File {
     }
 
     fn write_at(&mut self, place: u64, bytes: &[u8]) -> io::Result<usize> {
+        if is_open_to_append(self) {
+            return Err(open_to_append());
+        }
         io::Seek::seek(self, io::SeekFrom::Start(place))?;
-        io::Write::write(self, bytes)
+        let count = io::Write::write(self, bytes)?;
+        if cfg!(not(unix)) && io::Seek::stream_position(self)? != place + count as u64 {
+            return Err(open_to_append());
+        }
+        Ok(count)
     }
 
     fn sync(&mut self) -> io::Result<()> {
@@ -187,10 +222,10 @@ impl Medium for fs::File {
     }
 
     fn cut(&mut self, place: u64) -> io::Result<()> {
-        if self.metadata()?.len() > place {
-            self.set_len(place)
-        } else {
-            Ok(())
+        match self.metadata()?.len() {
+            length if length <= place => Ok(()),
+            _ if is_open_to_append(self) => Err(open_to_append()),
+            _ => self.set_len(place),
         }
     }
 }
