@@ -293,6 +293,10 @@ class Machine {
   }
 }
 
+/** The error of whoever performs effects at one that it can't, which is never reported as done then. */
+const unknownEffect = () =>
+  new Error("the WebAssembly module requests what this hound.js can't do: install both from one version");
+
 /** Performs all that a walk or a repairer requests, and returns what `found` gives for its last code. */
 async function performAll(machine, name, perform, found) {
   for (;;) {
@@ -307,7 +311,8 @@ async function performAll(machine, name, perform, found) {
 function readerOf(file) {
   const size = sizeOf(file);
   let from = 0, page = new Uint8Array(0);
-  return async ({ place, length }) => {
+  return async ({ kind, place, length }) => {
+    if (kind !== READ) throw unknownEffect();
     const end = Math.min(place + length, size);
     if (place >= end) return page.subarray(0, 0);
     if (place < from || end > from + page.length) {
@@ -320,7 +325,10 @@ function readerOf(file) {
 /** Walks over what is before the data. Of a stream the length that its header counts isn't looked at. */
 function walkOver(file, toEnd) {
   const size = sizeOf(file);
-  const readPart = ({ place, length }) => bytesOf(file, Math.min(place, size), Math.min(place + length, size));
+  const readPart = ({ kind, place, length }) => {
+    if (kind !== READ) throw unknownEffect();
+    return bytesOf(file, Math.min(place, size), Math.min(place + length, size));
+  };
   return performAll(new Machine("walk"), toEnd ? "walk_to_end" : "walk_next", readPart, (code) => {
     checked(code);
     const samples = shared.view.getUint32(FOUND + LAYOUT.info.samples, true);
@@ -510,12 +518,18 @@ class Overlay {
     });
   }
 
+  put(part, place) {
+    this.parts = [...this.between(0, place), part, ...this.between(place + sizeOf(part), Infinity)];
+  }
+
   /** Performs an effect that isn't a read; no sync is of use here. */
   perform({ kind, place, bytes }, block) {
-    const given = kind === WRITE ? bytes.slice() : block;
-    if (kind === CUT) this.parts = this.between(0, place);
-    if (kind === WRITE || kind === WRITE_BLOCK) {
-      this.parts = [...this.between(0, place), given, ...this.between(place + sizeOf(given), Infinity)];
+    switch (kind) {
+      case WRITE: return this.put(bytes.slice(), place);
+      case WRITE_BLOCK: return this.put(block, place);
+      case SYNC: return;
+      case CUT: this.parts = this.between(0, place); return;
+      default: throw unknownEffect();
     }
   }
 }
@@ -571,6 +585,7 @@ async function performOn(handle, durable, effect, block) {
     case WRITE_BLOCK: return writeAt(handle, block, effect.place);
     case SYNC: return durable ? handle.sync() : undefined;
     case CUT: return cutAt(handle, effect.place);
+    default: throw unknownEffect();
   }
 }
 
