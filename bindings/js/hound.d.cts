@@ -165,6 +165,12 @@ export function repair(file: Blob, options?: RepairOptions): Promise<Damage & { 
 export function repairFile(path: string | URL, options?: { toEnd?: boolean }): Promise<Damage>;
 
 /**
+ * Reports what `repairFile` would find, or fails as it would. The file may be read-only, and is read as far as needed:
+ * a Blob of Node 20's `openAsBlob` has its size modulo 2^32, so that of a file past 4 GiB `findDamage` looks at a part.
+ */
+export function findDamageInFile(path: string | URL): Promise<Damage>;
+
+/**
  * Records a new file at a path, in Node, in the place of one that is there; with `exclusive` that is an error. With
  * `durable` the samples of a checkpoint survive a loss of power, without it a kill. Node has no locks.
  */

@@ -598,17 +598,26 @@ async function files() {
   return fs;
 }
 
-/** Repairs a file at a path in place, in Node, and returns how it was found. Each step is synced. */
-export async function repairFile(path, { toEnd = false } = {}) {
-  const { open } = await files(), handle = await open(path, "r+");
+/** What a repairer of this mode finds in a file of Node, which it repairs. Each step is synced. */
+async function repairAt(path, flags, mode) {
+  const { open } = await files(), handle = await open(path, flags);
   try {
     const { size } = await handle.stat();
-    const mode = toEnd ? REPAIR_TO_END : REPAIR;
     const { report } = await repairBy(size, mode, (effect) => performOn(handle, true, effect));
     return report;
   } finally {
     await handle.close();
   }
+}
+
+/** Repairs a file at a path in place, in Node, and returns how it was found. */
+export async function repairFile(path, { toEnd = false } = {}) {
+  return repairAt(path, "r+", toEnd ? REPAIR_TO_END : REPAIR);
+}
+
+/** Reports what `repairFile` would find, or fails as it would; the file may be read-only. */
+export async function findDamageInFile(path) {
+  return repairAt(path, "r", FIND_DAMAGE);
 }
 
 /** The recorder that appends to a file of so many bytes, and its spec. */
