@@ -1,3 +1,13 @@
+// The classes of browsers and of Node, and what stands for them in a program that has the types of neither.
+type Blob = typeof globalThis extends { Blob: { prototype: infer T } } ? T : BlobLike;
+type URL = typeof globalThis extends { URL: { prototype: infer T } } ? T : { readonly href: string };
+interface BlobLike {
+  readonly size: number;
+  arrayBuffer(): Promise<ArrayBuffer>;
+  slice(start?: number, end?: number): BlobLike;
+}
+export {}; // Else these would be exported, too.
+
 /** A file, which must not change before a call over it has ended. Of a Blob only what is needed is read, when it is. */
 export type WavFile = Uint8Array | ArrayBuffer | Blob;
 

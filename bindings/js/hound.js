@@ -3,7 +3,7 @@
 // A file is a Uint8Array, an ArrayBuffer, or a Blob, of which only what is needed is read. Samples are an interleaved
 // typed array, or an array of one for each channel. No call changes its arguments. A file must not change before the
 // promise of a call over it is settled; samples may.
-import { module } from "./module.js";
+import { module, nodeFiles } from "./module.js";
 
 // Each error, its code in hound.h without the sign, and its sentence there.
 const ERRORS = {
@@ -591,7 +591,7 @@ async function performOn(handle, durable, effect, block) {
 
 /** Node's files, once the module is there, too. */
 async function files() {
-  const loaded = import(/* webpackIgnore: true */ "node:fs/promises").catch(() => {
+  const loaded = nodeFiles().catch(() => {
     throw new Error("files at a path are recorded and repaired in Node alone");
   });
   const [fs] = await Promise.all([loaded, ready()]);
@@ -707,8 +707,7 @@ async function recorderOf(path, flags, durable, prepare) {
 /** Stores the name of a file, where the system opens folders. */
 async function syncFolder({ open, realpath }, path) {
   if (process.platform === "win32") return;
-  const { dirname } = await import(/* webpackIgnore: true */ "node:path");
-  const folder = await open(dirname(await realpath(path)));
+  const name = await realpath(path), folder = await open(name.slice(0, name.lastIndexOf("/") + 1));
   await folder.sync().finally(() => folder.close());
 }
 
