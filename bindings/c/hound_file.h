@@ -294,7 +294,7 @@ static inline int32_t hound_file_finish(hound_file *file, const uint8_t *block) 
     return code;
 }
 
-/* Performs what a repairer of this mode requests: all of it, or the reads alone, and then 1 means that more is left. */
+/* Performs what a repairer of this mode requests: all of it, or the reads alone, and then 1 says that more is left. */
 static inline int32_t hound_file_examine(hound_file *file, uint64_t length, uint32_t mode, int is_read_only,
                                          hound_repair_t *found) {
     hound_repairer repairer;
@@ -360,7 +360,7 @@ static inline int32_t hound_file_append(hound_file *file, const char *path, uint
     uint64_t length = 0;
     int32_t code = hound_file_open(file, path, O_RDWR, is_durable, &length);
     if (code < 0) return code;
-    code = hound_file_examine(file, length, HOUND_FIND_DAMAGE, 1, found);
+    code = hound_file_examine(file, length, HOUND_FIND_DAMAGE, 0, found);
     if (code == 0) code = hound_recorder_resume(found, allowed, &file->recorder);
     file->counted = found->data_length;
     return code < 0 ? hound_file_give_up(file, path, 0, code) : 0;

@@ -1,6 +1,18 @@
 /* What hound_file.h does with descriptors and effects that it wasn't made for: a file that was opened to append, an
    effect that only another library requests, and a program that has no more descriptors.
      descriptors PATH     (of a new file, which is removed) */
+#define _GNU_SOURCE
+#define _FILE_OFFSET_BITS 64
+#include "hound.h"
+
+/* The next effect of a repairer, as hound_file.h gets it here: of a newer library it has another kind. */
+static int is_newer;
+static int32_t next_effect(hound_repairer *repairer, hound_repair_t *found) {
+    int32_t code = hound_repairer_next(repairer, found);
+    if (code == 1 && is_newer) repairer->effect.kind = HOUND_CUT + 1;
+    return code;
+}
+#define hound_repairer_next next_effect
 #include "hound_file.h"
 #ifdef _WIN32
 enum { IS_LATE = 1 }; /* A write at the end is noticed after it. */
@@ -70,6 +82,13 @@ static void unknown_effect(const char *path) {
         expect("it isn't named", strstr(hound_file_text(&file, -1), "hound_file.h") != NULL);
         hound_file_close_at(file.descriptor);
     }
+    hound_repair_t found;
+    is_newer = 1;
+    expect("a repair performs it", hound_file_repair(&file, path, HOUND_REPAIR, &found) < 0 && file.fault == EPROTO);
+    expect("a recorder begins", hound_file_append(&file, path, HOUND_OVERWRITE, 0, &found) < 0 && file.fault == EPROTO);
+    is_newer = 0;
+    expect("neither does another", hound_file_append(&file, path, HOUND_OVERWRITE, 0, &found) == 0);
+    hound_file_close_at(file.descriptor);
     expect("an unknown effect changes the file", holds(path, bytes, length, &all) && all == length);
 }
 
