@@ -114,7 +114,7 @@ impl Effect {
 }
 
 fn unknown_effect() -> io::Error {
-    let why = "the library requests what this version of hound_bindings can't do: unset HOUND_C_LIB";
+    let why = "the library that HOUND_C_LIB named requests what this hound_bindings can't do: build without it";
     io::Error::new(io::ErrorKind::Unsupported, why)
 }
 
