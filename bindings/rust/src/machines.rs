@@ -111,6 +111,31 @@ impl Effect {
         }
         result
     }
+
+    // Takes the bytes from a reader that is at a place, and what is before them.
+    fn take_from<R: io::Read>(&mut self, reader: &mut R, place: &mut u64) -> io::Result<()> {
+        if self.kind() != Kind::Read {
+            return Err(unknown_effect());
+        }
+        let mut skipped = [0; 1024];
+        while *place < self.place() {
+            let most = (self.place() - *place).min(skipped.len() as u64) as usize;
+            match reader.read(&mut skipped[..most])? {
+                0 => break,
+                more => *place += more as u64,
+            }
+        }
+        let (mut count, wanted) = (0, if *place < self.place() { 0 } else { self.length() });
+        while count < wanted {
+            match reader.read(&mut self.bytes_mut()[count..])? {
+                0 => break,
+                more => count += more,
+            }
+        }
+        *place += count as u64;
+        self.read(count);
+        Ok(())
+    }
 }
 
 fn unknown_effect() -> io::Error {
@@ -348,30 +373,13 @@ impl Walk {
     /// Reads up to the data as [`over`](Walk::over) does, by this walk, which has taken nothing before: one
     /// [`of_stream`](Walk::of_stream) takes any length.
     pub fn take_from<R: io::Read>(&mut self, reader: &mut R) -> io::Result<Result<Info>> {
-        let (mut place, mut skipped) = (0, [0; 1024]);
+        let mut place = 0;
         loop {
-            let effect = match self.next() {
-                Ok(Next::Effect(effect)) if effect.kind() == Kind::Read => effect,
-                Ok(Next::Effect(_)) => return Err(unknown_effect()),
+            match self.next() {
+                Ok(Next::Effect(effect)) => effect.take_from(reader, &mut place)?,
                 Ok(Next::Done(info)) => return Ok(Ok(info)),
                 Err(error) => return Ok(Err(error)),
-            };
-            while place < effect.place() {
-                let most = (effect.place() - place).min(skipped.len() as u64) as usize;
-                match reader.read(&mut skipped[..most])? {
-                    0 => break,
-                    more => place += more as u64,
-                }
             }
-            let (mut count, wanted) = (0, if place < effect.place() { 0 } else { effect.length() });
-            while count < wanted {
-                match reader.read(&mut effect.bytes_mut()[count..])? {
-                    0 => break,
-                    more => count += more,
-                }
-            }
-            place += count as u64;
-            effect.read(count);
         }
     }
 }
@@ -582,7 +590,8 @@ mod tests {
         impl Medium for Nothing {}
         for kind in [c::CUT + 1, u16::MAX] {
             let mut newer = Newer(Effect(c::Effect { kind, length: 4, ..c::Effect::default() }));
-            assert_eq!(newer.0.kind(), Kind::Unknown);
+            assert!(newer.0.take_from(&mut &[0; 4][..], &mut 0).is_err());
+            assert_eq!((newer.0.kind(), newer.0 .0.report), (Kind::Unknown, c::PENDING));
             let error = newer.perform_all(&mut Nothing, &[]).unwrap_err();
             assert_eq!((error.kind(), newer.0 .0.report), (io::ErrorKind::Unsupported, c::FAILED));
             assert!(error.to_string().contains("HOUND_C_LIB"));
