@@ -14,7 +14,11 @@
 
    A call returns 0 or an error of hound.h; hound_file_text has its sentence. Where the system failed the error isn't 0
    and `fault` is the errno. A hound_file is for one thread at a time. Windows syncs no folder: a loss of power there
-   may take the name of a new file. There a path is UTF-8, too, may be longer than 260, and takes 128 KB of stack. */
+   may take the name of a new file. There a path is UTF-8, too, may be longer than 260, and takes 128 KB of stack.
+
+   A descriptor of your own may be in `descriptor`. One that was opened to append (O_APPEND, `>>`) is rejected before
+   anything is written, since the system would write at the end; on Windows only after the first write, which is there.
+   A file that needs no repair may be read-only. */
 #ifndef HOUND_FILE_H
 #define HOUND_FILE_H
 #ifndef _GNU_SOURCE
@@ -76,7 +80,7 @@ static inline int hound_file_remove(const char *path) {
 static inline int hound_file_open_at(const char *path, int flags) {
     wchar_t room[HOUND_FILE_LETTERS];
     const wchar_t *wide = hound_file_wide(path, room);
-    return wide ? _wopen(wide, flags | _O_RDWR | _O_BINARY | _O_NOINHERIT, _S_IREAD | _S_IWRITE) : -1;
+    return wide ? _wopen(wide, flags | _O_BINARY | _O_NOINHERIT, _S_IREAD | _S_IWRITE) : -1;
 }
 static inline int hound_file_seek(int descriptor, uint64_t place) {
     return _lseeki64(descriptor, (__int64)place, SEEK_SET) < 0 ? -1 : 0;
@@ -85,7 +89,9 @@ static inline int64_t hound_file_get(int descriptor, void *out, size_t count, ui
     return hound_file_seek(descriptor, place) < 0 ? -1 : _read(descriptor, out, (unsigned)count);
 }
 static inline int64_t hound_file_put(int descriptor, const void *bytes, size_t count, uint64_t place) {
-    return hound_file_seek(descriptor, place) < 0 ? -1 : _write(descriptor, bytes, (unsigned)count);
+    int64_t done = hound_file_seek(descriptor, place) < 0 ? -1 : _write(descriptor, bytes, (unsigned)count);
+    if (done > 0 && _telli64(descriptor) != (__int64)place + done) return errno = EBADF, -1; /* It is at the end. */
+    return done;
 }
 static inline int hound_file_close_at(int descriptor) { return _close(descriptor); }
 static inline int hound_file_resize(int descriptor, uint64_t length) {
@@ -100,6 +106,8 @@ static inline int hound_file_find(int descriptor, uint64_t *length, int *is_regu
     *length = (uint64_t)about.st_size, *is_regular = (about.st_mode & _S_IFMT) == _S_IFREG;
     return 0;
 }
+/* Nobody renames a file that is open. */
+static inline int hound_file_is_at(int descriptor, const char *path) { return (void)descriptor, (void)path, 1; }
 /* Locks one byte that no file has, since others can't read what is locked. */
 static inline int hound_file_lock(int descriptor) {
     DWORD how = LOCKFILE_EXCLUSIVE_LOCK | LOCKFILE_FAIL_IMMEDIATELY;
@@ -126,16 +134,31 @@ typedef char hound_file_needs_FILE_OFFSET_BITS_64[sizeof(off_t) == 8 ? 1 : -1];
 static inline int64_t hound_file_get(int descriptor, void *out, size_t count, uint64_t place) {
     return pread(descriptor, out, count, (off_t)place);
 }
+/* Whether the file may be changed at a place: else -1 and errno. One that was opened to append gets all at its end. */
+static inline int hound_file_check(int descriptor) {
+    int flags = fcntl(descriptor, F_GETFL);
+    return flags >= 0 && flags & O_APPEND ? errno = EBADF, -1 : 0;
+}
 static inline int64_t hound_file_put(int descriptor, const void *bytes, size_t count, uint64_t place) {
-    return pwrite(descriptor, bytes, count, (off_t)place);
+    return hound_file_check(descriptor) < 0 ? -1 : pwrite(descriptor, bytes, count, (off_t)place);
 }
 static inline void hound_file_arguments(int *count, char ***arguments) { (void)count, (void)arguments; }
 static inline int hound_file_remove(const char *path) { return remove(path); }
+/* Where a standard stream is closed, `open` returns its number, and what is meant for that would be in the file. So the
+   file gets a higher one. A pipe isn't waited for. */
 static inline int hound_file_open_at(const char *path, int flags) {
-    return open(path, flags | O_RDWR | O_CLOEXEC, 0666);
+    int descriptor = open(path, flags | O_CLOEXEC | (flags & O_RDWR ? 0 : O_NONBLOCK), 0666), higher, why;
+    if (descriptor < 0 || descriptor > STDERR_FILENO) return descriptor;
+    higher = fcntl(descriptor, F_DUPFD_CLOEXEC, STDERR_FILENO + 1), why = errno;
+    close(descriptor);
+    if (higher < 0 && flags & O_EXCL) remove(path);
+    errno = why;
+    return higher;
 }
 static inline int hound_file_close_at(int descriptor) { return close(descriptor); }
-static inline int hound_file_resize(int descriptor, uint64_t length) { return ftruncate(descriptor, (off_t)length); }
+static inline int hound_file_resize(int descriptor, uint64_t length) {
+    return hound_file_check(descriptor) < 0 ? -1 : ftruncate(descriptor, (off_t)length);
+}
 #ifdef F_FULLFSYNC /* by which alone macOS stores what was written */
 static inline int hound_file_sync(int descriptor) { return fcntl(descriptor, F_FULLFSYNC) < 0 ? -1 : 0; }
 #else
@@ -160,6 +183,12 @@ static inline int hound_file_find(int descriptor, uint64_t *length, int *is_regu
     if (fstat(descriptor, &about) < 0) return -1;
     *length = (uint64_t)about.st_size, *is_regular = S_ISREG(about.st_mode);
     return 0;
+}
+/* Whether a file that is open is the one at a path, and none was renamed to it: 1 or 0, or -1 and errno. */
+static inline int hound_file_is_at(int descriptor, const char *path) {
+    struct stat held, there;
+    if (fstat(descriptor, &held) < 0 || stat(path, &there) < 0) return errno == ENOENT ? 0 : -1;
+    return held.st_dev == there.st_dev && held.st_ino == there.st_ino;
 }
 static inline int hound_file_lock(int descriptor) { return flock(descriptor, LOCK_EX | LOCK_NB); }
 static inline void hound_file_set_binary(int descriptor) { (void)descriptor; }
@@ -187,6 +216,8 @@ static inline const char *hound_file_text(const hound_file *file, int32_t code) 
     case 0: return hound_error_text(code);
     case EWOULDBLOCK: return "another program records to this file or repairs it";
     case ESPIPE: return "this is no regular file";
+    case EBADF: return "the file isn't open to read and write at a place: open it with O_RDWR, without O_APPEND (>>)";
+    case EPROTO: return "the library requests what this hound_file.h can't do: compile with that of the library";
     default: return strerror(file->fault);
     }
 }
@@ -243,6 +274,7 @@ static inline int hound_file_perform(hound_file *file, hound_effect *effect, con
         break;
     case HOUND_SYNC: is_done = !file->is_durable || hound_file_sync(file->descriptor) == 0; break;
     case HOUND_CUT: is_done = hound_file_cut(file->descriptor, effect->place) == 0; break;
+    default: errno = EPROTO;
     }
     if (is_done) effect->length = (uint32_t)count;
     else if (file->fault == 0) file->fault = errno;
@@ -262,12 +294,14 @@ static inline int32_t hound_file_finish(hound_file *file, const uint8_t *block) 
     return code;
 }
 
-/* Performs all that a repairer of this mode requests. */
-static inline int32_t hound_file_examine(hound_file *file, uint64_t length, uint32_t mode, hound_repair_t *found) {
+/* Performs what a repairer of this mode requests: all of it, or the reads alone, and then 1 says that more is left. */
+static inline int32_t hound_file_examine(hound_file *file, uint64_t length, uint32_t mode, int is_read_only,
+                                         hound_repair_t *found) {
     hound_repairer repairer;
     int32_t code;
     hound_repairer_begin(length, mode, &repairer);
-    while ((code = hound_repairer_next(&repairer, found)) == 1) hound_file_perform(file, &repairer.effect, NULL);
+    while ((code = hound_repairer_next(&repairer, found)) == 1 && !(is_read_only && repairer.effect.kind != HOUND_READ))
+        hound_file_perform(file, &repairer.effect, NULL);
     return code;
 }
 
@@ -280,16 +314,24 @@ static inline int32_t hound_file_give_up(hound_file *file, const char *path, int
     return code;
 }
 
-/* Opens a file for this program alone, by the flags of `open`, and makes its name durable. */
+/* Opens a file for this program alone, by the flags of `open`, and makes its name durable. Where another file was
+   renamed to the path before the lock, that one is opened. Some systems number a file anew each time, so that none
+   seems to be at its path: there is a last attempt. */
 static inline int32_t hound_file_open(hound_file *file, const char *path, int flags, int is_durable, uint64_t *length) {
-    int is_regular = 1, is_made;
-    file->is_durable = is_durable, file->has_rest = 0, file->fault = 0;
-    file->descriptor = hound_file_open_at(path, flags);
-    is_made = file->descriptor >= 0 && flags & O_EXCL;
-    if (file->descriptor < 0 || hound_file_find(file->descriptor, length, &is_regular) < 0) file->fault = errno;
+    int is_regular = 1, is_there = 0, attempts, is_made;
+    file->descriptor = -1, file->is_durable = is_durable, file->has_rest = 0, file->fault = 0;
+    for (attempts = 0; attempts < 10 && is_there == 0 && file->fault == 0; attempts++) {
+        if (file->descriptor >= 0) hound_file_close_at(file->descriptor);
+        file->descriptor = hound_file_open_at(path, flags);
+        if (file->descriptor < 0) file->fault = errno;
+        else if (hound_file_lock(file->descriptor) < 0 && errno == EWOULDBLOCK) file->fault = EWOULDBLOCK;
+        else if ((is_there = hound_file_is_at(file->descriptor, path)) < 0) file->fault = errno;
+    }
+    is_made = file->descriptor >= 0 && flags & O_EXCL && file->fault != EWOULDBLOCK;
+    if (file->fault == 0 && hound_file_find(file->descriptor, length, &is_regular) < 0) file->fault = errno;
     else if (!is_regular) file->fault = ESPIPE;
-    else if (hound_file_lock(file->descriptor) < 0 && errno == EWOULDBLOCK) file->fault = EWOULDBLOCK;
-    else if (is_durable && (hound_file_sync(file->descriptor) < 0 || hound_file_sync_folder(path) < 0))
+    else if (file->fault == 0 && is_durable
+             && (hound_file_sync(file->descriptor) < 0 || hound_file_sync_folder(path) < 0))
         file->fault = errno;
     return file->fault ? hound_file_give_up(file, path, is_made, HOUND_NOT_PERFORMED) : 0;
 }
@@ -301,8 +343,9 @@ static inline int32_t hound_file_create(hound_file *file, const char *path, cons
     uint64_t held;
     int64_t length = hound_header(spec, 0, header, sizeof header);
     int32_t code = length < 0 ? (int32_t)length : hound_recorder_begin(spec, &file->recorder);
+    int flags = O_RDWR | O_CREAT | (is_emptied ? 0 : O_EXCL);
     file->descriptor = -1, file->fault = 0, file->counted = 0;
-    if (code == 0) code = hound_file_open(file, path, is_emptied ? O_CREAT : O_CREAT | O_EXCL, is_durable, &held);
+    if (code == 0) code = hound_file_open(file, path, flags, is_durable, &held);
     if (code < 0) return code;
     if (hound_file_cut(file->descriptor, 0) == 0
         && hound_file_write_at(file->descriptor, header, (size_t)length, 0) == 0)
@@ -315,9 +358,9 @@ static inline int32_t hound_file_create(hound_file *file, const char *path, cons
 static inline int32_t hound_file_append(hound_file *file, const char *path, uint32_t allowed, int is_durable,
                                         hound_repair_t *found) {
     uint64_t length = 0;
-    int32_t code = hound_file_open(file, path, 0, is_durable, &length);
+    int32_t code = hound_file_open(file, path, O_RDWR, is_durable, &length);
     if (code < 0) return code;
-    code = hound_file_examine(file, length, HOUND_FIND_DAMAGE, found);
+    code = hound_file_examine(file, length, HOUND_FIND_DAMAGE, 0, found);
     if (code == 0) code = hound_recorder_resume(found, allowed, &file->recorder);
     file->counted = found->data_length;
     return code < 0 ? hound_file_give_up(file, path, 0, code) : 0;
@@ -349,13 +392,21 @@ static inline int32_t hound_file_close(hound_file *file) {
     return code;
 }
 
-/* Repairs the file at a path in this mode, and says what it was; `file` has only the fault then. */
-static inline int32_t hound_file_repair(hound_file *file, const char *path, uint32_t mode, hound_repair_t *found) {
+/* Repairs the file at a path by these flags of `open`: with O_RDONLY 1 means that it would be written. */
+static inline int32_t hound_file_repair_by(hound_file *file, const char *path, int flags, uint32_t mode,
+                                           hound_repair_t *found) {
     uint64_t length = 0;
-    int32_t code = hound_file_open(file, path, 0, 0, &length);
+    int32_t code = hound_file_open(file, path, flags, 0, &length);
     file->is_durable = 1;
-    if (code == 0) code = hound_file_examine(file, length, mode, found);
+    if (code == 0) code = hound_file_examine(file, length, mode, flags == O_RDONLY, found);
     return hound_file_give_up(file, path, 0, code);
+}
+
+/* Repairs the file at a path in this mode, and says what it was; `file` has only the fault then. One of which nothing
+   is to be written may be read-only. */
+static inline int32_t hound_file_repair(hound_file *file, const char *path, uint32_t mode, hound_repair_t *found) {
+    int32_t code = hound_file_repair_by(file, path, O_RDONLY, mode, found);
+    return code == 1 ? hound_file_repair_by(file, path, O_RDWR, mode, found) : code;
 }
 
 /* Reads so many bytes of standard input, a pipe or a terminal. Where these are fewer `fault` is 0 at the end, and else

@@ -1,8 +1,8 @@
 /* Repairs a recording that was cut off, in place: its two sizes become those of the whole frames that the file holds,
    and a missing pad byte is added. It prints how the file was found. A file that is whole, or in which chunks follow
-   the data, is only read; with --to-end these chunks are taken for samples, too. Copy the file first if it is the only
-   one: some recorders leave older sound at the end, which then counts. After a kill or an error the file can be
-   repaired again. A file that a recorder has locked, as record.c does, is rejected.
+   the data, is only read, and may be read-only; with --to-end these chunks are taken for samples, too. Copy the file
+   first if it is the only one: some recorders leave older sound at the end, which then counts. After a kill or an error
+   the file can be repaired again. A file that a recorder has locked, as record.c does, is rejected.
      cc -Ibindings/c bindings/c/repair.c bindings/lib/x86_64-linux/libhound_c.a -o repair && ./repair take.wav */
 #include "hound_file.h"
 

@@ -1,8 +1,7 @@
 #!/usr/bin/env node
 // Looks at files, or repairs them in place.
-import { openAsBlob } from "node:fs";
-import { access, stat } from "node:fs/promises";
-import { findDamage, info, repairFile } from "./hound.js";
+import { stat } from "node:fs/promises";
+import { findDamageInFile, repairFile } from "./hound.js";
 
 const USAGE = `usage: hound_bindings info FILE..               says what each file is
        hound_bindings repair [--to-end] FILE..  repairs each in place: copy what you have only once
@@ -22,13 +21,12 @@ function text({ state, frames, leftOver, sampleRate, channels, bitsPerSample, is
   return `${STATES[state]}, ${counted(frames, "frame")}${seconds}${left}, ${spec}`;
 }
 
-/** What a file is; where it was cut off, and its header can be read, with what that counts. */
+/** What a file is; where it was cut off, and its header counts whole frames, how many. */
 async function look(path) {
-  await access(path); // A Blob's error has no reason.
   if ((await stat(path)).isDirectory()) throw new Error("it is a folder, and files are named here");
-  const file = await openAsBlob(path), found = await findDamage(file), head = await info(file).catch(() => null);
-  const counts = found.state === "cutOff" && head ? `; the header counts ${counted(head.frames, "frame")}` : "";
-  return text(found) + counts;
+  const found = await findDamageInFile(path), frames = found.dataLength / (found.channels * found.bytesPerSample);
+  const isSaid = found.state === "cutOff" && Number.isInteger(frames);
+  return text(found) + (isSaid ? `; the header counts ${counted(frames, "frame")}` : "");
 }
 
 async function main([command, ...files]) {

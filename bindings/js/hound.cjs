@@ -12,7 +12,8 @@ async function after(name, given) {
 }
 
 const FUNCTIONS = [
-  "append", "appendTo", "findDamage", "guessStart", "info", "read", "record", "repair", "repairFile", "write",
+  "append", "appendTo", "findDamage", "findDamageInFile", "guessStart", "info", "read", "record", "repair",
+  "repairFile", "write",
 ];
 for (const name of FUNCTIONS) {
   exports[name] = (...given) => loaded ? loaded[name](...given) : after(name, given.map(copied));

@@ -1,3 +1,13 @@
+// The classes of browsers and of Node, and what stands for them in a program that has the types of neither.
+type Blob = typeof globalThis extends { Blob: { prototype: infer T } } ? T : BlobLike;
+type URL = typeof globalThis extends { URL: { prototype: infer T } } ? T : { readonly href: string };
+interface BlobLike {
+  readonly size: number;
+  arrayBuffer(): Promise<ArrayBuffer>;
+  slice(start?: number, end?: number): BlobLike;
+}
+export {}; // Else these would be exported, too.
+
 /** A file, which must not change before a call over it has ended. Of a Blob only what is needed is read, when it is. */
 export type WavFile = Uint8Array | ArrayBuffer | Blob;
 
@@ -163,6 +173,12 @@ export function repair(file: Blob, options?: RepairOptions): Promise<Damage & { 
  * repaired again after an error, a kill or a loss of power. Node has no locks: no other program may write it meanwhile.
  */
 export function repairFile(path: string | URL, options?: { toEnd?: boolean }): Promise<Damage>;
+
+/**
+ * Reports what `repairFile` would find, or fails as it would. The file may be read-only, and is read as far as needed:
+ * a Blob of Node 20's `openAsBlob` has its size modulo 2^32, so that of a file past 4 GiB `findDamage` looks at a part.
+ */
+export function findDamageInFile(path: string | URL): Promise<Damage>;
 
 /**
  * Records a new file at a path, in Node, in the place of one that is there; with `exclusive` that is an error. With

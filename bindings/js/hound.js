@@ -3,7 +3,7 @@
 // A file is a Uint8Array, an ArrayBuffer, or a Blob, of which only what is needed is read. Samples are an interleaved
 // typed array, or an array of one for each channel. No call changes its arguments. A file must not change before the
 // promise of a call over it is settled; samples may.
-import { module } from "./module.js";
+import { module, nodeFiles } from "./module.js";
 
 // Each error, its code in hound.h without the sign, and its sentence there.
 const ERRORS = {
@@ -72,7 +72,8 @@ function checked(code) {
 }
 
 // The constants, and where fields are, made from hound.h by scripts/make_interface.
-const [INT, FLOAT, EFFECT_BYTES, READ, WRITE, WRITE_BLOCK, SYNC, CUT, DONE, FAILED] = [0, 1, 40, 1, 2, 3, 4, 5, 1, 2];
+const [INT, FLOAT, EFFECT_BYTES, DONE, FAILED] = [0, 1, 40, 1, 2];
+const [READ, WRITE, WRITE_BLOCK, SYNC, CUT] = [1, 2, 3, 4, 5];
 const [FIND_DAMAGE, REPAIR, REPAIR_TO_END, OVERWRITE] = [0, 1, 2, 2];
 const LAYOUT = {
   spec: { sampleRate: 0, channels: 4, bitsPerSample: 6, bytesPerSample: 8, sampleFormat: 10, size: 12 },
@@ -292,6 +293,10 @@ class Machine {
   }
 }
 
+/** The error of whoever performs effects at one that it can't, which is never reported as done then. */
+const unknownEffect = () =>
+  new Error("the WebAssembly module requests what this hound.js can't do: install both from one version");
+
 /** Performs all that a walk or a repairer requests, and returns what `found` gives for its last code. */
 async function performAll(machine, name, perform, found) {
   for (;;) {
@@ -306,7 +311,8 @@ async function performAll(machine, name, perform, found) {
 function readerOf(file) {
   const size = sizeOf(file);
   let from = 0, page = new Uint8Array(0);
-  return async ({ place, length }) => {
+  return async ({ kind, place, length }) => {
+    if (kind !== READ) throw unknownEffect();
     const end = Math.min(place + length, size);
     if (place >= end) return page.subarray(0, 0);
     if (place < from || end > from + page.length) {
@@ -319,7 +325,10 @@ function readerOf(file) {
 /** Walks over what is before the data. Of a stream the length that its header counts isn't looked at. */
 function walkOver(file, toEnd) {
   const size = sizeOf(file);
-  const readPart = ({ place, length }) => bytesOf(file, Math.min(place, size), Math.min(place + length, size));
+  const readPart = ({ kind, place, length }) => {
+    if (kind !== READ) throw unknownEffect();
+    return bytesOf(file, Math.min(place, size), Math.min(place + length, size));
+  };
   return performAll(new Machine("walk"), toEnd ? "walk_to_end" : "walk_next", readPart, (code) => {
     checked(code);
     const samples = shared.view.getUint32(FOUND + LAYOUT.info.samples, true);
@@ -509,12 +518,18 @@ class Overlay {
     });
   }
 
+  put(part, place) {
+    this.parts = [...this.between(0, place), part, ...this.between(place + sizeOf(part), Infinity)];
+  }
+
   /** Performs an effect that isn't a read; no sync is of use here. */
   perform({ kind, place, bytes }, block) {
-    const given = kind === WRITE ? bytes.slice() : block;
-    if (kind === CUT) this.parts = this.between(0, place);
-    if (kind === WRITE || kind === WRITE_BLOCK) {
-      this.parts = [...this.between(0, place), given, ...this.between(place + sizeOf(given), Infinity)];
+    switch (kind) {
+      case WRITE: return this.put(bytes.slice(), place);
+      case WRITE_BLOCK: return this.put(block, place);
+      case SYNC: return;
+      case CUT: this.parts = this.between(0, place); return;
+      default: throw unknownEffect();
     }
   }
 }
@@ -570,29 +585,39 @@ async function performOn(handle, durable, effect, block) {
     case WRITE_BLOCK: return writeAt(handle, block, effect.place);
     case SYNC: return durable ? handle.sync() : undefined;
     case CUT: return cutAt(handle, effect.place);
+    default: throw unknownEffect();
   }
 }
 
 /** Node's files, once the module is there, too. */
 async function files() {
-  const loaded = import(/* webpackIgnore: true */ "node:fs/promises").catch(() => {
+  const loaded = nodeFiles().catch(() => {
     throw new Error("files at a path are recorded and repaired in Node alone");
   });
   const [fs] = await Promise.all([loaded, ready()]);
   return fs;
 }
 
-/** Repairs a file at a path in place, in Node, and returns how it was found. Each step is synced. */
-export async function repairFile(path, { toEnd = false } = {}) {
-  const { open } = await files(), handle = await open(path, "r+");
+/** What a repairer of this mode finds in a file of Node, which it repairs. Each step is synced. */
+async function repairAt(path, flags, mode) {
+  const { open } = await files(), handle = await open(path, flags);
   try {
     const { size } = await handle.stat();
-    const mode = toEnd ? REPAIR_TO_END : REPAIR;
     const { report } = await repairBy(size, mode, (effect) => performOn(handle, true, effect));
     return report;
   } finally {
     await handle.close();
   }
+}
+
+/** Repairs a file at a path in place, in Node, and returns how it was found. */
+export async function repairFile(path, { toEnd = false } = {}) {
+  return repairAt(path, "r+", toEnd ? REPAIR_TO_END : REPAIR);
+}
+
+/** Reports what `repairFile` would find, or fails as it would; the file may be read-only. */
+export async function findDamageInFile(path) {
+  return repairAt(path, "r", FIND_DAMAGE);
 }
 
 /** The recorder that appends to a file of so many bytes, and its spec. */
@@ -682,8 +707,7 @@ async function recorderOf(path, flags, durable, prepare) {
 /** Stores the name of a file, where the system opens folders. */
 async function syncFolder({ open, realpath }, path) {
   if (process.platform === "win32") return;
-  const { dirname } = await import(/* webpackIgnore: true */ "node:path");
-  const folder = await open(dirname(await realpath(path)));
+  const name = await realpath(path), folder = await open(name.slice(0, name.lastIndexOf("/") + 1));
   await folder.sync().finally(() => folder.close());
 }
 

@@ -1,12 +1,16 @@
-// The library's WebAssembly module: beside this file in a package, and in bindings/lib in a clone.
+// What Node has, and the library's WebAssembly module: beside this file in a package, and in bindings/lib in a clone.
+// A bundler for browsers takes browser.js in the place of this file.
+export const nodeFiles = () => import(/* webpackIgnore: true */ "node:fs/promises");
+
 async function load(url) {
-  if (url.protocol === "file:") return (await import(/* webpackIgnore: true */ "node:fs/promises")).readFile(url);
+  if (url.protocol === "file:") return (await nodeFiles()).readFile(url);
   const response = await fetch(url);
   if (!response.ok) throw new Error(`${url} isn't there: ${response.status}`);
   return response.arrayBuffer();
 }
 
 export async function module() {
-  const beside = load(new URL("./hound_c32.wasm", import.meta.url));
-  return WebAssembly.compile(await beside.catch(() => load(new URL("../lib/hound_c32.wasm", import.meta.url))));
+  const places = ["./hound_c32.wasm", "../lib/hound_c32.wasm"].map((path) => new URL(path, import.meta.url));
+  if (places[0].protocol === "file:") places.reverse(); // Beside this file in a clone is a copy for servers.
+  return WebAssembly.compile(await load(places[0]).catch(() => load(places[1])));
 }

@@ -1,5 +1,6 @@
 //! Links the library that bindings/lib has for the target, or that the folder HOUND_C_LIB has. Where there is none, or
-//! with HOUND_C_SOURCE in the environment, it compiles hound_c.c. A packaged crate has lib of bindings in its folder.
+//! none that this processor runs, or with HOUND_C_SOURCE in the environment, it compiles hound_c.c. A packaged crate
+//! has lib of bindings in its folder.
 use std::path::{Path, PathBuf};
 use std::process::{self, Command};
 use std::{env, fs, io};
@@ -72,7 +73,7 @@ fn compiled(source: &Path) -> PathBuf {
     let tried = compilers(&target);
     if !tried.iter().any(|compiler| compile(compiler, source, &folder).is_ok()) {
         fail(format!(
-            "no library for {target} is carried, and no C compiler for it is there ({}): set CC to one",
+            "hound_c.c has to be compiled for {target}, and no C compiler for it is there ({}): set CC to one",
             tried.join(", ")
         ));
     }
@@ -92,6 +93,19 @@ fn existing(folder: &Path) -> PathBuf {
     archive.parent().unwrap_or(Path::new("/")).to_path_buf()
 }
 
+// Whether this processor runs the library that is carried for it: that for x86-64 needs x86-64-v2. Which processor runs
+// what is built for another target isn't known.
+fn runs_here() -> bool {
+    if variable("CARGO_CFG_TARGET_ARCH") != "x86_64" || variable("TARGET") != variable("HOST") {
+        return true;
+    }
+    let about = fs::read_to_string("/proc/cpuinfo").unwrap_or_default();
+    about.lines().find(|line| line.starts_with("flags")).map_or(true, |line| {
+        let flags: Vec<_> = line.split_whitespace().collect();
+        ["cx16", "lahf_lm", "popcnt", "sse4_1", "sse4_2", "ssse3"].iter().all(|flag| flags.contains(flag))
+    })
+}
+
 fn main() {
     let package = PathBuf::from(variable("CARGO_MANIFEST_DIR"));
     let carried = format!("lib/{}-{}", variable("CARGO_CFG_TARGET_ARCH"), variable("CARGO_CFG_TARGET_OS"));
@@ -100,7 +114,7 @@ fn main() {
     let folder = if !named.is_empty() {
         existing(Path::new(&named))
     } else {
-        match carried.find(|folder| from_source.is_empty() && folder.join("libhound_c.a").exists()) {
+        match carried.find(|folder| from_source.is_empty() && folder.join("libhound_c.a").exists() && runs_here()) {
             Some(folder) => existing(&folder),
             None => compiled(&package.join("hound_c.c")),
         }

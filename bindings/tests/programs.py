@@ -25,7 +25,7 @@ OTHER_NAMES = "\u0437\u0432\u0443\u043a \u97f3.wav", os.path.join("long" * 50, "
 DATA = b"\r\n\x1a" * 40 + random.Random(5).randbytes(4000)
 WRONG = {
     "standard input is a text": ("_setmode(descriptor, _O_BINARY)", "(void)descriptor"),
-    "a file is a text": ("_O_RDWR | _O_BINARY", "_O_RDWR | _O_TEXT"),
+    "a file is a text": ("flags | _O_BINARY", "flags | _O_TEXT"),
     "no lock": ("if (LockFileEx((HANDLE)_get_osfhandle(descriptor), how, 0, 1, 0, &place)) return 0;", "return 0;"),
     "places of 32 bits": (
         "_lseeki64(descriptor, (__int64)place, SEEK_SET)",

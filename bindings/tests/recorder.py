@@ -1,9 +1,11 @@
 #!/usr/bin/env python3
 """Tries what bindings/c/record.c does at the edges of a recording: files that exist, a folder that can't be synced, two
-programs on one file, an output that nobody reads, an input without bytes yet or that ends within a frame, disks that
-are full, and files that can't be appended to. Each of its wrong versions has to be found.
+programs on one file, one that is replaced, an output that nobody reads, standard streams that are closed, an input
+without bytes yet or that ends within a frame, disks that are full, and files that can't be appended to. Each of its
+wrong versions has to be found.
 
 usage: recorder.py     (with cc; as root it also tries a folder that can't be read, and a disk that fills up)"""
+import functools
 import os
 import resource
 import signal
@@ -21,10 +23,18 @@ CHUNK = b"LIST\4\0\0\0INFO"
 DATA = bytes(range(1, 251)) * 16  # 1,000 whole frames of two channels with 16 bits
 # Wrong versions of record.c: a part, and what is in its place.
 WRONG = {
-    "a file that exists is emptied": ("is_emptied ? O_CREAT : O_CREAT | O_EXCL", "O_CREAT"),
+    "a file that exists is emptied": ("(is_emptied ? 0 : O_EXCL)", "0"),
     "a file is emptied before its folder is synced": (
-        "open(path, flags | O_RDWR | O_CLOEXEC, 0666)",
-        "open(path, flags | O_RDWR | (flags ? O_TRUNC : 0), 0666)",
+        "open(path, flags | O_CLOEXEC |",
+        "open(path, flags | (flags & O_CREAT ? O_TRUNC : 0) |",
+    ),
+    "a file gets the number of a standard stream": (
+        "if (descriptor < 0 || descriptor > STDERR_FILENO) return descriptor;",
+        "return descriptor;",
+    ),
+    "a file that isn't at its path any more is recorded to": (
+        "return held.st_dev == there.st_dev && held.st_ino == there.st_ino;",
+        "return 1;",
     ),
     "a file that isn't recorded to stays": (
         "give_up(file, path, is_made, HOUND_NOT_PERFORMED)",
@@ -162,6 +172,31 @@ def two_programs(record, path):
     expect("a lock outlives its program", run([record, path, *SHAPE, "--append"]).returncode == 0)
 
 
+def closed_streams(record, path):
+    """Started with a standard stream that is closed: the system gives its number to the file that is opened next."""
+    for stream, wanted in enumerate((b"", DATA, DATA)):
+        ran = run([record, path, *SHAPE], DATA + b"\1", preexec_fn=functools.partial(os.close, stream))
+        counted = 2 * counted_in(path)
+        expect("a closed stream is no error, or a torn frame", ran.returncode == 1)
+        expect("a closed stream is recorded, or gets samples", counted == os.path.getsize(path) - 44 == len(wanted))
+        os.remove(path)
+
+
+def replaced(record, path):
+    """Another file is renamed to the path after it was opened, and before it is locked."""
+    other, log = path + ".other", path + ".log"
+    run([record, path, *SHAPE], DATA[:400])
+    run([record, other, *SHAPE], DATA[:800])
+    words = ["strace", "-qq", "-o", log, "-e", "trace=openat,flock", "-e", "inject=flock:delay_enter=500000:when=1"]
+    pipes = dict.fromkeys(("stdin", "stdout", "stderr"), subprocess.PIPE)
+    recorder = subprocess.Popen([*words, record, path, *SHAPE, "--append"], **pipes)
+    while not (os.path.exists(log) and path.encode() in contents_of(log)):
+        time.sleep(0.01)
+    os.rename(other, path)
+    recorder.communicate(DATA[800:1200])
+    expect("a file that was replaced is recorded to", recorder.returncode == 0 and counted_in(path) == 600)
+
+
 def closed_output(record, path):
     recorder = subprocess.Popen([record, path, *SHAPE], stdin=subprocess.PIPE, stdout=subprocess.PIPE)
     recorder.stdin.write(DATA)
@@ -285,6 +320,8 @@ CHECKS = [
     failing_cut,
     failing_header,
     not_appended,
+    closed_streams,
+    replaced,
 ]
 
 

@@ -17,7 +17,7 @@ import sys
 import tempfile
 
 import hound_bindings as hound
-from python_faults import CASES, LIST, STREAM, Wrong, head, leave
+from python_faults import CASES, LIST, STREAM, Wrong, file_of, head, leave
 from rows import TOP, model, repaired_by_model, repairs
 
 HEADER = 44
@@ -25,11 +25,14 @@ IN_CARGO = sys.argv[1:] == ["cargo"]
 SOURCE = "rust/src/machines.rs" if IN_CARGO else "c/repair.c"
 # A file of 8 bits and one channel that was cut off, with no pad byte after its 1,099 samples, of which 100 are counted.
 CUT_OFF = head(CASES[1], 100) + STREAM[:1099]
+WHOLE, FOLLOWED = file_of(CASES[1], 1099), file_of(CASES[1], 1099, LIST)
 WAYS = {"mend": [], "to_end": ["to_end" if IN_CARGO else "--to-end"]}
 SAID = ("Whole", "CutOff", "HasChunksAfterData") if IN_CARGO else ("whole", "cut off", "with chunks after the data")
 STATES = dict(zip(("whole", "cut_off", "followed"), SAID))
 WRITES = ("write", "pwrite64")
 TAG = b"TAG" + bytes(125)
+# One that may not write what the user who tests has made.
+OTHER_USER = {"user": 65534} if os.getuid() == 0 else {}
 # Wrong versions of it: a part, and what is in its place.
 SYNC = "is_done = !file->is_durable || hound_file_sync(file->descriptor) == 0;"
 REPORT = "effect->report = is_done ? HOUND_DONE : HOUND_FAILED;"
@@ -63,6 +66,11 @@ WRONG = {
         "else if (more == 0) return (int64_t)done;\n        else if (errno != EINTR) return -1;",
         "else if (more == 0 || errno != EINTR) return (int64_t)done;",
     ),
+    "a file that needs no repair is opened to be written": (
+        "hound_file_repair_by(file, path, O_RDONLY, mode, found)",
+        "hound_file_repair_by(file, path, O_RDWR, mode, found)",
+    ),
+    "a pipe is waited for": ("flags & O_RDWR ? 0 : O_NONBLOCK", "0"),
     "an error ends with status 0": ('why), 1)); }', 'why), 0)); }'),
     "no lock": ("flock(descriptor, LOCK_EX | LOCK_NB)", "0"),
 }
@@ -136,6 +144,11 @@ def is_error(ran):
     return (ran.returncode, ran.stdout) == (1, b"") and re.fullmatch(rb"(repair|Error): .+\n", ran.stderr)
 
 
+def line_of(words):
+    """What is printed of what the model finds."""
+    return f"found {STATES[words[0]]}: {words[2]} frames, {words[4]} bytes left over\n"
+
+
 def check(program, path, how, data):
     """Repairs a file, which has to be what the model says then, and what the Python package makes of it."""
     leave(path, data)
@@ -146,8 +159,7 @@ def check(program, path, how, data):
     if isinstance(words, set):
         is_right = is_error(ran)
     else:
-        line = f"found {STATES[words[0]]}: {words[2]} frames, {words[4]} bytes left over\n"
-        is_right = (ran.returncode, ran.stdout.decode(), ran.stderr) == (0, line, b"")
+        is_right = (ran.returncode, ran.stdout.decode(), ran.stderr) == (0, line_of(words), b"")
     if not is_right:
         raise Wrong(f"{what} ends with {ran}, and not {words}")
     if contents_of(path) != wanted or (time == 1) != (wanted == data):
@@ -208,16 +220,18 @@ def check_errors(program, path):
     leave(path, CUT_OFF)
     os.chmod(path, 0o444)
     os.chmod(folder, 0o755)
-    user = {"user": 65534} if os.getuid() == 0 else {}
+    if not os.path.exists(path + ".pipe"):
+        os.mkfifo(path + ".pipe")
     for what, words, options in [
         ("no file", [path + ".none"], {}),
         ("a folder", [folder], {}),
-        ("a file that may not be written", [path], user),
+        ("a file that may not be written", [path], OTHER_USER),
+        ("a pipe", [path + ".pipe"], {}),
         ("no words", [], {}),
         ("another word", [path, "--end"], {}),
         ("two files", [path, path], {}),
     ]:
-        if not is_error(subprocess.run([program, *words], stdout=subprocess.PIPE, stderr=subprocess.PIPE, **options)):
+        if not is_error(ended([program, *words], **options)):
             raise Wrong(f"{what}: no error")
     if contents_of(path) != CUT_OFF:
         raise Wrong("a file that may not be written is another")
@@ -225,7 +239,18 @@ def check_errors(program, path):
     with open("/dev/full", "w") as full:
         if subprocess.run([program, path], stdout=full, stderr=subprocess.PIPE).returncode != 1:
             raise Wrong("an output that is full is no error")
-    return 7
+    return 8
+
+
+def check_read_only(program, path):
+    """A file of which nothing is to be written needs no leave to write it."""
+    for how, data in ("mend", WHOLE), ("to_end", WHOLE), ("mend", FOLLOWED):
+        leave(path, data)
+        os.chmod(path, 0o444)
+        ran = run(program, path, how, **OTHER_USER)
+        if (ran.returncode, ran.stdout.decode()) != (0, line_of(repaired_by_model(how, data)[0])):
+            raise Wrong(f"a read-only file that needs no repair: {ran}")
+        os.chmod(path, 0o644)
 
 
 # What is killed, or whose calls fail: such a file, others with half frames or a pad byte that is missing, one with a
@@ -350,11 +375,12 @@ def check_same(program, path):
 
 def check_lock(program, path):
     """A file that a recorder has locked is rejected, and stays as it is."""
-    leave(path, CUT_OFF)
-    with open(path, "rb") as file:
-        fcntl.flock(file, fcntl.LOCK_EX)
-        if not is_error(run(program, path)) or contents_of(path) != CUT_OFF:
-            raise Wrong("a locked file is repaired")
+    for data in CUT_OFF, WHOLE:
+        leave(path, data)
+        with open(path, "rb") as file:
+            fcntl.flock(file, fcntl.LOCK_EX)
+            if not is_error(run(program, path)) or contents_of(path) != data:
+                raise Wrong("a locked file is repaired")
 
 
 def all_checks(program, path, is_short):
@@ -362,6 +388,8 @@ def all_checks(program, path, is_short):
     calls = sum(check_calls(program, path, how, before) for how, before in CALLED)
     losses = sum(check_losses(program, path, how, before) for how, before in CALLED)
     errors = check_errors(program, path)
+    if not IN_CARGO:
+        check_read_only(program, path)
     check_lock(program, path)
     cut = list(cut_files())
     files = check_files(program, path, (("mend", data) for data in (cut[:500] if is_short else cut)))

@@ -5,7 +5,9 @@ import { openAsBlob } from "node:fs";
 import fs from "node:fs/promises";
 import os from "node:os";
 import path from "node:path";
-import { HoundError, append, findDamage, guessStart, info, read, repair, repairFile, write } from "../hound.js";
+import {
+  HoundError, append, findDamage, findDamageInFile, guessStart, info, read, repair, repairFile, write,
+} from "../hound.js";
 
 const text = (characters) => [...Buffer.from(characters, "latin1")];
 const u16 = (n) => [n & 255, n >> 8 & 255];
@@ -343,12 +345,14 @@ test("a file at a path is repaired in place", async () => {
   const repaired = [long, "cutOff", byHand(Array(3e6).fill(5), { channels: 2 })];
   for (const [before, state, after] of [...odd, repaired, chunks]) {
     await fs.writeFile(name, before);
+    assert.deepEqual(await findDamageInFile(name), await findDamage(before));
+    assert.ok((await fs.readFile(name)).equals(before));
     assert.equal((await repairFile(name)).state, state);
     assert.ok((await fs.readFile(name)).equals(after));
   }
   assert.equal((await repairFile(name, { toEnd: true })).frames, 1 + LIST.length / 2);
   await fs.writeFile(name, "RIFX");
-  await fails(repairFile(name), "NO_RIFF_TAG");
+  for (const call of [repairFile, findDamageInFile]) await fails(call(name), "NO_RIFF_TAG");
   await assert.rejects(repairFile(path.join(folder, "none.wav")), { code: "ENOENT" });
   await fs.rm(folder, { recursive: true });
 });

@@ -234,6 +234,10 @@ test("the command says what files are, and repairs them", async () => {
   await fs.writeFile(cut, Buffer.concat([fileOf([block(1)]), Buffer.from("LIST\x04\0\0\0INFO", "latin1")]));
   assert.equal(run("repair", cut)[1], `${cut}: found chunks or a tag follow the sound, 3 frames (0.000 s), ${spec}`);
   assert.equal(run("repair", "--to-end", cut)[1], `${cut}: found cut off, 6 frames (0.001 s), ${spec}`);
+  await fs.truncate(cut, 2 ** 32 + 44); // Of these bytes 44 are left where a size has 32 bits.
+  for (const word of ["info", "repair"]) {
+    assert.deepEqual(run(word, cut), [1, "", `${cut}: the sizes of the file would not fit in 32 bits\n`]);
+  }
   const uses = [
     [], ["info"], ["repair", "--to-end"], ["info", "--to-end", take], ["show", take], ["repair", "--help"],
   ];

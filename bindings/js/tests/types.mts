@@ -1,5 +1,7 @@
 // What hound.d.ts declares: `tsc` accepts this file, where each call has its arguments and its result.
-import { HoundError, append, appendTo, findDamage, info, read, record, repair, write } from "../hound.js";
+import {
+  HoundError, append, appendTo, findDamage, findDamageInFile, info, read, record, repair, write,
+} from "../hound.js";
 import type { Damage, Info, Recorder } from "../hound.js";
 
 export async function uses(blob: Blob, bytes: Uint8Array): Promise<string> {
@@ -10,7 +12,7 @@ export async function uses(blob: Blob, bytes: Uint8Array): Promise<string> {
   const longer: Blob = await append(blob, any, { overwrite: true });
   const [left, right]: Float32Array[] = await read(new ArrayBuffer(44), { type: "float32", planar: true });
   await append(bytes, await read(blob, { planar: true }), { onClipped: (count: number) => count.toFixed() });
-  const found: Damage = await findDamage(written);
+  const found: Damage = written.length > 1 ? await findDamage(written) : await findDamageInFile("take.wav");
   const mended: Blob = (await repair(longer, { toEnd: true })).file;
   const head: Info = await info(mended);
   await repair(mended, { like: head, skip: 44 });

@@ -167,6 +167,7 @@ mod c {
     // The constants and structs, made from hound.h by scripts/make_interface.
     pub const EFFECT_BYTES: usize = 40;
     pub const HEADER_BYTES: usize = 68;
+    pub const NOTHING: u16 = 0;
     pub const READ: u16 = 1;
     pub const WRITE: u16 = 2;
     pub const WRITE_BLOCK: u16 = 3;

@@ -18,6 +18,8 @@ pub enum Kind {
     Sync,
     /// It cuts the file off, where it is longer than its place.
     Cut,
+    /// What only a newer library requests. It has to be reported as failed.
+    Unknown,
 }
 
 /// What a walk, a repairer or a recorder requests: something that is done to a file, at a place of it.
@@ -33,12 +35,13 @@ impl Effect {
     /// What it does.
     pub fn kind(&self) -> Kind {
         match self.0.kind {
+            c::NOTHING => Kind::Nothing,
             c::READ => Kind::Read,
             c::WRITE => Kind::Write,
             c::WRITE_BLOCK => Kind::WriteBlock,
             c::SYNC => Kind::Sync,
             c::CUT => Kind::Cut,
-            _ => Kind::Nothing,
+            _ => Kind::Unknown,
         }
     }
 
@@ -100,6 +103,7 @@ impl Effect {
                 medium.sync()
             }
             Kind::Cut => medium.cut(place),
+            Kind::Unknown => Err(unknown_effect()),
         };
         match result {
             Ok(()) => self.done(),
@@ -107,6 +111,36 @@ impl Effect {
         }
         result
     }
+
+    // Takes the bytes from a reader that is at a place, and what is before them.
+    fn take_from<R: io::Read>(&mut self, reader: &mut R, place: &mut u64) -> io::Result<()> {
+        if self.kind() != Kind::Read {
+            return Err(unknown_effect());
+        }
+        let mut skipped = [0; 1024];
+        while *place < self.place() {
+            let most = (self.place() - *place).min(skipped.len() as u64) as usize;
+            match reader.read(&mut skipped[..most])? {
+                0 => break,
+                more => *place += more as u64,
+            }
+        }
+        let (mut count, wanted) = (0, if *place < self.place() { 0 } else { self.length() });
+        while count < wanted {
+            match reader.read(&mut self.bytes_mut()[count..])? {
+                0 => break,
+                more => count += more,
+            }
+        }
+        *place += count as u64;
+        self.read(count);
+        Ok(())
+    }
+}
+
+fn unknown_effect() -> io::Error {
+    let why = "the library that HOUND_C_LIB named requests what this hound_bindings can't do: build without it";
+    io::Error::new(io::ErrorKind::Unsupported, why)
 }
 
 // Reads until the bytes are full or the file ends, and returns how many there are.
@@ -161,7 +195,35 @@ pub trait Medium {
     }
 }
 
-/// A file, which a sync stores.
+// Whether a file was opened to append: then the system writes at its end, and at no place.
+#[cfg(unix)]
+fn is_open_to_append(file: &fs::File) -> bool {
+    use std::os::{raw::c_int, unix::io::AsRawFd};
+    extern "C" {
+        fn fcntl(file: c_int, command: c_int, ...) -> c_int;
+    }
+    const GET_FLAGS: c_int = 3;
+    const IS_OF_LINUX: bool = cfg!(any(target_os = "linux", target_os = "android"))
+        && !cfg!(any(target_arch = "mips", target_arch = "mips64", target_arch = "sparc64"));
+    const APPEND: c_int = if IS_OF_LINUX { 0x400 } else { 8 };
+    // SAFETY: the file is open, and no pointer is passed.
+    let flags = unsafe { fcntl(file.as_raw_fd(), GET_FLAGS) };
+    flags >= 0 && flags & APPEND != 0
+}
+
+// It isn't known before a write.
+#[cfg(not(unix))]
+fn is_open_to_append(_: &fs::File) -> bool {
+    false
+}
+
+fn open_to_append() -> io::Error {
+    let why = "the file was opened to append, and nothing is written at a place of it: open it by write(true)";
+    io::Error::new(io::ErrorKind::InvalidInput, why)
+}
+
+/// A file, which a sync stores. One that was opened by `append(true)` is an error (`InvalidInput`), and stays as it is;
+/// on Windows the first write is at its end.
 impl Medium for fs::File {
     fn read_at(&mut self, place: u64, bytes: &mut [u8]) -> io::Result<usize> {
         io::Seek::seek(self, io::SeekFrom::Start(place))?;
@@ -169,8 +231,15 @@ impl Medium for fs::File {
     }
 
     fn write_at(&mut self, place: u64, bytes: &[u8]) -> io::Result<usize> {
+        if is_open_to_append(self) {
+            return Err(open_to_append());
+        }
         io::Seek::seek(self, io::SeekFrom::Start(place))?;
-        io::Write::write(self, bytes)
+        let count = io::Write::write(self, bytes)?;
+        if cfg!(not(unix)) && io::Seek::stream_position(self)? != place + count as u64 {
+            return Err(open_to_append());
+        }
+        Ok(count)
     }
 
     fn sync(&mut self) -> io::Result<()> {
@@ -178,10 +247,10 @@ impl Medium for fs::File {
     }
 
     fn cut(&mut self, place: u64) -> io::Result<()> {
-        if self.metadata()?.len() > place {
-            self.set_len(place)
-        } else {
-            Ok(())
+        match self.metadata()?.len() {
+            length if length <= place => Ok(()),
+            _ if is_open_to_append(self) => Err(open_to_append()),
+            _ => self.set_len(place),
         }
     }
 }
@@ -304,29 +373,13 @@ impl Walk {
     /// Reads up to the data as [`over`](Walk::over) does, by this walk, which has taken nothing before: one
     /// [`of_stream`](Walk::of_stream) takes any length.
     pub fn take_from<R: io::Read>(&mut self, reader: &mut R) -> io::Result<Result<Info>> {
-        let (mut place, mut skipped) = (0, [0; 1024]);
+        let mut place = 0;
         loop {
-            let effect = match self.next() {
-                Ok(Next::Effect(effect)) => effect,
+            match self.next() {
+                Ok(Next::Effect(effect)) => effect.take_from(reader, &mut place)?,
                 Ok(Next::Done(info)) => return Ok(Ok(info)),
                 Err(error) => return Ok(Err(error)),
-            };
-            while place < effect.place() {
-                let most = (effect.place() - place).min(skipped.len() as u64) as usize;
-                match reader.read(&mut skipped[..most])? {
-                    0 => break,
-                    more => place += more as u64,
-                }
             }
-            let (mut count, wanted) = (0, if place < effect.place() { 0 } else { effect.length() });
-            while count < wanted {
-                match reader.read(&mut effect.bytes_mut()[count..])? {
-                    0 => break,
-                    more => count += more,
-                }
-            }
-            place += count as u64;
-            effect.read(count);
         }
     }
 }
@@ -509,5 +562,39 @@ impl Recorder {
     /// first error, where what was requested isn't done because of it. A cut may fail.
     pub fn run<M: Medium + ?Sized>(&mut self, medium: &mut M, block: &[u8]) -> io::Result<Result<()>> {
         self.perform_all(medium, block)
+    }
+}
+
+#[cfg(test)]
+mod tests {
+    use super::*;
+
+    /// It requests an effect of a newer library, and ends by its report.
+    struct Newer(Effect);
+
+    impl Machine for Newer {
+        type Found = ();
+
+        fn next_effect(&mut self) -> Result<Next<'_, ()>> {
+            match self.0 .0.report {
+                c::PENDING => Ok(Next::Effect(&mut self.0)),
+                c::DONE => Ok(Next::Done(())),
+                _ => Err(crate::Error::NotPerformed),
+            }
+        }
+    }
+
+    #[test]
+    fn an_unknown_effect_is_an_error() {
+        struct Nothing;
+        impl Medium for Nothing {}
+        for kind in [c::CUT + 1, u16::MAX] {
+            let mut newer = Newer(Effect(c::Effect { kind, length: 4, ..c::Effect::default() }));
+            assert!(newer.0.take_from(&mut &[0; 4][..], &mut 0).is_err());
+            assert_eq!((newer.0.kind(), newer.0 .0.report), (Kind::Unknown, c::PENDING));
+            let error = newer.perform_all(&mut Nothing, &[]).unwrap_err();
+            assert_eq!((error.kind(), newer.0 .0.report), (io::ErrorKind::Unsupported, c::FAILED));
+            assert!(error.to_string().contains("HOUND_C_LIB"));
+        }
     }
 }

@@ -737,6 +737,24 @@ fn a_file_of_the_system_is_a_medium() {
 }
 
 #[test]
+fn a_file_that_was_opened_to_append_is_rejected() {
+    let path = OwnPath::new("append");
+    let with_chunk = [&write(&SPEC, &[2i16, 3]).unwrap()[..], b"LIST\x04\0\0\0INFO"].concat();
+    fs::write(&path, &with_chunk).unwrap();
+    let mut file = fs::OpenOptions::new().read(true).append(true).open(&path).unwrap();
+    let found = Repairer::new(with_chunk.len() as u64, Mode::FindDamage).run(&mut file).unwrap().unwrap();
+    let mut recorder = Recorder::resume(&found, OVERWRITE).unwrap();
+    for _ in 0..2 {
+        recorder.write(1).unwrap();
+        assert_eq!(recorder.run(&mut file, &[7, 0]).unwrap_err().kind(), io::ErrorKind::InvalidInput);
+    }
+    assert_eq!(Repairer::new(60, Mode::RepairToEnd).run(&mut file).unwrap_err().kind(), io::ErrorKind::InvalidInput);
+    let left = fs::read(&path).unwrap();
+    assert_eq!(&left[..48], &with_chunk[..48]);
+    assert!(left == with_chunk || cfg!(windows));
+}
+
+#[test]
 fn a_medium_without_a_call_fails() {
     struct Nothing;
     impl Medium for Nothing {}
