@@ -74,7 +74,7 @@ function checked(code) {
 // The constants, and where fields are, made from hound.h by scripts/make_interface.
 const [INT, FLOAT, EFFECT_BYTES, DONE, FAILED] = [0, 1, 40, 1, 2];
 const [READ, WRITE, WRITE_BLOCK, SYNC, CUT] = [1, 2, 3, 4, 5];
-const [FIND_DAMAGE, REPAIR, REPAIR_TO_END, OVERWRITE] = [0, 1, 2, 2];
+const [FIND_DAMAGE, REPAIR, REPAIR_TO_END, MAKE_CANONICAL, OVERWRITE] = [0, 1, 2, 3, 2];
 const LAYOUT = {
   spec: { sampleRate: 0, channels: 4, bitsPerSample: 6, bytesPerSample: 8, sampleFormat: 10, size: 12 },
   info: { spec: 0, samples: 12, dataStart: 16, size: 24 },

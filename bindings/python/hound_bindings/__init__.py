@@ -174,7 +174,7 @@ class Repair(NamedTuple):
 
 
 # The constants and structs, made from hound.h by scripts/make_interface.
-_FIND_DAMAGE, _REPAIR, _REPAIR_TO_END = 0, 1, 2
+_FIND_DAMAGE, _REPAIR, _REPAIR_TO_END, _MAKE_CANONICAL = 0, 1, 2, 3
 _MEND, _OVERWRITE = 1, 2
 _HEADER_BYTES = 68
 

@@ -181,6 +181,7 @@ mod c {
     pub const FIND_DAMAGE: u32 = 0;
     pub const REPAIR: u32 = 1;
     pub const REPAIR_TO_END: u32 = 2;
+    pub const MAKE_CANONICAL: u32 = 3;
     pub const MEND: u32 = 1;
     pub const OVERWRITE: u32 = 2;
 
