@@ -193,13 +193,14 @@ def check_record(program):
     return count
 
 
-STATES = ["whole", "cut_off", "followed"]
+STATES = ["whole", "cut_off", "followed", "all_counted"]
 
 
 def repaired_by_model(how, data):
     """What a repair finds and leaves, or the codes that its error may have; then all stays."""
     try:
-        damage = model.Damage(data, how == "mend")
+        damage = model.Damage(data, how != "to_end")
+        damage.is_mended = damage.is_mended or how == "canonical" and damage.was == "all_counted"
     except model.Rejected as error:
         text = str(error)
         codes = {"Unsupported": {Cause.UNSUPPORTED, Cause.NOT_WRITABLE}, "TooLong": {Cause.TOO_LONG}}
@@ -288,6 +289,7 @@ def check_reports():
     assert next_after(hound.disk.DONE)[0] == -Cause.NEEDS_CHECKPOINT
     assert streams._recorder_write(ctypes.byref(recorder), 3) == 0 and next_after(0) == (1, hound.disk.SYNC, 0)
     assert next_after(hound.disk.FAILED)[0] == streams._recorder_write(ctypes.byref(recorder), 3) == -Cause.SYNC_FAILED
+    assert next_after(0)[0] == next_after(0)[0] == -Cause.SYNC_FAILED
     file = hound.to_bytes(array.array("h", [1, 2]), 44100)
     for length, state, results in (
         (48, 0, [0, 0, 0, 0]),
