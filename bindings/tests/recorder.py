@@ -299,6 +299,10 @@ def not_appended(record, path):
         file.write(whole + CHUNK)
     expect("chunks are overwritten", is_rejected(run([record, path, *SHAPE, "--append"]), b"chunks or a tag"))
     expect("chunks that aren't overwritten change", contents_of(path) == whole + CHUNK)
+    with open(path, "wb") as file:
+        file.write(whole[:20] + b"\2\0" + whole[22:])
+    said = b"the file holds Microsoft ADPCM, and isn't read: convert it by ffmpeg"
+    expect("ADPCM isn't named", is_rejected(run([record, path, *SHAPE, "--append"]), said))
     os.remove(path)
     os.mkfifo(path)
     for words in ["--append"], ["--overwrite"]:

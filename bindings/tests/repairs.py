@@ -85,6 +85,7 @@ WRONG = {
     ),
     "a pipe is waited for": ("flags & O_RDWR ? 0 : O_NONBLOCK", "0"),
     "an error ends with status 0": ('why), 1)); }', 'why), 0)); }'),
+    "what isn't read isn't named": ("if (code < 0) hound_file_look(file);", ""),
     "no lock": ("flock(descriptor, LOCK_EX | LOCK_NB)", "0"),
 }
 if IN_CARGO:
@@ -262,6 +263,19 @@ def check_errors(program, path):
     return 8
 
 
+def check_kinds(program, path):
+    """A file that isn't read is named, and by what it becomes one that is. The numbers are those of mmreg.h."""
+    for place, other, name, codec in [
+        (20, b"\2\0", "Microsoft ADPCM", "pcm_s16le"),
+        (20, b"\x55\0", "MP3", "pcm_s16le"),
+        (0, b"riff", "Wave64", "pcm_s24le"),
+    ]:
+        leave(path, WHOLE[:place] + other + WHOLE[place + len(other) :])
+        ran, says = run(program, path), f"the file holds {name}, and isn't read: convert it by ffmpeg -i FILE"
+        if not is_error(ran) or ran.stderr.decode() != f"repair: {path}: {says} -c:a {codec} NEW.wav\n":
+            raise Wrong(f"{name} isn't named: {ran}")
+
+
 def check_read_only(program, path):
     """A file of which nothing is to be written needs no leave to write it."""
     for how, data in ("mend", WHOLE), ("to_end", WHOLE), ("mend", FOLLOWED), ("mend", ALL_COUNTED):
@@ -318,8 +332,8 @@ def written(contents, calls):
 
 
 def are_wanted(contents, how, before):
-    """Whether these are what a repair has to leave. Where one ended before the pad byte, which is written last, both sizes
-    are right, so that another one leaves it out."""
+    """Whether these are what a repair has to leave. Where one ended before the pad byte, which is written last, both
+    sizes are right, so that another one leaves it out."""
     wanted = repaired_by_model(how, before)[1]
     start = before.index(b"data") + 8
     has_pad = wanted[start - 4] % 2 == 1 and len(wanted) > len(before)
@@ -420,6 +434,7 @@ def all_checks(program, path, is_short):
     errors = check_errors(program, path)
     if not IN_CARGO:
         check_read_only(program, path)
+        check_kinds(program, path)
     check_lock(program, path)
     cut = list(cut_files())
     files = check_files(program, path, (("mend", data) for data in (cut[:500] if is_short else cut)))
