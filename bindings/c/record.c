@@ -53,6 +53,7 @@ int main(int argc, char **argv) {
                        (uint16_t)((numbers[2] + 7) / 8), HOUND_INT};
     int32_t code = begin(argv[1], &spec, is_durable, is_appended, is_overwritten);
     if (file.fault == EEXIST) stop("the file exists: --append continues it, --overwrite empties it");
+    if (code == HOUND_UNFINISHED_FRAME) stop("the header counts a part of a frame: repair the file first");
     if (code < 0) stop(hound_file_reason(&file, code, room));
     hound_file_set_binary(0);
 #ifdef SIGPIPE
