@@ -228,6 +228,13 @@ test("a file that was cut off is repaired", async () => {
   }
 });
 
+test("a repair reports how many frames the header counted, also before a chunk that was itself cut off", async () => {
+  for (const file of kinds(byHand([1, 0, 2, 0], { after: [...text("abcd"), ...u32(100), 7, 7] }))) {
+    const { state, frames, counted } = await repair(file);
+    assert.deepEqual({ state, frames, counted }, { state: "cutOff", frames: 2 + 5, counted: 2 });
+  }
+});
+
 test("a missing pad byte is added", async () => {
   const cut = byHand([1, 2, 3], { bits: 8, counted: 2, riff: 38 });
   for (const file of kinds(cut)) {
