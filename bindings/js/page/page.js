@@ -102,9 +102,9 @@ function verdict(found, { rest, mayBeSound }, toEnd) {
   const isThere = leftOver === 1 ? "is there" : "are there";
   const left = leftOver ? ` Of one more frame only ${counted(leftOver, "byte")} ${isThere}.` : "";
   const cause = toEnd ? "All bytes up to the end are taken for sound." : "The recording was cut off.";
-  const counts = before > frames ? `; its header counted ${number(before)}` :
+  const ofThese = before > frames ? `; its header counted ${number(before)}` :
     `, of which its header counted ${before ? number(before) : "none"}`;
-  const back = `${framesOf(found)} come${frames === 1 ? "s" : ""} back${counts}.${left}`;
+  const back = `${framesOf(found)} come${frames === 1 ? "s" : ""} back${ofThese}.${left}`;
   return [`${cause} ${back}\nListen to its end: if silence, noise, a click or older sound is there, ` +
     "cut it off in an audio editor.", "cut"];
 }
@@ -139,7 +139,7 @@ function rows(file, { head, found, begins }) {
   const duration = `${sampleRate ? `${time(lengthOfTime(found))}, ` : ""}${counted(found.frames, "frame")}`;
   const counts = `counts ${counted(found.counted, "frame")}`;
   const stays = found.leftOver === 1 ? "It stays" : "They stay";
-  const place = found.state === "cutOff" ? "in the original: the repaired file ends after the last whole frame." :
+  const where = found.state === "cutOff" ? "in the original: the repaired file ends after the last whole frame." :
     "in the file, after the last whole frame.";
   return [
     ["File", `${file.name}, ${counted(file.size, "byte")}`],
@@ -152,7 +152,7 @@ function rows(file, { head, found, begins }) {
       [["Header", counts, "The repaired file counts all whole frames that are there."]] : []),
     ...(found.state === "allCounted" ?
       [["Header", counts, "Its RIFF size or pad byte isn't as the format asks, which concerns no sample."]] : []),
-    ...(found.leftOver ? [["Left over", counted(found.leftOver, "byte"), `${stays} ${place}`]] : []),
+    ...(found.leftOver ? [["Left over", counted(found.leftOver, "byte"), `${stays} ${where}`]] : []),
   ];
 }
 
