@@ -291,8 +291,8 @@ enum {
     HOUND_FIND_DAMAGE,  /* it only reads, and finds what HOUND_REPAIR would */
     HOUND_REPAIR,       /* it repairs as hound_repair does */
     HOUND_REPAIR_TO_END, /* it repairs as hound_repair_to_end does */
-    HOUND_MAKE_CANONICAL /* it repairs as HOUND_REPAIR does, and also writes the RIFF size and the pad byte of a file that
-                            it finds HOUND_ALL_COUNTED */
+    HOUND_MAKE_CANONICAL /* it repairs as HOUND_REPAIR does, and also writes the RIFF size and the pad byte of a file
+                            that it finds HOUND_ALL_COUNTED */
 };
 
 /* Begins a repairer of a file of so many bytes. */
@@ -439,8 +439,8 @@ static inline const char *hound_error_text(int64_t code) {
     }
 }
 
-/* The name of what hound_kind returned; NULL for samples that the library reads, and for what it doesn't know. The numbers
-   below 65536 are those of mmreg.h, the list of registered wave formats. */
+/* The name of what hound_kind returned; NULL for samples that the library reads, and for what it doesn't know. The
+   numbers below 65536 are those of mmreg.h, the list of registered wave formats. */
 static inline const char *hound_kind_text(int32_t kind) {
     switch (kind) {
     case 2: return "Microsoft ADPCM";

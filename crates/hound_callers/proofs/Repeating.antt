@@ -174,7 +174,7 @@ module _ (laws : Again) (block : List ℕ) where
       by (inl on) = absurd (goes_none r new a goes on)
       by (inr (_, never)) = cc
 
-  -- no effect and no block is asked for once a sync has failed, and a cut writes nothing
+  -- no effect and no block is requested once a sync has failed, and a cut writes nothing
   nothing_tried : (r : Recorder) (a : Action) (m now : MediumState) → 1 < r.condition → GoesOn r r (Ok (Some a))
       → Tried a block m now → Repeats m now
   nothing_tried r (Perform e) m now high (_, _, _, _, _, after, next) was = absurd (let low = next.0 in omega (arith, low, high))
