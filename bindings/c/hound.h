@@ -148,7 +148,7 @@ int32_t hound_info(const uint8_t *file, size_t length, hound_info_t *info) HOUND
    `perform` does what `kind` says, and sets `report`: to HOUND_FAILED where it does not know the kind, since a newer
    library may request others. Without a report the next call requests the same effect again: so a program that was
    interrupted, and doesn't know whether an effect was done, just continues its loop. Only a sync that was begun and may
-   have failed has to be reported as failed. See record.c and repair.c. */
+   have failed has to be reported as failed. hound_file.h has such a loop. */
 enum {
     HOUND_NOTHING,     /* there is nothing to do */
     HOUND_READ,        /* read `length` bytes at `place` into `bytes`. Where the file ends before that, set `length` to
