@@ -352,7 +352,8 @@ int64_t hound_from_f32(const float *samples, size_t count, uint16_t bits, int32_
    a repair finds the others that are there; where frames have one byte it takes a pad byte that isn't counted yet for
    one.
    A program begins a recorder, and then, as often as it likes, requests a block or a checkpoint, and performs all
-   effects until there is none. A block that failed is cut off, and the next request begins with a checkpoint. */
+   effects until there is none. After each that is reported fewer are left: a checkpoint has at most eight, a block at
+   most eleven. A block that failed is cut off, and the next request begins with a checkpoint. */
 typedef struct {
     hound_effect effect;
     uint64_t data_start;  /* how many bytes are before the first sample */
