@@ -93,6 +93,7 @@ mod medium;
 mod reader;
 mod repair;
 mod sample;
+mod source;
 mod spec;
 mod writer;
 

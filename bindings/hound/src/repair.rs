@@ -1,5 +1,6 @@
+use crate::medium::open_locked;
 pub use crate::proved::State as RepairState;
-use crate::proved::{self, Mode, Repairer};
+use crate::proved::{Mode, Repairer};
 use crate::{Result, WavSpecEx};
 use std::io::{Seek, SeekFrom};
 use std::{fs, path};
@@ -39,8 +40,7 @@ pub fn repair_file_to_end<P: AsRef<path::Path>>(filename: P) -> Result<Repair> {
 }
 
 fn repair_by(mode: Mode, filename: &path::Path) -> Result<Repair> {
-    let mut file = fs::OpenOptions::new().read(true).write(true).open(filename)?;
-    proved::lock(&file)?;
+    let mut file = open_locked(fs::OpenOptions::new().read(true).write(true), filename)?;
     let length = file.seek(SeekFrom::End(0))?;
     let found = Repairer::new(length, mode).run(&mut file)??;
     Ok(Repair { spec_ex: found.spec.into(), frames: found.frames, left_over: found.left_over, state: found.state })

@@ -320,7 +320,7 @@ fn a_file_is_appended_to_after_batches_and_flushes() {
 
 /// Writes so many samples, from a number on: one by one, as a block, a batch, or those of a user's own type.
 fn write_by<W: Write + Seek>(way: usize, writer: &mut WavWriter<W>, first: usize, count: usize) -> Result<()> {
-    let samples: Vec<i16> = numbers(first + count)[first..].to_vec();
+    let samples: Vec<i16> = (first..first + count).map(|number| number as i16).collect();
     match way {
         0 => samples.iter().try_for_each(|&sample| writer.write_sample(sample)),
         1 => writer.write_samples(&samples),
@@ -424,6 +424,20 @@ fn the_blocks_that_a_full_medium_holds_are_counted() {
             assert!(counted == numbers(counted.len()) && counted.len() % frame == 0);
             assert!(counted.len() <= held && counted.len() + 4096 + frame > held);
         }
+    }
+}
+
+#[test]
+fn few_samples_make_no_call_of_the_medium() {
+    for way in 0..WAYS {
+        let disk = Disk::default();
+        let mut writer = WavWriter::new(disk.clone(), WavSpec { channels: 2, ..MONO }).unwrap();
+        (0..4096).step_by(4).for_each(|first| write_by(way, &mut writer, first, 4).unwrap());
+        assert_eq!((disk.contents().len(), writer.len()), (44, 4096), "way {way}");
+        (4096..20_000).step_by(4).for_each(|first| write_by(way, &mut writer, first, 4).unwrap());
+        assert!(disk.0.borrow().calls < 20, "way {way}");
+        writer.flush().unwrap();
+        assert!(disk.samples() == numbers(20_000));
     }
 }
 
@@ -672,15 +686,82 @@ fn samples_that_no_type_reads_are_errors_by_each_call() {
 
 #[test]
 fn reading_goes_on_after_a_closure_that_panicked() {
+    let path = Path::new("panicked");
     let file = written(MONO, &(0..9000).collect::<Vec<i16>>());
-    let mut reader = WavReader::new(Cursor::new(&file)).unwrap();
-    let fold = AssertUnwindSafe(|| reader.samples::<i16>().for_each(|sample| assert!(sample.unwrap() < 5000)));
+    fs::write(&path, &file).unwrap();
+    fn go_on<R: Read + Seek>(mut reader: WavReader<R>, last: i16) {
+        let fold = AssertUnwindSafe(|| reader.samples::<i16>().for_each(|sample| assert!(sample.unwrap() < last)));
+        assert!(catch_unwind(fold).is_err());
+        assert_eq!(reader.samples::<i16>().len(), 8999 - last as usize);
+        assert_eq!(reader.samples::<i16>().next().unwrap().unwrap(), last + 1);
+        // What rejects a sample takes none of its bytes, and a type of a user's own reads the next one.
+        assert!(matches!(reader.samples::<f32>().next(), Some(Err(Error::InvalidSampleFormat))));
+        assert_eq!(reader.samples::<Inverse>().next().unwrap().unwrap(), Inverse(!(last + 2)));
+        assert!(matches!(reader.samples::<i8>().next(), Some(Err(Error::TooWide))));
+        let mut block = [0i32; 4500];
+        assert!(matches!(reader.read_samples(&mut block[..3]), (3, Ok(()))));
+        let (count, result) = reader.read_samples(&mut block[3..]);
+        assert!(result.is_ok() && block[..3 + count].iter().copied().eq((i32::from(last) + 3..).take(3 + count)));
+        assert_eq!(reader.samples::<i16>().len(), 8992 - last as usize - count);
+        reader.seek(7).unwrap();
+        assert_eq!(reader.samples::<i32>().next().unwrap().unwrap(), 7);
+        reader.seek(8000).unwrap();
+        assert_eq!(reader.samples::<i16>().map(|sample| i32::from(sample.unwrap())).sum::<i32>(), 8499500);
+        reader.seek(7).unwrap();
+        assert_eq!(reader.samples::<i32>().next().unwrap().unwrap(), 7);
+        assert_eq!(reader.into_inner().stream_position().unwrap(), 44 + 2 * 8);
+    }
+    for last in [9, 4094, 4095, 4096, 5000] {
+        go_on(WavReader::new(Cursor::new(&file)).unwrap(), last);
+        go_on(WavReader::new(fs::File::open(&path).unwrap()).unwrap(), last);
+        go_on(WavReader::open(&path).unwrap(), last);
+    }
+    // A sample that is torn stays so: its error comes after the samples that were read with it.
+    let mut reader = WavReader::new(&file[..44 + 2 * 20 + 1]).unwrap();
+    let fold = AssertUnwindSafe(|| reader.samples::<i16>().for_each(|sample| assert!(sample.unwrap() < 9)));
     assert!(catch_unwind(fold).is_err());
-    assert_eq!(reader.samples::<i16>().len(), 3999);
-    assert_eq!(reader.samples::<i16>().next().unwrap().unwrap(), 5001);
-    reader.seek(7).unwrap();
-    assert_eq!(reader.samples::<i32>().next().unwrap().unwrap(), 7);
-    assert_eq!(reader.into_inner().position(), 44 + 2 * 8);
+    assert!(matches!(reader.samples::<f32>().next(), Some(Err(Error::InvalidSampleFormat))));
+    let rest: Vec<_> = reader.samples::<i16>().take(12).map(|sample| sample.ok()).collect();
+    assert_eq!(rest, (10..20).map(Some).chain([None, None]).collect::<Vec<_>>());
+}
+
+#[test]
+fn a_reader_that_claims_more_bytes_than_it_had_room_for_is_believed_as_by_hound() {
+    struct Boastful(Cursor<Vec<u8>>);
+    impl Read for Boastful {
+        fn read(&mut self, bytes: &mut [u8]) -> io::Result<usize> {
+            self.0.read(bytes).map(|count| if count < bytes.len() { count } else { count + 7 })
+        }
+    }
+    let file = written(MONO, &numbers(9000));
+    let open = || WavReader::new(Boastful(Cursor::new(file.clone()))).unwrap();
+    let mut block = [0i16; 9000];
+    assert!(matches!(open().read_samples(&mut block), (9000, Ok(()))));
+    assert!(block[..] == numbers(9000));
+    assert!(open().samples::<i16>().map(|sample| sample.unwrap()).eq(numbers(9000)));
+    assert_eq!(open().samples::<i16>().fold(0, |sum, sample| sum + i32::from(sample.unwrap())), 40495500);
+    assert!(open().samples::<Inverse>().map(|sample| !sample.unwrap().0).eq(numbers(9000)));
+    let mut rest = Boastful(Cursor::new(file[44..].to_vec()));
+    assert!((0..9000).all(|number| i16::read(&mut rest, SampleFormat::Int, 2, 16).unwrap() == number));
+}
+
+#[test]
+fn an_open_file_is_read_at_any_frame() {
+    let path = Path::new("seek");
+    let count = 100_000u32;
+    fs::write(&path, written(WavSpec { bits_per_sample: 32, ..MONO }, &(0..count as i32).collect::<Vec<_>>())).unwrap();
+    let (mut reader, mut frame) = (WavReader::open(&path).unwrap(), 1);
+    for i in 0..4000 {
+        // Near, and far away.
+        frame = if i % 3 == 0 { (frame * 8191 + 1) % count } else { (frame + i % 40) % count };
+        reader.seek(frame).unwrap();
+        let wanted: Vec<_> = (frame as i32..count as i32).take([1, 2, 17, 70, 3000][i as usize % 5]).collect();
+        assert!(reader.samples::<i32>().take(wanted.len()).map(|sample| sample.unwrap()).eq(wanted.iter().copied()));
+    }
+    reader.seek(count - 1).unwrap();
+    assert_eq!(reader.samples::<i32>().map(|sample| sample.unwrap()).collect::<Vec<_>>(), [count as i32 - 1]);
+    reader.seek(count + 5).unwrap();
+    assert_eq!((reader.samples::<i32>().len(), reader.samples::<i32>().next().is_none()), (0, true));
 }
 
 #[test]
@@ -804,15 +885,49 @@ fn nothing_is_appended_to_a_file_that_lacks_samples_which_it_counts() {
     assert_eq!(WavReader::open(&path).unwrap().len(), 1001);
 }
 
-#[test]
+/// Whether this is a program whose files have at most 32 or 64 KiB, as if the disk were full then. Else the test runs
+/// once more, as such a program.
 #[cfg(unix)]
-fn a_file_is_cut_off_after_a_block_that_failed() {
+fn files_are_short(test: &str) -> bool {
     if env::var_os("FILES_ARE_SHORT").is_none() {
-        // Again, as a program whose files have at most 32 or 64 KiB.
         let limited = "trap '' XFSZ; ulimit -f 64; FILES_ARE_SHORT=1 exec \"$0\" --exact \"$1\"";
         let mut shell = process::Command::new("sh");
         shell.arg("-c").arg(limited).arg(env::current_exe().unwrap());
-        assert!(shell.arg("a_file_is_cut_off_after_a_block_that_failed").status().unwrap().success());
+        assert!(shell.arg(test).status().unwrap().success());
+        return false;
+    }
+    true
+}
+
+#[test]
+#[cfg(unix)]
+fn the_blocks_that_a_full_disk_holds_are_counted() {
+    if !files_are_short("the_blocks_that_a_full_disk_holds_are_counted") {
+        return;
+    }
+    let path = Path::new("full");
+    let room = fs::File::create(&path).unwrap().write(&[0; 100_000]).unwrap();
+    for (form, way) in (0..4).flat_map(|form| (0..WAYS).map(move |way| (form, way))) {
+        fs::write(&path, written::<i16>(MONO, &[])).unwrap();
+        let mut writer = match form {
+            0 => WavWriter::create(&path, MONO),
+            1 => WavWriter::create_durable(&path, MONO),
+            2 => WavWriter::append(&path),
+            _ => WavWriter::append_durable(&path),
+        }
+        .unwrap();
+        let accepted = (0..40_000).step_by(4).take_while(|first| write_by(way, &mut writer, *first, 4).is_ok()).count();
+        assert!(writer.finalize().is_err());
+        let (counted, held) = (WavReader::open(&path).unwrap().len() as usize, (room - 44) / 2);
+        assert!(counted <= held && held <= counted + 4096 && counted <= 4 * accepted + 4, "{counted} of {held}");
+        assert!(fs::read(&path).unwrap() == written(MONO, &numbers(counted)));
+    }
+}
+
+#[test]
+#[cfg(unix)]
+fn a_file_is_cut_off_after_a_block_that_failed() {
+    if !files_are_short("a_file_is_cut_off_after_a_block_that_failed") {
         return;
     }
     let path = Path::new("short");
@@ -851,6 +966,54 @@ fn a_file_is_emptied_only_once_its_folder_is_synced() {
     assert_eq!(fs::read(&name).unwrap(), [9; 40000]);
 }
 
+#[test]
+#[cfg(unix)]
+fn a_file_that_is_replaced_before_it_is_locked_is_opened_anew() {
+    let (path, other) = (Path::new("replaced"), Path::new("pipe"));
+    // To open a pipe takes until another one opens it, too.
+    assert!(process::Command::new("mkfifo").arg(&path.0).status().unwrap().success());
+    fs::hard_link(&path, &other).unwrap();
+    let new = Path::new("new");
+    fs::write(&new, "another file").unwrap();
+    let (new_path, at, pipe) = (new.0.clone(), path.0.clone(), other.0.clone());
+    let replace = std::thread::spawn(move || {
+        std::thread::sleep(std::time::Duration::from_millis(300));
+        fs::rename(new_path, at).unwrap();
+        fs::File::open(pipe).map(drop)
+    });
+    let mut writer = WavWriter::create_durable(&path, MONO).unwrap();
+    writer.write_sample(7i16).unwrap();
+    writer.finalize().unwrap();
+    assert_eq!(fs::read(&path).unwrap(), written(MONO, &[7i16]));
+    replace.join().unwrap().unwrap();
+}
+
+#[test]
+fn a_file_that_was_opened_to_append_to_is_rejected() {
+    let path = Path::new("at-its-end");
+    let mut options = fs::OpenOptions::new();
+    options.read(true).append(true).create(true);
+    let rejects = |result: Result<()>| match result {
+        Err(Error::IoError(error)) => error.kind() == io::ErrorKind::InvalidInput,
+        _ => false,
+    };
+    let mut writer = WavWriter::new(io::BufWriter::new(options.open(&path).unwrap()), MONO).unwrap();
+    writer.write_samples(&[1i16, 2, 3]).unwrap();
+    assert!(rejects(writer.flush()) && rejects(writer.flush()) && rejects(writer.finalize()));
+    // The samples are there, and the size that was to count them, once.
+    assert_eq!(fs::read(&path).unwrap().len(), 44 + 6 + 4);
+    fs::write(&path, written(MONO, &[1i16, 2])).unwrap();
+    let mut writer = WavWriter::new_append(options.open(&path).unwrap()).unwrap();
+    writer.write_sample(3i16).unwrap();
+    assert!(rejects(writer.finalize()));
+    options.append(false).write(true);
+    fs::write(&path, written(MONO, &[1i16, 2])).unwrap();
+    let mut writer = WavWriter::new_append(options.open(&path).unwrap()).unwrap();
+    writer.write_sample(3i16).unwrap();
+    writer.finalize().unwrap();
+    assert_eq!(fs::read(&path).unwrap(), written(MONO, &[1i16, 2, 3]));
+}
+
 #[cfg(any(unix, windows))] // Elsewhere there are no such locks.
 #[test]
 fn two_of_this_crate_do_not_change_one_file() {
@@ -878,6 +1041,28 @@ fn two_of_this_crate_do_not_change_one_file() {
 fn a_file_without_an_end_is_not_repaired() {
     assert!(matches!(hound::repair_file("/dev/zero"), Err(Error::FormatError("no RIFF tag found"))));
     assert!(matches!(hound::repair_file_to_end("/dev/null"), Err(Error::IoError(_))));
+}
+
+/// A trait of a user's own has the names that its types have, but for those of hound.
+mod of_a_codec {
+    use hound::*;
+
+    trait Codec {
+        const CODING: u32;
+    }
+
+    impl Codec for i16 {
+        const CODING: u32 = 16;
+    }
+
+    fn bits<S: Sample + Codec>() -> u32 {
+        S::CODING
+    }
+
+    #[test]
+    fn a_constant_of_a_user_means_the_same() {
+        assert_eq!((bits::<i16>(), i16::CODING), (16, 16));
+    }
 }
 
 mod of_a_user {
