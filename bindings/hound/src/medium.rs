@@ -9,7 +9,8 @@ pub(crate) struct Medium<W> {
     sync: fn(&mut W) -> io::Result<()>,
     cut: fn(&mut W, u64) -> io::Result<()>,
     place: Option<u64>,      // where the writer is, if that is known
-    goes_back: Option<bool>, // whether it writes where it went back to, which a file opened to append (`O_APPEND`) doesn't
+    // Whether it writes where it has gone back to. A file that was opened to append to (`O_APPEND`) doesn't.
+    goes_back: Option<bool>,
 }
 
 impl<W: Write + Seek> Medium<W> {

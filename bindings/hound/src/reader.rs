@@ -1,6 +1,6 @@
 use crate::proved::{self, Container, Next};
 use crate::sample::{read_value, Coding, Decode, ReadContainer};
-use crate::source::{read_all, read_on, Buffer, Source};
+use crate::source::{read_on, read_rest, Buffer, Source};
 use crate::spec::{containers, unpadded, RIFF_SIZE};
 use crate::{Error, Result, Sample, SampleFormat, WavSpec, WavSpecEx, BLOCK};
 use std::io::{self, BufRead, Read};
@@ -126,7 +126,9 @@ impl<R: Read> WavReader<R> {
     where
         R: io::Seek,
     {
-        self.put_back();
+        if !self.ahead.is_empty() {
+            self.put_back();
+        }
         let (sample, width) = (u64::from(time) * u64::from(self.spec.channels), i64::from(self.bytes_per_sample));
         let taken = self.samples_read as i64 * width - self.not_taken;
         self.source.seek_by(sample as i64 * width - taken)?;
@@ -346,22 +348,13 @@ impl<R: Read> ReadContainer for Direct<'_, R> {
         self.0.samples_read += 1;
         match self.0.source.reader.read(&mut container) {
             Ok(count) if count >= WIDTH => Ok(container),
-            first => self.read_rest(&mut container, first).map(|()| container),
+            first => {
+                let mut count = 0;
+                let result = read_rest(&mut self.0.source.reader, &mut container, first, &mut count);
+                self.0.not_taken += (WIDTH - count) as i64;
+                result.map(|()| container)
+            }
         }
-    }
-}
-
-impl<R: Read> Direct<'_, R> {
-    #[cold]
-    #[inline(never)]
-    fn read_rest(&mut self, container: &mut [u8], first: io::Result<usize>) -> io::Result<()> {
-        let mut count = 0;
-        let result = first.and_then(|first| {
-            count = first;
-            read_all(&mut self.0.source.reader, container, &mut count)
-        });
-        self.0.not_taken += (container.len() - count) as i64;
-        result
     }
 }
 

@@ -1,5 +1,5 @@
 use crate::proved::{self, Container};
-use crate::source::read_all;
+use crate::source::read_rest;
 use crate::spec::{containers, unpadded};
 use crate::{Error, Result, SampleFormat};
 use std::{io, mem};
@@ -18,8 +18,8 @@ pub trait Sample: Sized {
     /// The lowest 16 bits of an integer.
     fn as_i16(self) -> i16;
 
-    // How blocks of samples are decoded and encoded. A type of your own reads and writes one by one. The name is one that
-    // no other trait of your types has.
+    // How blocks of samples are decoded and encoded. A type of your own reads and writes one by one. No trait of yours
+    // has this name, which would be ambiguous then.
     #[doc(hidden)]
     const __HOUND_CODING: Option<Coding<Self>> = None;
 }
@@ -75,7 +75,10 @@ impl<R: io::Read> ReadContainer for R {
     #[inline(always)]
     fn read_container<const WIDTH: usize>(&mut self) -> io::Result<[u8; WIDTH]> {
         let mut container = [0; WIDTH];
-        read_all(self, &mut container, &mut 0).map(|()| container)
+        match self.read(&mut container) {
+            Ok(count) if count >= WIDTH => Ok(container),
+            first => read_rest(self, &mut container, first, &mut 0).map(|()| container),
+        }
     }
 }
 

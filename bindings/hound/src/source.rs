@@ -137,10 +137,18 @@ pub(crate) fn read_on<R: Read>(reader: &mut R, bytes: &mut [u8], count: &mut usi
     Ok(())
 }
 
-/// The same, and an end is an error.
-pub(crate) fn read_all<R: Read>(reader: &mut R, bytes: &mut [u8], count: &mut usize) -> io::Result<()> {
-    read_on(reader, bytes, count)?;
-    if *count < bytes.len() {
+/// Reads the rest of a container of which a first read gave a part, and counts its bytes.
+#[cold]
+#[inline(never)]
+pub(crate) fn read_rest<R: Read>(
+    reader: &mut R,
+    container: &mut [u8],
+    first: io::Result<usize>,
+    count: &mut usize,
+) -> io::Result<()> {
+    *count = first?;
+    read_on(reader, container, count)?;
+    if *count < container.len() {
         Err(early_end())
     } else {
         Ok(())

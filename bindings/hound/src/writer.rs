@@ -43,7 +43,7 @@ pub(crate) struct Core<W> {
 impl<W: Write + Seek> Core<W> {
     #[inline(always)]
     fn buffer<S: Sample>(&mut self, sample: i32, format: SampleFormat) -> Result<()> {
-        let fits = format == SampleFormat::Float || sample << self.unused >> self.unused == sample;
+        let fits = self.fits(sample, format);
         match self.buffer.get_mut(self.count) {
             Some(slot) if fits && self.format == format => {
                 *slot = sample;
@@ -54,12 +54,20 @@ impl<W: Write + Seek> Core<W> {
         }
     }
 
+    // Whether the file has the bits of this integer; a float has them all.
+    #[inline(always)]
+    fn fits(&self, sample: i32, format: SampleFormat) -> bool {
+        format == SampleFormat::Float || sample << self.unused >> self.unused == sample
+    }
+
     // A sample for which there is no room, or whose type needs a look.
     #[cold]
     #[inline(never)]
     fn buffer_first<S: Sample>(&mut self, sample: i32) -> Result<()> {
         S::__HOUND_CODING.map_or(Ok(()), |coding| {
-            (coding.encode)(&self.containers(coding.format), &[(coding.from)(sample)], &mut [0; 4])?;
+            if coding.format == SampleFormat::Float || !self.fits(sample, coding.format) {
+                (coding.encode)(&self.containers(coding.format), &[(coding.from)(sample)], &mut [0; 4])?;
+            }
             self.make_room(1)?;
             self.format = coding.format;
             self.buffer::<S>(sample, coding.format)
@@ -67,7 +75,8 @@ impl<W: Write + Seek> Core<W> {
     }
 
     // Empties the buffer of integers, so that it has room for so many at least. It grows, since most of it is of no use
-    // for a short file. At the end of the longest file samples are buffered one by one; where none has room it is empty.
+    // for a short file. At the end of the longest file samples are buffered one by one, and where none has room it is
+    // empty.
     fn make_room(&mut self, least: usize) -> Result<()> {
         self.encode_buffered()?;
         let mut most = (2 * self.buffer.capacity()).clamp(BLOCK / 32, BLOCK);
@@ -92,7 +101,7 @@ impl<W: Write + Seek> Core<W> {
     fn find_room(&mut self, samples: usize) -> Result<()> {
         if self.room < samples {
             self.lose_room();
-            self.room = self.room_for(samples.max(BLOCK)).or_else(|_| self.room_for(samples))?;
+            self.room = self.room_for(samples.max(16 * BLOCK)).or_else(|_| self.room_for(samples))?;
         }
         Ok(())
     }
@@ -194,19 +203,29 @@ impl<W: Write + Seek> Core<W> {
     }
 
     // Accepts a batch. A few samples are buffered as single ones are, since that is faster than to encode them.
+    #[inline]
     fn write_batch(&mut self, batch: &[i16]) -> Result<()> {
+        let end = self.count + batch.len();
+        match self.buffer.get_mut(self.count..end) {
+            Some(slots) if self.format == SampleFormat::Int && batch.len() < SHORTEST_CODED => {
+                slots.iter_mut().zip(batch).for_each(|(slot, sample)| *slot = i32::from(*sample));
+                self.count = end;
+                Ok(())
+            }
+            _ => self.write_batch_first(batch),
+        }
+    }
+
+    // A batch for which there is no room, or that is encoded.
+    #[cold]
+    #[inline(never)]
+    fn write_batch_first(&mut self, batch: &[i16]) -> Result<()> {
         if batch.len() >= SHORTEST_CODED {
             return self.write_samples(batch);
         }
-        if self.format != SampleFormat::Int || self.buffer.len() - self.count < batch.len() {
-            self.make_room(batch.len())?;
-            self.format = SampleFormat::Int;
-        }
-        for (slot, sample) in self.buffer[self.count..].iter_mut().zip(batch) {
-            *slot = i32::from(*sample);
-        }
-        self.count += batch.len();
-        Ok(())
+        self.make_room(batch.len())?;
+        self.format = SampleFormat::Int;
+        self.write_batch(batch)
     }
 
     // Accepts what is encoded after the buffered samples.
@@ -534,6 +553,7 @@ impl<'parent, W: Write + Seek> SampleWriter16<'parent, W> {
     /// # Panics
     ///
     /// If the batch isn't full.
+    #[inline]
     pub fn flush(self) -> Result<()> {
         assert_eq!(self.index, self.batch.len(), "the batch isn't full");
         self.core.write_batch(self.batch)
