@@ -8,7 +8,7 @@ pub(crate) struct Medium<W> {
     write_at: fn(&mut Medium<W>, u64, &[u8]) -> io::Result<usize>,
     sync: fn(&mut W) -> io::Result<()>,
     cut: fn(&mut W, u64) -> io::Result<()>,
-    place: Option<u64>,      // where the writer is, if that is known
+    place: Option<u64>, // where the writer is, if that is known
     // Whether it writes where it has gone back to. A file that was opened to append to (`O_APPEND`) doesn't.
     goes_back: Option<bool>,
 }

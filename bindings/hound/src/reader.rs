@@ -268,8 +268,8 @@ impl<R: Read> WavReader<R> {
 
     // Samples are read one by one if the source has no bytes.
     fn find_way(&mut self) {
-        let is_single = self.container.is_some() && self.source.is_direct();
-        self.single_until[self.spec.sample_format as usize] = if is_single { self.num_samples } else { 0 };
+        let until = if self.source.is_direct() { self.num_samples } else { 0 };
+        self.single_until[self.spec.sample_format as usize] = until;
     }
 
     // How this type is decoded in blocks, if it is, none is ahead and one is left.

@@ -207,7 +207,7 @@ impl<W: Write + Seek> Core<W> {
     fn write_batch(&mut self, batch: &[i16]) -> Result<()> {
         let end = self.count + batch.len();
         match self.buffer.get_mut(self.count..end) {
-            Some(slots) if self.format == SampleFormat::Int && batch.len() < SHORTEST_CODED => {
+            Some(slots) if batch.len() < SHORTEST_CODED => {
                 slots.iter_mut().zip(batch).for_each(|(slot, sample)| *slot = i32::from(*sample));
                 self.count = end;
                 Ok(())
@@ -224,7 +224,6 @@ impl<W: Write + Seek> Core<W> {
             return self.write_samples(batch);
         }
         self.make_room(batch.len())?;
-        self.format = SampleFormat::Int;
         self.write_batch(batch)
     }
 

@@ -1,37 +1,16 @@
 //! Each public item, as programs of hound use it.
+mod common;
+
+use common::{numbers, write_by, written, Inverse, Path, MONO, WAYS};
 use hound::blocks::{ReadSamples, WriteSamples};
 use hound::{Error, Result, Sample, SampleFormat, WavReader, WavSpec, WavSpecEx, WavWriter};
 use std::cell::{RefCell, RefMut};
 use std::io::{self, Cursor, Read, Seek, SeekFrom, Write};
 use std::panic::{catch_unwind, AssertUnwindSafe};
-use std::path::PathBuf;
 use std::rc::Rc;
-use std::{env, fs, mem, process};
+use std::{fs, mem};
 
-const MONO: WavSpec =
-    WavSpec { channels: 1, sample_rate: 44100, bits_per_sample: 16, sample_format: SampleFormat::Int };
 const FLOATS: WavSpec = WavSpec { bits_per_sample: 32, sample_format: SampleFormat::Float, ..MONO };
-
-/// A path of this test's own, whose file is removed afterwards.
-struct Path(PathBuf);
-
-impl Path {
-    fn new(name: &str) -> Path {
-        Path(env::temp_dir().join(format!("hound-api-{}-{name}.wav", process::id())))
-    }
-}
-
-impl AsRef<std::path::Path> for Path {
-    fn as_ref(&self) -> &std::path::Path {
-        &self.0
-    }
-}
-
-impl Drop for Path {
-    fn drop(&mut self) {
-        let _ = fs::remove_file(&self.0);
-    }
-}
 
 /// A medium in memory that others see, too. One of its calls fails, or panics, and it may be full.
 #[derive(Clone, Default)]
@@ -93,16 +72,6 @@ impl Seek for Disk {
     fn seek(&mut self, to: SeekFrom) -> io::Result<u64> {
         self.call()?.file.seek(to)
     }
-}
-
-fn written<S: Sample + Copy>(spec: WavSpec, samples: &[S]) -> Vec<u8> {
-    let mut file = Cursor::new(Vec::new());
-    let mut writer = WavWriter::new(&mut file, spec).unwrap();
-    for &sample in samples {
-        writer.write_sample(sample).unwrap();
-    }
-    writer.finalize().unwrap();
-    file.into_inner()
 }
 
 #[test]
@@ -316,28 +285,6 @@ fn a_file_is_appended_to_after_batches_and_flushes() {
     assert!(
         catch_unwind(|| WavWriter::new(Cursor::new(Vec::new()), FLOATS).unwrap().get_i16_writer(1).flush()).is_err()
     );
-}
-
-/// Writes so many samples, from a number on: one by one, as a block, a batch, or those of a user's own type.
-fn write_by<W: Write + Seek>(way: usize, writer: &mut WavWriter<W>, first: usize, count: usize) -> Result<()> {
-    let samples: Vec<i16> = (first..first + count).map(|number| number as i16).collect();
-    match way {
-        0 => samples.iter().try_for_each(|&sample| writer.write_sample(sample)),
-        1 => writer.write_samples(&samples),
-        2 => writer.write_samples(&samples.iter().map(|sample| Inverse(!sample)).collect::<Vec<_>>()),
-        3 => samples.iter().try_for_each(|&sample| writer.write_sample(Inverse(!sample))),
-        _ => {
-            let mut batch = writer.get_i16_writer(count as u32);
-            samples.iter().for_each(|&sample| batch.write_sample(sample));
-            batch.flush()
-        }
-    }
-}
-const WAYS: usize = 5;
-
-/// Samples that count up.
-fn numbers(count: usize) -> Vec<i16> {
-    (0..count).map(|number| number as i16).collect()
 }
 
 #[test]
@@ -558,25 +505,6 @@ fn a_medium_that_panics_always_ends_no_program() {
     }
     assert!(catch_unwind(|| WavWriter::new(Locked, MONO).unwrap().finalize()).is_err());
     drop(WavWriter::new(Locked, MONO).unwrap());
-}
-
-/// A type of a user's own: integers of 16 bits, upside down.
-#[derive(Clone, Copy, Debug, PartialEq)]
-struct Inverse(i16);
-
-impl Sample for Inverse {
-    fn write<W: Write>(self, writer: &mut W, bits: u16) -> Result<()> {
-        (!self.0).write(writer, bits)
-    }
-    fn write_padded<W: Write>(self, writer: &mut W, bits: u16, byte_width: u16) -> Result<()> {
-        (!self.0).write_padded(writer, bits, byte_width)
-    }
-    fn read<R: Read>(reader: &mut R, format: SampleFormat, bytes: u16, bits: u16) -> Result<Inverse> {
-        i16::read(reader, format, bytes, bits).map(|sample| Inverse(!sample))
-    }
-    fn as_i16(self) -> i16 {
-        !self.0
-    }
 }
 
 #[test]
@@ -885,73 +813,6 @@ fn nothing_is_appended_to_a_file_that_lacks_samples_which_it_counts() {
     assert_eq!(WavReader::open(&path).unwrap().len(), 1001);
 }
 
-/// Whether this is a program whose files have at most 32 or 64 KiB, as if the disk were full then. Else the test runs
-/// once more, as such a program.
-#[cfg(unix)]
-fn files_are_short(test: &str) -> bool {
-    if env::var_os("FILES_ARE_SHORT").is_none() {
-        let limited = "trap '' XFSZ; ulimit -f 64; FILES_ARE_SHORT=1 exec \"$0\" --exact \"$1\"";
-        let mut shell = process::Command::new("sh");
-        shell.arg("-c").arg(limited).arg(env::current_exe().unwrap());
-        assert!(shell.arg(test).status().unwrap().success());
-        return false;
-    }
-    true
-}
-
-#[test]
-#[cfg(unix)]
-fn the_blocks_that_a_full_disk_holds_are_counted() {
-    if !files_are_short("the_blocks_that_a_full_disk_holds_are_counted") {
-        return;
-    }
-    let path = Path::new("full");
-    let room = fs::File::create(&path).unwrap().write(&[0; 100_000]).unwrap();
-    for (form, way) in (0..4).flat_map(|form| (0..WAYS).map(move |way| (form, way))) {
-        fs::write(&path, written::<i16>(MONO, &[])).unwrap();
-        let mut writer = match form {
-            0 => WavWriter::create(&path, MONO),
-            1 => WavWriter::create_durable(&path, MONO),
-            2 => WavWriter::append(&path),
-            _ => WavWriter::append_durable(&path),
-        }
-        .unwrap();
-        let accepted = (0..40_000).step_by(4).take_while(|first| write_by(way, &mut writer, *first, 4).is_ok()).count();
-        assert!(writer.finalize().is_err());
-        let (counted, held) = (WavReader::open(&path).unwrap().len() as usize, (room - 44) / 2);
-        assert!(counted <= held && held <= counted + 4096 && counted <= 4 * accepted + 4, "{counted} of {held}");
-        assert!(fs::read(&path).unwrap() == written(MONO, &numbers(counted)));
-    }
-}
-
-#[test]
-#[cfg(unix)]
-fn a_file_is_cut_off_after_a_block_that_failed() {
-    if !files_are_short("a_file_is_cut_off_after_a_block_that_failed") {
-        return;
-    }
-    let path = Path::new("short");
-    for (form, channels) in (0..4).flat_map(|form| [1, 2].map(|channels| (form, channels))) {
-        let spec = WavSpec { channels, ..MONO };
-        fs::write(&path, written(spec, &[1i16, 2])).unwrap();
-        let mut writer = match form {
-            0 => WavWriter::create(&path, spec).unwrap(),
-            1 => WavWriter::create_durable(&path, spec).unwrap(),
-            2 => WavWriter::append(&path).unwrap(),
-            _ => WavWriter::append_durable(&path).unwrap(),
-        };
-        writer.write_samples(&[3i16, 4]).unwrap();
-        writer.flush().unwrap();
-        let before = fs::read(&path).unwrap();
-        assert!(writer.write_samples(&[5i16; 100_000]).is_err());
-        assert_eq!(fs::read(&path).unwrap(), before);
-        assert!(writer.write_samples(&[6i16; 3]).is_ok() && writer.write_samples(&[7i16; 100_000]).is_err());
-        assert!(writer.write_samples(&[8i16]).is_ok() && writer.finalize().is_ok());
-        let samples: &[i16] = if form > 1 { &[1, 2, 3, 4, 6, 6, 6, 8] } else { &[3, 4, 6, 6, 6, 8] };
-        assert_eq!(fs::read(&path).unwrap(), written(spec, samples));
-    }
-}
-
 #[test]
 #[cfg(target_os = "linux")]
 fn a_file_is_emptied_only_once_its_folder_is_synced() {
@@ -964,28 +825,6 @@ fn a_file_is_emptied_only_once_its_folder_is_synced() {
     let name = format!("/proc/self/fd/{}", file.as_raw_fd());
     assert!(matches!(WavWriter::create_durable(&name, MONO), Err(Error::IoError(_))));
     assert_eq!(fs::read(&name).unwrap(), [9; 40000]);
-}
-
-#[test]
-#[cfg(unix)]
-fn a_file_that_is_replaced_before_it_is_locked_is_opened_anew() {
-    let (path, other) = (Path::new("replaced"), Path::new("pipe"));
-    // To open a pipe takes until another one opens it, too.
-    assert!(process::Command::new("mkfifo").arg(&path.0).status().unwrap().success());
-    fs::hard_link(&path, &other).unwrap();
-    let new = Path::new("new");
-    fs::write(&new, "another file").unwrap();
-    let (new_path, at, pipe) = (new.0.clone(), path.0.clone(), other.0.clone());
-    let replace = std::thread::spawn(move || {
-        std::thread::sleep(std::time::Duration::from_millis(300));
-        fs::rename(new_path, at).unwrap();
-        fs::File::open(pipe).map(drop)
-    });
-    let mut writer = WavWriter::create_durable(&path, MONO).unwrap();
-    writer.write_sample(7i16).unwrap();
-    writer.finalize().unwrap();
-    assert_eq!(fs::read(&path).unwrap(), written(MONO, &[7i16]));
-    replace.join().unwrap().unwrap();
 }
 
 #[test]
