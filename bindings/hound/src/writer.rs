@@ -11,7 +11,7 @@ const SHORTEST_CODED: usize = 32;
 
 /// Writes samples to a file, after its header, and the sizes into the header.
 ///
-/// The channels of a frame follow one another, and a file holds whole frames. Samples are buffered:
+/// The channels of a frame follow one another, and a file holds whole frames. Samples are buffered, up to 4096:
 /// `flush` writes them and the sizes, `finalize` does so and ends the file. A drop does it too where there was a
 /// sample, but its errors aren't seen, and neither are its panics.
 pub struct WavWriter<W: Write + Seek> {
@@ -149,6 +149,7 @@ impl<W: Write + Seek> Core<W> {
         }
         self.find_room(count)?;
         self.take_room(count);
+        self.buffer.truncate(BLOCK - end / self.width);
         self.waiting = end;
         Ok(())
     }
@@ -283,7 +284,8 @@ fn encode_after(
 
 impl<W: Write + Seek> WavWriter<W> {
     /// Writes the header of a new file, with containers of as many bytes as the bits need. The writer has
-    /// to be at its beginning.
+    /// to be at its beginning. A file that was opened to append to is an error (`InvalidInput`) of the first `flush` or
+    /// `finalize`, since all bytes come to its end there, also the sizes of the header.
     pub fn new(writer: W, spec: WavSpec) -> Result<WavWriter<W>> {
         WavWriter::begin(writer, &spec.into())
     }
@@ -444,10 +446,9 @@ impl WavWriter<io::BufWriter<fs::File>> {
     /// dropped, another one that is durable, or a repair of the file, is an error (`WouldBlock`), if the file system
     /// has locks.
     ///
-    /// Only single samples are buffered, up to 4096, and those of an unfinished frame: each
-    /// [`write_samples`](crate::blocks::WriteSamples::write_samples) is a write of the system. After a write that
-    /// failed, as on a full disk, the writer continues. After a sync that failed each later `flush` fails, since nobody
-    /// knows what the disk has.
+    /// After a write that failed, as on a full disk, the writer continues. After a sync that failed each later `flush`
+    /// fails, since nobody knows what the disk has. Where another file was renamed to the path before this one was
+    /// locked, that is the one that is recorded to (on Unix).
     pub fn create_durable<P: AsRef<path::Path>>(
         filename: P,
         spec: WavSpec,
