@@ -89,12 +89,11 @@
 //!
 //! Types:
 //!
-//! - `WavSpecEx` is also `Debug`, `PartialEq` and `Eq`, and `SampleFormat` is `Default` and has its name from
-//!   `hound_bindings` (`type_name`): what a trait of yours does for all types that are one of these, it can't do anew
-//!   for them.
+//! - `WavSpecEx` is also `Debug`, `PartialEq` and `Eq`, and `SampleFormat` is also `Default`; the `type_name` of that is
+//!   one of `hound_bindings`.
 //! - Readers and writers are larger, and `needs_drop` is true of readers. `WavReader<R>`, `WavIntoSamples<R, S>` and
 //!   `WavWriter<W>` aren't covariant in `R` and `W`.
-//! - `use hound::*` has the own names, too: one of them is ambiguous if you have it from another such `use`.
+//! - `use hound::*` has the own names, too: where another such `use` has the same name, it is ambiguous.
 //! - `Error::description`, which is deprecated, has no text of its own.
 #![forbid(unsafe_code)]
 #![warn(missing_docs)]
