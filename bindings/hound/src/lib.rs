@@ -79,7 +79,8 @@
 //! - A file that its sizes can't count, which hound makes with wrong sizes, is an `IoError`. So is appending to one
 //!   that is shorter than its header counts (`UnexpectedEof`), if `seek` finds its length: hound counts zeros then.
 //! - A `File` that was opened to append to (`O_APPEND`) is an `IoError` (`InvalidInput`) of the first call that writes
-//!   sizes. hound writes them to the end of the file, and reports no error.
+//!   sizes, which asks the writer once for its place (`stream_position`). hound writes them to the end of the file, and
+//!   reports no error.
 //! - A spec that can't be written is `Unsupported`; nothing is written, and an existing file stays as it is. hound
 //!   empties it, and then panics, or writes a wrong header. `into_header_for_infinite_file` panics for each such spec,
 //!   and hound's for some.
@@ -89,8 +90,8 @@
 //!
 //! Types:
 //!
-//! - `WavSpecEx` is also `Debug`, `PartialEq` and `Eq`, and `SampleFormat` is also `Default`; the `type_name` of that is
-//!   one of `hound_bindings`.
+//! - `WavSpecEx` is also `Debug`, `PartialEq` and `Eq`. `SampleFormat` is also `Default`, and its `type_name` is one of
+//!   `hound_bindings`.
 //! - Readers and writers are larger, and `needs_drop` is true of readers. `WavReader<R>`, `WavIntoSamples<R, S>` and
 //!   `WavWriter<W>` aren't covariant in `R` and `W`.
 //! - `use hound::*` has the own names, too: where another such `use` has the same name, it is ambiguous.

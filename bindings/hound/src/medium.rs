@@ -50,26 +50,30 @@ impl Medium<BufWriter<fs::File>> {
     /// A file of this crate's own. Its `BufWriter` has no bytes: what the recorder takes for written is with the
     /// system. So what a full disk has no room for can be cut off, the sizes before it can be written, and a write that
     /// fails isn't one of a sync.
-    pub(crate) fn of_file(file: fs::File, is_durable: bool) -> Medium<BufWriter<fs::File>> {
-        let mut medium = Medium::new(BufWriter::with_capacity(0, file), None);
-        medium.write_at = |medium, place, bytes| write_at(medium.writer.get_mut(), place, bytes);
+    pub(crate) fn of_file(file: fs::File, place: Option<u64>, is_durable: bool) -> Medium<BufWriter<fs::File>> {
+        let mut medium = Medium::new(BufWriter::with_capacity(0, file), place);
+        #[cfg(unix)]
+        {
+            medium.write_at = Medium::write_without_seek;
+        }
         medium.cut = |writer, place| proved::Medium::cut(writer.get_mut(), place);
         if is_durable {
             medium.sync = |writer| writer.get_ref().sync_data();
         }
         medium
     }
-}
 
-// By one call of the system, where it has one.
-#[cfg(unix)]
-fn write_at(file: &mut fs::File, place: u64, bytes: &[u8]) -> io::Result<usize> {
-    std::os::unix::fs::FileExt::write_at(file, bytes, place)
-}
-
-#[cfg(not(unix))]
-fn write_at(file: &mut fs::File, place: u64, bytes: &[u8]) -> io::Result<usize> {
-    proved::Medium::write_at(file, place, bytes)
+    // By one call of the system, also where it isn't at this place. A pipe takes what is written in order.
+    #[cfg(unix)]
+    fn write_without_seek(&mut self, place: u64, bytes: &[u8]) -> io::Result<usize> {
+        let file = self.writer.get_mut();
+        if self.place != Some(place) {
+            return std::os::unix::fs::FileExt::write_at(file, bytes, place);
+        }
+        let count = file.write(bytes)?;
+        self.place = Some(place + count as u64);
+        Ok(count)
+    }
 }
 
 impl<W: Write + Seek> proved::Medium for Medium<W> {

@@ -51,7 +51,7 @@ pub struct WavReader<R> {
     // them, and how many `next` decodes the next time: few after a seek.
     ahead: Vec<i32>,
     first_ahead: u64,
-    next_ahead: usize,
+    most_ahead: usize,
     // Up to which number floats, and integers, are read one by one: to the end, or none where the source has bytes.
     single_until: [u64; 2],
 }
@@ -78,7 +78,7 @@ impl<R: Read> WavReader<R> {
             not_taken: 0,
             ahead: Vec::new(),
             first_ahead: 0,
-            next_ahead: FIRST_AHEAD,
+            most_ahead: FIRST_AHEAD,
             single_until: [0; 2],
         };
         reader.put_back();
@@ -132,7 +132,7 @@ impl<R: Read> WavReader<R> {
         let (sample, width) = (u64::from(time) * u64::from(self.spec.channels), i64::from(self.bytes_per_sample));
         let taken = self.samples_read as i64 * width - self.not_taken;
         self.source.seek_by(sample as i64 * width - taken)?;
-        (self.samples_read, self.first_ahead, self.not_taken, self.next_ahead) = (sample, sample, 0, FIRST_AHEAD);
+        (self.samples_read, self.first_ahead, self.not_taken, self.most_ahead) = (sample, sample, 0, FIRST_AHEAD);
         self.find_way();
         Ok(())
     }
@@ -231,8 +231,8 @@ impl<R: Read> WavReader<R> {
             self.put_back();
         }
         if !self.source.is_direct() {
-            let most = self.next_ahead;
-            self.next_ahead = BLOCK.min(4 * most);
+            let most = self.most_ahead;
+            self.most_ahead = BLOCK.min(4 * most);
             self.read_ahead::<S>(most);
             if let Some(sample) = self.next_ahead() {
                 return Some(Ok(sample));

@@ -435,7 +435,7 @@ impl WavWriter<io::BufWriter<fs::File>> {
         let mut file = fs::OpenOptions::new().read(true).write(true).open(filename)?;
         let info = read_header(&mut io::BufReader::new(&file))?;
         let recorder = after_counted(&info, Some(file.seek(SeekFrom::End(0))?))?;
-        Ok(WavWriter::at(Medium::of_file(file, false), &info.spec, recorder))
+        Ok(WavWriter::at(Medium::of_file(file, None, false), &info.spec, recorder))
     }
 
     /// Creates a file that survives a loss of power (own). When this returns, a WAV file without samples and its
@@ -474,7 +474,7 @@ impl WavWriter<io::BufWriter<fs::File>> {
         let length = file.seek(SeekFrom::End(0))?;
         let found = Repairer::new(length, Mode::FindDamage).run(&mut file)??;
         let recorder = Recorder::resume(&found, Allowed::default())?;
-        Ok(WavWriter::at(Medium::of_file(file, true), &found.spec, recorder))
+        Ok(WavWriter::at(Medium::of_file(file, None, true), &found.spec, recorder))
     }
 
     // Writes the header of a new file, which isn't opened if the spec can't be written.
@@ -491,7 +491,7 @@ impl WavWriter<io::BufWriter<fs::File>> {
         if is_durable {
             file.sync_data()?;
         }
-        Ok(WavWriter::at(Medium::of_file(file, is_durable), &spec, recorder))
+        Ok(WavWriter::at(Medium::of_file(file, Some(length as u64), is_durable), &spec, recorder))
     }
 }
 

@@ -74,6 +74,21 @@ fn a_file_is_cut_off_after_a_block_that_failed() {
 }
 
 #[test]
+fn a_pipe_gets_all_samples_but_no_sizes() {
+    let path = Path::new("pipe-for-samples");
+    assert!(process::Command::new("mkfifo").arg(&path.0).status().unwrap().success());
+    for way in 0..WAYS {
+        let pipe = path.0.clone();
+        let reader = thread::spawn(move || fs::read(pipe).unwrap());
+        let mut writer = WavWriter::create(&path, MONO).unwrap();
+        (0..9000).step_by(4).for_each(|first| write_by(way, &mut writer, first, 4).unwrap());
+        assert!(writer.finalize().is_err());
+        let (bytes, file) = (reader.join().unwrap(), written(MONO, &numbers(9000)));
+        assert!(bytes[..44] == written::<i16>(MONO, &[])[..] && bytes[44..] == file[44..]);
+    }
+}
+
+#[test]
 fn a_file_that_is_replaced_before_it_is_locked_is_opened_anew() {
     let (path, other) = (Path::new("replaced"), Path::new("pipe"));
     // To open a pipe takes until another one opens it, too.
