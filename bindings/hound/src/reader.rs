@@ -9,9 +9,6 @@ use std::{fs, marker, mem, panic, path};
 // How many samples a block decodes at once, at least. Fewer are faster one by one.
 const SHORTEST_BLOCK: usize = 16;
 
-// How many samples of a buffer `next` decodes at first, and after a seek; each time it is four times as many.
-const FIRST_AHEAD: usize = 16;
-
 /// Reads the first 12 bytes of a file, and returns the length that they say the file has.
 pub fn read_wave_header<R: Read>(reader: &mut R) -> Result<u64> {
     let (mut walk, mut size, mut count) = (proved::Walk::new(), [0; 4], 0);
@@ -48,7 +45,7 @@ pub struct WavReader<R> {
     samples_read: u64,
     not_taken: i64,
     // Samples that were decoded before they are asked for, whose bytes the source still has, the number of the first of
-    // them, and how many `next` decodes the next time: few after a seek.
+    // them, and how many `next` decodes the next time: after a seek one, and then each time 16 times as many.
     ahead: Vec<i32>,
     first_ahead: u64,
     most_ahead: usize,
@@ -78,7 +75,7 @@ impl<R: Read> WavReader<R> {
             not_taken: 0,
             ahead: Vec::new(),
             first_ahead: 0,
-            most_ahead: FIRST_AHEAD,
+            most_ahead: 1,
             single_until: [0; 2],
         };
         reader.put_back();
@@ -132,7 +129,7 @@ impl<R: Read> WavReader<R> {
         let (sample, width) = (u64::from(time) * u64::from(self.spec.channels), i64::from(self.bytes_per_sample));
         let taken = self.samples_read as i64 * width - self.not_taken;
         self.source.seek_by(sample as i64 * width - taken)?;
-        (self.samples_read, self.first_ahead, self.not_taken, self.most_ahead) = (sample, sample, 0, FIRST_AHEAD);
+        (self.samples_read, self.first_ahead, self.not_taken, self.most_ahead) = (sample, sample, 0, 1);
         self.find_way();
         Ok(())
     }
@@ -230,10 +227,12 @@ impl<R: Read> WavReader<R> {
         if self.given() == self.ahead.len() {
             self.put_back();
         }
+        let most = self.most_ahead;
         if !self.source.is_direct() {
-            let most = self.most_ahead;
-            self.most_ahead = BLOCK.min(4 * most);
-            self.read_ahead::<S>(most);
+            self.most_ahead = BLOCK.min(16 * most);
+            if most > 1 {
+                self.read_ahead::<S>(most);
+            }
             if let Some(sample) = self.next_ahead() {
                 return Some(Ok(sample));
             }

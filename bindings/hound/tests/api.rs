@@ -636,8 +636,13 @@ fn reading_goes_on_after_a_closure_that_panicked() {
         reader.seek(8000).unwrap();
         assert_eq!(reader.samples::<i16>().map(|sample| i32::from(sample.unwrap())).sum::<i32>(), 8499500);
         reader.seek(7).unwrap();
-        assert_eq!(reader.samples::<i32>().next().unwrap().unwrap(), 7);
-        assert_eq!(reader.into_inner().stream_position().unwrap(), 44 + 2 * 8);
+        let fold = AssertUnwindSafe(|| reader.samples::<i16>().for_each(|sample| assert!(sample.unwrap() < last + 7)));
+        assert!(catch_unwind(fold).is_err());
+        for frame in [20, 3, 8990] {
+            reader.seek(frame).unwrap();
+            assert!(reader.samples::<i32>().take(9).map(|sample| sample.unwrap()).eq((frame as i32..).take(9)));
+        }
+        assert_eq!(reader.into_inner().stream_position().unwrap(), 44 + 2 * 8999);
     }
     for last in [9, 4094, 4095, 4096, 5000] {
         go_on(WavReader::new(Cursor::new(&file)).unwrap(), last);
