@@ -367,7 +367,7 @@ impl<R: Read> Read for Counting<'_, R> {
     #[inline]
     fn read(&mut self, bytes: &mut [u8]) -> io::Result<usize> {
         let count = self.source.read(bytes)?;
-        self.count += count as i64;
+        self.count += count.min(bytes.len()) as i64;
         Ok(count)
     }
 }

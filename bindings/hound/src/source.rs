@@ -65,20 +65,14 @@ impl<R: Read> Source<R> {
     /// to so many that one read gives. There are none where the reader has ended or failed, which `read` reports then.
     pub(crate) fn look(&mut self, most: usize, width: usize) -> &[u8] {
         match &self.buffer {
-            Some(buffer) => match (buffer.look)(&mut self.reader) {
-                Ok(bytes) => bytes,
-                Err(fault) => {
-                    self.fault = Some(fault);
-                    &[]
-                }
+            Some(buffer) if self.fault.is_none() => match (buffer.look)(&mut self.reader) {
+                Ok(bytes) => return bytes,
+                Err(fault) => self.fault = Some(fault),
             },
-            None => {
-                if !self.has_given() {
-                    self.read_block(most, width);
-                }
-                &self.block[self.taken..]
-            }
+            None if !self.has_given() => self.read_block(most, width),
+            _ => {}
         }
+        &self.block[self.taken..]
     }
 
     // Reads once, and then the rest of a container that this has torn.

@@ -666,6 +666,11 @@ fn a_reader_that_claims_more_bytes_than_it_had_room_for_is_believed_as_by_hound(
             self.0.read(bytes).map(|count| if count < bytes.len() { count } else { count + 7 })
         }
     }
+    impl Seek for Boastful {
+        fn seek(&mut self, to: SeekFrom) -> io::Result<u64> {
+            self.0.seek(to)
+        }
+    }
     let file = written(MONO, &numbers(9000));
     let open = || WavReader::new(Boastful(Cursor::new(file.clone()))).unwrap();
     let mut block = [0i16; 9000];
@@ -674,6 +679,10 @@ fn a_reader_that_claims_more_bytes_than_it_had_room_for_is_believed_as_by_hound(
     assert!(open().samples::<i16>().map(|sample| sample.unwrap()).eq(numbers(9000)));
     assert_eq!(open().samples::<i16>().fold(0, |sum, sample| sum + i32::from(sample.unwrap())), 40495500);
     assert!(open().samples::<Inverse>().map(|sample| !sample.unwrap().0).eq(numbers(9000)));
+    let mut reader = open();
+    assert_eq!(reader.samples::<Inverse>().nth(5).unwrap().unwrap(), Inverse(!5));
+    reader.seek(3).unwrap();
+    assert_eq!(reader.samples::<i16>().next().unwrap().unwrap(), 3);
     let mut rest = Boastful(Cursor::new(file[44..].to_vec()));
     assert!((0..9000).all(|number| i16::read(&mut rest, SampleFormat::Int, 2, 16).unwrap() == number));
 }
