@@ -59,12 +59,13 @@
 //!
 //! - A pad byte, which the RIFF size counts, follows odd data. Where a full disk has no room for it, the sizes still
 //!   count the samples of an earlier checkpoint.
-//! - Up to 4096 samples are buffered, also by [`WavWriter::new`]: a program that is killed loses what came after its
-//!   last `flush`, as far as it was there. The header is in the file when `create` returns. A fault is reported by the
-//!   call that meets it; the samples that were accepted stay in the buffer, and the next call writes them at their
-//!   place. Where a disk is full the block that has no room counts nothing, though a part of it would fit: repeat
-//!   `flush` once there is room, before `finalize`. A limit of the file's size (`ulimit -f`) ends the program by
-//!   `SIGXFSZ`; it is an error, as a full disk is, only if the program ignores that signal.
+//! - Up to 4096 samples are buffered, and those of an unfinished frame, also by [`WavWriter::new`]: a program that is
+//!   killed loses what came after its last `flush`, as far as it was there. The header is in the file when `create`
+//!   returns. A fault is reported by the call that meets it; the samples that were accepted stay in the buffer, and the
+//!   next call writes them at their place. Where a disk is full the block that has no room counts nothing, though a
+//!   part of it would fit: repeat `flush` once there is room, before `finalize`. A limit of the file's size
+//!   (`ulimit -f`) ends the program by `SIGXFSZ`; it is an error, as a full disk is, only if the program ignores that
+//!   signal.
 //! - After a write that failed, the next call that writes makes a checkpoint first, and `finalize` tries once more. A
 //!   file is cut off where a block failed; over another writer a part of that block may stay after the data. Readers
 //!   don't count it, as with hound, but [`repair_file`] takes it for samples.

@@ -548,7 +548,7 @@ impl<'parent, W: Write + Seek> SampleWriter16<'parent, W> {
         self.write_sample(sample)
     }
 
-    /// Writes the batch, all of it or nothing.
+    /// Writes the batch, all of it or nothing, after the other samples: it is buffered as they are.
     ///
     /// # Panics
     ///
