@@ -273,7 +273,12 @@ _SPARE = ctypes.create_string_buffer(16)
 
 
 def _function(name: str, *arguments: Any, result: Any = _I64) -> Any:
-    function = getattr(_LIBRARY, "hound_" + name)
+    function = getattr(_LIBRARY, "hound_" + name, None)
+    if function is None:
+        raise ImportError(
+            f"{_LIBRARY._name} isn't the library of hound_bindings {__version__}: it lacks hound_{name}. Install the "
+            "package again, without HOUND_C_LIB or with the folder of a library of that version"
+        )
     function.argtypes, function.restype = arguments, result
     return function
 
@@ -314,11 +319,11 @@ def _info_of(start: Any, length: int) -> _Info:
     return found
 
 
-def _walk_over(read: Callable[[int, int], bytes], to_end: bool) -> _Info:
-    """What a walk finds of the header of a file, of which `read` returns so many bytes from a place on."""
+def _walk_over(file: Any, to_end: bool = False) -> _Info:
+    """What a walk finds of the header of a file, whose `read_at` returns so many bytes from a place on."""
     walk, found, take = _Walk(), _Info(), _walk_to_end if to_end else _walk_next
     while (code := take(ctypes.byref(walk), ctypes.byref(found))) == 1:
-        disk.take(walk.effect, read(walk.effect.length, walk.effect.place))
+        disk.perform(walk.effect, file, False)
     _checked(code)
     return found
 
@@ -405,7 +410,7 @@ def read_into(file: File, buffer: Any, start: int = 0) -> int:
 
 
 def read(
-    file: File, start: int = 0, frames: int = -1, dtype: Optional[Dtype] = None, always_2d: bool = False
+    file: File, start: int = 0, frames: int = -1, dtype: Optional[Dtype] = None, *, always_2d: bool = False
 ) -> Any:
     """Reads frames from number `start` on, at most so many (all where it is -1), and returns their samples.
 
@@ -415,11 +420,11 @@ def read(
     all of them as float64. Of a file that holds fewer frames than its header counts these are read, and a read that
     starts after them is an error.
     """
-    return read_with_info(file, start, frames, dtype, always_2d)[0]
+    return read_with_info(file, start, frames, dtype, always_2d=always_2d)[0]
 
 
 def read_with_info(
-    file: File, start: int = 0, frames: int = -1, dtype: Optional[Dtype] = None, always_2d: bool = False
+    file: File, start: int = 0, frames: int = -1, dtype: Optional[Dtype] = None, *, always_2d: bool = False
 ) -> Tuple[Any, Info]:
     """What `read` returns, and what the header says: `write(.., like=info)` makes such a file of these samples."""
     start = _integer("start", start, 0, sys.maxsize)
@@ -447,7 +452,7 @@ def _spec_of(
     if like is not None:
         rate = like.sample_rate if rate is None else rate
         channels = like.channels if channels is None else channels
-        if bits is None:
+        if bits in (None, like.bits_per_sample):
             bits, width = like.bits_per_sample, width or like.bytes_per_sample
             is_float = like.is_float if is_float is None else is_float
     return _Spec(
@@ -483,8 +488,8 @@ def to_bytes(
     rate: Optional[int] = None,
     channels: Optional[int] = None,
     bits: Optional[int] = None,
-    bytes_per_sample: int = 0,
     *,
+    bytes_per_sample: int = 0,
     like: Optional[Info] = None,
     dither: int = False,
 ) -> bytearray:
@@ -542,9 +547,10 @@ def _replaced(path: Path, durable: bool) -> Iterator[str]:
 
 def _write_to(file: Any, content: bytearray, durable: bool) -> None:
     """Writes all of this to an object or a device."""
-    disk.check_object(file)
+    disk.check_object(file, "write")
+    disk.check_place(file)
     disk.put_next(file, content)
-    file.flush()
+    disk.flush(file)
     if durable:
         disk.sync(file.fileno())
 
@@ -555,9 +561,9 @@ def write(
     rate: Optional[int] = None,
     channels: Optional[int] = None,
     bits: Optional[int] = None,
+    *,
     bytes_per_sample: int = 0,
     durable: bool = False,
-    *,
     like: Optional[Info] = None,
     dither: int = False,
 ) -> int:
@@ -569,7 +575,7 @@ def write(
     file is there, and may be lost with the power. An object is written to where it is, and need not seek.
     """
     with _named(path):
-        content = to_bytes(samples, rate, channels, bits, bytes_per_sample, like=like, dither=dither)
+        content = to_bytes(samples, rate, channels, bits, bytes_per_sample=bytes_per_sample, like=like, dither=dither)
         if not isinstance(path, (str, os.PathLike)):
             _write_to(path, content, durable)
         elif os.path.exists(path) and not os.path.isfile(path):
@@ -584,25 +590,26 @@ def write(
 
 
 def append(
-    path: Union[Path, IO[bytes]], samples: Any, overwrite: bool = False, durable: bool = False, *, dither: int = False
+    path: Union[Path, IO[bytes]], samples: Any, *, overwrite: bool = False, durable: bool = False, dither: int = False
 ) -> int:
     """Appends whole frames to a file, and returns its length.
 
     It is an `append_to`, one `write` and a `close`. So the samples are written first, then the sizes: whenever the
     program is killed, the header counts only what is there, and `repair` finds the samples that were written (and maybe
     a zero after them, where frames have one byte). After an error the header counts what it did before, and the file is
-    cut off after that; chunks that were to be overwritten are lost then. If a signal handler raises, the same holds, or
-    all samples are appended. With `durable` the samples survive a loss of power once this has returned; without it,
-    once the system has written them. A recording that was cut off is an error, and so are chunks or a tag after the
-    data, unless they may be overwritten.
+    cut off after that, so it can be done again; where the system can't cut it off, the error says so. Chunks that were
+    to be overwritten are lost then. If a signal handler raises, or a size was written though the system says that it
+    failed, the same holds, or all samples are appended. With `durable` the samples survive a loss of power once this
+    has returned; without it, once the system has written them. After a sync that failed it is unknown what is stored,
+    and nothing more is written: the samples may be there, counted or not. A recording that was cut off is an error, and
+    so are chunks or a tag after the data, unless they may be overwritten.
     """
     with conversion.Given(samples) as given, streams._append_to(path, durable, overwrite, dither) as writer:
-        writer.write(given)
-        writer.close()  # Where a signal handler raises in it, the context closes it again.
+        writer._append(given)
     return writer._length
 
 
-def _repaired(file: disk.Medium, mode: int, durable: bool, denied: Optional[OSError] = None) -> _Repair:
+def _repaired(file: disk.Medium, mode: int, durable: bool, denied: Optional[Exception] = None) -> _Repair:
     """What a repairer of this mode finds in a file. `denied` is why the file may only be read: it is the error where a
     part of the file has to be written."""
     repairer, found, faults = _Repairer(), _Repair(), []
@@ -626,14 +633,14 @@ def find_damage(path: Union[Path, IO[bytes]]) -> Repair:
     with _named(path):
         if not isinstance(path, (str, os.PathLike)):
             return _repaired_object(path, _FIND_DAMAGE)
-        with io.open(path, "rb", buffering=0) as file:
+        with disk.opened(path) as file:
             return _report_of(_repaired(disk.Descriptor(file), _FIND_DAMAGE, False))
 
 
 def _repaired_object(file: IO[bytes], mode: int) -> Repair:
     """What `_repaired` finds of an object, which stays where it is."""
     stream = disk.Stream(file)
-    found = _report_of(_repaired(stream, mode, False))
+    found = _report_of(_repaired(stream, mode, False, stream.fault))
     stream.rewind()
     return found
 
@@ -666,9 +673,9 @@ def _check_new(path: Path) -> None:
 
 def repair(
     path: Union[Path, IO[bytes]],
+    *,
     durable: bool = False,
     to_end: bool = False,
-    *,
     copy: Optional[Path] = None,
     like: Optional[Info] = None,
     skip: Optional[int] = None,
@@ -686,6 +693,8 @@ def repair(
     from byte `skip` on. Without `skip` they begin after what looks like the header of the data near the beginning, or
     else at byte `like.data_start`. `guess` makes such an Info.
     """
+    if skip is not None and like is None:
+        raise ValueError("skip is for a header that is lost: give `like`, too, which says what the samples are")
     if like is not None or copy is not None:
         return _repaired_copy(path, durable, to_end, copy, like, skip)
     mode = _REPAIR_TO_END if to_end else _REPAIR
@@ -708,7 +717,7 @@ def _repaired_copy(
     with _named(path), _replaced(copy, durable) as part:
         if like is None:
             shutil.copyfile(path, part)
-            return repair(part, durable, to_end)
+            return repair(part, durable=durable, to_end=to_end)
         if skip is None:
             start = lost.start_of(path, like.data_start)
         else:

@@ -156,7 +156,7 @@ def _recover(options: argparse.Namespace) -> int:
     def recover(name: str) -> bool:
         if options.guess and _has_header(name):
             raise ValueError(f"{name}: its header isn't lost, so nothing is guessed")
-        guessed = hound.guess(name, options.skip, options.rate or 44100) if options.guess else None
+        guessed = hound.guess(name, skip=options.skip, rate=options.rate or 44100) if options.guess else None
         form, copy = guessed or options.like, hound._copy_name(name)
         skip = lost.start_of(name, form.data_start) if options.skip is None else options.skip
         found = None
@@ -193,7 +193,7 @@ def _repair(options: argparse.Namespace) -> int:
         is_damaged = found.state == hound.State.CUT_OFF or (options.to_end and found.state != hound.State.WHOLE)
         copy = hound._copy_name(name) if options.copy and is_damaged else None
         if is_damaged and not options.dry_run:
-            found = hound.repair(name, options.durable, options.to_end, copy=copy)
+            found = hound.repair(name, durable=options.durable, to_end=options.to_end, copy=copy)
         seconds = _header_of(name)._replace(frames=found.frames).duration
         done = "" if options.dry_run or not is_damaged else f"repaired{f': {copy}' if copy else ''}"
         if options.json:
@@ -349,10 +349,11 @@ def _opened_to_record(options: argparse.Namespace) -> hound.Writer:
             raise _Wrong("a file is continued, or emptied: --append, or --overwrite")
         if any(given) or options.float:
             raise _Wrong("with --append the file says what its samples are")
-        return hound.append_to(options.target, options.durable)
+        return hound.append_to(options.target, durable=options.durable)
     if not all(given):
         raise _Wrong("--rate, --channels and --bits are needed, or --append")
-    return hound.create(options.target, *given, options.durable, options.float, exclusive=not options.overwrite)
+    more = {"durable": options.durable, "is_float": options.float, "exclusive": not options.overwrite}
+    return hound.create(options.target, *given, **more)
 
 
 def _record(options: argparse.Namespace) -> int:

@@ -52,7 +52,7 @@ class Lost(Folder):
             data = b"".join(stored(level * sample, bits, is_float) for sample in tones(channels, 9000, some))
             head = turn % 2 * 44  # Where nothing is said it is taken for one of 44 bytes.
             self.leave(bytes(head) + data)
-            found = hound.guess(self.path, rate=8000) if head else hound.guess(self.path, 0, 8000)
+            found = hound.guess(self.path, rate=8000) if head else hound.guess(self.path, skip=0, rate=8000)
             self.assertEqual(found, (8000, channels, bits, is_float, 0, head, 0), turn)
         for content in bytes(44), bytes(60000), b"":
             self.leave(content)

@@ -154,7 +154,7 @@ class Files(unittest.TestCase):
             for samples in array.array("h", [7]), array.array("h"):
                 for overwrite in False, True:
                     self.leave(cut_off)
-                    self.fails(cause, lambda: hound.append(self.path, samples, overwrite))
+                    self.fails(cause, lambda: hound.append(self.path, samples, overwrite=overwrite))
                     self.assert_file(cut_off)
             self.assertEqual(hound.repair(self.path)[:2], (State.CUT_OFF, frames))
             self.assertEqual(hound.append(self.path, array.array("h", [7])), 44 + 2 * frames + 2)
@@ -172,7 +172,7 @@ class Files(unittest.TestCase):
             (torn, True, Cause.UNFINISHED_FRAME),
         ):
             self.leave(contents)
-            self.fails(cause, lambda: hound.append(self.path, array.array("h"), overwrite))
+            self.fails(cause, lambda: hound.append(self.path, array.array("h"), overwrite=overwrite))
             self.assert_file(contents)
 
     def test_what_an_append_makes_right(self):
