@@ -835,7 +835,8 @@ class Recordings(Case):
     def test_an_append_that_fails_leaves_the_file(self):
         """Also where a size can't be written: so it can be done again. After a sync that failed nothing is written."""
         for bits, durable in itertools.product((8, 16), (False, True)):
-            before, after = (by_hand(bytes(range(1, 1 + count)), channels=1, bits=bits) for count in (8, 8 + 3 * bits // 8))
+            contents = (bytes(range(1, 1 + count)) for count in (8, 8 + 3 * bits // 8))
+            before, after = (by_hand(content, channels=1, bits=bits) for content in contents)
             after += bytes(len(after) % 2)
             after = after[:4] + struct.pack("<I", len(after) - 8) + after[8:]
             for nth in itertools.count(1):
