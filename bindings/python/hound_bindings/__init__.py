@@ -23,6 +23,7 @@ import os
 import secrets
 import shutil
 import sys
+import tempfile
 from typing import (
     IO, Any, Callable, ContextManager, Iterator, Literal, NamedTuple, Optional, Protocol, Tuple, Type, Union,
 )  # fmt: skip
@@ -521,32 +522,59 @@ def _locked_if_there(path: Path) -> ContextManager[Any]:
 
 
 @contextlib.contextmanager
-def _replaced(path: Path, durable: bool) -> Iterator[str]:
-    """The name of a new file, which gets this path when the context ends; at an error it is removed."""
+def _part_of(path: Path, folder: str) -> Iterator[str]:
+    """The name of a new file in a folder. At an error it is removed, and the error names the path instead of it."""
+    part = os.path.join(folder, f".hound-{secrets.token_hex(8)}")
+    try:
+        yield part
+    except BaseException as error:
+        with contextlib.suppress(OSError):
+            os.unlink(part)
+        if isinstance(error, (HoundError, OSError)) and error.filename == part:
+            error.filename = None
+        _name_error(error, path)
+        raise
+
+
+@contextlib.contextmanager
+def _written_into(path: Path, durable: bool) -> Iterator[str]:
+    """The name of a new file, whose bytes are written into a device or a pipe when the context ends."""
+    with _named(path), io.open(path, "wb") as device, tempfile.TemporaryDirectory() as folder:
+        with _part_of(path, folder) as part:
+            yield part
+            with io.open(part, "rb") as file:
+                shutil.copyfileobj(file, device)
+        device.flush()
+        if durable:
+            disk.sync(device.fileno())
+
+
+@contextlib.contextmanager
+def _renamed(path: Path, durable: bool) -> Iterator[str]:
+    """The name of a new file, which gets this path when the context ends."""
     name = os.path.realpath(os.fsdecode(path))
     with _locked_if_there(path):
         pass  # What may not be replaced is an error before anything is written.
-    part = os.path.join(os.path.dirname(name), f".hound-{secrets.token_hex(8)}")
     with disk.folder_of(name) if durable else contextlib.nullcontext() as folder:
-        try:
+        with _part_of(path, os.path.dirname(name)) as part:
             yield part
             with _locked_if_there(path) as older:
                 if os.path.exists(name):
                     shutil.copymode(name, part)
                 disk.replace(part, name, older)
-        except BaseException as error:
-            with contextlib.suppress(OSError):
-                os.unlink(part)
-            if isinstance(error, (HoundError, OSError)) and error.filename == part:
-                error.filename = None
-            _name_error(error, path)
-            raise
         if durable:
             disk.sync(folder)
 
 
+def _replaced(path: Path, durable: bool) -> ContextManager[str]:
+    """The name of a new file, which takes the place of one at this path when the context ends, unless that is a device
+    or a pipe: then it is written into that."""
+    is_device = os.path.exists(path) and not os.path.isfile(path)
+    return _written_into(path, durable) if is_device else _renamed(path, durable)
+
+
 def _write_to(file: Any, content: bytearray, durable: bool) -> None:
-    """Writes all of this to an object or a device."""
+    """Writes all of this to an object."""
     disk.check_object(file, "write")
     disk.check_place(file)
     disk.put_next(file, content)
@@ -578,9 +606,6 @@ def write(
         content = to_bytes(samples, rate, channels, bits, bytes_per_sample=bytes_per_sample, like=like, dither=dither)
         if not isinstance(path, (str, os.PathLike)):
             _write_to(path, content, durable)
-        elif os.path.exists(path) and not os.path.isfile(path):
-            with io.open(path, "wb") as device:
-                _write_to(device, content, durable)
         else:
             with _replaced(path, durable) as part, io.open(part, "xb", buffering=0) as file:
                 disk.put(file.fileno(), content, 0)
@@ -716,7 +741,7 @@ def _repaired_copy(
     _check_new(copy)
     with _named(path), _replaced(copy, durable) as part:
         if like is None:
-            shutil.copyfile(path, part)
+            lost.copy(path, part)
             return repair(part, durable=durable, to_end=to_end)
         if skip is None:
             start = lost.start_of(path, like.data_start)

@@ -1,4 +1,5 @@
 """Files whose header is lost: their samples in a copy that has one, and a guess of their form."""
+import io
 import math
 import os
 from typing import Any, Iterator, List, NamedTuple, Optional
@@ -6,7 +7,7 @@ from typing import Any, Iterator, List, NamedTuple, Optional
 from . import Info, Path, Repair, State, _guess_data, _integer, _named, conversion, disk, streams, to_bytes
 from . import info as info_of
 
-__all__ = ["guess", "recovered"]
+__all__ = ["copy", "guess", "recovered"]
 
 _MOST = (1 << 63) - 1
 _FRONT_BYTES = 4096
@@ -29,6 +30,15 @@ def _read(file: Any, count: int, place: int) -> bytes:
     """Bytes of a file, whose name an error has, and not that of its copy."""
     with _named(file):
         return disk.read_at(file.fileno(), count, place)
+
+
+def copy(path: Path, part: Path) -> None:
+    """Copies a file to a new one."""
+    with disk.opened(path) as file, io.open(part, "xb", buffering=0) as new:
+        place = 0
+        while content := _read(file, 1 << 20, place):
+            disk.put(new.fileno(), content, place)
+            place += len(content)
 
 
 def recovered(path: Path, part: Path, like: Info, skip: int, durable: bool) -> Iterator[Progress]:
