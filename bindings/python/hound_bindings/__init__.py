@@ -28,7 +28,7 @@ from typing import (
     IO, Any, Callable, ContextManager, Iterator, Literal, NamedTuple, Optional, Protocol, Tuple, Type, Union,
 )  # fmt: skip
 
-from . import disk
+from . import disk, processor
 
 __all__ = [
     "Cause", "HoundError", "Info", "Reader", "Repair", "State", "Writer", "append", "append_to", "create",
@@ -265,7 +265,22 @@ class _Recorder(ctypes.Structure):
 # The end of what is made from hound.h.
 
 _NAME = "hound_c.dll" if os.name == "nt" else "libhound_c.so"
-_LIBRARY = ctypes.CDLL(os.environ.get("HOUND_C_LIBRARY") or os.path.join(os.path.dirname(__file__), _NAME))
+
+
+def _loaded(path: str) -> Any:
+    """The library at a path. A file beside it may name what it needs of the processor: without that its first call
+    would end the program."""
+    with contextlib.suppress(OSError), io.open(path + ".needs") as needs:
+        lacking = processor.lacking(needs.read().split())
+        if lacking:
+            raise ImportError(
+                f"{path} was built for another processor: this one lacks {', '.join(lacking)}. Install the package "
+                "from its source here, which needs a C compiler"
+            )
+    return ctypes.CDLL(path)
+
+
+_LIBRARY = _loaded(os.environ.get("HOUND_C_LIBRARY") or os.path.join(os.path.dirname(__file__), _NAME))
 _POINTER: Any = ctypes.c_void_p
 _SIZE: Any = ctypes.c_size_t
 _U64: Any = ctypes.c_uint64
@@ -276,9 +291,10 @@ _SPARE = ctypes.create_string_buffer(16)
 def _function(name: str, *arguments: Any, result: Any = _I64) -> Any:
     function = getattr(_LIBRARY, "hound_" + name, None)
     if function is None:
+        what = f"isn't the library of hound_bindings {__version__}: it lacks hound_{name}"
         raise ImportError(
-            f"{_LIBRARY._name} isn't the library of hound_bindings {__version__}: it lacks hound_{name}. Install the "
-            "package again, without HOUND_C_LIB or with the folder of a library of that version"
+            f"{_LIBRARY._name} {what}. Install the package again, without HOUND_C_LIB or with the folder of a library "
+            "of that version"
         )
     function.argtypes, function.restype = arguments, result
     return function
