@@ -31,8 +31,8 @@ _ESCAPES = {code: repr(chr(code))[1:-1] for code in (*range(32), *range(127, 160
 # How many bytes can be the first part of a file: whole frames of each usual width after a header of 44 or 68 bytes.
 _FIRST_PART = 44 + ((1 << 32) - 46) // 24 * 24
 _HINTS = {
-    hound.Cause.TOO_LONG: "a WAV file has less than 4 GiB: repair a copy of the first part "
-    f"(head -c {_FIRST_PART} FILE > PART.wav); record takes the rest as raw samples (tail -c +{_FIRST_PART + 1} FILE)",
+    hound.Cause.TOO_LONG: f"repair a copy of the first part of a file that is too long (head -c {_FIRST_PART} FILE > "
+    f"PART.wav); record takes the rest as raw samples (tail -c +{_FIRST_PART + 1} FILE)",
 }
 _USUAL_HINT = "where a header is lost or damaged, --guess or --like makes a copy with a new one"
 
@@ -56,7 +56,7 @@ def _sentence(error: Exception) -> str:
     if isinstance(error, OSError) and error.strerror:
         return f"{error.filename}: {error.strerror}" if error.filename else error.strerror
     if isinstance(error, hound.HoundError) and error.cause == hound.Cause.TOO_LONG:
-        return f"{error} (4 GiB): what is longer needs more than one"
+        return f"{error}: a WAV file has less than 4 GiB, so the rest needs another one"
     return str(error)
 
 
@@ -241,7 +241,7 @@ def _repair(options: argparse.Namespace) -> int:
         return not (options.dry_run and is_damaged)
 
     if not options.json:
-        print(f"{'found':18}{'frames':>11}{'seconds':>12}  file")
+        _say(f"{'found':18}{'frames':>11}{'seconds':>12}  file")
     status = _each(names, repair, _failure(options))
     for hint in [] if options.json else hints:
         _complain(hint)

@@ -294,6 +294,7 @@ class Stream:
     def put(self, content: Any, place: int) -> None:
         self._file.seek(self._start + place)
         put_next(self._file, content)
+        flush(self._file)  # What an object holds back a forked process would write again.
         if self._file.tell() != self._start + place + len(content):
             raise OSError(errno.EIO, "the file wrote elsewhere than at the place that it was sought to")
 

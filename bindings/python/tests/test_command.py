@@ -262,7 +262,7 @@ class Command(Folder):
         self.leave_as("a.wav", by_hand(b"", channels=2))
         os.truncate(self.path, (1 << 32) + 4000)
         self.run_command("repair", "a.wav", status=1)
-        self.assertIn(b"a.wav: the sizes of the file would not fit in 32 bits (4 GiB)", self.said)
+        self.assertIn(b" 32 bits: a WAV file has less than 4 GiB, so the rest needs another one\n", self.said)
         self.assertNotIn(b"--guess", self.said)
         first, rest = map(int, re.search(rb"head -c (\d+) .*tail -c \+(\d+) ", self.said).groups())
         self.assertEqual(rest, first + 1)
@@ -512,7 +512,7 @@ class Command(Folder):
             said = running.communicate(timeout=60)[1].decode()
             self.assertEqual((running.returncode, said), (1, f"hound-wav: {name}: File too large\n"))
         self.assertEqual(sorted(os.listdir(self.folder)), ["a.wav", "b.wav"])
-        for words in ["cat", "b.wav"], ["info", "b.wav"], ["info", "--json", "b.wav"]:
+        for words in ["cat", "b.wav"], ["info", "b.wav"], ["info", "--json", "b.wav"], ["repair", "b.wav"]:
             with open("/dev/full", "wb") as full:
                 running = self.begun(*words, preexec_fn=lambda: os.dup2(full.fileno(), 1))
             said = running.communicate(timeout=60)[1]

@@ -912,6 +912,20 @@ class Recordings(Case):
             os.close(outer)
             self.assertEqual(content_of(self.path), made_by_wave(SAMPLES))
 
+    def test_a_forked_process_that_ends_writes_nothing_to_an_object(self):
+        """Neither does its object, when Python closes it."""
+        ran = self.run_program(
+            "file = open(path, 'w+b')\nwriter = hound.create(file, 8000, 2, 16)\n"
+            "for first in range(0, 10, 2):\n"
+            "    writer.write(array.array('h', range(first, first + 2)))\n"
+            "    if os.fork() == 0:\n"
+            "        raise SystemExit\n"
+            "    os.wait()\n"
+            "writer.close()\n"
+        )
+        self.assertEqual((ran.returncode, ran.stderr), (0, b""))
+        self.assertEqual(content_of(self.path), made_by_wave(array.array("h", range(10))))
+
     def test_a_process_that_is_forked_in_a_call_of_another_thread(self):
         """It doesn't wait for that thread, which it hasn't got."""
         begun, ended, pwrite = threading.Event(), threading.Event(), os.pwrite
