@@ -95,7 +95,7 @@ class Backend(unittest.TestCase):
     def test_a_processor_that_can_t_run_the_carried_library(self):
         """Another one is compiled, and one that was built elsewhere is an error that says so."""
         flags = "flags : fpu cx16 lahf_lm pni popcnt sse4_1 sse4_2 ssse3 avx"
-        for gone in "", *backend.PROCESSOR["X86_64_V2"]:
+        for gone in ("", *backend.PROCESSOR["X86_64_V2"]):
             said = os.path.join(self.folder, "cpuinfo")
             with open(said, "w") as file:
                 file.write(f"processor : 0\n{flags.replace(f' {gone} ', ' ')}\n")

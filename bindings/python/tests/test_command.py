@@ -355,7 +355,7 @@ class Command(Folder):
         self.assertIn(b"its header isn't lost", self.said)
         self.run_command("repair", "--rate", "8000", "a.wav", status=2)
         no_forms = ("--like", "8000,2"), ("--like", "a,b,c"), ("--like", "8000,0,16")
-        for words in *no_forms, ("--guess", "--skip", "-1"), ("--guess", "--rate", "x"):
+        for words in (*no_forms, ("--guess", "--skip", "-1"), ("--guess", "--rate", "x")):
             self.run_command("repair", *words, "a.wav", status=2)
             self.assertIn(b" isn't ", self.said)
 
