@@ -1,11 +1,12 @@
 """WAV files, read, written, appended to and repaired by proved code.
 
 A file is a path, or an object that reads, writes and seeks as one does, such as an io.BytesIO, from the place on where
-it is; `info`, `read` and `read_into` take bytes, too. Samples are interleaved: `array.array`s, lists, or anything with
-a buffer, such as a numpy array; two dimensions are frames by channels. Integers are read and written as they are. Where
-floats are read from a file of integers, or written to one, their full scale is 1: they are the integers divided by
-2^(bits - 1). What is written is rounded to the nearest integer and clipped, which a RuntimeWarning counts; `dither`
-adds triangular noise of at most one step before that, and is the seed of its generator (True is 1).
+it is (but not one that was opened to append, since that writes at its end); `info`, `read` and `read_into` take bytes,
+too. Samples are interleaved: `array.array`s, lists, or anything with a buffer, such as a numpy array; two dimensions are
+frames by channels. Integers are read and written as they are. Where floats are read from a file of integers, or written
+to one, their full scale is 1: they are the integers divided by 2^(bits - 1). What is written is rounded to the nearest
+integer and clipped, which a RuntimeWarning counts; `dither` adds triangular noise of at most one step before that, and
+is the seed of its generator (True is 1).
 
 A file that is recorded to, appended to, repaired or replaced is locked (`flock`; on Windows LockFileEx, until it is
 replaced): what another program, or a Writer of this one, has locked is a BlockingIOError. Programs without such locks
@@ -591,10 +592,7 @@ def _replaced(path: Path, durable: bool) -> ContextManager[str]:
 
 def _write_to(file: Any, content: bytearray, durable: bool) -> None:
     """Writes all of this to an object."""
-    disk.check_object(file, "write")
-    disk.check_place(file)
-    disk.put_next(file, content)
-    disk.flush(file)
+    disk.put_here(file, content)
     if durable:
         disk.sync(file.fileno())
 
@@ -616,7 +614,8 @@ def write(
     It is written under another name in the same folder, and renamed when it is whole: until then, at an error too, a
     file that was there stays as it was, and the new file gets its mode. A file that is locked isn't replaced. With
     `durable` the file is synced before it is renamed, and its folder after that: if only the last sync fails, the new
-    file is there, and may be lost with the power. An object is written to where it is, and need not seek.
+    file is there, and may be lost with the power. An object is written to where it is, and need not seek. A device or a
+    pipe at a path isn't replaced: the file is written into it.
     """
     with _named(path):
         content = to_bytes(samples, rate, channels, bits, bytes_per_sample=bytes_per_sample, like=like, dither=dither)

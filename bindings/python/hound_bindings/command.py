@@ -82,14 +82,14 @@ def _each(names: List[str], call: Callable[[str], bool], failed: Callable[[str, 
 
 
 def _files_of(names: List[str]) -> List[str]:
-    """These files, and for each folder those in it and in its folders that are named as WAV files. Pipes and devices
-    aren't among these, since to read one may wait for ever."""
+    """These files, and for each folder those in it and in its folders that are named as WAV files, but for pipes and
+    devices: to read one may wait for ever."""
     found = []
     for name in names:
         if os.path.isdir(name):
             files = [os.path.join(folder, file) for folder, _, files in os.walk(name) for file in files]
             named = (file for file in files if file.lower().endswith((".wav", ".wave")))
-            found += sorted(file for file in named if os.path.isfile(file))
+            found += sorted(file for file in named if os.path.isfile(file) or not os.path.exists(file))
         else:
             found.append(name)
     if not found:

@@ -21,8 +21,8 @@ except ImportError:
 
 __all__ = [
     "CUT", "DONE", "Descriptor", "FAILED", "File", "Medium", "READ", "SYNC", "Stream", "WRITE", "WRITE_BLOCK",
-    "check_object", "check_place", "descriptor_of", "folder_of", "opened", "perform", "piece_of", "place_of", "put",
-    "put_next", "read_at", "replace", "sync", "sync_folder", "sync_once",
+    "check_object", "descriptor_of", "folder_of", "opened", "perform", "piece_of", "place_of", "put", "put_here",
+    "read_at", "replace", "sync", "sync_folder", "sync_once",
 ]  # fmt: skip
 
 # The kinds of effects, and how one ended, made from hound.h by scripts/make_interface.
@@ -233,16 +233,6 @@ def _fault_of_append() -> OSError:
     return io.UnsupportedOperation('the file is opened to append, so all is written at its end: open it with "r+b"')
 
 
-def check_place(file: Any) -> None:
-    """An error where an object would write elsewhere than where it is."""
-    place = place_of(file)
-    if place is not None and _appends(file):
-        file.seek(0, os.SEEK_END)
-        if file.tell() != place:
-            file.seek(place)
-            raise _fault_of_append()
-
-
 def piece_of(content: Any, most: int) -> Any:
     """What a read of an object gave, which was asked for so many bytes at most."""
     if content is None:
@@ -293,17 +283,14 @@ class Stream:
 
     def put(self, content: Any, place: int) -> None:
         self._file.seek(self._start + place)
-        put_next(self._file, content)
-        flush(self._file)  # What an object holds back a forked process would write again.
-        if self._file.tell() != self._start + place + len(content):
-            raise OSError(errno.EIO, "the file wrote elsewhere than at the place that it was sought to")
+        _put_next(self._file, content, self._start + place)
 
     def cut(self, place: int) -> None:
         if self.size() > place:
             self._file.truncate(self._start + place)
 
     def sync(self, durable: bool) -> None:
-        flush(self._file)
+        _flush(self._file)
 
     def close(self, is_unlocked: bool = True) -> None:
         """Ends its use: the object stays open, and is at its end, unless it is that of another process."""
@@ -313,8 +300,21 @@ class Stream:
                 self._file.seek(0, os.SEEK_END)
 
 
-def put_next(file: Any, content: Any) -> None:
-    """Writes all of this to an object, which may write a part of it at a time."""
+def put_here(file: Any, content: Any) -> None:
+    """Writes all of this to an object where it is; an error where that would be elsewhere."""
+    check_object(file, "write")
+    place = place_of(file)
+    if place is not None and _appends(file):
+        file.seek(0, os.SEEK_END)
+        if file.tell() != place:
+            file.seek(place)
+            raise _fault_of_append()
+    _put_next(file, content, place)
+
+
+def _put_next(file: Any, content: Any, place: Optional[int]) -> None:
+    """Writes all of this to an object, which may write a part of it at a time, and is at this place. What it would hold
+    back is passed on, since a forked process would write it again."""
     with memoryview(content) as left:
         done = 0
         while done < len(left):
@@ -323,10 +323,12 @@ def put_next(file: Any, content: Any) -> None:
                 wanted = f"how many of {len(left) - done} bytes it wrote"
                 raise OSError(errno.EIO, f"the method write of the file returned {count!r}, and not {wanted}")
             done += count
+    _flush(file)
+    if place is not None and file.tell() != place + done:
+        raise OSError(errno.EIO, "the file wrote elsewhere than at the place where it was")
 
 
-def flush(file: Any) -> None:
-    """Passes on what an object holds back, if it does that."""
+def _flush(file: Any) -> None:
     if hasattr(file, "flush"):
         file.flush()
 

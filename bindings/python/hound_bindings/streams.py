@@ -131,6 +131,7 @@ class Reader(_OneAtATime):
 
     def __init__(self, file: Union[Path, IO[bytes]], *, to_end: bool = False) -> None:
         super().__init__()
+        _READERS.add(self)
         self._name, self._to_end = file, to_end
         self._is_own = isinstance(file, (str, os.PathLike))
         if not self._is_own:
@@ -271,6 +272,18 @@ class Reader(_OneAtATime):
             raise io.UnsupportedOperation("the file can't be sought in")
         self._finish(_Next(frame, []))
 
+
+_READERS: "weakref.WeakSet[Reader]" = weakref.WeakSet()
+
+
+def _unlock_readers() -> None:
+    """In a forked process: the thread that has a lock isn't there."""
+    for reader in list(_READERS):
+        reader._lock, reader._running = threading.RLock(), None
+
+
+if hasattr(os, "register_at_fork"):
+    os.register_at_fork(after_in_child=_unlock_readers)
 
 _INT = ctypes.c_int32
 _decode = {t: _function("decode_" + t, _POINTER, _POINTER, _SIZE, _POINTER, _SIZE) for t in ("i8", "i16", "i32", "f32")}

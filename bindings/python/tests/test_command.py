@@ -211,6 +211,9 @@ class Command(Folder):
         self.assertEqual(out, f"/dev/fd/{inner}".encode() + form + b"as its header says\n")
         self.assertEqual(self.run_command("info", "x"), b"x/a.wav" + form + b"whole\n")
         self.assertEqual(self.run_command("repair", "x").count(b"\n"), 2)
+        os.symlink("none", os.path.join(self.folder, "x/c.wav"))
+        self.run_command("info", "x", status=1)
+        self.assertEqual(self.said, b"hound-wav: x/c.wav: No such file or directory\n")
         for words in [], ["--guess"], ["--like", "8000,1,16"], ["--copy"], ["--dry-run"]:
             self.run_command("repair", *words, "x/b.wav", status=1)
             self.assertEqual(self.said, b"hound-wav: x/b.wav: a pipe can't be sought in\n")

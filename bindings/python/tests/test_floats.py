@@ -456,6 +456,8 @@ class Objects(Case):
             writer.write(SAMPLES)
             self.assertRaisesRegex(OSError, "elsewhere", writer.flush)
             self.assertRaisesRegex(OSError, "elsewhere", writer.close)
+        file = Appending(made_by_wave(SAMPLES))
+        self.assertRaisesRegex(OSError, "elsewhere", lambda: hound.write(file, SAMPLES, 8000))
 
     def test_an_object_without_seekable(self):
         file = Older()

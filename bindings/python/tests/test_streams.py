@@ -316,6 +316,33 @@ class Streams(Case):
                     self.assertEqual(os.waitpid(child, 0)[1], 0)
                 self.assertEqual(shared.read(), samples)
 
+    def test_a_process_that_is_forked_in_a_read_of_another_thread(self):
+        """It doesn't wait for that thread, which it hasn't got."""
+        begun, ended, pread = threading.Event(), threading.Event(), os.pread
+
+        def late(*arguments):
+            begun.set()
+            ended.wait(60)
+            return pread(*arguments)
+
+        with tempfile.TemporaryDirectory() as folder:
+            path = os.path.join(folder, "a.wav")
+            hound.write(path, SAMPLES, 8000)
+            with hound.open(path) as reader:
+                with unittest.mock.patch("os.pread", late):
+                    thread = threading.Thread(target=reader.read)
+                    thread.start()
+                    begun.wait(60)
+                    child = os.fork()
+                    if not child:
+                        signal.alarm(20)
+                        os.pread = pread
+                        os._exit(reader.read() != SAMPLES)
+                    self.assertEqual(os.waitpid(child, 0)[1], 0)
+                    ended.set()
+                    thread.join()
+                self.assertEqual(reader.tell(), 10)
+
     def test_a_file_that_ends_early(self):
         reader = hound.open(io.BytesIO(by_hand(SAMPLES.tobytes()[:-3], counted=20)))
         self.assertEqual(list(reader.read(3)), list(SAMPLES[:6]))
