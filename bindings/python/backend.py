@@ -126,7 +126,9 @@ def manual(library):
 
     def printed(*words):
         command = [sys.executable, "-B", "-m", NAME, *words, "--help"]
-        run = subprocess.run(command, env=environment, check=True, stdout=subprocess.PIPE, universal_newlines=True)
+        run = subprocess.run(command, env=environment, capture_output=True, universal_newlines=True)
+        if run.returncode:  # The last line says why, as that it isn't the library of this version.
+            raise SystemExit(run.stderr.rstrip().split("\n")[-1])
         return run.stdout
 
     parts = {"hound-wav": printed()}

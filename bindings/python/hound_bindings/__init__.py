@@ -2,11 +2,11 @@
 
 A file is a path, or an object that reads, writes and seeks as one does, such as an io.BytesIO, from the place on where
 it is (but not one that was opened to append, since that writes at its end); `info`, `read` and `read_into` take bytes,
-too. Samples are interleaved: `array.array`s, lists, or anything with a buffer, such as a numpy array; two dimensions are
-frames by channels. Integers are read and written as they are. Where floats are read from a file of integers, or written
-to one, their full scale is 1: they are the integers divided by 2^(bits - 1). What is written is rounded to the nearest
-integer and clipped, which a RuntimeWarning counts; `dither` adds triangular noise of at most one step before that, and
-is the seed of its generator (True is 1).
+too. Samples are interleaved: `array.array`s, lists, or anything with a buffer, such as a numpy array; two dimensions
+are frames by channels. Integers are read and written as they are. Where floats are read from a file of integers, or
+written to one, their full scale is 1: they are the integers divided by 2^(bits - 1). What is written is rounded to the
+nearest integer and clipped, which a RuntimeWarning counts; `dither` adds triangular noise of at most one step before
+that, and is the seed of its generator (True is 1).
 
 A file that is recorded to, appended to, repaired or replaced is locked (`flock`; on Windows LockFileEx, until it is
 replaced): what another program, or a Writer of this one, has locked is a BlockingIOError. Programs without such locks

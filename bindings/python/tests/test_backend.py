@@ -1,5 +1,6 @@
 """What `pip install` builds on this computer, and which command it calls on others."""
 import os
+import shutil
 import subprocess
 import sys
 import sysconfig
@@ -135,6 +136,16 @@ class Backend(unittest.TestCase):
             words, _ = self.command()
             self.assertIn(os.path.join(self.folder, "libhound_c.a"), words)
             self.assertEqual(backend.wheel_tag(), "py3-none-" + sysconfig.get_platform().replace("-", "_"))
+
+    @unittest.skipUnless(shutil.which("cc") and shutil.which("ar"), "no C compiler is here")
+    def test_a_named_library_of_another_version(self):
+        words = ["cc", "-c", "-fPIC", "-x", "c", "-", "-o", os.path.join(self.folder, "one.o")]
+        subprocess.run(words, input=b"int hound_info(void) { return 0; }", check=True)
+        subprocess.run(["ar", "rcs", "libhound_c.a", "one.o"], cwd=self.folder, check=True)
+        os.environ["HOUND_C_LIB"] = self.folder
+        words = f"isn't the library of hound_bindings {backend.VERSION}: it lacks hound_walk_next"
+        self.assertRaisesRegex(SystemExit, words, lambda: backend.build_wheel(self.folder))
+        self.assertFalse(any(name.endswith(".whl") for name in os.listdir(self.folder)))
 
     def test_windows_and_macos(self):
         with on("Windows", "amd64"), compilers("cl"):
