@@ -296,6 +296,9 @@ _recorder_checkpoint = _function("recorder_checkpoint", _POINTER, result=None)
 _recorder_next = _function("recorder_next", _POINTER, result=_INT)
 
 
+_REST = "so a repair may take for samples what its header doesn't count"
+
+
 class _Recording(NamedTuple):
     """What is recorded. `synced` has one item since a sync that is the recorder's effect began, and two since it
     succeeded. `clipped` samples were."""
@@ -314,9 +317,10 @@ class Writer(_OneAtATime):
 
     After an error of `write` the block isn't in the file, and the next call continues; it first makes the header count
     all blocks before that one, also if it is a `write`. If the system can't cut the file off either, a part of the
-    block follows what is counted, which a repair takes for samples. After an OSError of a sync it is unknown what is
-    stored, and each later call is an error. A signal handler may raise in any call, as Ctrl-C does: a block is in the
-    file only if its `write` has returned, and the next call cuts it off; after a `close` that is another `close`.
+    block follows what is counted, which a repair takes for samples: the error says so, and `close` warns of it. After
+    an OSError of a sync it is unknown what is stored, and each later call is an error. A signal handler may raise in
+    any call, as Ctrl-C does: a block is in the file only if its `write` has returned, and the next call cuts it off;
+    after a `close` that is another `close`.
 
     Threads may share it: each call waits for the end of another one. A signal handler that calls it during another call
     of the same thread gets a RuntimeError. One that isn't closed is closed when it is collected or the program ends,
@@ -416,8 +420,11 @@ class Writer(_OneAtATime):
         """Flushes and closes the file. It is closed after an error, too, but not if a signal handler raised."""
         if self._is_elsewhere():
             self._file.close(is_unlocked=False)
-        else:
-            self._close()
+            return
+        was_closed = self._file.is_closed
+        self._close()
+        if not was_closed:
+            self._warn_of_rest()
 
     @_one_at_a_time
     def _close(self) -> None:
@@ -438,14 +445,23 @@ class Writer(_OneAtATime):
             self.flush()
         except OSError as error:
             self._give_up(before)
-            if self._has_rest:
-                rest = "and the file can't be cut off: a repair may take what its header doesn't count for samples"
-                error.errno, error.strerror = error.errno or errno.EIO, f"{error.strerror or error}, {rest}"
+            self._add_rest(error)
             raise
         with contextlib.suppress(OSError):  # The end of the context does it again.
             self._length = self._file.size()
         if self._length:
             self._file.close()
+            self._warn_of_rest()
+
+    def _add_rest(self, error: OSError) -> None:
+        """Adds to an error that the file couldn't be cut off either."""
+        if self._has_rest and _REST not in str(error):
+            text = f"{error.strerror or error}, and the file couldn't be cut off, {_REST}"
+            error.errno, error.strerror = error.errno or errno.EIO, text
+
+    def _warn_of_rest(self) -> None:
+        if self._has_rest:
+            conversion.warn_caller(f"{self._file.path}: the file couldn't be cut off, {_REST}")
 
     def _give_up(self, before: _Recording) -> None:
         """Closes the file, and cuts it off by the recorder from before a block, if the header counts what it did then.
@@ -456,7 +472,7 @@ class Writer(_OneAtATime):
             if _recorder_next(ctypes.byref(trial)) == 1:
                 counted = _walk_over(self._file).samples * before.recorder.bytes_per_sample
                 self._state = before if counted == before.recorder.data_length else self._state
-                self.close()
+                self._close()
         self._file.close()
 
     def _checkpoint(self) -> None:
@@ -497,6 +513,7 @@ class Writer(_OneAtATime):
             if effect.kind == disk.CUT:
                 self._has_rest = effect.report == disk.FAILED
         if fault and code < 0:
+            self._add_rest(fault)
             raise fault
         _checked(code)
         return recorder

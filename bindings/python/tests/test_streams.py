@@ -890,8 +890,30 @@ class Recordings(Case):
             patch = unittest.mock.patch("os.ftruncate", side_effect=OSError(errno.EIO, "another fault"))
             with Calls(nth), patch, self.assertRaises(OSError) as caught:
                 hound.append(self.path, SAMPLES)
-            self.assertIn("a fault, and the file can't be cut off: a repair may take", str(caught.exception))
+            self.assertIn("a fault, and the file couldn't be cut off, so a repair may take", str(caught.exception))
             self.assertEqual(hound.info(self.path).frames, 5)
+
+    def test_what_can_t_be_cut_off_is_warned_of(self):
+        """It follows the samples, though no call failed since."""
+        chunk = b"LIST" + struct.pack("<I", 100) + b"\1" * 100
+        cut = unittest.mock.patch("os.ftruncate", side_effect=OSError(errno.EIO, "a fault"))
+        words = "a.wav: the file couldn't be cut off, so a repair may take"
+        self.leave(made_by_wave(SAMPLES[:4]) + chunk)
+        with cut, self.assertWarnsRegex(RuntimeWarning, words) as caught:
+            hound.append(self.path, SAMPLES[4:], overwrite=True)
+        self.assertEqual((caught.filename, hound.read(self.path)), (__file__, SAMPLES))
+        writer = hound.create(self.path, 8000, 2, 16)
+        with cut, Calls(1):
+            self.assertRaisesRegex(OSError, "a fault, and the file couldn't be", lambda: writer.write(SAMPLES))
+        with self.assertWarnsRegex(RuntimeWarning, words):
+            writer.close()
+        with warnings.catch_warnings():
+            warnings.simplefilter("error")
+            writer.close()
+            writer = hound.create(self.path, 8000, 2, 16)
+            with Calls(1):
+                self.assertRaises(OSError, lambda: writer.write(SAMPLES))
+            writer.close()
 
     def test_an_append_whose_last_size_was_written_though_it_failed(self):
         """The header never counts what isn't there: the block stays."""
