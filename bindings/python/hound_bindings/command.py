@@ -407,9 +407,7 @@ def _record(options: argparse.Namespace) -> int:
         is_read = _say_what_is_kept(options.target)  # Also where a write failed, whose error is said, too.
     if left:
         _complain(f"the last {left} bytes are no whole frame")
-    if writer._has_rest:
-        _complain(f"{options.target}: the file couldn't be cut off, {streams._REST}")
-    return 1 if left or writer._has_rest or not is_read else 0
+    return 1 if left or not is_read else 0
 
 
 def _say_what_is_kept(name: str) -> bool:

@@ -503,6 +503,20 @@ class Command(Folder):
             "hound-wav: a.wav: File too large",
         ])  # fmt: skip
 
+    def test_record_says_what_it_can_t_cut_off(self):
+        hindered = (
+            "import os, sys; from hound_bindings import command; os.ftruncate = lambda *_: os.close(-1); "
+            "sys.exit(command.main(sys.argv[1:]))"
+        )
+        limit = lambda: resource.setrlimit(resource.RLIMIT_FSIZE, (65600, 65600))
+        words = ["record", self.path, "--rate", "8000", "--channels", "1", "--bits", "16"]
+        env = {**os.environ, "PYTHONPATH": os.path.dirname(os.path.dirname(hound.__file__))}
+        command = [sys.executable, "-c", hindered, *words]
+        ended = subprocess.run(command, input=bytes(200_000), capture_output=True, env=env, preexec_fn=limit)
+        last = ended.stderr.decode().splitlines()[-1]
+        said = f"hound-wav: {self.path}: File too large, and the file couldn't be cut off, so a repair may take"
+        self.assertEqual((ended.returncode, last[: len(said)]), (1, said))
+
     def test_the_file_that_has_no_room_is_named(self):
         self.leave_as("a.wav", by_hand(bytes(100_000), 0))
         self.leave_as("b.wav", hound.to_bytes([0] * 100_000, 8000))
