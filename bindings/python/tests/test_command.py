@@ -288,7 +288,7 @@ class Command(Folder):
         inner, outer = os.pipe()
 
         def repair():
-            os.dup2(outer, 1)
+            sys.stdout = open(outer, "w")
             os.seteuid(os.geteuid() or 65534)
             return all(command.main(["repair", *words, self.path]) == 0 for words in ([], ["--durable"], ["--to-end"]))
 
