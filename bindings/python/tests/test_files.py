@@ -374,13 +374,14 @@ class Files(unittest.TestCase):
                     self.assert_file(memory[:size])
         self.assertLessEqual(max(counts), 40)
 
+    @unittest.skipUnless(os.path.exists("/proc/self/status"), "the system doesn't say there how much memory was used")
     def test_a_long_file_is_repaired_in_little_memory(self):
         length = 3 * 10**9 + 1
         self.leave(by_hand(b"", width=1))
         os.truncate(self.path, 44 + length)
-        program = f"import resource, hound_bindings as h; path = {self.path!r}"
+        program = f"import hound_bindings as h; path = {self.path!r}"
         program += "; print(h.find_damage(path).frames, h.repair(path).frames)"
-        program += "; print(resource.getrusage(resource.RUSAGE_SELF).ru_maxrss)"
+        program += "; print(*(line.split()[1] for line in open('/proc/self/status') if line.startswith('VmHWM')))"
         env = {**os.environ, "PYTHONPATH": os.path.dirname(os.path.dirname(hound.__file__))}
         said = subprocess.run([sys.executable, "-c", program], env=env, stdout=subprocess.PIPE, check=True).stdout
         self.assertEqual(said.split()[:2], [b"%d" % length] * 2)
