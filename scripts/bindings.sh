@@ -10,8 +10,8 @@ if ! $offline true 2> /dev/null; then
     echo "bindings: passed over, since unshare isn't allowed here: that pip and cargo need no network"
 fi
 
-# Writes the program of docs/BINDINGS.md that begins with the fence of that language.
-page() { # LANGUAGE
+# Writes the program of docs/BINDINGS.md, or of another page, that begins with the fence of that language.
+page() { # LANGUAGE [PAGE]
     awk -v fence="\`\`\`$1" \
-        '$0 == fence && !done { on = 1; next } /^```/ && on { on = 0; done = 1 } on' docs/BINDINGS.md
+        '$0 == fence && !done { on = 1; next } /^```/ && on { on = 0; done = 1 } on' "${2:-docs/BINDINGS.md}"
 }

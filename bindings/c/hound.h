@@ -148,7 +148,7 @@ int32_t hound_info(const uint8_t *file, size_t length, hound_info_t *info) HOUND
    `perform` does what `kind` says, and sets `report`: to HOUND_FAILED where it does not know the kind, since a newer
    library may request others. Without a report the next call requests the same effect again: so a program that was
    interrupted, and doesn't know whether an effect was done, just continues its loop. Only a sync that was begun and may
-   have failed has to be reported as failed. See record.c and repair.c. */
+   have failed has to be reported as failed. hound_file.h has such a loop. */
 enum {
     HOUND_NOTHING,     /* there is nothing to do */
     HOUND_READ,        /* read `length` bytes at `place` into `bytes`. Where the file ends before that, set `length` to
@@ -352,7 +352,8 @@ int64_t hound_from_f32(const float *samples, size_t count, uint16_t bits, int32_
    a repair finds the others that are there; where frames have one byte it takes a pad byte that isn't counted yet for
    one.
    A program begins a recorder, and then, as often as it likes, requests a block or a checkpoint, and performs all
-   effects until there is none. A block that failed is cut off, and the next request begins with a checkpoint. */
+   effects until there is none. After each that is reported fewer are left: a checkpoint has at most eight, a block at
+   most eleven. A block that failed is cut off, and the next request begins with a checkpoint. */
 typedef struct {
     hound_effect effect;
     uint64_t data_start;  /* how many bytes are before the first sample */

@@ -1,12 +1,13 @@
 """Builds the wheel of this folder with Python alone, so that `pip install` needs no network: it has the
-shared library that ../lib has for this processor. Where ../lib has none, or with HOUND_C_SOURCE in the
-environment, a C compiler makes one of ../rust/hound_c.c, and with HOUND_C_LIB of the static library in
-that folder. An sdist has lib, c and rust in this folder."""
+shared library that ../lib has for this processor. Where ../lib has none, as for an x86-64 that isn't x86-64-v2, or
+with HOUND_C_SOURCE in the environment, a C compiler makes one of ../rust/hound_c.c, and with HOUND_C_LIB of the static
+library in that folder. An sdist has lib, c and rust in this folder."""
 import base64
 import hashlib
 import os
 import platform
 import re
+import runpy
 import shutil
 import struct
 import subprocess
@@ -21,13 +22,20 @@ IS_SDIST = os.path.exists(os.path.join(HERE, "PKG-INFO"))
 BINDINGS = HERE if IS_SDIST else os.path.dirname(HERE)
 LICENSE = os.path.join(HERE if IS_SDIST else os.path.dirname(BINDINGS), "LICENSE")
 HEADER, SOURCE = os.path.join(BINDINGS, "c", "hound.h"), os.path.join(BINDINGS, "rust", "hound_c.c")
+PROCESSOR = runpy.run_path(os.path.join(HERE, NAME, "processor.py"))
+# What the libraries of ../lib need that not each such processor has.
+NEEDS = {"x86_64": PROCESSOR["X86_64_V2"]}
+with open(os.path.join(HERE, "README.md")) as readme:
+    README = readme.read()
 METADATA = f"""Metadata-Version: 2.1
 Name: {NAME}
 Version: {VERSION}
 Summary: WAV files read, written, appended to and repaired by proved code
 License: Apache-2.0
 Requires-Python: >=3.8
-"""
+Description-Content-Type: text/markdown
+
+{README}"""
 
 
 def system():
@@ -75,7 +83,8 @@ def carried_library():
     name, machine, has_32_bits = system()
     library = os.path.join(BINDINGS, "lib", f"{machine}-{name.lower()}", "libhound_c.so")
     is_other = has_32_bits or os.environ.get("HOUND_C_SOURCE") or os.environ.get("HOUND_C_LIB")
-    return library if os.path.exists(library) and not is_other else None
+    is_there = os.path.exists(library) and not is_other
+    return library if is_there and not PROCESSOR["lacking"](NEEDS.get(machine, ())) else None
 
 
 def shared_library(folder):
@@ -117,7 +126,9 @@ def manual(library):
 
     def printed(*words):
         command = [sys.executable, "-B", "-m", NAME, *words, "--help"]
-        run = subprocess.run(command, env=environment, check=True, stdout=subprocess.PIPE, universal_newlines=True)
+        run = subprocess.run(command, env=environment, capture_output=True, universal_newlines=True)
+        if run.returncode:  # The last line says why, as that it isn't the library of this version.
+            raise SystemExit(run.stderr.rstrip().split("\n")[-1])
         return run.stdout
 
     parts = {"hound-wav": printed()}
@@ -140,6 +151,8 @@ def build_wheel(wheel_directory, config_settings=None, metadata_directory=None):
         library = shared_library(folder)
         with open(library, "rb") as file:
             files[f"{NAME}/{os.path.basename(library)}"] = file.read()
+        if carried_library() and system()[1] in NEEDS:
+            files[f"{NAME}/{os.path.basename(library)}.needs"] = " ".join(NEEDS[system()[1]]).encode()
         if system()[0] != "Windows":
             files[f"{NAME}-{VERSION}.data/data/share/man/man1/hound-wav.1"] = manual(library)
     info = f"{NAME}-{VERSION}.dist-info"

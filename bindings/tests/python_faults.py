@@ -206,6 +206,11 @@ def blocks_forgotten():
     hound.Writer._written = written
 
 
+def kept_after_a_failure():
+    """An append that leaves its block where a size can't be written."""
+    hound.Writer._give_up = lambda self, before: self._file.close()
+
+
 def nobody_waits():
     """Recorders and readers that threads use at once."""
     begin = streams._OneAtATime.__init__
@@ -240,6 +245,7 @@ CONTROLS = {
     "counted early": counted_early,
     "effects forgotten": effects_forgotten,
     "blocks forgotten": blocks_forgotten,
+    "kept after a failure": kept_after_a_failure,
     "nobody waits": nobody_waits,
     "all held is returned": all_held_is_returned,
 }
@@ -276,9 +282,9 @@ def record(work, path, case, first, count, times):
     """Records so many blocks, and prints how many frames each checkpoint has."""
     durable = "durable" in work
     if "create" in work:
-        writer = hound.create(path, 44100, case.channels, 8 * case.width, durable)
+        writer = hound.create(path, 44100, case.channels, 8 * case.width, durable=durable)
     else:
-        writer = hound.append_to(path, durable)
+        writer = hound.append_to(path, durable=durable)
     with writer:
         for end in range(first + count, first + count * times + 1, count):
             writer.write(samples_of(case, end - count, count))
@@ -293,7 +299,8 @@ def perform(work, path, case, first, end):
     elif work == "write":
         hound.write(path, samples_of(case, 0, end), 44100, case.channels)
     else:
-        hound.append(path, samples_of(case, first, end - first), "overwrite" in work, "durable" in work)
+        samples = samples_of(case, first, end - first)
+        hound.append(path, samples, overwrite="overwrite" in work, durable="durable" in work)
 
 
 def program(control, work, path, number, first, count, times):
@@ -358,13 +365,12 @@ def is_as_promised(path, task, status, what, is_exact):
     if "create" in task.work and len(contents) < len(head(task.case, 0)):
         return
     is_exact = is_exact and "record" not in task.work
-    if status == 3 and is_exact and task.work == "write" and contents != task.before:
-        raise Wrong(f"{what}: the file isn't the one from before")
-    if status == 3 and is_exact and task.work in ("append", "durable"):
-        start, frame = len(head(task.case, 0)), task.case.frame
-        ends = [start + frames * frame for frames in (task.first, task.first + task.count)]
-        if len(contents) not in (*ends, *(end + 1 for end in ends if (end - start) % 2)):
-            raise Wrong(f"{what}: a part of a block that failed stays")
+    padded = contents.ljust(len(task.before), bytes(1))  # A full disk may have no room for the pad byte again.
+    if status == 3 and is_exact and task.work in ("append", "durable", "write") and padded != task.before:
+        end = len(head(task.case, 0)) + (task.first + task.count) * task.case.frame
+        # After a sync that failed nothing more is written, so all of the block may stay.
+        if "fsync" not in what or len(contents) not in (end, end + end % 2):
+            raise Wrong(f"{what}: the file isn't the one from before")
     if task.work == "write" and contents not in (task.before, task.done):
         raise Wrong(f"{what}: the file is neither the old nor the new one")
     if is_exact and status in (0, 3) and os.path.exists(os.path.join(os.path.dirname(path), ".hound-part")):
@@ -512,7 +518,7 @@ def continued(path, case, durable, at):
     interruption, and how many frames there are."""
     first, count, is_writing = 3, 2, False
     leave(path, file_of(case, first))
-    writer = hound.append_to(path, durable)
+    writer = hound.append_to(path, durable=durable)
     with Interruption(at) as interruption:
         try:
             for _ in range(2):
@@ -602,7 +608,7 @@ def share(folder, turns):
                 attempt(writer.flush)
 
         try:
-            with hound.append_to(path, durable) as writer:
+            with hound.append_to(path, durable=durable) as writer:
                 in_threads(write, flush, flush)
         except (OSError, ValueError) as error:
             errors.append(error)
@@ -683,6 +689,7 @@ def find_controls(folder):
         ("a report before the effect", CASES[0], "KILL"),
         ("each report is that it is done", CASES[0], "ENOSPC"),
         ("no block is written", CASES[0], "ENOSPC"),
+        ("kept after a failure", CASES[0], "ENOSPC"),
         ("counted early", CASES[0], "KILL"),
     ]:
         work = "record" if control == "counted early" else "append"

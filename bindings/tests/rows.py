@@ -111,7 +111,7 @@ def files():
                 seen.add(data)
                 yield data
     for bits, width in ((8, 0), (16, 0), (24, 4), (32, 0)):
-        data = bytes(hound.to_bytes(array.array("i", [1, -2, 100, -128]), 44100, 2, bits, width))
+        data = bytes(hound.to_bytes(array.array("i", [1, -2, 100, -128]), 44100, 2, bits, bytes_per_sample=width))
         for length in range(len(data) + 1):
             yield data[:length]
 

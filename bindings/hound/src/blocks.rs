@@ -34,8 +34,8 @@ pub trait ReadSamples: sealed::Sealed {
 
 /// Writes blocks.
 pub trait WriteSamples: sealed::Sealed {
-    /// Writes samples, all of them or none. Those of a frame that isn't finished stay in the buffer. After an error
-    /// the next call that writes to the file makes a checkpoint first, of the whole frames that were written before.
+    /// Writes samples, all of them or none. Up to 4096 are buffered, as single ones are. After an error the next call
+    /// that writes to the file makes a checkpoint first, of the whole frames that were written before.
     ///
     /// Where a write fails within the block, a file of `create`, `append` or a durable form of these is cut off after
     /// the samples before it. Over another writer a part of the block may stay there; readers don't count it, but

@@ -71,7 +71,10 @@ impl From<proved::Error> for Error {
             BitsNot8Or16 => Error::FormatError("bits per sample is not 8 or 16"),
             DataLength => Error::FormatError("data chunk length is not a multiple of sample size"),
             FrameLength => Error::FormatError("invalid data chunk length"),
-            _ => Error::FormatError(error.text()),
+            NoRiffTag | NoWaveTag | NoDataChunk | NoFmtChunk | FmtSize | UnexpectedFmtSize | ZeroChannels
+            | BitsExceedWidth | Inconsistent | BitsNotWholeBytes | ZeroBits | ExSize | BitsNot32 | ExtensibleSize => {
+                Error::FormatError(error.text())
+            }
         }
     }
 }

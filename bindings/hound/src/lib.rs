@@ -42,25 +42,30 @@
 //!
 //! Reading:
 //!
-//! - The pad byte after an odd chunk is skipped, and each chunk takes its whole length.
-//! - `seek` leads to its frame also after samples that were rejected or torn, and where 24 bits are in four
-//!   bytes.
-//! - A fold, and what is made of one (`for_each`, `sum`, `count`), reads blocks. After a closure that
-//!   panicked the next sample is the one after the last, but the reader may have given more bytes. After a reader that
-//!   panicked the samples of its block are lost, and no `seek` leads to its frame.
-//! - Where a header is wrong, more of its bytes may have been taken.
+//! - The pad byte after an odd chunk is skipped, and each chunk takes its whole length. A header of more than 4 GiB is
+//!   an error; hound reads it, but where it appends, its sizes get to a wrong place.
+//! - `seek` leads to its frame also after samples that were rejected or torn, where 24 bits are in four bytes, and
+//!   where `time * channels` is 2^32 or more: there hound panics, or goes to a wrong frame. After the last frame no
+//!   sample is left; hound's `size_hint` panics there, or is wrong.
+//! - A reader of `open` that seeks keeps up to 8 KiB that it has read. If the file is changed meanwhile, hound reads
+//!   the new bytes.
+//! - A fold, and what is made of one (`for_each`, `sum`, `count`), reads blocks. After a closure that panicked reading
+//!   goes on as with hound, but what `into_inner` returns may have given more bytes. After a reader that panicked the
+//!   samples of its block are lost, and no `seek` leads to its frame.
+//! - Where a header is wrong, more of its bytes may have been taken. So the error may be that of the reader instead, or
+//!   of several causes another one.
 //!
 //! Writing:
 //!
 //! - A pad byte, which the RIFF size counts, follows odd data. Where a full disk has no room for it, the sizes still
 //!   count the samples of an earlier checkpoint.
-//! - Up to 4096 samples are buffered, and 64 KiB more by [`WavWriter::create`] and [`WavWriter::append`]: a program
-//!   that is killed loses what came after its last `flush`, as far as it was there. The header is in the file when
-//!   `create` returns. A fault is reported by the call that meets it; the samples that were accepted stay in the
-//!   buffer, and the next call writes them at their place. Where a disk is full the block that has no room counts
-//!   nothing, though a part of it would fit: repeat `flush` once there is room, before `finalize`. A limit of the
-//!   file's size (`ulimit -f`) ends the program by `SIGXFSZ`; it is an error, as a full disk is, only if the program
-//!   ignores that signal.
+//! - Up to 4096 samples are buffered, and those of an unfinished frame, also by [`WavWriter::new`]: a program that is
+//!   killed loses what came after its last `flush`, as far as it was there. The header is in the file when `create`
+//!   returns. A fault is reported by the call that meets it; the samples that were accepted stay in the buffer, and the
+//!   next call writes them at their place. Where a disk is full the block that has no room counts nothing, though a
+//!   part of it would fit: repeat `flush` once there is room, before `finalize`. A limit of the file's size
+//!   (`ulimit -f`) ends the program by `SIGXFSZ`; it is an error, as a full disk is, only if the program ignores that
+//!   signal.
 //! - After a write that failed, the next call that writes makes a checkpoint first, and `finalize` tries once more. A
 //!   file is cut off where a block failed; over another writer a part of that block may stay after the data. Readers
 //!   don't count it, as with hound, but [`repair_file`] takes it for samples.
@@ -74,14 +79,24 @@
 //!   call leaves the file as it is; hound writes its sizes then.
 //! - A file that its sizes can't count, which hound makes with wrong sizes, is an `IoError`. So is appending to one
 //!   that is shorter than its header counts (`UnexpectedEof`), if `seek` finds its length: hound counts zeros then.
+//! - A `File` that was opened to append to (`O_APPEND`) is an `IoError` (`InvalidInput`) of the first call that writes
+//!   sizes, which asks the writer once for its place (`stream_position`). hound writes them to the end of the file, and
+//!   reports no error.
 //! - A spec that can't be written is `Unsupported`; nothing is written, and an existing file stays as it is. hound
-//!   empties it, and then panics, or writes a wrong header.
-//! - Files of 24 bits in four bytes are appended to.
+//!   empties it, and then panics, or writes a wrong header. `into_header_for_infinite_file` panics for each such spec,
+//!   and hound's for some.
+//! - Files of 24 bits in four bytes are appended to. Those of floats of other than 32 bits are `Unsupported` at once;
+//!   hound opens them, and rejects each sample.
 //! - `write_sample_unchecked` is checked, and safe: rustc warns of an `unsafe` around it.
 //!
-//! `Error::description`, which is deprecated, has no text of its own.
+//! Types:
 //!
-//! `WavReader<R>`, `WavIntoSamples<R, S>` and `WavWriter<W>` aren't covariant in `R` and `W`.
+//! - `WavSpecEx` is also `Debug`, `PartialEq` and `Eq`. `SampleFormat` is also `Default`, and its `type_name` is one of
+//!   `hound_bindings`.
+//! - Readers and writers are larger, and `needs_drop` is true of readers. `WavReader<R>`, `WavIntoSamples<R, S>` and
+//!   `WavWriter<W>` aren't covariant in `R` and `W`.
+//! - `use hound::*` has the own names, too: where another such `use` has the same name, it is ambiguous.
+//! - `Error::description`, which is deprecated, has no text of its own.
 #![forbid(unsafe_code)]
 #![warn(missing_docs)]
 
@@ -93,6 +108,7 @@ mod medium;
 mod reader;
 mod repair;
 mod sample;
+mod source;
 mod spec;
 mod writer;
 

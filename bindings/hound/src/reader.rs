@@ -1,7 +1,7 @@
-use crate::error::early_end;
 use crate::proved::{self, Container, Next};
-use crate::sample::{check, Coding, Decode};
-use crate::spec::{containers, number, sizes_of, unpadded};
+use crate::sample::{read_value, Coding, Decode, ReadContainer};
+use crate::source::{read_on, read_rest, Buffer, Source};
+use crate::spec::{containers, unpadded, RIFF_SIZE};
 use crate::{Error, Result, Sample, SampleFormat, WavSpec, WavSpecEx, BLOCK};
 use std::io::{self, BufRead, Read};
 use std::{fs, marker, mem, panic, path};
@@ -9,53 +9,33 @@ use std::{fs, marker, mem, panic, path};
 // How many samples a block decodes at once, at least. Fewer are faster one by one.
 const SHORTEST_BLOCK: usize = 16;
 
-/// Reads on from byte `count` of these, until they or the reader end.
-pub(crate) fn read_on<R: Read>(reader: &mut R, bytes: &mut [u8], count: &mut usize) -> io::Result<()> {
-    while *count < bytes.len() {
-        match reader.read(&mut bytes[*count..])? {
-            0 => break,
-            more => *count += more,
-        }
-    }
-    Ok(())
-}
-
-// Reads the rest of a container that a first read has torn. Returns how many bytes there are then, and why no
-// container follows them.
-fn finish_container<R: Read>(
-    reader: &mut R,
-    bytes: &mut [u8],
-    width: usize,
-    first: io::Result<usize>,
-) -> (usize, Option<io::Error>) {
-    let mut count = 0;
-    let result = first.and_then(|first| {
-        count = first;
-        read_on(reader, &mut bytes[..(first + width - 1) / width * width], &mut count)
-    });
-    (count, result.err().or_else(|| if count > 0 && count % width == 0 { None } else { Some(early_end()) }))
-}
-
 /// Reads the first 12 bytes of a file, and returns the length that they say the file has.
 pub fn read_wave_header<R: Read>(reader: &mut R) -> Result<u64> {
-    let (mut walk, mut first_part, mut count) = (proved::Walk::new(), Vec::new(), 0);
+    let (mut walk, mut size, mut count) = (proved::Walk::new(), [0; 4], 0);
     if let Next::Effect(first) = walk.next()? {
         read_on(reader, first.bytes_mut(), &mut count)?;
-        first_part.extend(&first.bytes()[..count]);
+        size.copy_from_slice(&first.bytes()[RIFF_SIZE]);
         first.read(count);
     }
     walk.next()?;
-    // Of a new file the same size counts all but as many bytes.
-    let new = unpadded(SampleFormat::Int, 8);
-    let length = proved::header(&new, 0)?.len() as u64;
-    let size =
-        sizes_of(&new)?.into_iter().find_map(|(place, of_new)| Some(number(first_part.get(place)?) + length - of_new));
-    size.ok_or_else(|| early_end().into())
+    // The size counts as many bytes less than there are as that of any other file.
+    let length = proved::HEADER_BYTES as u32;
+    let (of_other, _) = proved::sizes(&unpadded(SampleFormat::Int, 8), length.into(), 0)?;
+    Ok(u64::from(u32::from_le_bytes(size)) + u64::from(length - u32::from_le_bytes(of_other)))
+}
+
+/// The next header, which the buffer of a reader may have as a whole.
+pub(crate) fn read_header<R: BufRead>(reader: &mut R) -> Result<proved::Info> {
+    if let Ok(info) = proved::info(reader.fill_buf()?) {
+        reader.consume(info.data_start as usize);
+        return Ok(info);
+    }
+    Ok(proved::Walk::over(reader)??)
 }
 
 /// Reads the samples of a file. It takes no byte after the samples that were asked for.
 pub struct WavReader<R> {
-    reader: R,
+    source: Source<R>,
     spec: WavSpec,
     bytes_per_sample: u16,
     container: Option<Container>,
@@ -64,29 +44,29 @@ pub struct WavReader<R> {
     // torn ones.
     samples_read: u64,
     not_taken: i64,
-    // Samples that were decoded before they are asked for, the number of the first of them, and the fault after
-    // them: of `open`, which leaves their bytes in the buffer of its reader, and of a fold whose closure panicked.
+    // Samples that were decoded before they are asked for, whose bytes the source still has, the number of the first of
+    // them, and how many `next` decodes the next time: after a seek one, and then each time 16 times as many.
     ahead: Vec<i32>,
     first_ahead: u64,
-    fault: Option<io::Error>,
-    // Up to which number floats, and integers, are read one by one: to the end, or none after a block was decoded.
+    most_ahead: usize,
+    // Up to which number floats, and integers, are read one by one: to the end, or none where the source has bytes.
     single_until: [u64; 2],
-    buffer: Option<Buffer<R>>,
 }
 
 // What a closure that panics leaves can be read on, though a fault can't be looked at after a panic.
 impl<R: panic::UnwindSafe> panic::UnwindSafe for WavReader<R> {}
 impl<R: panic::RefUnwindSafe> panic::RefUnwindSafe for WavReader<R> {}
 
-// How the buffer of the reader of `open` is looked at, and bytes of it are taken.
-type Buffer<R> = (fn(&mut R) -> io::Result<&[u8]>, fn(&mut R, usize));
-
 impl<R: Read> WavReader<R> {
     /// Reads the header, and makes a reader of the samples after it.
     pub fn new(mut reader: R) -> Result<WavReader<R>> {
         let info = proved::Walk::over(&mut reader)??;
+        Ok(WavReader::after_header(info, Source::new(reader, None)))
+    }
+
+    fn after_header(info: proved::Info, source: Source<R>) -> WavReader<R> {
         let mut reader = WavReader {
-            reader,
+            source,
             spec: WavSpecEx::from(info.spec).spec,
             bytes_per_sample: info.spec.bytes_per_sample,
             container: Container::of(&info.spec),
@@ -95,12 +75,11 @@ impl<R: Read> WavReader<R> {
             not_taken: 0,
             ahead: Vec::new(),
             first_ahead: 0,
-            fault: None,
+            most_ahead: 1,
             single_until: [0; 2],
-            buffer: None,
         };
         reader.put_back();
-        Ok(reader)
+        reader
     }
 
     /// What the file says of its samples.
@@ -136,7 +115,7 @@ impl<R: Read> WavReader<R> {
     /// The reader, after the last sample that was asked for.
     pub fn into_inner(mut self) -> R {
         self.put_back();
-        self.reader
+        self.source.reader
     }
 
     /// Goes to a frame, counted from 0. After the last one no sample is left.
@@ -144,11 +123,14 @@ impl<R: Read> WavReader<R> {
     where
         R: io::Seek,
     {
-        self.put_back();
+        if !self.ahead.is_empty() {
+            self.put_back();
+        }
         let (sample, width) = (u64::from(time) * u64::from(self.spec.channels), i64::from(self.bytes_per_sample));
         let taken = self.samples_read as i64 * width - self.not_taken;
-        self.reader.seek(io::SeekFrom::Current(sample as i64 * width - taken))?;
-        (self.samples_read, self.first_ahead, self.not_taken) = (sample, sample, 0);
+        self.source.seek_by(sample as i64 * width - taken)?;
+        (self.samples_read, self.first_ahead, self.not_taken, self.most_ahead) = (sample, sample, 0, 1);
+        self.find_way();
         Ok(())
     }
 
@@ -206,16 +188,22 @@ impl<R: Read> WavReader<R> {
     // How this type is made of a sample that is ahead, if it reads these.
     #[inline(always)]
     fn coding<S: Sample>(&self) -> Option<Coding<S>> {
-        S::CODING.filter(|coding| {
+        S::__HOUND_CODING.filter(|coding| {
             coding.format == self.spec.sample_format && usize::from(self.bytes_per_sample) <= mem::size_of::<S>()
         })
     }
 
     #[inline(always)]
     fn next_sample<S: Sample>(&mut self) -> Option<Result<S>> {
-        let single = S::CODING.filter(|coding| self.samples_read < self.single_until[coding.format as usize]);
-        if let Some(item) = single.and_then(|coding| self.read_single(coding)) {
-            return Some(item);
+        let coding = match S::__HOUND_CODING {
+            Some(coding) => coding,
+            None => return self.next_by_type(),
+        };
+        if self.samples_read < self.single_until[coding.format as usize] {
+            let (container, size) = (self.container, mem::size_of::<S>());
+            if let Some(value) = read_value(&mut Direct(self), coding.format, container, size) {
+                return Some(value.map(coding.from).map_err(Error::IoError));
+            }
         }
         if let Some(sample) = self.next_ahead() {
             return Some(Ok(sample));
@@ -232,101 +220,60 @@ impl<R: Read> WavReader<R> {
         Some((coding.from)(sample))
     }
 
-    // Reads the next container, of the type's format, if it isn't too wide.
-    #[inline(always)]
-    fn read_single<S: Sample>(&mut self, coding: Coding<S>) -> Option<Result<S>> {
-        let value = match (coding.format, self.container, mem::size_of::<S>()) {
-            (SampleFormat::Float, ..) => self.read_container().map(i32::from_le_bytes),
-            (_, Some(Container::Int16), 2..) => {
-                self.read_container().map(|bytes| proved::value_16(u16::from_le_bytes(bytes).into()))
-            }
-            (_, Some(Container::Int24), 4..) => self.read_container().map(|[low, middle, high]| {
-                proved::value_24(u32::from(u16::from_le_bytes([low, middle])) | u32::from(high) << 16)
-            }),
-            (_, Some(Container::Int32), 4..) => {
-                self.read_container().map(|bytes| proved::value_32(u32::from_le_bytes(bytes)))
-            }
-            (_, Some(Container::Int8), _) => {
-                self.read_container().map(|bytes| proved::value_8(u8::from_le_bytes(bytes).into()))
-            }
-            (_, Some(Container::Int24In4), 4..) => {
-                self.read_container().map(|bytes| proved::value_24(u32::from_le_bytes(bytes)))
-            }
-            _ => return None,
-        };
-        Some(value.map(coding.from).map_err(Error::IoError))
-    }
-
-    #[inline(always)]
-    fn read_container<const WIDTH: usize>(&mut self) -> io::Result<[u8; WIDTH]> {
-        let mut container = [0; WIDTH];
-        self.samples_read += 1;
-        match self.reader.read(&mut container) {
-            Ok(count) if count == WIDTH => Ok(container),
-            first => self.read_rest(&mut container, first).map(|()| container),
-        }
-    }
-
-    #[cold]
-    #[inline(never)]
-    fn read_rest(&mut self, container: &mut [u8], first: io::Result<usize>) -> io::Result<()> {
-        let width = container.len();
-        let (count, fault) = finish_container(&mut self.reader, container, width, first);
-        self.not_taken += (width - count) as i64;
-        fault.map_or(Ok(()), Err)
-    }
-
     // The end, an error, or a sample that has to be fetched first.
     #[cold]
     #[inline(never)]
     fn next_slowly<S: Sample>(&mut self) -> Option<Result<S>> {
-        let checked = check::<S>(&self.containers());
-        if checked.is_ok() && self.buffer.is_some() {
-            self.read_ahead::<S>();
+        if self.given() == self.ahead.len() {
+            self.put_back();
+        }
+        let most = self.most_ahead;
+        if !self.source.is_direct() {
+            self.most_ahead = BLOCK.min(16 * most);
+            if most > 1 {
+                self.read_ahead::<S>(most);
+            }
             if let Some(sample) = self.next_ahead() {
                 return Some(Ok(sample));
             }
         }
-        if checked.is_ok() && self.fault.is_some() && self.given() == self.ahead.len() {
-            self.samples_read += 1;
-            return self.fault.take().map(|fault| Err(fault.into()));
+        self.next_by_type()
+    }
+
+    // The next sample by the type's own `read`. A type that doesn't read these samples takes no byte, and one of the
+    // user's own takes what it takes.
+    #[inline]
+    fn next_by_type<S: Sample>(&mut self) -> Option<Result<S>> {
+        if !self.ahead.is_empty() {
+            self.put_back();
         }
-        self.put_back();
         if self.left() == 0 {
             return None;
         }
-        if let (Ok(_), Some(coding)) = (checked, S::CODING) {
-            return self.read_single(coding); // a container of which the buffer holds a part
-        }
-        // A type that doesn't read these samples takes no byte, and one of the user's own takes what it takes.
-        let mut reader = self.reader.by_ref().take(u64::MAX);
-        let sample = match checked {
-            Ok(_) => S::read(&mut reader, self.spec.sample_format, self.bytes_per_sample, self.spec.bits_per_sample),
-            Err(error) => Err(error.into()),
-        };
+        let mut counting = Counting { source: &mut self.source, count: 0 };
+        let sample = S::read(&mut counting, self.spec.sample_format, self.bytes_per_sample, self.spec.bits_per_sample);
         self.samples_read += 1;
-        self.not_taken += i64::from(self.bytes_per_sample) - (u64::MAX - reader.limit()) as i64;
+        self.not_taken += i64::from(self.bytes_per_sample) - counting.count;
         Some(sample)
     }
 
-    // The reader of `open` takes the samples that were given, and keeps those that are ahead. What a closure
-    // that panicked left of other readers is lost, and counts as read.
+    // The source takes the samples that were given, and keeps those that are ahead.
     fn put_back(&mut self) {
-        let given = self.given();
-        match self.buffer {
-            Some((_, take)) => take(&mut self.reader, given * usize::from(self.bytes_per_sample)),
-            None => {
-                self.samples_read += (self.ahead.len() - given) as u64 + u64::from(self.fault.is_some());
-                self.single_until[self.spec.sample_format as usize] = self.container.map_or(0, |_| self.num_samples);
-            }
-        }
+        self.source.consume(self.given() * usize::from(self.bytes_per_sample));
         self.ahead.clear();
-        (self.first_ahead, self.fault) = (self.samples_read, None);
+        self.first_ahead = self.samples_read;
+        self.find_way();
+    }
+
+    // Samples are read one by one if the source has no bytes.
+    fn find_way(&mut self) {
+        let until = if self.source.is_direct() { self.num_samples } else { 0 };
+        self.single_until[self.spec.sample_format as usize] = until;
     }
 
     // How this type is decoded in blocks, if it is, none is ahead and one is left.
     fn begin_block<S: Sample>(&mut self) -> Option<Coding<S>> {
-        if self.container.is_none() || self.left() == 0 || self.given() < self.ahead.len() || self.fault.is_some() {
+        if self.container.is_none() || self.left() == 0 || self.given() < self.ahead.len() {
             return None;
         }
         let coding = self.coding()?;
@@ -338,19 +285,18 @@ impl<R: Read> WavReader<R> {
     fn read_block<S: Sample>(&mut self, samples: &mut [S]) -> usize {
         self.begin_block::<S>().map_or(0, |coding| {
             let count = self.decode_next(coding.decode, &self.containers(), samples);
-            if let Some((_, take)) = self.buffer {
-                take(&mut self.reader, count * usize::from(self.bytes_per_sample));
-            }
+            self.source.consume(count * usize::from(self.bytes_per_sample));
             self.samples_read += count as u64;
+            self.find_way();
             count
         })
     }
 
-    // Decodes the next samples before they are asked for.
-    fn read_ahead<S: Sample>(&mut self) {
+    // Decodes up to so many samples before they are asked for.
+    fn read_ahead<S: Sample>(&mut self, most: usize) {
         if self.begin_block::<S>().is_some() {
             let mut ahead = mem::take(&mut self.ahead);
-            ahead.resize(BLOCK.min(self.left()), 0);
+            ahead.resize(most.min(self.left()), 0);
             let count = self.decode_next(
                 proved::decode,
                 &proved::Spec { format: SampleFormat::Int, ..self.containers() },
@@ -358,57 +304,82 @@ impl<R: Read> WavReader<R> {
             );
             ahead.truncate(count);
             self.ahead = ahead;
+            self.find_way();
         }
     }
 
-    // Decodes samples that the buffer of `open` holds, or that one read gives. Returns how many, and keeps the
-    // fault after them.
+    // Decodes samples that the source has or reads at once. Returns how many.
     fn decode_next<T>(&mut self, decode: Decode<T>, spec: &proved::Spec, out: &mut [T]) -> usize {
         let (most, width) = (out.len().min(BLOCK).min(self.left()), usize::from(self.bytes_per_sample));
-        let mut scratch;
-        let (bytes, fault) = match self.buffer {
-            Some((look, _)) => {
-                look(&mut self.reader).map_or_else(|fault| (&[][..], Some(fault)), |bytes| (bytes, None))
-            }
-            None => {
-                scratch = vec![0; most * width];
-                let first = self.reader.read(&mut scratch);
-                let (count, fault) = finish_container(&mut self.reader, &mut scratch, width, first);
-                (&scratch[..count], fault)
-            }
-        };
+        let bytes = self.source.look(most * width, width);
         let count = most.min(bytes.len() / width);
         assert_eq!(decode(spec, bytes, &mut out[..count]), Ok(count));
-        self.not_taken += if fault.is_some() { (width - bytes.len() % width) as i64 } else { 0 };
-        (self.fault, self.single_until) = (fault, [0; 2]);
         count
     }
 
     fn fold_samples<S: Sample, B, F: FnMut(B, Result<S>) -> B>(&mut self, mut value: B, mut f: F) -> B {
         loop {
-            self.read_ahead::<S>();
-            if let Some(coding) = self.coding::<S>() {
-                let given = self.given();
-                for sample in &self.ahead[given..] {
-                    self.samples_read += 1; // before the closure, which may panic
-                    value = f(value, Ok((coding.from)(*sample)));
+            self.read_ahead::<S>(BLOCK);
+            let given = self.given();
+            match self.coding::<S>() {
+                Some(coding) if given < self.ahead.len() => {
+                    for sample in &self.ahead[given..] {
+                        self.samples_read += 1; // before the closure, which may panic
+                        value = f(value, Ok((coding.from)(*sample)));
+                    }
                 }
-            }
-            match self.next_slowly() {
-                Some(item) => value = f(value, item),
-                None => return value,
+                _ => match self.next_by_type() {
+                    Some(item) => value = f(value, item),
+                    None => return value,
+                },
             }
         }
+    }
+}
+
+// Reads samples one by one, from a source that has no bytes.
+struct Direct<'r, R>(&'r mut WavReader<R>);
+
+impl<R: Read> ReadContainer for Direct<'_, R> {
+    #[inline(always)]
+    fn read_container<const WIDTH: usize>(&mut self) -> io::Result<[u8; WIDTH]> {
+        let mut container = [0; WIDTH];
+        self.0.samples_read += 1;
+        match self.0.source.reader.read(&mut container) {
+            Ok(count) if count >= WIDTH => Ok(container),
+            first => {
+                let mut count = 0;
+                let result = read_rest(&mut self.0.source.reader, &mut container, first, &mut count);
+                self.0.not_taken += (WIDTH - count) as i64;
+                result.map(|()| container)
+            }
+        }
+    }
+}
+
+// A source, and how many bytes it has given.
+struct Counting<'s, R> {
+    source: &'s mut Source<R>,
+    count: i64,
+}
+
+impl<R: Read> Read for Counting<'_, R> {
+    #[inline]
+    fn read(&mut self, bytes: &mut [u8]) -> io::Result<usize> {
+        let count = self.source.read(bytes)?;
+        self.count += count.min(bytes.len()) as i64;
+        Ok(count)
     }
 }
 
 impl WavReader<io::BufReader<fs::File>> {
     /// Opens a file, and reads its header.
     pub fn open<P: AsRef<path::Path>>(filename: P) -> Result<WavReader<io::BufReader<fs::File>>> {
-        let mut reader = WavReader::new(io::BufReader::with_capacity(8 * BLOCK, fs::File::open(filename)?))?;
-        reader.buffer = Some((BufRead::fill_buf, BufRead::consume));
-        reader.single_until = [0; 2];
-        Ok(reader)
+        let mut reader = io::BufReader::new(fs::File::open(filename)?);
+        let info = read_header(&mut reader)?;
+        let buffer =
+            Buffer { look: BufRead::fill_buf, consume: BufRead::consume, seek_by: io::BufReader::seek_relative };
+        Ok(WavReader::after_header(info, Source::new(reader, Some(buffer))))
     }
 }
 

@@ -1,5 +1,6 @@
+use crate::medium::open_locked;
 pub use crate::proved::State as RepairState;
-use crate::proved::{self, Mode, Repairer};
+use crate::proved::{Mode, Repairer};
 use crate::{Result, WavSpecEx};
 use std::io::{Seek, SeekFrom};
 use std::{fs, path};
@@ -22,7 +23,8 @@ pub struct Repair {
 /// data, also where its header counts too few samples: of that one [`repair_file_to_end`] is the repair.
 ///
 /// Only a few parts of the file are read. Where another program repairs it, or records to it durably, the error is
-/// `WouldBlock`. It is synced as it was found; then the data length, the pad byte and the RIFF
+/// `WouldBlock`. Where another file was renamed to the path before this one was locked, that one is repaired (on
+/// Unix). It is synced as it was found; then the data length, the pad byte and the RIFF
 /// size are written in this order, each with a sync. So after a kill or an error, also an `IoError` between these
 /// steps, the header counts only samples that are there, and a second call finishes the repair: the pad byte follows
 /// data that are already counted, and a wrong RIFF size marks the file as unrepaired. Where that size was right before,
@@ -39,8 +41,7 @@ pub fn repair_file_to_end<P: AsRef<path::Path>>(filename: P) -> Result<Repair> {
 }
 
 fn repair_by(mode: Mode, filename: &path::Path) -> Result<Repair> {
-    let mut file = fs::OpenOptions::new().read(true).write(true).open(filename)?;
-    proved::lock(&file)?;
+    let mut file = open_locked(fs::OpenOptions::new().read(true).write(true), filename)?;
     let length = file.seek(SeekFrom::End(0))?;
     let found = Repairer::new(length, mode).run(&mut file)??;
     Ok(Repair { spec_ex: found.spec.into(), frames: found.frames, left_over: found.left_over, state: found.state })

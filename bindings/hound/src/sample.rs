@@ -1,9 +1,8 @@
-use crate::error::early_end;
-use crate::proved;
-use crate::reader::read_on;
+use crate::proved::{self, Container};
+use crate::source::read_rest;
 use crate::spec::{containers, unpadded};
-use crate::{Result, SampleFormat};
-use std::io;
+use crate::{Error, Result, SampleFormat};
+use std::{io, mem};
 
 /// A type of samples: `i8`, `i16`, `i32`, `f32`, or one of your own.
 pub trait Sample: Sized {
@@ -19,9 +18,10 @@ pub trait Sample: Sized {
     /// The lowest 16 bits of an integer.
     fn as_i16(self) -> i16;
 
-    // How blocks of samples are decoded and encoded. A type of your own reads and writes one by one.
+    // How blocks of samples are decoded and encoded. A type of your own reads and writes one by one. No trait of yours
+    // has this name, which would be ambiguous then.
     #[doc(hidden)]
-    const CODING: Option<Coding<Self>> = None;
+    const __HOUND_CODING: Option<Coding<Self>> = None;
 }
 
 /// How a type is decoded and encoded. In blocks samples are integers of 32 bits: a float is the integer that
@@ -36,11 +36,60 @@ pub struct Coding<S> {
 pub(crate) type Decode<S> = fn(&proved::Spec, &[u8], &mut [S]) -> proved::Result<usize>;
 pub(crate) type Encode<S> = fn(&proved::Spec, &[S], &mut [u8]) -> proved::Result<usize>;
 
-/// The error of reading these containers as this type.
-pub(crate) fn check<S: Sample>(spec: &proved::Spec) -> proved::Result<usize> {
-    S::CODING.map_or(Ok(0), |coding| (coding.decode)(spec, &[], &mut []))
+/// Reads containers one by one.
+pub(crate) trait ReadContainer {
+    fn read_container<const WIDTH: usize>(&mut self) -> io::Result<[u8; WIDTH]>;
 }
 
+/// Reads a container, if a type of this format and size takes it.
+#[inline(always)]
+pub(crate) fn read_value<R: ReadContainer>(
+    reader: &mut R,
+    format: SampleFormat,
+    container: Option<Container>,
+    size: usize,
+) -> Option<io::Result<i32>> {
+    use SampleFormat::{Float, Int};
+    Some(match (format, container, size) {
+        (Float, Some(Container::Float), _) => reader.read_container().map(i32::from_le_bytes),
+        (Int, Some(Container::Int16), 2..) => {
+            reader.read_container().map(|bytes| proved::value_16(u16::from_le_bytes(bytes).into()))
+        }
+        (Int, Some(Container::Int24), 4..) => reader.read_container().map(|[low, middle, high]| {
+            proved::value_24(u32::from(u16::from_le_bytes([low, middle])) | u32::from(high) << 16)
+        }),
+        (Int, Some(Container::Int32), 4..) => {
+            reader.read_container().map(|bytes| proved::value_32(u32::from_le_bytes(bytes)))
+        }
+        (Int, Some(Container::Int8), _) => {
+            reader.read_container().map(|bytes| proved::value_8(u8::from_le_bytes(bytes).into()))
+        }
+        (Int, Some(Container::Int24In4), 4..) => {
+            reader.read_container().map(|bytes| proved::value_24(u32::from_le_bytes(bytes)))
+        }
+        _ => return None,
+    })
+}
+
+impl<R: io::Read> ReadContainer for R {
+    #[inline(always)]
+    fn read_container<const WIDTH: usize>(&mut self) -> io::Result<[u8; WIDTH]> {
+        let mut container = [0; WIDTH];
+        match self.read(&mut container) {
+            Ok(count) if count >= WIDTH => Ok(container),
+            first => read_rest(self, &mut container, first, &mut 0).map(|()| container),
+        }
+    }
+}
+
+// Why containers aren't read as this type. It takes no byte.
+#[cold]
+fn rejected<S: proved::Coded>(spec: &proved::Spec) -> Result<S> {
+    proved::decode::<S>(spec, &[], &mut [])?;
+    Err(Error::Unsupported)
+}
+
+// The library has no call that makes one container, as `hound_value_16` reads one; this could be as fast as hound then.
 fn write_container<S: proved::Coded, W: io::Write>(sample: S, writer: &mut W, spec: &proved::Spec) -> Result<()> {
     let mut container = [0; 4];
     let width = proved::encode(spec, &[sample], &mut container)?;
@@ -58,16 +107,13 @@ macro_rules! sample {
                 write_container(self, writer, &containers(SampleFormat::$format, bits, byte_width))
             }
 
+            #[inline]
             fn read<R: io::Read>(reader: &mut R, format: SampleFormat, bytes: u16, bits: u16) -> Result<$type> {
-                let (spec, mut container, mut count, mut sample) =
-                    (containers(format, bits, bytes), [0; 4], 0, [Default::default()]);
-                check::<$type>(&spec)?; // An error of the type takes no byte.
-                read_on(reader, &mut container[..usize::from(bytes)], &mut count)?;
-                if count < usize::from(bytes) {
-                    return Err(early_end().into());
+                let spec = containers(format, bits, bytes);
+                match read_value(reader, SampleFormat::$format, Container::of(&spec), mem::size_of::<$type>()) {
+                    Some(value) => Ok(value.map($from)?),
+                    None => rejected::<$type>(&spec),
                 }
-                proved::decode(&spec, &container[..count], &mut sample)?;
-                Ok(sample[0])
             }
 
             #[inline(always)]
@@ -75,7 +121,7 @@ macro_rules! sample {
                 $as_i16(self)
             }
 
-            const CODING: Option<Coding<$type>> = Some(Coding {
+            const __HOUND_CODING: Option<Coding<$type>> = Some(Coding {
                 format: SampleFormat::$format,
                 from: $from,
                 to: $to,

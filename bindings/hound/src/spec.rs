@@ -1,6 +1,9 @@
+use crate::proved;
 pub use crate::proved::Format as SampleFormat;
-use crate::proved::{self, Kind, Next, Recorder};
 use std::ops::Range;
+
+/// Where the RIFF size is in a file; the data length is in the four bytes before the data (see `proved::sizes`).
+pub(crate) const RIFF_SIZE: Range<usize> = 4..8;
 
 /// What a file says of its samples.
 #[derive(Clone, Copy, Debug, PartialEq, Eq)]
@@ -32,10 +35,10 @@ impl WavSpec {
     ///
     /// If the spec can't be written.
     pub fn into_header_for_infinite_file(self) -> Vec<u8> {
-        let spec = self.into();
-        let mut header = proved::header(&spec, 0).expect("a spec that can be written");
-        for (place, _) in sizes_of(&spec).expect("a header that has sizes") {
-            header[place].fill(0xff);
+        let mut header = proved::header(&self.into(), 0).expect("a spec that can be written");
+        let data_length = header.len() - 4..header.len();
+        for size in [RIFF_SIZE, data_length] {
+            header[size].fill(0xff);
         }
         header
     }
@@ -69,23 +72,4 @@ pub(crate) fn unpadded(format: SampleFormat, bits: u16) -> proved::Spec {
 /// The same of containers of so many bytes. No bytes are those of no container, and not the default.
 pub(crate) fn containers(format: SampleFormat, bits: u16, width: u16) -> proved::Spec {
     proved::Spec { bytes_per_sample: width, ..unpadded(format, if width == 0 { 0 } else { bits }) }
-}
-
-/// The sizes in the header of a new file, which are what a checkpoint writes: their places, and what they are.
-pub(crate) fn sizes_of(spec: &proved::Spec) -> proved::Result<Vec<(Range<usize>, u64)>> {
-    let (mut recorder, mut sizes) = (Recorder::begin(spec)?, Vec::new());
-    recorder.checkpoint();
-    while let Next::Effect(effect) = recorder.next()? {
-        if effect.kind() == Kind::Write {
-            let place = effect.place() as usize;
-            sizes.push((place..place + effect.length(), number(effect.bytes())));
-        }
-        effect.done();
-    }
-    Ok(sizes)
-}
-
-/// The number whose lowest byte is the first.
-pub(crate) fn number(bytes: &[u8]) -> u64 {
-    bytes.iter().rev().fold(0, |high, byte| high << 8 | u64::from(*byte))
 }

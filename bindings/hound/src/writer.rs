@@ -1,13 +1,17 @@
-use crate::medium::Medium;
+use crate::medium::{open_locked, Medium};
 use crate::proved::{self, Allowed, Info, Mode, Recorder, Repair, Repairer, State, Walk};
+use crate::reader::read_header;
 use crate::spec::containers;
 use crate::{Error, Result, Sample, SampleFormat, WavSpec, WavSpecEx, BLOCK};
 use std::io::{self, Read, Seek, SeekFrom, Write};
 use std::{fs, iter, panic, path};
 
+// How many samples of a batch are encoded at once, at least.
+const SHORTEST_CODED: usize = 32;
+
 /// Writes samples to a file, after its header, and the sizes into the header.
 ///
-/// The channels of a frame follow one another, and a file holds whole frames. Samples are buffered:
+/// The channels of a frame follow one another, and a file holds whole frames. Samples are buffered, up to 4096:
 /// `flush` writes them and the sizes, `finalize` does so and ends the file. A drop does it too where there was a
 /// sample, but its errors aren't seen, and neither are its panics.
 pub struct WavWriter<W: Write + Seek> {
@@ -23,21 +27,23 @@ pub(crate) struct Core<W> {
     recorder: Recorder,
     width: usize, // the bytes of a sample, and of a frame
     frame: usize,
-    // The integers: the first `count` of as many as have room in the file, all of one format.
+    // The integers: the first `count` of these, all of one format.
     buffer: Vec<i32>,
     count: usize,
     format: SampleFormat,
     unused: u32, // how many bits of 32 an integer of the file has no use for
-    // The containers: the first `waiting` bytes, which are less than a frame, unless a write failed.
+    // The containers before them: the first `waiting` bytes, which are those of a block and the rest of its last frame
+    // at most, unless a write failed.
     bytes: Vec<u8>,
     waiting: usize,
+    room: usize,    // for how many samples after these the file has room: at least for all of the buffer
     is_begun: bool, // whether anything of the file was to be written
 }
 
 impl<W: Write + Seek> Core<W> {
     #[inline(always)]
     fn buffer<S: Sample>(&mut self, sample: i32, format: SampleFormat) -> Result<()> {
-        let fits = format == SampleFormat::Float || sample << self.unused >> self.unused == sample;
+        let fits = self.fits(sample, format);
         match self.buffer.get_mut(self.count) {
             Some(slot) if fits && self.format == format => {
                 *slot = sample;
@@ -48,25 +54,39 @@ impl<W: Write + Seek> Core<W> {
         }
     }
 
+    // Whether the file has the bits of this integer; a float has them all.
+    #[inline(always)]
+    fn fits(&self, sample: i32, format: SampleFormat) -> bool {
+        format == SampleFormat::Float || sample << self.unused >> self.unused == sample
+    }
+
     // A sample for which there is no room, or whose type needs a look.
     #[cold]
     #[inline(never)]
     fn buffer_first<S: Sample>(&mut self, sample: i32) -> Result<()> {
-        S::CODING.map_or(Ok(()), |coding| {
-            (coding.encode)(&self.containers(coding.format), &[(coding.from)(sample)], &mut [0; 4])?;
-            self.spill()?;
-            // The buffer grows, since most of it is of no use for a short file. At the end of the longest file samples
-            // are buffered one by one; where none has room the buffer is empty.
-            let mut room = (2 * self.buffer.capacity()).clamp(BLOCK / 32, BLOCK);
-            if self.find_room(room).is_err() {
-                self.buffer.clear();
-                self.find_room(1)?;
-                room = 1;
+        S::__HOUND_CODING.map_or(Ok(()), |coding| {
+            if coding.format == SampleFormat::Float || !self.fits(sample, coding.format) {
+                (coding.encode)(&self.containers(coding.format), &[(coding.from)(sample)], &mut [0; 4])?;
             }
-            self.buffer.resize(room, 0);
+            self.make_room(1)?;
             self.format = coding.format;
             self.buffer::<S>(sample, coding.format)
         })
+    }
+
+    // Empties the buffer of integers, so that it has room for so many at least. It grows, since most of it is of no use
+    // for a short file. At the end of the longest file samples are buffered one by one, and where none has room it is
+    // empty.
+    fn make_room(&mut self, least: usize) -> Result<()> {
+        self.encode_buffered()?;
+        let mut most = (2 * self.buffer.capacity()).clamp(BLOCK / 32, BLOCK);
+        match BLOCK.saturating_sub(self.waiting / self.width) {
+            left if left < least => self.write_waiting(self.waiting)?,
+            left => most = most.min(left),
+        }
+        self.find_room(least)?;
+        self.buffer.resize(most.max(least).min(self.room), 0);
+        Ok(())
     }
 
     fn containers(&self, format: SampleFormat) -> proved::Spec {
@@ -77,47 +97,82 @@ impl<W: Write + Seek> Core<W> {
         (self.recorder.samples() + (self.waiting / self.width + self.count) as u64) as u32
     }
 
-    // Whether the file has room for so many samples after those that wait, and for the rest of their last frame.
+    // Finds room in the file for so many samples after those that wait, and for others where it has some.
     fn find_room(&mut self, samples: usize) -> Result<()> {
-        let (all, channels) = (self.waiting / self.width + samples, usize::from(self.spec_ex.spec.channels));
-        Ok(self.recorder.write(((all + channels - 1) / channels * channels) as u64)?)
+        if self.room < samples {
+            self.lose_room();
+            self.room = self.room_for(samples.max(16 * BLOCK)).or_else(|_| self.room_for(samples))?;
+        }
+        Ok(())
     }
 
-    // Writes the whole frames of the buffered samples; the rest waits.
-    fn spill(&mut self) -> Result<()> {
+    // So many samples, if the file has room for them, and for the rest of their last frame.
+    fn room_for(&mut self, samples: usize) -> Result<usize> {
+        let (all, channels) = (self.waiting / self.width + samples, usize::from(self.spec_ex.spec.channels));
+        self.recorder.write(((all + channels - 1) / channels * channels) as u64)?;
+        Ok(samples)
+    }
+
+    fn take_room(&mut self, samples: usize) {
+        self.room -= samples;
+        self.buffer.truncate(self.room);
+    }
+
+    // The next sample has to find room anew, or to meet the fault again.
+    fn lose_room(&mut self) {
+        self.room = 0;
+        self.buffer.clear();
+    }
+
+    // Makes containers of the integers, which wait then.
+    fn encode_buffered(&mut self) -> Result<()> {
         if self.count > 0 {
             let (spec, samples) = (self.containers(SampleFormat::Int), &self.buffer[..self.count]);
             self.waiting = encode_after(self.waiting, &mut self.bytes, &spec, self.count, |spec, bytes| {
                 proved::encode(spec, samples, bytes)
             })?;
+            self.take_room(self.count);
             self.count = 0;
         }
-        let result = self.write_waiting(self.waiting);
-        if result.is_err() {
-            self.buffer.clear(); // The next sample has to come here first.
+        Ok(())
+    }
+
+    // Accepts the containers that end here. They wait unless they fill a block: then all of them are written, or none.
+    fn accept(&mut self, end: usize) -> Result<()> {
+        let count = (end - self.waiting) / self.width;
+        if end > BLOCK * self.width {
+            if end % self.frame != 0 {
+                self.room_for(count)?;
+            }
+            self.lose_room();
+            return self.write_waiting(end);
         }
-        result
+        self.find_room(count)?;
+        self.take_room(count);
+        self.buffer.truncate(BLOCK - end / self.width);
+        self.waiting = end;
+        Ok(())
     }
 
     // Writes the whole frames of these containers, and the rest waits. After an error those wait that did before.
     fn write_waiting(&mut self, length: usize) -> Result<()> {
         let whole = length - length % self.frame;
         if whole > 0 {
-            self.recorder.write((whole / self.width) as u64)?;
-            self.is_begun = true;
-            self.recorder.run(&mut self.medium, &self.bytes[..whole])??;
+            let result = self.write_frames(whole);
+            if result.is_err() {
+                self.lose_room();
+                return result;
+            }
             self.bytes.copy_within(whole..length, 0);
         }
         self.waiting = length - whole;
         Ok(())
     }
 
-    // Accepts the containers of a block, which end here.
-    fn write_block(&mut self, end: usize) -> Result<()> {
-        if end % self.frame != 0 {
-            self.find_room((end - self.waiting) / self.width)?;
-        }
-        self.write_waiting(end)
+    fn write_frames(&mut self, length: usize) -> Result<()> {
+        self.recorder.write((length / self.width) as u64)?;
+        self.is_begun = true;
+        Ok(self.recorder.run(&mut self.medium, &self.bytes[..length])??)
     }
 
     // Writes the sizes that count all samples that are written.
@@ -129,7 +184,7 @@ impl<W: Write + Seek> Core<W> {
 
     // Writes samples after the buffered ones.
     pub(crate) fn write_samples<S: Sample + Copy>(&mut self, samples: &[S]) -> Result<()> {
-        match S::CODING {
+        match S::__HOUND_CODING {
             Some(coding) => {
                 self.write_coded(coding.format, samples.len(), |spec, bytes| (coding.encode)(spec, samples, bytes))
             }
@@ -148,41 +203,62 @@ impl<W: Write + Seek> Core<W> {
         Ok(clipped)
     }
 
-    // Writes what is encoded after the buffered samples; then the room for others is counted anew.
+    // Accepts a batch. A few samples are buffered as single ones are, since that is faster than to encode them.
+    #[inline]
+    fn write_batch(&mut self, batch: &[i16]) -> Result<()> {
+        let end = self.count + batch.len();
+        match self.buffer.get_mut(self.count..end) {
+            Some(slots) if batch.len() < SHORTEST_CODED => {
+                slots.iter_mut().zip(batch).for_each(|(slot, sample)| *slot = i32::from(*sample));
+                self.count = end;
+                Ok(())
+            }
+            _ => self.write_batch_first(batch),
+        }
+    }
+
+    // A batch for which there is no room, or that is encoded.
+    #[cold]
+    #[inline(never)]
+    fn write_batch_first(&mut self, batch: &[i16]) -> Result<()> {
+        if batch.len() >= SHORTEST_CODED {
+            return self.write_samples(batch);
+        }
+        self.make_room(batch.len())?;
+        self.write_batch(batch)
+    }
+
+    // Accepts what is encoded after the buffered samples.
     fn write_coded(
         &mut self,
         format: SampleFormat,
         count: usize,
         encode: impl FnOnce(&proved::Spec, &mut [u8]) -> proved::Result<usize>,
     ) -> Result<()> {
-        self.spill()?;
-        self.buffer.clear();
+        self.encode_buffered()?;
         let spec = self.containers(format);
         let end = encode_after(self.waiting, &mut self.bytes, &spec, count, encode)?;
-        self.write_block(end)
+        self.accept(end)
     }
 
     // A type of the user's own writes its containers itself.
     fn write_own<S: Sample>(&mut self, mut samples: impl Iterator<Item = S>) -> Result<()> {
-        let (spec, mut bytes) = (self.containers(SampleFormat::Int), Vec::new());
-        samples.try_for_each(|sample| sample.write_padded(&mut bytes, spec.bits_per_sample, spec.bytes_per_sample))?;
-        if bytes.len() % self.width != 0 {
+        self.encode_buffered()?;
+        let (WavSpecEx { spec, bytes_per_sample }, bytes) = (self.spec_ex, &mut self.bytes);
+        bytes.truncate(self.waiting);
+        samples.try_for_each(|sample| sample.write_padded(bytes, spec.bits_per_sample, bytes_per_sample))?;
+        let end = bytes.len();
+        if (end - self.waiting) % self.width != 0 {
             return Err(Error::Unsupported);
         }
-        self.spill()?;
-        self.buffer.clear();
-        self.bytes.truncate(self.waiting);
-        self.bytes.append(&mut bytes);
-        self.write_block(self.bytes.len())
+        self.accept(end)
     }
 
     // Writes all whole frames, and the sizes that count those that are written, also where a fault left out others.
     fn publish(&mut self, flushes: bool) -> Result<()> {
-        let room = self.buffer.len() - self.count; // what these leave of it
-        let spilled = self.spill();
-        self.buffer.truncate(room);
+        let written = self.encode_buffered().and_then(|()| self.write_waiting(self.waiting));
         let published = self.checkpoint();
-        spilled.and(published)?;
+        written.and(published)?;
         if flushes {
             self.medium.writer.flush()?;
         }
@@ -208,7 +284,8 @@ fn encode_after(
 
 impl<W: Write + Seek> WavWriter<W> {
     /// Writes the header of a new file, with containers of as many bytes as the bits need. The writer has
-    /// to be at its beginning.
+    /// to be at its beginning. A file that was opened to append to is an error (`InvalidInput`) of the first `flush` or
+    /// `finalize`, since all bytes come to its end there, also the sizes of the header.
     pub fn new(writer: W, spec: WavSpec) -> Result<WavWriter<W>> {
         WavWriter::begin(writer, &spec.into())
     }
@@ -222,16 +299,16 @@ impl<W: Write + Seek> WavWriter<W> {
         let (mut header, recorder) = ([0; proved::HEADER_BYTES], Recorder::begin(spec)?);
         let length = proved::header_to(spec, 0, &mut header)?;
         writer.write_all(&header[..length])?;
-        Ok(WavWriter::at(writer, Some(length as u64), spec, recorder))
+        Ok(WavWriter::at(Medium::new(writer, Some(length as u64)), spec, recorder))
     }
 
-    fn at(writer: W, place: Option<u64>, spec: &proved::Spec, recorder: Recorder) -> WavWriter<W> {
+    fn at(medium: Medium<W>, spec: &proved::Spec, recorder: Recorder) -> WavWriter<W> {
         let width = recorder.width();
         let spec_ex = WavSpecEx { bytes_per_sample: width as u16, ..WavSpecEx::from(*spec) };
         WavWriter {
             core: Core {
                 spec_ex,
-                medium: Medium::new(writer, place),
+                medium,
                 recorder,
                 width,
                 frame: width * usize::from(spec_ex.spec.channels),
@@ -241,6 +318,7 @@ impl<W: Write + Seek> WavWriter<W> {
                 unused: 32 - u32::from(spec_ex.spec.bits_per_sample.clamp(1, 32)),
                 bytes: Vec::new(),
                 waiting: 0,
+                room: 0,
                 is_begun: false,
             },
             batch: Vec::new(),
@@ -258,7 +336,7 @@ impl<W: Write + Seek> WavWriter<W> {
     /// next call that writes to the file makes a checkpoint first, of the whole frames that were written before.
     #[inline(always)]
     pub fn write_sample<S: Sample>(&mut self, sample: S) -> Result<()> {
-        match S::CODING {
+        match S::__HOUND_CODING {
             Some(coding) => self.core.buffer::<S>((coding.to)(sample), coding.format),
             None => self.core.write_own(iter::once(sample)),
         }
@@ -340,7 +418,7 @@ impl<W: Read + Write + Seek> WavWriter<W> {
     pub fn new_append(mut writer: W) -> Result<WavWriter<W>> {
         let info = Walk::over(&mut writer)??;
         let recorder = after_counted(&info, writer.seek(SeekFrom::End(0)).ok())?;
-        Ok(WavWriter::at(writer, None, &info.spec, recorder))
+        Ok(WavWriter::at(Medium::new(writer, None), &info.spec, recorder))
     }
 }
 
@@ -355,9 +433,9 @@ impl WavWriter<io::BufWriter<fs::File>> {
     /// only if it reports `Whole` or `CutOff`.
     pub fn append<P: AsRef<path::Path>>(filename: P) -> Result<WavWriter<io::BufWriter<fs::File>>> {
         let mut file = fs::OpenOptions::new().read(true).write(true).open(filename)?;
-        let info = Walk::over(&mut io::BufReader::new(&file))??;
+        let info = read_header(&mut io::BufReader::new(&file))?;
         let recorder = after_counted(&info, Some(file.seek(SeekFrom::End(0))?))?;
-        Ok(WavWriter::of_file(file, None, &info.spec, recorder, false))
+        Ok(WavWriter::at(Medium::of_file(file, None, false), &info.spec, recorder))
     }
 
     /// Creates a file that survives a loss of power (own). When this returns, a WAV file without samples and its
@@ -368,10 +446,9 @@ impl WavWriter<io::BufWriter<fs::File>> {
     /// dropped, another one that is durable, or a repair of the file, is an error (`WouldBlock`), if the file system
     /// has locks.
     ///
-    /// Only single samples are buffered, up to 4096, and those of an unfinished frame: each
-    /// [`write_samples`](crate::blocks::WriteSamples::write_samples) is a write of the system. After a write that
-    /// failed, as on a full disk, the writer continues. After a sync that failed each later `flush` fails, since nobody
-    /// knows what the disk has.
+    /// After a write that failed, as on a full disk, the writer continues. After a sync that failed each later `flush`
+    /// fails, since nobody knows what the disk has. Where another file was renamed to the path before this one was
+    /// locked, that is the one that is recorded to (on Unix).
     pub fn create_durable<P: AsRef<path::Path>>(
         filename: P,
         spec: WavSpec,
@@ -397,7 +474,7 @@ impl WavWriter<io::BufWriter<fs::File>> {
         let length = file.seek(SeekFrom::End(0))?;
         let found = Repairer::new(length, Mode::FindDamage).run(&mut file)??;
         let recorder = Recorder::resume(&found, Allowed::default())?;
-        Ok(WavWriter::of_file(file, None, &found.spec, recorder, true))
+        Ok(WavWriter::at(Medium::of_file(file, None, true), &found.spec, recorder))
     }
 
     // Writes the header of a new file, which isn't opened if the spec can't be written.
@@ -407,34 +484,14 @@ impl WavWriter<io::BufWriter<fs::File>> {
         is_durable: bool,
     ) -> Result<WavWriter<io::BufWriter<fs::File>>> {
         let spec = spec.into();
-        let (header, recorder) = (proved::header(&spec, 0)?, Recorder::begin(&spec)?);
+        let (mut header, recorder) = ([0; proved::HEADER_BYTES], Recorder::begin(&spec)?);
+        let length = proved::header_to(&spec, 0, &mut header)?;
         let mut file = open()?;
-        file.write_all(&header)?;
+        file.write_all(&header[..length])?;
         if is_durable {
             file.sync_data()?;
         }
-        Ok(WavWriter::of_file(file, Some(header.len() as u64), &spec, recorder, is_durable))
-    }
-
-    // A durable writer has no bytes in its `BufWriter`: what the recorder takes for written is with the system, a write
-    // that fails isn't one of a sync, and a sync has only to sync.
-    fn of_file(
-        file: fs::File,
-        place: Option<u64>,
-        spec: &proved::Spec,
-        recorder: Recorder,
-        is_durable: bool,
-    ) -> WavWriter<io::BufWriter<fs::File>> {
-        let capacity = if is_durable { 0 } else { 16 * BLOCK };
-        let mut writer = WavWriter::at(io::BufWriter::with_capacity(capacity, file), place, spec, recorder);
-        writer.core.medium.cut = |file, place| {
-            file.flush()?;
-            proved::Medium::cut(file.get_mut(), place)
-        };
-        if is_durable {
-            writer.core.medium.sync = |file| file.get_ref().sync_data();
-        }
-        writer
+        Ok(WavWriter::at(Medium::of_file(file, Some(length as u64), is_durable), &spec, recorder))
     }
 }
 
@@ -457,8 +514,7 @@ fn after_counted(info: &Info, length: Option<u64>) -> Result<Recorder> {
 
 // Opens a file that no other program records to, and syncs the folder, which has its name, where folders can be opened.
 fn open_alone(options: &fs::OpenOptions, filename: &path::Path) -> io::Result<fs::File> {
-    let file = options.open(filename)?;
-    proved::lock(&file)?;
+    let file = open_locked(options, filename)?;
     if cfg!(unix) {
         fs::File::open(fs::canonicalize(filename)?.parent().unwrap_or(path::Path::new("/")))?.sync_all()?;
     }
@@ -493,13 +549,14 @@ impl<'parent, W: Write + Seek> SampleWriter16<'parent, W> {
         self.write_sample(sample)
     }
 
-    /// Writes the batch, all of it or nothing.
+    /// Writes the batch, all of it or nothing, after the other samples: it is buffered as they are.
     ///
     /// # Panics
     ///
     /// If the batch isn't full.
+    #[inline]
     pub fn flush(self) -> Result<()> {
         assert_eq!(self.index, self.batch.len(), "the batch isn't full");
-        self.core.write_samples(self.batch)
+        self.core.write_batch(self.batch)
     }
 }

@@ -1,37 +1,16 @@
 //! Each public item, as programs of hound use it.
+mod common;
+
+use common::{numbers, write_by, written, Inverse, Path, MONO, WAYS};
 use hound::blocks::{ReadSamples, WriteSamples};
 use hound::{Error, Result, Sample, SampleFormat, WavReader, WavSpec, WavSpecEx, WavWriter};
 use std::cell::{RefCell, RefMut};
 use std::io::{self, Cursor, Read, Seek, SeekFrom, Write};
 use std::panic::{catch_unwind, AssertUnwindSafe};
-use std::path::PathBuf;
 use std::rc::Rc;
-use std::{env, fs, mem, process};
+use std::{fs, mem};
 
-const MONO: WavSpec =
-    WavSpec { channels: 1, sample_rate: 44100, bits_per_sample: 16, sample_format: SampleFormat::Int };
 const FLOATS: WavSpec = WavSpec { bits_per_sample: 32, sample_format: SampleFormat::Float, ..MONO };
-
-/// A path of this test's own, whose file is removed afterwards.
-struct Path(PathBuf);
-
-impl Path {
-    fn new(name: &str) -> Path {
-        Path(env::temp_dir().join(format!("hound-api-{}-{name}.wav", process::id())))
-    }
-}
-
-impl AsRef<std::path::Path> for Path {
-    fn as_ref(&self) -> &std::path::Path {
-        &self.0
-    }
-}
-
-impl Drop for Path {
-    fn drop(&mut self) {
-        let _ = fs::remove_file(&self.0);
-    }
-}
 
 /// A medium in memory that others see, too. One of its calls fails, or panics, and it may be full.
 #[derive(Clone, Default)]
@@ -93,16 +72,6 @@ impl Seek for Disk {
     fn seek(&mut self, to: SeekFrom) -> io::Result<u64> {
         self.call()?.file.seek(to)
     }
-}
-
-fn written<S: Sample + Copy>(spec: WavSpec, samples: &[S]) -> Vec<u8> {
-    let mut file = Cursor::new(Vec::new());
-    let mut writer = WavWriter::new(&mut file, spec).unwrap();
-    for &sample in samples {
-        writer.write_sample(sample).unwrap();
-    }
-    writer.finalize().unwrap();
-    file.into_inner()
 }
 
 #[test]
@@ -318,28 +287,6 @@ fn a_file_is_appended_to_after_batches_and_flushes() {
     );
 }
 
-/// Writes so many samples, from a number on: one by one, as a block, a batch, or those of a user's own type.
-fn write_by<W: Write + Seek>(way: usize, writer: &mut WavWriter<W>, first: usize, count: usize) -> Result<()> {
-    let samples: Vec<i16> = numbers(first + count)[first..].to_vec();
-    match way {
-        0 => samples.iter().try_for_each(|&sample| writer.write_sample(sample)),
-        1 => writer.write_samples(&samples),
-        2 => writer.write_samples(&samples.iter().map(|sample| Inverse(!sample)).collect::<Vec<_>>()),
-        3 => samples.iter().try_for_each(|&sample| writer.write_sample(Inverse(!sample))),
-        _ => {
-            let mut batch = writer.get_i16_writer(count as u32);
-            samples.iter().for_each(|&sample| batch.write_sample(sample));
-            batch.flush()
-        }
-    }
-}
-const WAYS: usize = 5;
-
-/// Samples that count up.
-fn numbers(count: usize) -> Vec<i16> {
-    (0..count).map(|number| number as i16).collect()
-}
-
 #[test]
 fn a_frame_that_is_not_finished_waits_and_is_reported() {
     for (way, frame) in (0..WAYS).flat_map(|way| [2, 3, 5, 6, 5000, 16383].map(|frame| (way, frame))) {
@@ -424,6 +371,20 @@ fn the_blocks_that_a_full_medium_holds_are_counted() {
             assert!(counted == numbers(counted.len()) && counted.len() % frame == 0);
             assert!(counted.len() <= held && counted.len() + 4096 + frame > held);
         }
+    }
+}
+
+#[test]
+fn few_samples_make_no_call_of_the_medium() {
+    for way in 0..WAYS {
+        let disk = Disk::default();
+        let mut writer = WavWriter::new(disk.clone(), WavSpec { channels: 2, ..MONO }).unwrap();
+        (0..4096).step_by(4).for_each(|first| write_by(way, &mut writer, first, 4).unwrap());
+        assert_eq!((disk.contents().len(), writer.len()), (44, 4096), "way {way}");
+        (4096..20_000).step_by(7).for_each(|first| write_by(way, &mut writer, first, 7).unwrap());
+        assert!(disk.0.borrow().calls < 20, "way {way}");
+        writer.flush().unwrap();
+        assert!(disk.samples() == numbers(20_000));
     }
 }
 
@@ -546,25 +507,6 @@ fn a_medium_that_panics_always_ends_no_program() {
     drop(WavWriter::new(Locked, MONO).unwrap());
 }
 
-/// A type of a user's own: integers of 16 bits, upside down.
-#[derive(Clone, Copy, Debug, PartialEq)]
-struct Inverse(i16);
-
-impl Sample for Inverse {
-    fn write<W: Write>(self, writer: &mut W, bits: u16) -> Result<()> {
-        (!self.0).write(writer, bits)
-    }
-    fn write_padded<W: Write>(self, writer: &mut W, bits: u16, byte_width: u16) -> Result<()> {
-        (!self.0).write_padded(writer, bits, byte_width)
-    }
-    fn read<R: Read>(reader: &mut R, format: SampleFormat, bytes: u16, bits: u16) -> Result<Inverse> {
-        i16::read(reader, format, bytes, bits).map(|sample| Inverse(!sample))
-    }
-    fn as_i16(self) -> i16 {
-        !self.0
-    }
-}
-
 #[test]
 fn a_type_of_a_users_own_is_written_and_read() {
     let mut file = Cursor::new(Vec::new());
@@ -648,7 +590,7 @@ fn a_missing_or_rejected_sample_is_one_error() {
     let mut block = [9i16; 80];
     assert!(matches!(reader.read_samples(&mut block), (60, Err(Error::IoError(_)))));
     assert!(block[..60].iter().copied().eq(0..60) && block[60..] == [9; 20]);
-    assert_eq!(reader.samples::<i16>().filter(|sample| matches!(sample, Err(Error::IoError(_)))).count(), 39);
+    assert_eq!(reader.samples::<i16>().take(99).filter(|sample| matches!(sample, Err(Error::IoError(_)))).count(), 39);
     assert!(matches!(reader.read_samples(&mut block), (0, Ok(()))));
     reader.seek(3).unwrap();
     assert!(matches!(reader.read_samples(&mut [0i8; 20]), (0, Err(Error::TooWide))));
@@ -665,22 +607,107 @@ fn samples_that_no_type_reads_are_errors_by_each_call() {
     let mut reader = open();
     assert!(matches!(reader.samples::<i32>().next(), Some(Err(Error::Unsupported))));
     assert_eq!(reader.samples::<i32>().len(), 3);
-    open().samples::<i32>().for_each(|sample| assert!(matches!(sample, Err(Error::Unsupported))));
-    assert_eq!(open().into_samples::<i32>().filter(Result::is_err).count(), 4);
+    let mut count = 0;
+    open().samples::<i32>().for_each(|sample| {
+        count += 1;
+        assert!(matches!(sample, Err(Error::Unsupported)) && count <= 4);
+    });
+    assert_eq!((count, open().into_samples::<i32>().take(9).filter(Result::is_err).count()), (4, 4));
     assert!(matches!(open().read_samples(&mut [0i32; 20]), (0, Err(Error::Unsupported))));
 }
 
 #[test]
 fn reading_goes_on_after_a_closure_that_panicked() {
+    let path = Path::new("panicked");
     let file = written(MONO, &(0..9000).collect::<Vec<i16>>());
-    let mut reader = WavReader::new(Cursor::new(&file)).unwrap();
-    let fold = AssertUnwindSafe(|| reader.samples::<i16>().for_each(|sample| assert!(sample.unwrap() < 5000)));
+    fs::write(&path, &file).unwrap();
+    fn go_on<R: Read + Seek>(mut reader: WavReader<R>, last: i16) {
+        let fold = AssertUnwindSafe(|| reader.samples::<i16>().for_each(|sample| assert!(sample.unwrap() < last)));
+        assert!(catch_unwind(fold).is_err());
+        assert_eq!(reader.samples::<i16>().len(), 8999 - last as usize);
+        assert_eq!(reader.samples::<i16>().next().unwrap().unwrap(), last + 1);
+        // What rejects a sample takes none of its bytes, and a type of a user's own reads the next one.
+        assert!(matches!(reader.samples::<f32>().next(), Some(Err(Error::InvalidSampleFormat))));
+        assert_eq!(reader.samples::<Inverse>().next().unwrap().unwrap(), Inverse(!(last + 2)));
+        assert!(matches!(reader.samples::<i8>().next(), Some(Err(Error::TooWide))));
+        let mut block = [0i32; 4500];
+        assert!(matches!(reader.read_samples(&mut block[..3]), (3, Ok(()))));
+        let (count, result) = reader.read_samples(&mut block[3..]);
+        assert!(result.is_ok() && block[..3 + count].iter().copied().eq((i32::from(last) + 3..).take(3 + count)));
+        assert_eq!(reader.samples::<i16>().len(), 8992 - last as usize - count);
+        reader.seek(7).unwrap();
+        assert_eq!(reader.samples::<i32>().next().unwrap().unwrap(), 7);
+        reader.seek(8000).unwrap();
+        assert_eq!(reader.samples::<i16>().map(|sample| i32::from(sample.unwrap())).sum::<i32>(), 8499500);
+        reader.seek(7).unwrap();
+        let fold = AssertUnwindSafe(|| reader.samples::<i16>().for_each(|sample| assert!(sample.unwrap() < last + 7)));
+        assert!(catch_unwind(fold).is_err());
+        for frame in [20, 3, 8990] {
+            reader.seek(frame).unwrap();
+            assert!(reader.samples::<i32>().take(9).map(|sample| sample.unwrap()).eq((frame as i32..).take(9)));
+        }
+        assert_eq!(reader.into_inner().stream_position().unwrap(), 44 + 2 * 8999);
+    }
+    for last in [9, 4094, 4095, 4096, 5000] {
+        go_on(WavReader::new(Cursor::new(&file)).unwrap(), last);
+        go_on(WavReader::new(fs::File::open(&path).unwrap()).unwrap(), last);
+        go_on(WavReader::open(&path).unwrap(), last);
+    }
+    // A sample that is torn stays so: its error comes after the samples that were read with it.
+    let mut reader = WavReader::new(&file[..44 + 2 * 20 + 1]).unwrap();
+    let fold = AssertUnwindSafe(|| reader.samples::<i16>().for_each(|sample| assert!(sample.unwrap() < 9)));
     assert!(catch_unwind(fold).is_err());
-    assert_eq!(reader.samples::<i16>().len(), 3999);
-    assert_eq!(reader.samples::<i16>().next().unwrap().unwrap(), 5001);
-    reader.seek(7).unwrap();
-    assert_eq!(reader.samples::<i32>().next().unwrap().unwrap(), 7);
-    assert_eq!(reader.into_inner().position(), 44 + 2 * 8);
+    assert!(matches!(reader.samples::<f32>().next(), Some(Err(Error::InvalidSampleFormat))));
+    let rest: Vec<_> = reader.samples::<i16>().take(12).map(|sample| sample.ok()).collect();
+    assert_eq!(rest, (10..20).map(Some).chain([None, None]).collect::<Vec<_>>());
+}
+
+#[test]
+fn a_reader_that_claims_more_bytes_than_it_had_room_for_is_believed_as_by_hound() {
+    struct Boastful(Cursor<Vec<u8>>);
+    impl Read for Boastful {
+        fn read(&mut self, bytes: &mut [u8]) -> io::Result<usize> {
+            self.0.read(bytes).map(|count| if count < bytes.len() { count } else { count + 7 })
+        }
+    }
+    impl Seek for Boastful {
+        fn seek(&mut self, to: SeekFrom) -> io::Result<u64> {
+            self.0.seek(to)
+        }
+    }
+    let file = written(MONO, &numbers(9000));
+    let open = || WavReader::new(Boastful(Cursor::new(file.clone()))).unwrap();
+    let mut block = [0i16; 9000];
+    assert!(matches!(open().read_samples(&mut block), (9000, Ok(()))));
+    assert!(block[..] == numbers(9000));
+    assert!(open().samples::<i16>().map(|sample| sample.unwrap()).eq(numbers(9000)));
+    assert_eq!(open().samples::<i16>().fold(0, |sum, sample| sum + i32::from(sample.unwrap())), 40495500);
+    assert!(open().samples::<Inverse>().map(|sample| !sample.unwrap().0).eq(numbers(9000)));
+    let mut reader = open();
+    assert_eq!(reader.samples::<Inverse>().nth(5).unwrap().unwrap(), Inverse(!5));
+    reader.seek(3).unwrap();
+    assert_eq!(reader.samples::<i16>().next().unwrap().unwrap(), 3);
+    let mut rest = Boastful(Cursor::new(file[44..].to_vec()));
+    assert!((0..9000).all(|number| i16::read(&mut rest, SampleFormat::Int, 2, 16).unwrap() == number));
+}
+
+#[test]
+fn an_open_file_is_read_at_any_frame() {
+    let path = Path::new("seek");
+    let count = 100_000u32;
+    fs::write(&path, written(WavSpec { bits_per_sample: 32, ..MONO }, &(0..count as i32).collect::<Vec<_>>())).unwrap();
+    let (mut reader, mut frame) = (WavReader::open(&path).unwrap(), 1);
+    for i in 0..4000 {
+        // Near, and far away.
+        frame = if i % 3 == 0 { (frame * 8191 + 1) % count } else { (frame + i % 40) % count };
+        reader.seek(frame).unwrap();
+        let wanted: Vec<_> = (frame as i32..count as i32).take([1, 2, 17, 70, 3000][i as usize % 5]).collect();
+        assert!(reader.samples::<i32>().take(wanted.len()).map(|sample| sample.unwrap()).eq(wanted.iter().copied()));
+    }
+    reader.seek(count - 1).unwrap();
+    assert_eq!(reader.samples::<i32>().map(|sample| sample.unwrap()).collect::<Vec<_>>(), [count as i32 - 1]);
+    reader.seek(count + 5).unwrap();
+    assert_eq!((reader.samples::<i32>().len(), reader.samples::<i32>().next().is_none()), (0, true));
 }
 
 #[test]
@@ -805,39 +832,6 @@ fn nothing_is_appended_to_a_file_that_lacks_samples_which_it_counts() {
 }
 
 #[test]
-#[cfg(unix)]
-fn a_file_is_cut_off_after_a_block_that_failed() {
-    if env::var_os("FILES_ARE_SHORT").is_none() {
-        // Again, as a program whose files have at most 32 or 64 KiB.
-        let limited = "trap '' XFSZ; ulimit -f 64; FILES_ARE_SHORT=1 exec \"$0\" --exact \"$1\"";
-        let mut shell = process::Command::new("sh");
-        shell.arg("-c").arg(limited).arg(env::current_exe().unwrap());
-        assert!(shell.arg("a_file_is_cut_off_after_a_block_that_failed").status().unwrap().success());
-        return;
-    }
-    let path = Path::new("short");
-    for (form, channels) in (0..4).flat_map(|form| [1, 2].map(|channels| (form, channels))) {
-        let spec = WavSpec { channels, ..MONO };
-        fs::write(&path, written(spec, &[1i16, 2])).unwrap();
-        let mut writer = match form {
-            0 => WavWriter::create(&path, spec).unwrap(),
-            1 => WavWriter::create_durable(&path, spec).unwrap(),
-            2 => WavWriter::append(&path).unwrap(),
-            _ => WavWriter::append_durable(&path).unwrap(),
-        };
-        writer.write_samples(&[3i16, 4]).unwrap();
-        writer.flush().unwrap();
-        let before = fs::read(&path).unwrap();
-        assert!(writer.write_samples(&[5i16; 100_000]).is_err());
-        assert_eq!(fs::read(&path).unwrap(), before);
-        assert!(writer.write_samples(&[6i16; 3]).is_ok() && writer.write_samples(&[7i16; 100_000]).is_err());
-        assert!(writer.write_samples(&[8i16]).is_ok() && writer.finalize().is_ok());
-        let samples: &[i16] = if form > 1 { &[1, 2, 3, 4, 6, 6, 6, 8] } else { &[3, 4, 6, 6, 6, 8] };
-        assert_eq!(fs::read(&path).unwrap(), written(spec, samples));
-    }
-}
-
-#[test]
 #[cfg(target_os = "linux")]
 fn a_file_is_emptied_only_once_its_folder_is_synced() {
     use std::os::unix::io::AsRawFd;
@@ -849,6 +843,32 @@ fn a_file_is_emptied_only_once_its_folder_is_synced() {
     let name = format!("/proc/self/fd/{}", file.as_raw_fd());
     assert!(matches!(WavWriter::create_durable(&name, MONO), Err(Error::IoError(_))));
     assert_eq!(fs::read(&name).unwrap(), [9; 40000]);
+}
+
+#[test]
+fn a_file_that_was_opened_to_append_to_is_rejected() {
+    let path = Path::new("at-its-end");
+    let mut options = fs::OpenOptions::new();
+    options.read(true).append(true).create(true);
+    let rejects = |result: Result<()>| match result {
+        Err(Error::IoError(error)) => error.kind() == io::ErrorKind::InvalidInput,
+        _ => false,
+    };
+    let mut writer = WavWriter::new(io::BufWriter::new(options.open(&path).unwrap()), MONO).unwrap();
+    writer.write_samples(&[1i16, 2, 3]).unwrap();
+    assert!(rejects(writer.flush()) && rejects(writer.flush()) && rejects(writer.finalize()));
+    // The samples are there, and the size that was to count them, once.
+    assert_eq!(fs::read(&path).unwrap().len(), 44 + 6 + 4);
+    fs::write(&path, written(MONO, &[1i16, 2])).unwrap();
+    let mut writer = WavWriter::new_append(options.open(&path).unwrap()).unwrap();
+    writer.write_sample(3i16).unwrap();
+    assert!(rejects(writer.finalize()));
+    options.append(false).write(true);
+    fs::write(&path, written(MONO, &[1i16, 2])).unwrap();
+    let mut writer = WavWriter::new_append(options.open(&path).unwrap()).unwrap();
+    writer.write_sample(3i16).unwrap();
+    writer.finalize().unwrap();
+    assert_eq!(fs::read(&path).unwrap(), written(MONO, &[1i16, 2, 3]));
 }
 
 #[cfg(any(unix, windows))] // Elsewhere there are no such locks.
@@ -878,6 +898,28 @@ fn two_of_this_crate_do_not_change_one_file() {
 fn a_file_without_an_end_is_not_repaired() {
     assert!(matches!(hound::repair_file("/dev/zero"), Err(Error::FormatError("no RIFF tag found"))));
     assert!(matches!(hound::repair_file_to_end("/dev/null"), Err(Error::IoError(_))));
+}
+
+/// A trait of a user's own has the names that its types have, but for those of hound.
+mod of_a_codec {
+    use hound::*;
+
+    trait Codec {
+        const CODING: u32;
+    }
+
+    impl Codec for i16 {
+        const CODING: u32 = 16;
+    }
+
+    fn bits<S: Sample + Codec>() -> u32 {
+        S::CODING
+    }
+
+    #[test]
+    fn a_constant_of_a_user_means_the_same() {
+        assert_eq!((bits::<i16>(), i16::CODING), (16, 16));
+    }
 }
 
 mod of_a_user {

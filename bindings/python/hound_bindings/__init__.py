@@ -1,11 +1,12 @@
 """WAV files, read, written, appended to and repaired by proved code.
 
 A file is a path, or an object that reads, writes and seeks as one does, such as an io.BytesIO, from the place on where
-it is; `info`, `read` and `read_into` take bytes, too. Samples are interleaved: `array.array`s, lists, or anything with
-a buffer, such as a numpy array; two dimensions are frames by channels. Integers are read and written as they are. Where
-floats are read from a file of integers, or written to one, their full scale is 1: they are the integers divided by
-2^(bits - 1). What is written is rounded to the nearest integer and clipped, which a RuntimeWarning counts; `dither`
-adds triangular noise of at most one step before that, and is the seed of its generator (True is 1).
+it is (but not one that was opened to append, since that writes at its end); `info`, `read` and `read_into` take bytes,
+too. Samples are interleaved: `array.array`s, lists, or anything with a buffer, such as a numpy array; two dimensions
+are frames by channels. Integers are read and written as they are. Where floats are read from a file of integers, or
+written to one, their full scale is 1: they are the integers divided by 2^(bits - 1). What is written is rounded to the
+nearest integer and clipped, which a RuntimeWarning counts; `dither` adds triangular noise of at most one step before
+that, and is the seed of its generator (True is 1).
 
 A file that is recorded to, appended to, repaired or replaced is locked (`flock`; on Windows LockFileEx, until it is
 replaced): what another program, or a Writer of this one, has locked is a BlockingIOError. Programs without such locks
@@ -23,11 +24,12 @@ import os
 import secrets
 import shutil
 import sys
+import tempfile
 from typing import (
     IO, Any, Callable, ContextManager, Iterator, Literal, NamedTuple, Optional, Protocol, Tuple, Type, Union,
 )  # fmt: skip
 
-from . import disk
+from . import disk, processor
 
 __all__ = [
     "Cause", "HoundError", "Info", "Reader", "Repair", "State", "Writer", "append", "append_to", "create",
@@ -264,7 +266,22 @@ class _Recorder(ctypes.Structure):
 # The end of what is made from hound.h.
 
 _NAME = "hound_c.dll" if os.name == "nt" else "libhound_c.so"
-_LIBRARY = ctypes.CDLL(os.environ.get("HOUND_C_LIBRARY") or os.path.join(os.path.dirname(__file__), _NAME))
+
+
+def _loaded(path: str) -> Any:
+    """The library at a path. A file beside it may name what it needs of the processor: without that its first call
+    would end the program."""
+    with contextlib.suppress(OSError), io.open(path + ".needs") as needs:
+        lacking = processor.lacking(needs.read().split())
+        if lacking:
+            raise ImportError(
+                f"{path} was built for another processor: this one lacks {', '.join(lacking)}. Install the package "
+                "from its source here, which needs a C compiler"
+            )
+    return ctypes.CDLL(path)
+
+
+_LIBRARY = _loaded(os.environ.get("HOUND_C_LIBRARY") or os.path.join(os.path.dirname(__file__), _NAME))
 _POINTER: Any = ctypes.c_void_p
 _SIZE: Any = ctypes.c_size_t
 _U64: Any = ctypes.c_uint64
@@ -273,7 +290,13 @@ _SPARE = ctypes.create_string_buffer(16)
 
 
 def _function(name: str, *arguments: Any, result: Any = _I64) -> Any:
-    function = getattr(_LIBRARY, "hound_" + name)
+    function = getattr(_LIBRARY, "hound_" + name, None)
+    if function is None:
+        what = f"isn't the library of hound_bindings {__version__}: it lacks hound_{name}"
+        raise ImportError(
+            f"{_LIBRARY._name} {what}. Install the package again, without HOUND_C_LIB or with the folder of a library "
+            "of that version"
+        )
     function.argtypes, function.restype = arguments, result
     return function
 
@@ -314,11 +337,11 @@ def _info_of(start: Any, length: int) -> _Info:
     return found
 
 
-def _walk_over(read: Callable[[int, int], bytes], to_end: bool) -> _Info:
-    """What a walk finds of the header of a file, of which `read` returns so many bytes from a place on."""
+def _walk_over(file: Any, to_end: bool = False) -> _Info:
+    """What a walk finds of the header of a file, whose `read_at` returns so many bytes from a place on."""
     walk, found, take = _Walk(), _Info(), _walk_to_end if to_end else _walk_next
     while (code := take(ctypes.byref(walk), ctypes.byref(found))) == 1:
-        disk.take(walk.effect, read(walk.effect.length, walk.effect.place))
+        disk.perform(walk.effect, file, False)
     _checked(code)
     return found
 
@@ -405,7 +428,7 @@ def read_into(file: File, buffer: Any, start: int = 0) -> int:
 
 
 def read(
-    file: File, start: int = 0, frames: int = -1, dtype: Optional[Dtype] = None, always_2d: bool = False
+    file: File, start: int = 0, frames: int = -1, dtype: Optional[Dtype] = None, *, always_2d: bool = False
 ) -> Any:
     """Reads frames from number `start` on, at most so many (all where it is -1), and returns their samples.
 
@@ -415,11 +438,11 @@ def read(
     all of them as float64. Of a file that holds fewer frames than its header counts these are read, and a read that
     starts after them is an error.
     """
-    return read_with_info(file, start, frames, dtype, always_2d)[0]
+    return read_with_info(file, start, frames, dtype, always_2d=always_2d)[0]
 
 
 def read_with_info(
-    file: File, start: int = 0, frames: int = -1, dtype: Optional[Dtype] = None, always_2d: bool = False
+    file: File, start: int = 0, frames: int = -1, dtype: Optional[Dtype] = None, *, always_2d: bool = False
 ) -> Tuple[Any, Info]:
     """What `read` returns, and what the header says: `write(.., like=info)` makes such a file of these samples."""
     start = _integer("start", start, 0, sys.maxsize)
@@ -447,7 +470,7 @@ def _spec_of(
     if like is not None:
         rate = like.sample_rate if rate is None else rate
         channels = like.channels if channels is None else channels
-        if bits is None:
+        if bits in (None, like.bits_per_sample):
             bits, width = like.bits_per_sample, width or like.bytes_per_sample
             is_float = like.is_float if is_float is None else is_float
     return _Spec(
@@ -483,8 +506,8 @@ def to_bytes(
     rate: Optional[int] = None,
     channels: Optional[int] = None,
     bits: Optional[int] = None,
-    bytes_per_sample: int = 0,
     *,
+    bytes_per_sample: int = 0,
     like: Optional[Info] = None,
     dither: int = False,
 ) -> bytearray:
@@ -516,35 +539,60 @@ def _locked_if_there(path: Path) -> ContextManager[Any]:
 
 
 @contextlib.contextmanager
-def _replaced(path: Path, durable: bool) -> Iterator[str]:
-    """The name of a new file, which gets this path when the context ends; at an error it is removed."""
+def _part_of(path: Path, folder: str) -> Iterator[str]:
+    """The name of a new file in a folder. At an error it is removed, and the error names the path instead of it."""
+    part = os.path.join(folder, f".hound-{secrets.token_hex(8)}")
+    try:
+        yield part
+    except BaseException as error:
+        with contextlib.suppress(OSError):
+            os.unlink(part)
+        if isinstance(error, (HoundError, OSError)) and error.filename == part:
+            error.filename = None
+        _name_error(error, path)
+        raise
+
+
+@contextlib.contextmanager
+def _written_into(path: Path, durable: bool) -> Iterator[str]:
+    """The name of a new file, whose bytes are written into a device or a pipe when the context ends."""
+    with _named(path), io.open(path, "wb") as device, tempfile.TemporaryDirectory() as folder:
+        with _part_of(path, folder) as part:
+            yield part
+            with io.open(part, "rb") as file:
+                shutil.copyfileobj(file, device)
+        device.flush()
+        if durable:
+            disk.sync(device.fileno())
+
+
+@contextlib.contextmanager
+def _renamed(path: Path, durable: bool) -> Iterator[str]:
+    """The name of a new file, which gets this path when the context ends."""
     name = os.path.realpath(os.fsdecode(path))
     with _locked_if_there(path):
         pass  # What may not be replaced is an error before anything is written.
-    part = os.path.join(os.path.dirname(name), f".hound-{secrets.token_hex(8)}")
     with disk.folder_of(name) if durable else contextlib.nullcontext() as folder:
-        try:
+        with _part_of(path, os.path.dirname(name)) as part:
             yield part
             with _locked_if_there(path) as older:
                 if os.path.exists(name):
                     shutil.copymode(name, part)
                 disk.replace(part, name, older)
-        except BaseException as error:
-            with contextlib.suppress(OSError):
-                os.unlink(part)
-            if isinstance(error, (HoundError, OSError)) and error.filename == part:
-                error.filename = None
-            _name_error(error, path)
-            raise
         if durable:
             disk.sync(folder)
 
 
+def _replaced(path: Path, durable: bool) -> ContextManager[str]:
+    """The name of a new file, which takes the place of one at this path when the context ends, unless that is a device
+    or a pipe: then it is written into that."""
+    is_device = os.path.exists(path) and not os.path.isfile(path)
+    return _written_into(path, durable) if is_device else _renamed(path, durable)
+
+
 def _write_to(file: Any, content: bytearray, durable: bool) -> None:
-    """Writes all of this to an object or a device."""
-    disk.check_object(file)
-    disk.put_next(file, content)
-    file.flush()
+    """Writes all of this to an object."""
+    disk.put_here(file, content)
     if durable:
         disk.sync(file.fileno())
 
@@ -555,9 +603,9 @@ def write(
     rate: Optional[int] = None,
     channels: Optional[int] = None,
     bits: Optional[int] = None,
+    *,
     bytes_per_sample: int = 0,
     durable: bool = False,
-    *,
     like: Optional[Info] = None,
     dither: int = False,
 ) -> int:
@@ -566,15 +614,13 @@ def write(
     It is written under another name in the same folder, and renamed when it is whole: until then, at an error too, a
     file that was there stays as it was, and the new file gets its mode. A file that is locked isn't replaced. With
     `durable` the file is synced before it is renamed, and its folder after that: if only the last sync fails, the new
-    file is there, and may be lost with the power. An object is written to where it is, and need not seek.
+    file is there, and may be lost with the power. An object is written to where it is, and need not seek. A device or a
+    pipe at a path isn't replaced: the file is written into it.
     """
     with _named(path):
-        content = to_bytes(samples, rate, channels, bits, bytes_per_sample, like=like, dither=dither)
+        content = to_bytes(samples, rate, channels, bits, bytes_per_sample=bytes_per_sample, like=like, dither=dither)
         if not isinstance(path, (str, os.PathLike)):
             _write_to(path, content, durable)
-        elif os.path.exists(path) and not os.path.isfile(path):
-            with io.open(path, "wb") as device:
-                _write_to(device, content, durable)
         else:
             with _replaced(path, durable) as part, io.open(part, "xb", buffering=0) as file:
                 disk.put(file.fileno(), content, 0)
@@ -584,25 +630,26 @@ def write(
 
 
 def append(
-    path: Union[Path, IO[bytes]], samples: Any, overwrite: bool = False, durable: bool = False, *, dither: int = False
+    path: Union[Path, IO[bytes]], samples: Any, *, overwrite: bool = False, durable: bool = False, dither: int = False
 ) -> int:
     """Appends whole frames to a file, and returns its length.
 
     It is an `append_to`, one `write` and a `close`. So the samples are written first, then the sizes: whenever the
     program is killed, the header counts only what is there, and `repair` finds the samples that were written (and maybe
     a zero after them, where frames have one byte). After an error the header counts what it did before, and the file is
-    cut off after that; chunks that were to be overwritten are lost then. If a signal handler raises, the same holds, or
-    all samples are appended. With `durable` the samples survive a loss of power once this has returned; without it,
-    once the system has written them. A recording that was cut off is an error, and so are chunks or a tag after the
-    data, unless they may be overwritten.
+    cut off after that, so it can be done again; where the system can't cut it off, the error says so. Chunks that were
+    to be overwritten are lost then. If a signal handler raises, or a size was written though the system says that it
+    failed, the same holds, or all samples are appended. With `durable` the samples survive a loss of power once this
+    has returned; without it, once the system has written them. After a sync that failed it is unknown what is stored,
+    and nothing more is written: the samples may be there, counted or not. A recording that was cut off is an error, and
+    so are chunks or a tag after the data, unless they may be overwritten.
     """
     with conversion.Given(samples) as given, streams._append_to(path, durable, overwrite, dither) as writer:
-        writer.write(given)
-        writer.close()  # Where a signal handler raises in it, the context closes it again.
+        writer._append(given)
     return writer._length
 
 
-def _repaired(file: disk.Medium, mode: int, durable: bool, denied: Optional[OSError] = None) -> _Repair:
+def _repaired(file: disk.Medium, mode: int, durable: bool, denied: Optional[Exception] = None) -> _Repair:
     """What a repairer of this mode finds in a file. `denied` is why the file may only be read: it is the error where a
     part of the file has to be written."""
     repairer, found, faults = _Repairer(), _Repair(), []
@@ -626,14 +673,14 @@ def find_damage(path: Union[Path, IO[bytes]]) -> Repair:
     with _named(path):
         if not isinstance(path, (str, os.PathLike)):
             return _repaired_object(path, _FIND_DAMAGE)
-        with io.open(path, "rb", buffering=0) as file:
+        with disk.opened(path) as file:
             return _report_of(_repaired(disk.Descriptor(file), _FIND_DAMAGE, False))
 
 
 def _repaired_object(file: IO[bytes], mode: int) -> Repair:
     """What `_repaired` finds of an object, which stays where it is."""
     stream = disk.Stream(file)
-    found = _report_of(_repaired(stream, mode, False))
+    found = _report_of(_repaired(stream, mode, False, stream.fault))
     stream.rewind()
     return found
 
@@ -666,9 +713,9 @@ def _check_new(path: Path) -> None:
 
 def repair(
     path: Union[Path, IO[bytes]],
+    *,
     durable: bool = False,
     to_end: bool = False,
-    *,
     copy: Optional[Path] = None,
     like: Optional[Info] = None,
     skip: Optional[int] = None,
@@ -686,6 +733,8 @@ def repair(
     from byte `skip` on. Without `skip` they begin after what looks like the header of the data near the beginning, or
     else at byte `like.data_start`. `guess` makes such an Info.
     """
+    if skip is not None and like is None:
+        raise ValueError("skip is for a header that is lost: give `like`, too, which says what the samples are")
     if like is not None or copy is not None:
         return _repaired_copy(path, durable, to_end, copy, like, skip)
     mode = _REPAIR_TO_END if to_end else _REPAIR
@@ -707,8 +756,8 @@ def _repaired_copy(
     _check_new(copy)
     with _named(path), _replaced(copy, durable) as part:
         if like is None:
-            shutil.copyfile(path, part)
-            return repair(part, durable, to_end)
+            lost.copy(path, part)
+            return repair(part, durable=durable, to_end=to_end)
         if skip is None:
             start = lost.start_of(path, like.data_start)
         else:

@@ -11,11 +11,11 @@ import signal
 import sys
 import time
 import warnings
-from typing import Any, Callable, Dict, Iterator, List, Optional
+from typing import Any, Callable, Dict, Iterator, List, Optional, Tuple
 
 import hound_bindings as hound
 
-from . import conversion, lost, streams
+from . import conversion, disk, lost, streams
 
 __all__ = ["main"]
 
@@ -26,20 +26,44 @@ _STATES = {
     hound.State.HAS_CHUNKS_AFTER_DATA: "chunks after data",
 }
 _BLOCK = 1 << 16
+# What would end a line, or be more than text for a terminal, is written as Python does in a string.
+_ESCAPES = {code: repr(chr(code))[1:-1] for code in (*range(32), *range(127, 160), 0x2028, 0x2029)}
+# How many bytes can be the first part of a file: whole frames of each usual width after a header of 44 or 68 bytes.
+_FIRST_PART = 44 + ((1 << 32) - 46) // 24 * 24
+_HINTS = {
+    hound.Cause.TOO_LONG: f"repair a copy of the first part of a file that is too long (head -c {_FIRST_PART} FILE > "
+    f"PART.wav); record takes the rest as raw samples (tail -c +{_FIRST_PART + 1} FILE)",
+}
+_USUAL_HINT = "where a header is lost or damaged, --guess or --like makes a copy with a new one"
 
 
 class _Wrong(Exception):
     """What can't be done, in a sentence."""
 
 
+def _say(line: str, file: Any = None) -> None:
+    """Prints what may have the name of a file in one line."""
+    with hound._named(file or sys.stdout):
+        print(line.translate(_ESCAPES), file=file or sys.stdout)
+
+
 def _complain(sentence: str) -> None:
-    print(f"hound-wav: {sentence}", file=sys.stderr, flush=True)
+    _say(f"hound-wav: {sentence}", sys.stderr)
+    sys.stderr.flush()
 
 
 def _sentence(error: Exception) -> str:
     if isinstance(error, OSError) and error.strerror:
         return f"{error.filename}: {error.strerror}" if error.filename else error.strerror
+    if isinstance(error, hound.HoundError) and error.cause == hound.Cause.TOO_LONG:
+        return f"{error}: a WAV file has less than 4 GiB, so the rest needs another one"
     return str(error)
+
+
+def _flush() -> None:
+    """Writes what is printed; an error names standard output."""
+    with hound._named(sys.stdout):
+        sys.stdout.flush()
 
 
 def _each(names: List[str], call: Callable[[str], bool], failed: Callable[[str, str], None]) -> int:
@@ -53,17 +77,19 @@ def _each(names: List[str], call: Callable[[str], bool], failed: Callable[[str, 
         except (OSError, ValueError) as error:
             failed(name, _sentence(error))
             status = 1
-        sys.stdout.flush()
+        _flush()
     return status
 
 
 def _files_of(names: List[str]) -> List[str]:
-    """These files, and for each folder those in it and in its folders that are named as WAV files."""
+    """These files, and for each folder those in it and in its folders that are named as WAV files, but for pipes and
+    devices: to read one may wait for ever."""
     found = []
     for name in names:
         if os.path.isdir(name):
             files = [os.path.join(folder, file) for folder, _, files in os.walk(name) for file in files]
-            found += sorted(file for file in files if file.lower().endswith((".wav", ".wave")))
+            named = (file for file in files if file.lower().endswith((".wav", ".wave")))
+            found += sorted(file for file in named if os.path.isfile(file) or not os.path.exists(file))
         else:
             found.append(name)
     if not found:
@@ -72,14 +98,15 @@ def _files_of(names: List[str]) -> List[str]:
 
 
 def _print_json(**facts: Any) -> None:
-    print(json.dumps(facts))
+    with hound._named(sys.stdout):
+        print(json.dumps(facts))
 
 
 class _Bar:
     """How much is done, on a terminal, once it takes a second."""
 
     def __init__(self, name: str, total: float) -> None:
-        self._name, self._total, self._next = name, total, time.monotonic() + 1
+        self._name, self._total, self._next = name.translate(_ESCAPES), total, time.monotonic() + 1
         self._is_shown, self._is_there = sys.stderr.isatty() and total > 0, False
 
     def __enter__(self) -> "_Bar":
@@ -108,19 +135,26 @@ def _form(info: hound.Info) -> str:
     return f"{info.sample_rate} Hz, {info.channels} channel{'s' * (info.channels != 1)}, {bits}"
 
 
-def _header_of(file: Any) -> hound.Info:
+def _header_of(name: str) -> hound.Info:
     """What a header says; no frames where it counts none that are whole, as that of a stream does."""
-    if isinstance(file, str):
-        with contextlib.suppress(hound.HoundError):
-            return hound.info(file)
-    with hound.open(file, to_end=isinstance(file, str)) as reader:
+    with contextlib.suppress(hound.HoundError):
+        return hound.info(name)
+    with hound.open(name, to_end=True) as reader:
         return reader.info
+
+
+def _found(name: str) -> Tuple[hound.Info, Optional[hound.Repair]]:
+    """What the header of a file says, and what is found of it, unless it is a pipe or a device: that can be read only
+    once."""
+    if name != "-" and os.path.isfile(name):
+        return _header_of(name), hound.find_damage(name)
+    with hound.open(_source(name)) as reader:
+        return reader.info, None
 
 
 def _info(options: argparse.Namespace) -> int:
     def show(name: str) -> bool:
-        info = _header_of(_source(name))
-        found = None if name == "-" else hound.find_damage(name)
+        info, found = _found(name)
         state = found and _STATES[found.state]
         if options.json:
             more = found and {"state": state, "frames_held": found.frames, "bytes_left_over": found.left_over}
@@ -128,7 +162,7 @@ def _info(options: argparse.Namespace) -> int:
         else:
             held = f" ({found.frames} frames are held)" if found and found.state == hound.State.CUT_OFF else ""
             said = (state or "as its header says") + held
-            print(f"{name}: {_form(info)}, {info.frames} frames, {info.duration:.3f} s, {said}")
+            _say(f"{name}: {_form(info)}, {info.frames} frames, {info.duration:.3f} s, {said}")
         return found is None or found.state != hound.State.CUT_OFF
 
     return _each(_files_of(options.files), show, _failure(options))
@@ -154,9 +188,10 @@ def _recover(options: argparse.Namespace) -> int:
     """Makes copies of files whose header is lost."""
 
     def recover(name: str) -> bool:
+        disk.opened(name).close()  # A pipe is an error.
         if options.guess and _has_header(name):
             raise ValueError(f"{name}: its header isn't lost, so nothing is guessed")
-        guessed = hound.guess(name, options.skip, options.rate or 44100) if options.guess else None
+        guessed = hound.guess(name, skip=options.skip, rate=options.rate or 44100) if options.guess else None
         form, copy = guessed or options.like, hound._copy_name(name)
         skip = lost.start_of(name, form.data_start) if options.skip is None else options.skip
         found = None
@@ -171,7 +206,7 @@ def _recover(options: argparse.Namespace) -> int:
                         copy=None if options.dry_run else copy)  # fmt: skip
         else:
             done = "" if options.dry_run else f": {frames} frames in {copy}"
-            print(f"{name}: {'a guess: ' if guessed else ''}{_form(form)}, from byte {skip} on{done}")
+            _say(f"{name}: {'a guess: ' if guessed else ''}{_form(form)}, from byte {skip} on{done}")
         return True
 
     return _each(options.files, recover, _failure(options))
@@ -180,34 +215,36 @@ def _recover(options: argparse.Namespace) -> int:
 def _repair(options: argparse.Namespace) -> int:
     if options.rate and not options.guess:
         raise _Wrong("--rate is that of --guess")
+    if options.skip is not None and not (options.like or options.guess):
+        raise _Wrong("--skip is that of --like and --guess")
     if options.like or options.guess:
         return _recover(options)
-    names, unread = _files_of(options.files), []
+    names, hints = _files_of(options.files), {}
 
     def repair(name: str) -> bool:
         try:
             found = hound.find_damage(name)
-        except hound.HoundError:
-            unread.append(name)
+        except hound.HoundError as error:
+            hints[_HINTS.get(error.cause, _USUAL_HINT)] = True
             raise
         is_damaged = found.state == hound.State.CUT_OFF or (options.to_end and found.state != hound.State.WHOLE)
         copy = hound._copy_name(name) if options.copy and is_damaged else None
         if is_damaged and not options.dry_run:
-            found = hound.repair(name, options.durable, options.to_end, copy=copy)
+            found = hound.repair(name, durable=options.durable, to_end=options.to_end, copy=copy)
         seconds = _header_of(name)._replace(frames=found.frames).duration
         done = "" if options.dry_run or not is_damaged else f"repaired{f': {copy}' if copy else ''}"
         if options.json:
             _print_json(file=name, state=_STATES[found.state], frames=found.frames, seconds=seconds,
                         bytes_left_over=found.left_over, repaired=bool(done), copy=copy)  # fmt: skip
         else:
-            print(f"{_STATES[found.state]:18}{found.frames:>11}{seconds:>12.3f}  {name}{'  ' if done else ''}{done}")
+            _say(f"{_STATES[found.state]:18}{found.frames:>11}{seconds:>12.3f}  {name}{'  ' if done else ''}{done}")
         return not (options.dry_run and is_damaged)
 
     if not options.json:
-        print(f"{'found':18}{'frames':>11}{'seconds':>12}  file")
+        _say(f"{'found':18}{'frames':>11}{'seconds':>12}  file")
     status = _each(names, repair, _failure(options))
-    if unread and not options.json:
-        _complain("where a header is lost or damaged, --guess or --like makes a copy with a new one")
+    for hint in [] if options.json else hints:
+        _complain(hint)
     return status
 
 
@@ -233,7 +270,8 @@ def _cat(options: argparse.Namespace) -> int:
     def write(name: str) -> bool:
         with hound.open(_source(name), to_end=options.to_end) as reader:
             for block in _blocks(name, reader, options.type):
-                sys.stdout.buffer.write(block)
+                with hound._named(sys.stdout):
+                    sys.stdout.buffer.write(block)
         return _is_whole(name, reader)
 
     return _each(options.files, write, lambda _, sentence: _complain(sentence))
@@ -287,9 +325,12 @@ def _convert(options: argparse.Namespace) -> int:
         with hound.create(part, like=wanted, exclusive=True, durable=options.durable, dither=dither) as writer:
             for block in _blocks(options.source, reader, dtype):
                 writer.write(_mixed(block, info.channels, wanted.channels))
+        is_whole = _is_whole(options.source, reader)
+        if os.path.exists(target) and not is_whole:
+            raise ValueError(f"{target} stays as it was, since not all of {options.source} was read")
     if writer.clipped:
         _complain(f"clipped samples: {writer.clipped}")
-    return 0 if _is_whole(options.source, reader) else 1
+    return 0 if is_whole else 1
 
 
 # record
@@ -312,8 +353,9 @@ class _Stop:
 
 
 def _has_input(seconds: float) -> bool:
-    """Whether standard input has bytes, or has ended, within this time. Windows can't say so of a pipe."""
-    return os.name == "nt" or bool(select.select([sys.stdin.buffer], [], [], max(seconds, 0))[0])
+    """Whether standard input has bytes, or has ended, within this time, or half a second: so often a signal is looked
+    for. Windows can't say so of a pipe."""
+    return os.name == "nt" or bool(select.select([sys.stdin.buffer], [], [], min(max(seconds, 0), 0.5))[0])
 
 
 def _recorded(writer: hound.Writer, every: float) -> int:
@@ -349,10 +391,11 @@ def _opened_to_record(options: argparse.Namespace) -> hound.Writer:
             raise _Wrong("a file is continued, or emptied: --append, or --overwrite")
         if any(given) or options.float:
             raise _Wrong("with --append the file says what its samples are")
-        return hound.append_to(options.target, options.durable)
+        return hound.append_to(options.target, durable=options.durable)
     if not all(given):
         raise _Wrong("--rate, --channels and --bits are needed, or --append")
-    return hound.create(options.target, *given, options.durable, options.float, exclusive=not options.overwrite)
+    more = {"durable": options.durable, "is_float": options.float, "exclusive": not options.overwrite}
+    return hound.create(options.target, *given, **more)
 
 
 def _record(options: argparse.Namespace) -> int:
@@ -361,22 +404,32 @@ def _record(options: argparse.Namespace) -> int:
         with writer:
             left = _recorded(writer, options.checkpoint)
     finally:
-        info = hound.info(options.target)  # Also where a write failed: what its header counts.
-        print(f"{options.target}: {_form(info)}, {info.frames} frames, {info.duration:.3f} s", file=sys.stderr)
+        is_read = _say_what_is_kept(options.target)  # Also where a write failed, whose error is said, too.
     if left:
         _complain(f"the last {left} bytes are no whole frame")
-    return 1 if left else 0
+    return 1 if left or not is_read else 0
+
+
+def _say_what_is_kept(name: str) -> bool:
+    """Says what the header of a recording counts, and whether it can be read."""
+    try:
+        info = hound.info(name)
+    except (OSError, ValueError) as error:
+        _complain(f"what is recorded can't be read: {_sentence(error)}")
+        return False
+    _say(f"{name}: {_form(info)}, {info.frames} frames, {info.duration:.3f} s", sys.stderr)
+    return True
 
 
 # The arguments
 
 
 def _from(least: int) -> Callable[[str], int]:
-    """What takes an integer from this one on."""
+    """What takes an integer from this one on, as far as a file may be long."""
 
     def parse(text: str) -> int:
-        if not text.isdecimal() or int(text) < least:
-            raise argparse.ArgumentTypeError(f"{text} isn't an integer from {least} on")
+        if not text.isdecimal() or not least <= int(text) <= sys.maxsize:
+            raise argparse.ArgumentTypeError(f"{text} isn't an integer from {least} to {sys.maxsize}")
         return int(text)
 
     return parse
@@ -482,7 +535,12 @@ def _end_by(number: Optional[int]) -> int:
     if number is not None and os.name != "nt":
         signal.signal(number, signal.SIG_DFL)
         os.kill(os.getpid(), number)
-    with contextlib.suppress(OSError):  # Python would write the rest to standard output.
+    return _drop_output()
+
+
+def _drop_output() -> int:
+    """Drops what Python would still write to standard output, which failed: the status."""
+    with contextlib.suppress(OSError):
         os.dup2(os.open(os.devnull, os.O_WRONLY), sys.stdout.fileno())
     return 1
 
@@ -490,14 +548,16 @@ def _end_by(number: Optional[int]) -> int:
 def main(arguments: Optional[List[str]] = None) -> int:
     """Does what the arguments say, and returns the status."""
     # What is closed is like an empty file, and names that are no text of this system are written as they are.
+    # In this order each gets its own descriptor, which no other file may have.
     sys.stdin, sys.stdout = sys.stdin or io.open(os.devnull), sys.stdout or io.open(os.devnull, "w")
+    sys.stderr = sys.stderr or io.open(os.devnull, "w")
     sys.stdout.reconfigure(errors="surrogateescape")  # type: ignore[attr-defined]
     options = _parser().parse_args(arguments)
     try:
         with warnings.catch_warnings():
             warnings.simplefilter("ignore", RuntimeWarning)
             status: int = options.run(options)
-        sys.stdout.flush()
+        _flush()
         return status
     except _Wrong as error:
         _complain(str(error))
@@ -508,4 +568,4 @@ def main(arguments: Optional[List[str]] = None) -> int:
         return _end_by(signal.SIGINT)
     except (OSError, ValueError) as error:
         _complain(_sentence(error))
-        return 1
+        return _drop_output() if getattr(error, "filename", None) == sys.stdout.name else 1

@@ -12,7 +12,7 @@ from . import _POINTER, _SIZE, _SPARE, Cause, HoundError, Info, _checked, _funct
 
 __all__ = [
     "CODES", "Given", "Scale", "TYPES", "address", "check_columns", "collected", "form_of", "kind_of", "noise_of",
-    "shaped", "spec_like", "type_of",
+    "shaped", "spec_like", "type_of", "warn_caller",
 ]  # fmt: skip
 
 
@@ -176,6 +176,14 @@ def noise_of(dither: Any) -> Optional[random.Random]:
     return random.Random(seed) if seed else None
 
 
+def warn_caller(sentence: str) -> None:
+    """Warns the caller of the package."""
+    frame, level, folder = sys._getframe(), 1, os.path.dirname(__file__)
+    while frame.f_back and frame.f_code.co_filename.startswith(folder):
+        frame, level = frame.f_back, level + 1
+    warnings.warn(sentence, RuntimeWarning, level)
+
+
 class Scale:
     """Floats whose full scale is 1 as integers of so many bits: `clipped` counts those that these don't hold. With a
     generator each gets noise of a triangular distribution, of at most one step."""
@@ -218,12 +226,9 @@ class Scale:
         return min(max(number, low), high)
 
     def warn(self, count: int) -> None:
-        """Warns the caller of the package where samples were clipped."""
+        """Warns where samples were clipped."""
         if self.clipped:
-            frame, level, folder = sys._getframe(), 1, os.path.dirname(__file__)
-            while frame.f_back and frame.f_code.co_filename.startswith(folder):
-                frame, level = frame.f_back, level + 1
-            warnings.warn(f"{self.clipped} of {count} samples were clipped", RuntimeWarning, level)
+            warn_caller(f"{self.clipped} of {count} samples were clipped")
 
 
 def _narrowed(samples: "array.array[int]") -> "array.array[int]":

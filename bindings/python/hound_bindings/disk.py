@@ -21,8 +21,8 @@ except ImportError:
 
 __all__ = [
     "CUT", "DONE", "Descriptor", "FAILED", "File", "Medium", "READ", "SYNC", "Stream", "WRITE", "WRITE_BLOCK",
-    "check_object", "folder_of", "is_pipe", "perform", "put", "read_at", "replace", "sync", "sync_folder", "sync_once",
-    "take",
+    "check_object", "descriptor_of", "folder_of", "opened", "perform", "piece_of", "place_of", "put", "put_here",
+    "read_at", "replace", "sync", "sync_folder", "sync_once",
 ]  # fmt: skip
 
 # The kinds of effects, and how one ended, made from hound.h by scripts/make_interface.
@@ -100,13 +100,6 @@ def sync(descriptor: Optional[int]) -> None:
         next(sync_once(descriptor))
 
 
-def take(effect: Any, content: bytes) -> None:
-    """Hands in what was read: fewer bytes only where the file ends."""
-    effect.length = len(content)
-    effect.bytes[: len(content)] = content
-    effect.report = DONE
-
-
 def cut(descriptor: int, place: int) -> None:
     """Cuts a file off, where it is longer than that."""
     if os.fstat(descriptor).st_size > place:
@@ -115,18 +108,22 @@ def cut(descriptor: int, place: int) -> None:
 
 def perform(effect: Any, file: "Medium", durable: bool, block: Any = b"") -> None:
     """Performs an effect of hound.h on a file, and reports it as done; an OSError says why it failed. A sync of a file
-    that isn't durable only passes on to the system what was written."""
+    that isn't durable only passes on to the system what was written. What a read gives is shorter only at the end of
+    the file."""
     kind = effect.kind
     if kind == WRITE:
         file.put(bytes(effect.bytes)[: effect.length], effect.place)
     elif kind == WRITE_BLOCK:
         file.put(memoryview(block)[: effect.length], effect.place)
     elif kind == READ:
-        take(effect, file.read_at(effect.length, effect.place))
+        content = file.read_at(effect.length, effect.place)
+        effect.length, effect.bytes[: len(content)] = len(content), content
     elif kind == CUT:
         file.cut(effect.place)
-    else:
+    elif kind == SYNC:
         file.sync(durable)
+    else:
+        raise NotImplementedError(f"the library requests an effect of kind {kind}: this package is older, so update it")
     effect.report = DONE
 
 
@@ -150,13 +147,20 @@ def sync_folder(path: Any) -> None:
         sync(folder)
 
 
-def is_pipe(file: Any) -> bool:
-    """Whether a file is a pipe or a terminal: Python on Windows says that these can be sought in, too."""
+def _check_no_pipe(path: Any) -> None:
+    """An error where a path is that of a pipe: to open it would wait for another program."""
     try:
-        mode = os.fstat(file.fileno()).st_mode
-    except (AttributeError, OSError):  # It isn't one of the system.
-        return False
-    return stat.S_ISFIFO(mode) or stat.S_ISCHR(mode)
+        is_pipe = stat.S_ISFIFO(os.stat(path).st_mode)
+    except OSError:
+        return  # Whoever opens it gets the error.
+    if is_pipe:
+        raise OSError(errno.ESPIPE, "a pipe can't be sought in", os.fspath(path))
+
+
+def opened(path: Any) -> io.FileIO:
+    """A file at a path, which is read at any place."""
+    _check_no_pipe(path)
+    return io.open(path, "rb", buffering=0)
 
 
 class Descriptor:
@@ -187,49 +191,106 @@ class Descriptor:
             sync(self.descriptor)
 
 
-def check_object(file: Any) -> None:
-    """A TypeError where it isn't an object of bytes."""
+def check_object(file: Any, method: str) -> None:
+    """A TypeError where it isn't an object of bytes that has this method."""
     if isinstance(file, io.TextIOBase):
         raise TypeError("the file is opened as text, and it has to read or write bytes")
-    if not (hasattr(file, "read") or hasattr(file, "write")):
-        name = type(file).__name__
-        raise TypeError(f"the file is of type {name}, and neither a path nor an object that reads or writes bytes")
+    if not hasattr(file, method):
+        what = f"neither a path nor an object of bytes with the method {method}"
+        raise TypeError(f"the file is of type {type(file).__name__}, and {what}")
+
+
+def descriptor_of(file: Any) -> Optional[int]:
+    """The descriptor of an object that is a file of the system."""
+    try:
+        return int(file.fileno())
+    except (AttributeError, OSError):
+        return None
+
+
+def place_of(file: Any) -> Optional[int]:
+    """Where an object is, or None where it can't be sought in. That may be so though it says otherwise, as Python on
+    Windows does of pipes and terminals."""
+    descriptor = descriptor_of(file)
+    mode = 0 if descriptor is None else os.fstat(descriptor).st_mode
+    if stat.S_ISFIFO(mode) or stat.S_ISCHR(mode) or not getattr(file, "seekable", lambda: hasattr(file, "seek"))():
+        return None
+    try:
+        return int(file.tell())
+    except (AttributeError, OSError):
+        return None
+
+
+def _appends(file: Any) -> bool:
+    """Whether an object writes at its end, wherever it is sought to."""
+    descriptor, mode = descriptor_of(file), getattr(file, "mode", None)
+    if fcntl and descriptor is not None:
+        return bool(fcntl.fcntl(descriptor, fcntl.F_GETFL) & os.O_APPEND)
+    return isinstance(mode, str) and "a" in mode
+
+
+def _fault_of_append() -> OSError:
+    return io.UnsupportedOperation('the file is opened to append, so all is written at its end: open it with "r+b"')
+
+
+def piece_of(content: Any, most: int) -> Any:
+    """What a read of an object gave, which was asked for so many bytes at most."""
+    if content is None:
+        raise BlockingIOError(errno.EAGAIN, "the file has no bytes yet")
+    if len(content) > most:
+        raise OSError(errno.EIO, f"the file gave {len(content)} bytes where at most {most} were asked for")
+    return content
 
 
 class Stream:
-    """An object that reads, writes and seeks as a file does, from the place on where it is: as an io.BytesIO."""
+    """An object that reads, writes and seeks as a file does, from the place on where it is: as an io.BytesIO. Its
+    `fault` is why it can't be written."""
 
     is_closed = False
 
-    def __init__(self, file: Any) -> None:
-        check_object(file)
-        if not file.seekable() or is_pipe(file):
+    def __init__(self, file: Any, method: str = "read") -> None:
+        check_object(file, method)
+        start = place_of(file)
+        if start is None:
             raise io.UnsupportedOperation("the file can't be sought in")
-        self._file, self._start, self.path = file, int(file.tell()), getattr(file, "name", None)
+        self._object, self._start, self.path = file, start, getattr(file, "name", None)
+        self.fault: Optional[Exception] = _fault_of_append() if _appends(file) else None
+        try:
+            check_object(file, "write")
+            check_object(file, "truncate")  # A mapped file hasn't got it, since its length is fixed.
+        except TypeError as error:
+            self.fault = error
+
+    @property
+    def _file(self) -> Any:
+        if getattr(self._object, "closed", False):
+            raise io.UnsupportedOperation("the file was closed by another call")
+        return self._object
 
     def rewind(self) -> None:
         self._file.seek(self._start)
 
     def size(self) -> int:
-        return max(int(self._file.seek(0, os.SEEK_END)) - self._start, 0)
+        self._file.seek(0, os.SEEK_END)
+        return max(int(self._file.tell()) - self._start, 0)
 
     def read_at(self, count: int, place: int) -> bytes:
         self._file.seek(self._start + place)
         content = bytearray()
-        while len(content) < count and (piece := self._file.read(count - len(content))):
+        while (left := count - len(content)) and (piece := piece_of(self._file.read(left), left)):
             content += piece
         return bytes(content)
 
     def put(self, content: Any, place: int) -> None:
         self._file.seek(self._start + place)
-        put_next(self._file, content)
+        _put_next(self._file, content, self._start + place)
 
     def cut(self, place: int) -> None:
         if self.size() > place:
             self._file.truncate(self._start + place)
 
     def sync(self, durable: bool) -> None:
-        self._file.flush()
+        _flush(self._file)
 
     def close(self, is_unlocked: bool = True) -> None:
         """Ends its use: the object stays open, and is at its end, unless it is that of another process."""
@@ -239,15 +300,37 @@ class Stream:
                 self._file.seek(0, os.SEEK_END)
 
 
-def put_next(file: Any, content: Any) -> None:
-    """Writes all of this to an object, which may write a part of it at a time."""
+def put_here(file: Any, content: Any) -> None:
+    """Writes all of this to an object where it is; an error where that would be elsewhere."""
+    check_object(file, "write")
+    place = place_of(file)
+    if place is not None and _appends(file):
+        file.seek(0, os.SEEK_END)
+        if file.tell() != place:
+            file.seek(place)
+            raise _fault_of_append()
+    _put_next(file, content, place)
+
+
+def _put_next(file: Any, content: Any, place: Optional[int]) -> None:
+    """Writes all of this to an object, which may write a part of it at a time, and is at this place. What it would hold
+    back is passed on, since a forked process would write it again."""
     with memoryview(content) as left:
         done = 0
         while done < len(left):
             count = file.write(left[done:])
-            if not count:
-                raise OSError(errno.EIO, "the file wrote none of the bytes that it was given")
+            if not isinstance(count, int) or not 0 < count <= len(left) - done:
+                wanted = f"how many of {len(left) - done} bytes it wrote"
+                raise OSError(errno.EIO, f"the method write of the file returned {count!r}, and not {wanted}")
             done += count
+    _flush(file)
+    if place is not None and file.tell() != place + done:
+        raise OSError(errno.EIO, "the file wrote elsewhere than at the place where it was")
+
+
+def _flush(file: Any) -> None:
+    if hasattr(file, "flush"):
+        file.flush()
 
 
 class File(Descriptor):
@@ -257,6 +340,7 @@ class File(Descriptor):
 
     def __init__(self, path: Union[str, "os.PathLike[str]"], flags: int) -> None:
         self.path = path
+        _check_no_pipe(path)
         # Where another file was renamed to the path before the lock, that one is opened. Some systems number a file
         # anew each time, so that none seems to be at its path: there is a last attempt.
         for is_last in (False,) * 9 + (True,):

@@ -7,7 +7,7 @@ from typing import Any, Iterator, List, NamedTuple, Optional
 from . import Info, Path, Repair, State, _guess_data, _integer, _named, conversion, disk, streams, to_bytes
 from . import info as info_of
 
-__all__ = ["guess", "recovered"]
+__all__ = ["copy", "guess", "recovered"]
 
 _MOST = (1 << 63) - 1
 _FRONT_BYTES = 4096
@@ -32,10 +32,18 @@ def _read(file: Any, count: int, place: int) -> bytes:
         return disk.read_at(file.fileno(), count, place)
 
 
+def copy(path: Path, part: Path) -> None:
+    """Copies a file to a new one."""
+    with disk.opened(path) as file, io.open(part, "xb", buffering=0) as new:
+        place = 0
+        while content := _read(file, 1 << 20, place):
+            disk.put(new.fileno(), content, place)
+            place += len(content)
+
+
 def recovered(path: Path, part: Path, like: Info, skip: int, durable: bool) -> Iterator[Progress]:
     """Writes a new file of the samples that a file has from a byte on, in steps."""
-    opened = io.open(path, "rb", buffering=0)
-    with opened as file, streams.create(part, like=like, durable=durable, exclusive=True) as writer:
+    with disk.opened(path) as file, streams.create(part, like=like, durable=durable, exclusive=True) as writer:
         channels, spec = like.channels, conversion.spec_like(writer.info)
         size, place, left = channels * spec.bytes_per_sample, skip, 0
         while content := _read(file, max((1 << 20) // size, 1) * size, place):
@@ -51,7 +59,7 @@ def repair_of(last: Optional[Progress]) -> Repair:
 
 def _some(path: Path, skip: int) -> List[bytes]:
     """Blocks from all over a file."""
-    with io.open(path, "rb", buffering=0) as file:
+    with disk.opened(path) as file:
         count = max((os.fstat(file.fileno()).st_size - skip) // _BLOCK_BYTES, 1)
         numbers = sorted({number * (count - 1) // (_BLOCKS - 1) for number in range(_BLOCKS)})
         return [_read(file, _BLOCK_BYTES, skip + number * _BLOCK_BYTES) for number in numbers]
@@ -104,13 +112,13 @@ def usual_start() -> int:
 def start_of(path: Path, otherwise: int) -> int:
     """Where the samples of a file may begin whose header is damaged: after what looks like the header of its data, near
     its beginning, or otherwise there."""
-    with io.open(path, "rb", buffering=0) as file:
+    with disk.opened(path) as file:
         front = _read(file, _FRONT_BYTES, 0)
     with conversion.address(front) as place:
         return max(_guess_data(*place), 0) or otherwise
 
 
-def guess(path: Path, skip: Optional[int] = None, rate: int = 44100) -> Info:
+def guess(path: Path, *, skip: Optional[int] = None, rate: int = 44100) -> Info:
     """Guesses what the samples of a file are whose header is lost: 8, 16, 24 or 32 bits, or floats, and one or two
     channels, by how smooth some blocks are in each form. It may be wrong, and the rate isn't guessed: listen to what
     `repair(path, like=guess(path))` makes of it. The samples begin at byte `skip`; without it after what looks like the

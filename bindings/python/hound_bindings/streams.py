@@ -10,9 +10,10 @@ import itertools
 import os
 import sys
 import threading
+import types
 import warnings
 import weakref
-from typing import IO, Any, Callable, Iterator, List, NamedTuple, Optional, Tuple, TypeVar, Union
+from typing import IO, Any, Callable, Iterator, List, NamedTuple, NoReturn, Optional, Tuple, TypeVar, Union
 
 from . import (
     _FIND_DAMAGE, _HEADER_BYTES, _OVERWRITE, _POINTER, _SIZE, _SPARE, _U64, Cause, Dtype, HoundError, Info, Path,
@@ -34,10 +35,15 @@ class _OneAtATime:
 
     _state: Any
     _name: Any = None  # The path or the object of the file, whose name errors have.
+    _process: Optional[int] = None  # The one that may use it, where forked ones must not.
 
     def __init__(self) -> None:
         self._lock = threading.RLock()
         self._running: Any = None  # The frame and the last step of the call.
+
+    def _is_elsewhere(self) -> bool:
+        """Whether this is a forked process, and it belongs to another one."""
+        return self._process not in (None, os.getpid())
 
     def _begin(self, frame: Any, steps: List[Tuple[Any, Any]]) -> None:
         """Notes the frame of a call, unless that of another call is below it."""
@@ -60,11 +66,15 @@ class _OneAtATime:
 
 
 def _one_at_a_time(call: _Call) -> _Call:
-    """Makes other threads wait for the end of a call, and one by a signal handler within it a RuntimeError."""
+    """Makes other threads wait for the end of a call, and one by a signal handler within it a RuntimeError; and so one
+    of a forked process, where a thread that isn't there may have the lock."""
 
     @functools.wraps(call)
     def guarded(self: _OneAtATime, *arguments: Any, **named: Any) -> Any:
         steps: List[Tuple[Any, Any]] = []
+        if self._is_elsewhere():
+            what = f"this {type(self).__name__} belongs to the process that made it"
+            raise RuntimeError(f"{what}, and not to a forked one: make one here")
         try:
             with self._lock:
                 self._begin(sys._getframe(), steps)
@@ -111,7 +121,9 @@ class Reader(_OneAtATime):
     signal handler raises in it, the next call continues at the same frame, with the bytes that came. If that happens
     before the data, there is no Reader, and a pipe has lost the bytes of its header: let a pipe that doesn't block
     hold them before it is opened. It is a context manager, and iterates over blocks of 4096 frames. Threads may share
-    it: each call waits for the end of another one.
+    it: each call waits for the end of another one. So may forked processes a file at a path, which each of them reads
+    by itself; of a pipe, or an object with a descriptor, a read in another process is a RuntimeError, since they would
+    take each other's bytes.
 
     With `to_end` it is a stream, whose header needn't know its length, as sox and ffmpeg write one into a pipe: its
     frames are all whole ones to its end, and `info.frames` is 0.
@@ -119,17 +131,20 @@ class Reader(_OneAtATime):
 
     def __init__(self, file: Union[Path, IO[bytes]], *, to_end: bool = False) -> None:
         super().__init__()
+        _READERS.add(self)
         self._name, self._to_end = file, to_end
         self._is_own = isinstance(file, (str, os.PathLike))
         if not self._is_own:
-            disk.check_object(file)
+            disk.check_object(file, "read")
         source: Any = file
         self._source: Any = io.open(source, "rb", buffering=0) if self._is_own else source
         self._state = _Next(0, [])
         try:
             self._read1 = getattr(self._source, "read1", self._source.read)
-            can_seek = self._source.seekable() and not disk.is_pipe(self._source)
-            self._start = self._source.tell() if can_seek else None
+            self._start = disk.place_of(self._source)
+            self._reads_at = self._is_own and self._start is not None and hasattr(os, "pread")
+            if not self._reads_at and disk.descriptor_of(self._source) is not None:
+                self._process = os.getpid()
             self._find_data()
         except BaseException as error:
             self.close()
@@ -145,11 +160,16 @@ class Reader(_OneAtATime):
     def __iter__(self) -> Iterator[Any]:
         return self.blocks(4096)
 
-    @_one_at_a_time
     def close(self) -> None:
         """Closes the file, if it was opened here."""
-        if self._is_own:
+        if self._is_own and self._is_elsewhere():
             self._source.close()
+        elif self._is_own:
+            self._close()
+
+    @_one_at_a_time
+    def _close(self) -> None:
+        self._source.close()
 
     def _rewind(self) -> None:
         if self._start is not None:
@@ -160,18 +180,20 @@ class Reader(_OneAtATime):
         frame, held = self._state.frame, [b"".join(filter(None, self._state.held))]
         self._state = _Next(frame, held)
         size = len(held[0])
-        if self._start is not None:
+        if self._start is not None and not self._reads_at:
             self._source.seek(self._start + place + size)
         while size < count:
             wanted = min(count - size, _PIECE)
-            # Each is one call of C: no signal handler runs before what was read is in the list. The first one reads a
-            # buffered pipe at most once, so that it has no bytes to lose; if it gives none, the other one says why.
-            held.extend(map(self._read1, (wanted,)))
-            if not held[-1]:
-                held.extend(map(self._source.read, (wanted,)))
-            if held[-1] is None:
-                raise BlockingIOError(errno.EAGAIN, "the file has no bytes yet")
-            if not held[-1]:
+            # Each is one call of C: no signal handler runs before what was read is in the list. The first one of an
+            # object reads a buffered pipe at most once, so that it has no bytes to lose; if it gives none, the other
+            # one says why.
+            if self._reads_at:
+                held.extend(map(os.pread, (self._source.fileno(),), (wanted,), (place + size,)))
+            else:
+                held.extend(map(self._read1, (wanted,)))
+                if not held[-1]:
+                    held.extend(map(self._source.read, (wanted,)))
+            if not disk.piece_of(held[-1], wanted):
                 break
             size += len(held[-1])
         content = b"".join(filter(None, held))
@@ -193,12 +215,12 @@ class Reader(_OneAtATime):
                 pass  # What can't be sought in is read up to there.
             return take(count, place)
 
-        found = _walk_over(read, self._to_end)
+        found = _walk_over(types.SimpleNamespace(read_at=read), self._to_end)
         self._spec, self.info = found.spec, _info_from(found)
         self._most = _MOST_FRAMES if self._to_end else self.info.frames
 
     @_one_at_a_time
-    def read(self, frames: int = -1, dtype: Optional[Dtype] = None, always_2d: bool = False) -> Any:
+    def read(self, frames: int = -1, dtype: Optional[Dtype] = None, *, always_2d: bool = False) -> Any:
         """The next frames, at most so many (all for -1); none after the last one.
 
         They have the form that `hound_bindings.read` gives them. Where the file ends before the frames
@@ -227,10 +249,10 @@ class Reader(_OneAtATime):
             self.seek(min(start, self._most))
         return self.read(frames, dtype)
 
-    def blocks(self, frames: int, dtype: Optional[Dtype] = None, always_2d: bool = False) -> Iterator[Any]:
+    def blocks(self, frames: int, dtype: Optional[Dtype] = None, *, always_2d: bool = False) -> Iterator[Any]:
         """The frames from the next one on, in blocks of so many; the last one may be shorter."""
         frames = _integer("frames", frames, 1, sys.maxsize)
-        while len(block := self.read(frames, dtype, always_2d)) > 0:
+        while len(block := self.read(frames, dtype, always_2d=always_2d)) > 0:
             yield block
 
     def tell(self) -> int:
@@ -251,6 +273,18 @@ class Reader(_OneAtATime):
         self._finish(_Next(frame, []))
 
 
+_READERS: "weakref.WeakSet[Reader]" = weakref.WeakSet()
+
+
+def _unlock_readers() -> None:
+    """In a forked process: the thread that has a lock isn't there."""
+    for reader in list(_READERS):
+        reader._lock, reader._running = threading.RLock(), None
+
+
+if hasattr(os, "register_at_fork"):
+    os.register_at_fork(after_in_child=_unlock_readers)
+
 _INT = ctypes.c_int32
 _decode = {t: _function("decode_" + t, _POINTER, _POINTER, _SIZE, _POINTER, _SIZE) for t in ("i8", "i16", "i32", "f32")}
 _encode = {t: _function("encode_" + t, _POINTER, _POINTER, _SIZE, _POINTER, _SIZE) for t in ("i16", "i32", "f32")}
@@ -260,6 +294,9 @@ _recorder_resume = _function("recorder_resume", _POINTER, ctypes.c_uint32, _POIN
 _recorder_write = _function("recorder_write", _POINTER, _U64, result=_INT)
 _recorder_checkpoint = _function("recorder_checkpoint", _POINTER, result=None)
 _recorder_next = _function("recorder_next", _POINTER, result=_INT)
+
+
+_REST = "so a repair may take for samples what its header doesn't count"
 
 
 class _Recording(NamedTuple):
@@ -280,17 +317,22 @@ class Writer(_OneAtATime):
 
     After an error of `write` the block isn't in the file, and the next call continues; it first makes the header count
     all blocks before that one, also if it is a `write`. If the system can't cut the file off either, a part of the
-    block follows what is counted, which a repair takes for samples. After an OSError of a sync it is unknown what is
-    stored, and each later call is an error. A signal handler may raise in any call, as Ctrl-C does: a block is in the
-    file only if its `write` has returned, and the next call cuts it off; after a `close` that is another `close`.
+    block follows what is counted, which a repair takes for samples: the error says so, and `close` warns of it. After
+    an OSError of a sync it is unknown what is stored, and each later call is an error. A signal handler may raise in
+    any call, as Ctrl-C does: a block is in the file only if its `write` has returned, and the next call cuts it off;
+    after a `close` that is another `close`.
 
     Threads may share it: each call waits for the end of another one. A signal handler that calls it during another call
     of the same thread gets a RuntimeError. One that isn't closed is closed when it is collected or the program ends,
-    with a ResourceWarning, but not in a forked process. The file is locked until then.
+    with a ResourceWarning. The file is locked until then.
+
+    It belongs to the process that made it, since two would overwrite each other's blocks. In a forked process `write`
+    and `flush` are a RuntimeError, and nothing is written or unlocked by `close`, the end of a `with` or of the
+    program, or where it is collected. No copy of it can be made.
     """
 
-    _process = 0
     _length = 0  # of the file when it was closed
+    _has_rest = False  # A part of a block couldn't be cut off.
 
     def __init__(
         self, file: Union[disk.File, disk.Stream], spec: _Spec, recorder: _Recorder, durable: bool, dither: int
@@ -312,15 +354,16 @@ class Writer(_OneAtATime):
     def __del__(self) -> None:
         self._abandon()
 
+    def __reduce__(self) -> NoReturn:
+        raise TypeError("a Writer can't be copied or pickled: two would overwrite each other's blocks")
+
     def _abandon(self) -> None:
-        """Closes the file of a Writer that nobody has closed; in a forked process it is the parent's."""
+        """Closes the file of a Writer that nobody has closed."""
         if not self._process or self._file.is_closed:
             return
-        if self._process != os.getpid():
-            self._file.close(is_unlocked=False)
-            return
         try:
-            warnings.warn(f"a Writer wasn't closed: {self._file.path!r}", ResourceWarning, source=self)
+            if not self._is_elsewhere():
+                warnings.warn(f"a Writer wasn't closed: {self._file.path!r}", ResourceWarning, source=self)
         finally:
             self.close()
 
@@ -373,9 +416,18 @@ class Writer(_OneAtATime):
         self._check_open()
         self._checkpoint()
 
-    @_one_at_a_time
     def close(self) -> None:
         """Flushes and closes the file. It is closed after an error, too, but not if a signal handler raised."""
+        if self._is_elsewhere():
+            self._file.close(is_unlocked=False)
+            return
+        was_closed = self._file.is_closed
+        self._close()
+        if not was_closed:
+            self._warn_of_rest()
+
+    @_one_at_a_time
+    def _close(self) -> None:
         try:
             if not self._file.is_closed:
                 self._checkpoint()
@@ -383,6 +435,44 @@ class Writer(_OneAtATime):
         except (OSError, HoundError):
             self._file.close()
             raise
+        self._file.close()
+
+    def _append(self, block: Any) -> None:
+        """Writes a block and closes the file. Where that fails the block is cut off again."""
+        before = self._state
+        try:
+            self.write(block)
+            self.flush()
+        except OSError as error:
+            self._give_up(before)
+            self._add_rest(error)
+            raise
+        with contextlib.suppress(OSError):  # The end of the context does it again.
+            self._length = self._file.size()
+        if self._length:
+            self._file.close()
+            self._warn_of_rest()
+
+    def _add_rest(self, error: OSError) -> None:
+        """Adds to an error that the file couldn't be cut off either."""
+        if self._has_rest and _REST not in str(error):
+            text = f"{error.strerror or error}, and the file couldn't be cut off, {_REST}"
+            error.errno, error.strerror = error.errno or errno.EIO, text
+
+    def _warn_of_rest(self) -> None:
+        if self._has_rest:
+            conversion.warn_caller(f"{self._file.path}: the file couldn't be cut off, {_REST}")
+
+    def _give_up(self, before: _Recording) -> None:
+        """Closes the file, and cuts it off by the recorder from before a block, if the header counts what it did then.
+        After a sync that failed nothing more is written."""
+        trial = _Recorder.from_buffer_copy(self._settled())
+        _recorder_checkpoint(ctypes.byref(trial))
+        with contextlib.suppress(OSError, HoundError):
+            if _recorder_next(ctypes.byref(trial)) == 1:
+                counted = _walk_over(self._file).samples * before.recorder.bytes_per_sample
+                self._state = before if counted == before.recorder.data_length else self._state
+                self._close()
         self._file.close()
 
     def _checkpoint(self) -> None:
@@ -420,7 +510,10 @@ class Writer(_OneAtATime):
                 if effect.kind == disk.SYNC and effect.report != disk.FAILED:
                     raise  # A signal handler raised it.
                 fault, effect.report = fault or error, disk.FAILED
+            if effect.kind == disk.CUT:
+                self._has_rest = effect.report == disk.FAILED
         if fault and code < 0:
+            self._add_rest(fault)
             raise fault
         _checked(code)
         return recorder
@@ -456,11 +549,11 @@ def create(
     rate: Optional[int] = None,
     channels: Optional[int] = None,
     bits: Optional[int] = None,
+    *,
     durable: bool = False,
     is_float: Optional[bool] = None,
     bytes_per_sample: int = 0,
     exclusive: bool = False,
-    *,
     like: Optional[Info] = None,
     dither: int = False,
 ) -> Writer:
@@ -477,7 +570,7 @@ def create(
         _checked(_recorder_begin(ctypes.byref(spec), ctypes.byref(recorder)))
     conversion.noise_of(dither)
     if not isinstance(path, (str, os.PathLike)):
-        stream = _stream_of(path, durable)
+        stream = _stream_of(path, durable, "write")
         stream.cut(0)
         stream.put(header[:length], 0)
         return Writer(stream, spec, recorder, durable, dither)
@@ -498,13 +591,16 @@ def create(
             raise
 
 
-def _stream_of(file: IO[bytes], durable: bool) -> disk.Stream:
+def _stream_of(file: IO[bytes], durable: bool, method: str) -> disk.Stream:
     if durable:
         raise ValueError("durable is for files at a path")
-    return disk.Stream(file)
+    stream = disk.Stream(file, method)
+    if stream.fault:
+        raise stream.fault
+    return stream
 
 
-def append_to(path: Union[Path, IO[bytes]], durable: bool = False, *, dither: int = False) -> Writer:
+def append_to(path: Union[Path, IO[bytes]], *, durable: bool = False, dither: int = False) -> Writer:
     """A file that is there, after whose frames more are written. A recording that was cut off is an error,
     and so are chunks or a tag after its data."""
     return _append_to(path, durable, False, dither)
@@ -516,7 +612,7 @@ def _append_to(path: Union[Path, IO[bytes]], durable: bool, overwrite: bool, dit
     if isinstance(path, (str, os.PathLike)):
         file = disk.File(path, os.O_RDWR)
     else:
-        file = _stream_of(path, durable)
+        file = _stream_of(path, durable, "read")
     recorder = _Recorder()
     try:
         with _named(path):

@@ -1,5 +1,6 @@
 """What `pip install` builds on this computer, and which command it calls on others."""
 import os
+import shutil
 import subprocess
 import sys
 import sysconfig
@@ -10,6 +11,9 @@ from unittest import mock
 
 sys.path.insert(0, os.path.dirname(os.path.dirname(os.path.abspath(__file__))))
 import backend  # noqa: E402
+
+
+LACKING = backend.PROCESSOR["lacking"]
 
 
 def on(name, machine, has_32_bits=False):
@@ -89,6 +93,42 @@ class Backend(unittest.TestCase):
             self.assertTrue(words[-3].endswith("hound_c.c"))
             self.assertEqual({"-m32", "-msse2", "-mfpmath=sse"} <= set(words), machine == "x86_64" and has_32_bits)
 
+    def test_a_processor_that_can_t_run_the_carried_library(self):
+        """Another one is compiled, and one that was built elsewhere is an error that says so."""
+        flags = "flags : fpu cx16 lahf_lm pni popcnt sse4_1 sse4_2 ssse3 avx"
+        for gone in ("", *backend.PROCESSOR["X86_64_V2"]):
+            said = os.path.join(self.folder, "cpuinfo")
+            with open(said, "w") as file:
+                file.write(f"processor : 0\n{flags.replace(f' {gone} ', ' ')}\n")
+            lacking = lambda needed: LACKING(needed, said)
+            with on("Linux", "x86_64"), mock.patch.dict(backend.PROCESSOR, lacking=lacking), compilers("cc"):
+                self.assertEqual(backend.carried_library() is None, bool(gone))
+                if gone:
+                    self.assertTrue(self.command()[0][-3].endswith("hound_c.c"))
+                    self.assertNotIn("manylinux", backend.wheel_tag())
+                else:
+                    self.carried()
+            with on("Linux", "aarch64"), mock.patch.dict(backend.PROCESSOR, lacking=lacking), compilers():
+                self.carried()
+        self.assertEqual(LACKING(["none_such"], os.path.join(self.folder, "none")), [])
+
+    def test_a_library_that_was_built_for_another_processor(self):
+        library = backend.shared_library(self.folder)
+        program = "import hound_bindings as hound; print(len(hound.to_bytes([1], 8000)))"
+        env = {**os.environ, "HOUND_C_LIBRARY": library, "PYTHONPATH": backend.HERE}
+        for needs, status in (None, 0), ("", 0), ("none_such", 1):
+            if needs is not None:
+                with open(library + ".needs", "w") as file:
+                    file.write(needs)
+            ran = subprocess.run([sys.executable, "-c", program], env=env, capture_output=True)
+            lines = ran.stderr.decode().splitlines()
+            self.assertEqual((ran.returncode, ran.stdout), (status, b"" if status else b"46\n"), lines)
+        with open("/proc/cpuinfo") as file:
+            has_flags = "\nflags" in file.read()
+        if has_flags:
+            said = f"ImportError: {library} was built for another processor: this one lacks none_such. Install"
+            self.assertTrue(lines[-1].startswith(said), lines)
+
     def test_a_named_library_is_linked(self):
         os.environ["HOUND_C_LIB"] = self.folder
         open(os.path.join(self.folder, "libhound_c.a"), "w").close()
@@ -96,6 +136,16 @@ class Backend(unittest.TestCase):
             words, _ = self.command()
             self.assertIn(os.path.join(self.folder, "libhound_c.a"), words)
             self.assertEqual(backend.wheel_tag(), "py3-none-" + sysconfig.get_platform().replace("-", "_"))
+
+    @unittest.skipUnless(shutil.which("cc") and shutil.which("ar"), "no C compiler is here")
+    def test_a_named_library_of_another_version(self):
+        words = ["cc", "-c", "-fPIC", "-x", "c", "-", "-o", os.path.join(self.folder, "one.o")]
+        subprocess.run(words, input=b"int hound_info(void) { return 0; }", check=True)
+        subprocess.run(["ar", "rcs", "libhound_c.a", "one.o"], cwd=self.folder, check=True)
+        os.environ["HOUND_C_LIB"] = self.folder
+        words = f"isn't the library of hound_bindings {backend.VERSION}: it lacks hound_walk_next"
+        self.assertRaisesRegex(SystemExit, words, lambda: backend.build_wheel(self.folder))
+        self.assertFalse(any(name.endswith(".whl") for name in os.listdir(self.folder)))
 
     def test_windows_and_macos(self):
         with on("Windows", "amd64"), compilers("cl"):
@@ -115,6 +165,12 @@ class Backend(unittest.TestCase):
             names, info = wheel.namelist(), f"hound_bindings-{backend.VERSION}.dist-info"
             points = wheel.read(f"{info}/entry_points.txt").decode()
             page = wheel.read(f"hound_bindings-{backend.VERSION}.data/data/share/man/man1/hound-wav.1").decode()
+            names_of_libraries = [name for name in names if "libhound_c" in name]
+            for name in names_of_libraries[1:]:
+                self.assertEqual(wheel.read(name).decode().split(), list(backend.PROCESSOR["X86_64_V2"]))
+        if backend.system() == ("Linux", "x86_64", False):
+            wanted = [f"hound_bindings/libhound_c.so{end}" for end in ("", ".needs")]
+            self.assertEqual(names_of_libraries, wanted)
         modules = [name for name in os.listdir(os.path.join(backend.HERE, "hound_bindings")) if name.endswith(".py")]
         self.assertLessEqual({f"hound_bindings/{name}" for name in [*modules, "py.typed"]}, set(names))
         commands = ("info", "repair", "cat", "convert", "record")

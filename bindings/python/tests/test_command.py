@@ -6,7 +6,10 @@ import json
 import math
 import os
 import random
+import re
+import resource
 import signal
+import stat
 import struct
 import subprocess
 import sys
@@ -16,10 +19,10 @@ import unittest.mock
 import wave
 
 import hound_bindings as hound
-from hound_bindings import Info, State
+from hound_bindings import Info, State, command
 from test_files import CHUNK, by_hand
 from test_floats import WIDE, Folder, as_float32, nearest, silently, wave_of
-from test_streams import SAMPLES, content_of, made_by_wave
+from test_streams import SAMPLES, content_of, forked, made_by_wave
 
 FORMS = [
     (bits, is_float, channels)
@@ -52,7 +55,7 @@ class Lost(Folder):
             data = b"".join(stored(level * sample, bits, is_float) for sample in tones(channels, 9000, some))
             head = turn % 2 * 44  # Where nothing is said it is taken for one of 44 bytes.
             self.leave(bytes(head) + data)
-            found = hound.guess(self.path, rate=8000) if head else hound.guess(self.path, 0, 8000)
+            found = hound.guess(self.path, rate=8000) if head else hound.guess(self.path, skip=0, rate=8000)
             self.assertEqual(found, (8000, channels, bits, is_float, 0, head, 0), turn)
         for content in bytes(44), bytes(60000), b"":
             self.leave(content)
@@ -160,6 +163,141 @@ class Command(Folder):
         self.assertEqual(hound.info(os.path.join(self.folder, "b.wav")).frames, 0)
         self.run_command("info", "b.wav", preexec_fn=lambda: os.close(1))
 
+    def test_names_forge_no_line(self):
+        names = "a\nb.wav: whole.wav", "c\r\33[2Kd\x85e\u2028f.wav"
+        shown = [b"a\\nb.wav: whole.wav", rb"c\r\x1b[2Kd\x85e\u2028f.wav"]
+        for name in names:
+            self.leave_as(name, by_hand(bytes(8)))
+        said = self.run_command("info", *names).splitlines()
+        self.assertEqual([line.split(b": 8000")[0] for line in said], shown)
+        lines = self.run_command("repair", ".").splitlines()[1:]
+        self.assertEqual([line.split(b"./")[1] for line in lines], shown)
+        for name, other in zip(names, shown):
+            self.run_command("info", name + "2", status=1)
+            self.assertEqual(self.said, b"hound-wav: " + other + b"2: No such file or directory\n")
+        self.run_command("record", names[0], "--append", given=b"12")
+        self.assertRegex(self.said, rb"^a\\nb.wav: whole.wav: .*\n$")
+        out = self.run_command("repair", "--like", "8000,1,16", names[1])
+        self.assertEqual(out.count(b"\n"), 1)
+        rows = self.run_command("info", "--json", names[0]).splitlines()
+        self.assertEqual([json.loads(row)["file"] for row in rows], [names[0]])
+
+    def test_standard_error_is_closed(self):
+        """No file has its descriptor, and no error goes elsewhere."""
+        content, closed = made_by_wave(SAMPLES), {"preexec_fn": lambda: os.close(2)}
+        self.leave_as("a.wav", content)
+        self.assertEqual(self.run_command("cat", "a.wav", **closed), SAMPLES.tobytes())
+        self.assertEqual(self.run_command("convert", "a.wav", "b.wav", **closed), b"")
+        self.assertEqual(self.content("b.wav"), content)
+        self.run_command("repair", "--like", "8000,2,16", "--skip", "44", "a.wav", **closed)
+        self.assertEqual(self.content("a.repaired.wav"), content)
+        form = ("--rate", "8000", "--channels", "2", "--bits", "16")
+        self.run_command("record", "c.wav", *form, given=content[44:], **closed)
+        self.assertEqual(self.content("c.wav"), content)
+        for words, status in ((["info", "none.wav"], 1), (["convert", "a.wav", "b.wav"], 2), (["convert"], 2)):
+            self.assertEqual(self.run_command(*words, status=status, **closed), b"")
+        self.run_command("cat", "a.wav", preexec_fn=lambda: os.closerange(0, 3))
+
+    def test_pipes(self):
+        """They are read once, and none is waited for that is in a folder or can't be repaired."""
+        self.leave_as("x/a.wav", made_by_wave(SAMPLES))
+        os.mkfifo(os.path.join(self.folder, "x/b.wav"))
+        form = b": 8000 Hz, 2 channels, 16 bits, 5 frames, 0.001 s, "
+        inner, outer = os.pipe()
+        os.write(outer, self.content("x/a.wav"))
+        os.close(outer)
+        out = self.run_command("info", f"/dev/fd/{inner}", pass_fds=[inner])
+        os.close(inner)
+        self.assertEqual(out, f"/dev/fd/{inner}".encode() + form + b"as its header says\n")
+        self.assertEqual(self.run_command("info", "x"), b"x/a.wav" + form + b"whole\n")
+        self.assertEqual(self.run_command("repair", "x").count(b"\n"), 2)
+        os.symlink("none", os.path.join(self.folder, "x/c.wav"))
+        self.run_command("info", "x", status=1)
+        self.assertEqual(self.said, b"hound-wav: x/c.wav: No such file or directory\n")
+        for words in [], ["--guess"], ["--like", "8000,1,16"], ["--copy"], ["--dry-run"]:
+            self.run_command("repair", *words, "x/b.wav", status=1)
+            self.assertEqual(self.said, b"hound-wav: x/b.wav: a pipe can't be sought in\n")
+        for _ in range(2):
+            feed = subprocess.Popen(["sh", "-c", "cat x/a.wav > x/b.wav"], cwd=self.folder)
+            self.assertEqual(self.run_command("info", "x/b.wav"), b"x/b.wav" + form + b"as its header says\n")
+            feed.wait()
+
+    def test_convert_writes_into_a_device_or_a_pipe(self):
+        """These are its own: a wrong version replaces them."""
+        self.leave_as("a.wav", made_by_wave(SAMPLES))
+        null, full, pipe = (os.path.join(self.folder, name) for name in ("null", "full", "pipe"))
+        os.mkfifo(pipe)
+        read = subprocess.Popen(["cat", pipe], stdout=subprocess.PIPE)
+        self.run_command("convert", "a.wav", "pipe", "--overwrite")
+        self.assertEqual(read.communicate()[0], made_by_wave(SAMPLES))
+        self.assertTrue(stat.S_ISFIFO(os.stat(pipe).st_mode))
+        self.run_command("convert", "a.wav", "pipe", status=2)
+        try:
+            for path, minor in (null, 3), (full, 7):
+                os.mknod(path, 0o666 | stat.S_IFCHR, os.makedev(1, minor))
+                open(path, "wb").close()
+        except PermissionError:
+            self.skipTest("no device can be made here")
+        for _ in range(2):
+            self.run_command("convert", "a.wav", "null", "--overwrite")
+            hound.write(null, SAMPLES, 8000)
+            self.run_command("convert", "a.wav", "full", "--overwrite", status=1)
+            self.assertEqual(self.said, b"hound-wav: full: No space left on device\n")
+            self.assertTrue(all(stat.S_ISCHR(os.stat(path).st_mode) for path in (null, full)))
+        self.assertEqual(sorted(os.listdir(self.folder)), ["a.wav", "full", "null", "pipe"])
+
+    def test_a_torn_file_replaces_none(self):
+        torn = by_hand(bytes(9), 8)
+        for source, target in ("a.wav", "a.wav"), ("a.wav", "b.wav"), ("-", "b.wav"):
+            self.leave_as("a.wav", torn)
+            self.leave_as("b.wav", b"older")
+            before = self.content(target)
+            self.run_command("convert", "--to-end", "--overwrite", source, target, given=torn, status=1)
+            last = f"hound-wav: {target} stays as it was, since not all of {source} was read\n"
+            said = f"hound-wav: {source}: the last 1 bytes are no whole frame\n{last}"
+            self.assertEqual((self.said.decode(), self.content(target)), (said, before))
+        self.run_command("convert", "--to-end", "a.wav", "c.wav", status=1)
+        self.assertEqual(self.content("c.wav"), by_hand(bytes(8)))
+        self.assertEqual(sorted(os.listdir(self.folder)), ["a.wav", "b.wav", "c.wav"])
+
+    def test_a_file_that_is_too_long(self):
+        """No header can count it: its first part can be repaired, as the hint says."""
+        self.leave_as("a.wav", by_hand(b"", channels=2))
+        os.truncate(self.path, (1 << 32) + 4000)
+        self.run_command("repair", "a.wav", status=1)
+        self.assertIn(b" 32 bits: a WAV file has less than 4 GiB, so the rest needs another one\n", self.said)
+        self.assertNotIn(b"--guess", self.said)
+        first, rest = map(int, re.search(rb"head -c (\d+) .*tail -c \+(\d+) ", self.said).groups())
+        self.assertEqual(rest, first + 1)
+        os.truncate(self.path, first)
+        self.run_command("repair", "a.wav")
+        self.assertEqual(hound.info(self.path).frames, (first - 44) // 4)
+
+    def test_a_number_that_is_too_large(self):
+        self.leave_as("a.wav", bytes(100))
+        for number in "9" * 19, "9" * 5000:
+            self.run_command("repair", "--like", "8000,1,16", "--skip", number, "a.wav", status=2)
+            self.run_command("repair", "--like", f"{number},1,16", "a.wav", status=2)
+        self.run_command("repair", "--like", "8000,1,16", "--skip", str(sys.maxsize), "a.wav", status=1)
+        self.run_command("repair", "--skip", "44", "a.wav", status=2)
+
+    def test_a_whole_file_that_may_only_be_read(self):
+        self.leave_as("a.wav", made_by_wave(SAMPLES))
+        os.chmod(self.path, 0o444)
+        os.chmod(self.folder, 0o755)
+        inner, outer = os.pipe()
+
+        def repair():
+            sys.stdout = open(outer, "w")
+            os.seteuid(os.geteuid() or 65534)
+            return all(command.main(["repair", *words, self.path]) == 0 for words in ([], ["--durable"], ["--to-end"]))
+
+        self.assertEqual(os.waitpid(forked(repair), 0)[1], 0)
+        os.close(outer)
+        with open(inner, "rb") as said:
+            self.assertEqual(said.read().count(b"\nwhole  "), 3)
+        self.assertEqual(self.content("a.wav"), made_by_wave(SAMPLES))
+
     def test_repair_of_a_folder(self):
         cut_off, followed = by_hand(bytes(8), 4), by_hand(b"\1\2", after=CHUNK)
         before = {
@@ -220,7 +358,7 @@ class Command(Folder):
         self.assertIn(b"its header isn't lost", self.said)
         self.run_command("repair", "--rate", "8000", "a.wav", status=2)
         no_forms = ("--like", "8000,2"), ("--like", "a,b,c"), ("--like", "8000,0,16")
-        for words in *no_forms, ("--guess", "--skip", "-1"), ("--guess", "--rate", "x"):
+        for words in (*no_forms, ("--guess", "--skip", "-1"), ("--guess", "--rate", "x")):
             self.run_command("repair", *words, "a.wav", status=2)
             self.assertIn(b" isn't ", self.said)
 
@@ -308,7 +446,7 @@ class Command(Folder):
             content = self.content("b.wav")
             self.run_command("convert", "a.wav", "b.wav", *words, status=2)
             self.assertEqual(self.content("b.wav"), content)
-        self.run_command("convert", "torn.wav", "d.wav", status=1)
+        self.run_command("convert", "torn.wav", "d.wav", "--overwrite", status=1)
         self.run_command("convert", "a.wav", "-", status=2)
         self.assertEqual(sorted(os.listdir(self.folder)), sorted(before + ["torn.wav"]))
 
@@ -344,6 +482,73 @@ class Command(Folder):
         self.assertEqual((ended.returncode, hound.find_damage(self.path).state), (1, State.WHOLE), ended.stderr)
         self.assertIn(f" {kept} frames".encode(), ended.stderr)
         self.assertGreater(kept, 0)
+
+    def limited(self, *words):
+        """A command that may write no more than 65580 bytes to a file."""
+        limit = lambda: resource.setrlimit(resource.RLIMIT_FSIZE, (65580, 65580))
+        return self.begun(*words, preexec_fn=limit)
+
+    def test_record_says_both_errors(self):
+        """That of a write, and that of the file, which can't be read either."""
+        form = ("--rate", "8000", "--channels", "1", "--bits", "16", "--checkpoint", "0.05")
+        running = self.limited("record", "a.wav", *form)
+        running.stdin.write(bytes(200))
+        running.stdin.flush()
+        self.wait_for(100)
+        os.truncate(self.path, 0)
+        said = running.communicate(bytes(200_000), timeout=60)[1].decode().splitlines()
+        self.assertEqual(running.returncode, 1)
+        self.assertEqual(said, [
+            "hound-wav: what is recorded can't be read: a.wav: no RIFF tag found",
+            "hound-wav: a.wav: File too large",
+        ])  # fmt: skip
+
+    def test_record_says_what_it_can_t_cut_off(self):
+        hindered = (
+            "import os, sys; from hound_bindings import command; os.ftruncate = lambda *_: os.close(-1); "
+            "sys.exit(command.main(sys.argv[1:]))"
+        )
+        limit = lambda: resource.setrlimit(resource.RLIMIT_FSIZE, (65600, 65600))
+        words = ["record", self.path, "--rate", "8000", "--channels", "1", "--bits", "16"]
+        env = {**os.environ, "PYTHONPATH": os.path.dirname(os.path.dirname(hound.__file__))}
+        command = [sys.executable, "-c", hindered, *words]
+        ended = subprocess.run(command, input=bytes(200_000), capture_output=True, env=env, preexec_fn=limit)
+        last = ended.stderr.decode().splitlines()[-1]
+        said = f"hound-wav: {self.path}: File too large, and the file couldn't be cut off, so a repair may take"
+        self.assertEqual((ended.returncode, last[: len(said)]), (1, said))
+
+    def test_the_file_that_has_no_room_is_named(self):
+        self.leave_as("a.wav", by_hand(bytes(100_000), 0))
+        self.leave_as("b.wav", hound.to_bytes([0] * 100_000, 8000))
+        for words, name in (
+            (["repair", "--copy", "a.wav"], "a.repaired.wav"),
+            (["repair", "--like", "8000,1,16", "a.wav"], "a.repaired.wav"),
+            (["convert", "b.wav", "c.wav"], "c.wav"),
+        ):
+            running = self.limited(*words)
+            said = running.communicate(timeout=60)[1].decode()
+            self.assertEqual((running.returncode, said), (1, f"hound-wav: {name}: File too large\n"))
+        self.assertEqual(sorted(os.listdir(self.folder)), ["a.wav", "b.wav"])
+        for words in ["cat", "b.wav"], ["info", "b.wav"], ["info", "--json", "b.wav"], ["repair", "b.wav"]:
+            with open("/dev/full", "wb") as full:
+                running = self.begun(*words, preexec_fn=lambda: os.dup2(full.fileno(), 1))
+            said = running.communicate(timeout=60)[1]
+            self.assertEqual((running.returncode, said), (1, b"hound-wav: <stdout>: No space left on device\n"))
+
+    def test_a_signal_while_no_input_comes(self):
+        form = ("--rate", "8000", "--channels", "2", "--bits", "16", "--checkpoint", "100000")
+        for number in signal.SIGINT, signal.SIGTERM:
+            running = self.begun("record", "a.wav", *form, "--overwrite")
+            self.wait_for(0)
+            running.stdin.write(SAMPLES.tobytes())
+            running.stdin.flush()
+            time.sleep(0.3)
+            start = time.monotonic()
+            running.send_signal(number)
+            self.assertEqual(running.wait(30), 0)
+            self.assertLess(time.monotonic() - start, 1)
+            running.communicate()
+            self.assertEqual(content_of(self.path), made_by_wave(SAMPLES))
 
     def test_checkpoints_and_the_end_by_a_signal(self):
         for number in signal.SIGINT, signal.SIGTERM, signal.SIGKILL:

@@ -6,6 +6,8 @@ import errno
 import os
 import pickle
 import random
+import shutil
+import signal
 import stat
 import struct
 import subprocess
@@ -154,7 +156,7 @@ class Files(unittest.TestCase):
             for samples in array.array("h", [7]), array.array("h"):
                 for overwrite in False, True:
                     self.leave(cut_off)
-                    self.fails(cause, lambda: hound.append(self.path, samples, overwrite))
+                    self.fails(cause, lambda: hound.append(self.path, samples, overwrite=overwrite))
                     self.assert_file(cut_off)
             self.assertEqual(hound.repair(self.path)[:2], (State.CUT_OFF, frames))
             self.assertEqual(hound.append(self.path, array.array("h", [7])), 44 + 2 * frames + 2)
@@ -172,7 +174,7 @@ class Files(unittest.TestCase):
             (torn, True, Cause.UNFINISHED_FRAME),
         ):
             self.leave(contents)
-            self.fails(cause, lambda: hound.append(self.path, array.array("h"), overwrite))
+            self.fails(cause, lambda: hound.append(self.path, array.array("h"), overwrite=overwrite))
             self.assert_file(contents)
 
     def test_what_an_append_makes_right(self):
@@ -372,13 +374,14 @@ class Files(unittest.TestCase):
                     self.assert_file(memory[:size])
         self.assertLessEqual(max(counts), 40)
 
+    @unittest.skipUnless(os.path.exists("/proc/self/status"), "the system doesn't say there how much memory was used")
     def test_a_long_file_is_repaired_in_little_memory(self):
         length = 3 * 10**9 + 1
         self.leave(by_hand(b"", width=1))
         os.truncate(self.path, 44 + length)
-        program = f"import resource, hound_bindings as h; path = {self.path!r}"
+        program = f"import hound_bindings as h; path = {self.path!r}"
         program += "; print(h.find_damage(path).frames, h.repair(path).frames)"
-        program += "; print(resource.getrusage(resource.RUSAGE_SELF).ru_maxrss)"
+        program += "; print(*(line.split()[1] for line in open('/proc/self/status') if line.startswith('VmHWM')))"
         env = {**os.environ, "PYTHONPATH": os.path.dirname(os.path.dirname(hound.__file__))}
         said = subprocess.run([sys.executable, "-c", program], env=env, stdout=subprocess.PIPE, check=True).stdout
         self.assertEqual(said.split()[:2], [b"%d" % length] * 2)
@@ -451,6 +454,50 @@ class Files(unittest.TestCase):
                 with self.assertRaisesRegex(TypeError, f"^{name} is .* integer"):
                     call(value)
         self.assertFalse(os.path.exists(self.path))
+
+    def test_options_are_given_by_name(self):
+        one = array.array("h", [1])
+        for call in (
+            lambda: hound.create(self.path, 8000, 2, 24, 4),
+            lambda: hound.write(self.path, one, 8000, 2, 24, 4),
+            lambda: hound.to_bytes(one, 8000, 2, 24, 4),
+            lambda: hound.append(self.path, one, True),
+            lambda: hound.append_to(self.path, True),
+            lambda: hound.repair(self.path, True),
+            lambda: hound.guess(self.path, 44),
+            lambda: hound.read(self.path, 0, -1, "int16", True),
+            lambda: hound.read_with_info(self.path, 0, -1, "int16", True),
+        ):
+            self.assertRaisesRegex(TypeError, "positional argument", call)
+        self.leave(by_hand(b"\1\2"))
+        for more in {}, {"copy": self.path + "2"}:
+            with self.assertRaisesRegex(ValueError, "^skip is for .*: give `like`"):
+                hound.repair(self.path, skip=3, **more)
+        self.assertEqual(os.listdir(self.folder.name), ["a.wav"])
+
+    def test_a_pipe_that_nobody_opens(self):
+        """A call doesn't wait for another program where a pipe is no file for it."""
+        os.mkfifo(self.path)
+        calls = (hound.find_damage, hound.repair, hound.append_to, hound.guess, lambda path: hound.append(path, [1]),
+                 lambda path: hound.create(path, 8000, 1, 16))  # fmt: skip
+        signal.signal(signal.SIGALRM, signal.SIG_DFL)
+        signal.alarm(60)
+        self.addCleanup(signal.alarm, 0)
+        for call in calls:
+            with self.assertRaisesRegex(OSError, f"a pipe can't be sought in: '{self.path}'$"):
+                call(self.path)
+
+    def test_a_library_of_another_version(self):
+        """What it lacks is named where the package is imported."""
+        library, compiler = os.path.join(self.folder.name, "other.so"), shutil.which("cc")
+        if not compiler:
+            self.skipTest("no C compiler is here")
+        words = [compiler, "-shared", "-x", "c", "-", "-o", library]
+        subprocess.run(words, input=b"int hound_info(void) { return 0; }", check=True)
+        env = {**os.environ, "HOUND_C_LIBRARY": library, "PYTHONPATH": os.path.dirname(os.path.dirname(hound.__file__))}
+        ran = subprocess.run([sys.executable, "-c", "import hound_bindings"], env=env, stderr=subprocess.PIPE)
+        said = f"{library} isn't the library of hound_bindings {hound.__version__}: it lacks hound_walk_next."
+        self.assertIn(f"ImportError: {said}", ran.stderr.decode())
 
     def test_types_of_samples(self):
         eight = hound.to_bytes(array.array("b", [-128, -1, 127]), 8000)

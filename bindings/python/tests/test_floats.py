@@ -6,6 +6,7 @@ import fractions
 import io
 import itertools
 import math
+import mmap
 import os
 import random
 import struct
@@ -284,6 +285,12 @@ class Specs(Folder):
         self.fails(Cause.OTHER_FORMAT, lambda: hound.to_bytes([5, 6], like=floats))
         self.assertRaisesRegex(TypeError, "^rate is None", lambda: hound.to_bytes([1]))
         self.assertRaisesRegex(TypeError, "^like is ", lambda: hound.to_bytes([1], like="a.wav"))
+        for bits, like in (32, floats), (24, info):  # The bits of the other file, which say no more than it does.
+            file = io.BytesIO()
+            hound.create(file, like=like, bits=bits).close()
+            file.seek(0)
+            self.assertEqual(hound.info(file)[2:4], like[2:4])
+            self.assertEqual(hound.info(file).bytes_per_sample, 4)
         self.assertRaisesRegex(TypeError, "^bits is None", lambda: hound.create(self.path, 8000, 1))
         self.assertRaisesRegex(ValueError, "3 columns", lambda: hound.to_bytes([[1, 2, 3]], like=info))
         self.assertEqual(Info(0, 1, 8).duration, 0)
@@ -358,7 +365,200 @@ class Piecemeal(io.RawIOBase):
         return self.inner.truncate(size)
 
 
+class Older:
+    """An object without `seekable`, as a SpooledTemporaryFile of Python 3.10: its `seek` returns nothing."""
+
+    def __init__(self, content=b""):
+        self.inner = io.BytesIO(content)
+        for name in "read", "write", "tell", "truncate":
+            setattr(self, name, getattr(self.inner, name))
+
+    def seek(self, *place):
+        self.inner.seek(*place)
+
+
+class Unseekable(io.BytesIO):
+    """An object that says that it can be sought in."""
+
+    def tell(self):
+        raise io.UnsupportedOperation("tell")
+
+    def seek(self, *place):
+        raise io.UnsupportedOperation("seek")
+
+
+class ReadOnly:
+    """An object that has only a `read`."""
+
+    def __init__(self, content):
+        self.read = io.BytesIO(content).read
+
+
 class Objects(Case):
+    def test_an_object_that_is_opened_to_append(self):
+        """All is written at its end, so only a whole file is, and where it is there."""
+        whole, cut_off = made_by_wave(SAMPLES), made_by_wave(SAMPLES)[:40] + bytes(4) + made_by_wave(SAMPLES)[44:]
+        with tempfile.TemporaryDirectory() as folder:
+            path = os.path.join(folder, "a.wav")
+            for content, place, call in (
+                (b"", 0, lambda file: hound.create(file, 8000, 2, 16)),
+                (whole, 0, lambda file: hound.create(file, 8000, 2, 16)),
+                (whole, 0, lambda file: hound.write(file, SAMPLES, 8000, 2)),
+                (whole, 0, hound.append_to),
+                (whole, 0, lambda file: hound.append(file, SAMPLES)),
+                (whole, 64, lambda file: hound.append(file, SAMPLES)),
+                (cut_off, 0, hound.repair),
+            ):
+                for mode, buffering in ("a+b", -1), ("a+b", 0):
+                    with open(path, "wb") as file:
+                        file.write(content)
+                    with open(path, mode, buffering) as file:
+                        file.seek(place)
+                        words = r'opened to append, .*: open it with "r\+b"'
+                        self.assertRaisesRegex(io.UnsupportedOperation, words, lambda: call(file))
+                        self.assertEqual(content_of(path), content)
+            with open(path, "a+b") as file:
+                file.seek(0)
+                self.assertEqual(hound.find_damage(file), (hound.State.CUT_OFF, 5, 0))
+            with open(path, "r+b") as file:
+                hound.repair(file)
+            with open(path, "a+b") as file:
+                file.seek(0)
+                self.assertEqual((hound.repair(file), content_of(path)), ((hound.State.WHOLE, 5, 0), whole))
+            os.unlink(path)
+            with open(path, "ab") as file:
+                hound.write(file, SAMPLES, 8000, 2)
+                hound.write(file, SAMPLES, 8000, 2)
+            self.assertEqual(content_of(path), whole * 2)
+
+    def test_a_descriptor_that_appends(self):
+        """As that of standard output by >>, which fcntl knows."""
+        with tempfile.TemporaryDirectory() as folder:
+            path = os.path.join(folder, "a.wav")
+            for content in made_by_wave(SAMPLES), b"":
+                with open(path, "wb") as file:
+                    file.write(content)
+                with open(os.open(path, os.O_RDWR | os.O_APPEND), "r+b") as file:
+                    self.assertRaises(io.UnsupportedOperation, lambda: hound.create(file, 8000, 2, 16))
+                    if content:
+                        self.assertRaises(io.UnsupportedOperation, lambda: hound.write(file, SAMPLES, 8000, 2))
+                    else:
+                        hound.write(file, SAMPLES, 8000, 2)
+                self.assertEqual(content_of(path), made_by_wave(SAMPLES))
+
+    def test_an_object_that_writes_elsewhere(self):
+        class Appending(io.BytesIO):
+            def write(self, content):
+                self.seek(0, os.SEEK_END)
+                return super().write(content)
+
+        with hound.create(Appending(), 8000, 2, 16) as writer:
+            writer.write(SAMPLES)
+            self.assertRaisesRegex(OSError, "elsewhere", writer.flush)
+            self.assertRaisesRegex(OSError, "elsewhere", writer.close)
+        file = Appending(made_by_wave(SAMPLES))
+        self.assertRaisesRegex(OSError, "elsewhere", lambda: hound.write(file, SAMPLES, 8000))
+
+    def test_an_object_without_seekable(self):
+        file = Older()
+        with hound.create(file, 8000, 2, 16) as writer:
+            writer.write(SAMPLES[:4])
+        file.inner.write(b"torn")
+        file.inner.seek(0)
+        for call in hound.find_damage, hound.repair:
+            self.assertEqual(call(file), (hound.State.CUT_OFF, 3, 0))
+        file.inner.truncate(52)
+        hound.repair(file)
+        self.assertEqual(hound.info(file).frames, 2)
+        hound.append(file, SAMPLES[4:])
+        file.inner.seek(0)
+        self.assertEqual(file.inner.getvalue(), made_by_wave(SAMPLES))
+        self.assertEqual(list(hound.open(file).blocks(4)), [SAMPLES[:8], SAMPLES[8:]])
+        with tempfile.SpooledTemporaryFile() as file:
+            hound.write(file, SAMPLES[:4], 8000, 2)
+            file.seek(0)
+            self.assertEqual(hound.append(file, SAMPLES[4:]), 64)
+            file.seek(0)
+            self.assertEqual(hound.read(file), SAMPLES)
+
+    def test_an_object_that_can_t_be_sought_in(self):
+        whole = made_by_wave(SAMPLES)
+        for make in Unseekable, ReadOnly:
+            self.assertEqual(list(hound.open(make(whole)).blocks(4)), [SAMPLES[:8], SAMPLES[8:]])
+            self.assertEqual((hound.read(make(whole), 0, 2), hound.info(make(whole)).frames), (SAMPLES[:4], 5))
+            for call in hound.find_damage, hound.repair, hound.append_to:
+                self.assertRaisesRegex(io.UnsupportedOperation, "can't be sought in", lambda: call(make(whole)))
+        file = Unseekable()
+        hound.write(file, SAMPLES, 8000, 2)
+        self.assertEqual(file.getvalue(), whole)
+
+    def test_a_method_that_an_object_lacks(self):
+        file = ReadOnly(made_by_wave(SAMPLES))
+        for call in (lambda: hound.write(file, SAMPLES, 8000), lambda: hound.create(file, 8000, 1, 16)):
+            self.assertRaisesRegex(TypeError, "the file is of type ReadOnly, .* with the method write$", call)
+        file = Older(made_by_wave(SAMPLES))
+        del file.truncate
+        self.assertRaisesRegex(TypeError, "of type Older, .* truncate$", lambda: hound.append(file, SAMPLES))
+        del file.read
+        self.assertRaisesRegex(TypeError, "of type Older, .* read$", lambda: hound.open(file))
+
+    def test_a_mapped_file(self):
+        """It is read, but its length is fixed."""
+        for content, state in (made_by_wave(SAMPLES), hound.State.WHOLE), (by_hand(bytes(8), 4), hound.State.CUT_OFF):
+            with mmap.mmap(-1, len(content)) as file:
+                file[:] = content
+                self.assertEqual(hound.find_damage(file).state, state)
+                with hound.open(file) as reader:
+                    self.assertEqual(reader.read(), hound.read(content))
+                file.seek(0)
+                for call in hound.append_to, hound.repair if state == hound.State.CUT_OFF else hound.append_to:
+                    self.assertRaisesRegex(TypeError, "of type mmap, .* truncate$", lambda: call(file))
+                self.assertEqual(file[:], content)
+
+    def test_what_read_and_write_return(self):
+        class Counts(io.BytesIO):
+            counts = lambda self, count: count
+
+            def write(self, content):
+                return self.counts(super().write(content))
+
+        for wrong in None, -1, 0, 1000, "4":
+            for call in (
+                lambda: hound.create(file, 8000, 2, 16),
+                lambda: hound.write(file, SAMPLES, 8000),
+                lambda: hound.append(file, SAMPLES),
+            ):
+                file = Counts(made_by_wave(SAMPLES))
+                file.counts = lambda count: wrong
+                self.assertRaisesRegex(OSError, f"the method write of the file returned {wrong!r}, and not how", call)
+
+        class Gives(io.BytesIO):
+            def read(self, count=-1):
+                return self.gives(super().read(count))
+
+            read1 = read
+
+        for gives, kind, words in (
+            (lambda content: None, BlockingIOError, "no bytes yet"),
+            (lambda content: content + bytes(99), OSError, "gave [0-9]+ bytes where at most [0-9]+ were asked for"),
+        ):
+            for call in hound.open, hound.find_damage, hound.repair, hound.append_to:
+                file = Gives(made_by_wave(SAMPLES))
+                file.gives = gives
+                self.assertRaisesRegex(kind, words, lambda: call(file))
+                self.assertEqual(file.getvalue(), made_by_wave(SAMPLES))
+
+    def test_an_object_that_is_closed(self):
+        file = io.BytesIO()
+        writer = hound.create(file, 8000, 2, 16)
+        writer.write(SAMPLES)
+        file.close()
+        for call in writer.flush, writer.close:
+            self.assertRaisesRegex(ValueError, "closed", call)
+        writer.close()
+        for call in hound.open, hound.append_to, hound.repair, lambda file: hound.create(file, 8000, 2, 16):
+            self.assertRaisesRegex(ValueError, "closed", lambda: call(file))
+
     def test_a_recording_to_an_object(self):
         for before in b"", b"before":
             for make in io.BytesIO, Piecemeal:

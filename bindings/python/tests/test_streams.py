@@ -1,11 +1,14 @@
 """Files that are read or written block by block, beside the module `wave` of Python and files made by hand."""
 import array
+import copy
 import errno
 import fcntl
 import gc
 import io
 import itertools
 import os
+import random
+import re
 import signal
 import stat
 import struct
@@ -14,6 +17,7 @@ import sys
 import tempfile
 import threading
 import tracemalloc
+import types
 import unittest
 import unittest.mock
 import warnings
@@ -282,6 +286,63 @@ class Streams(Case):
         self.assertEqual(errors, [])
         self.assertEqual(sorted(got), [samples[first : first + 7] for first in range(0, len(samples), 7)])
 
+    def test_forked_processes_share_a_reader(self):
+        """Of a file at a path each reads what it sought; what has one place for all of them isn't read elsewhere."""
+        samples = array.array("i", range(100_000))
+        with tempfile.TemporaryDirectory() as folder:
+            path = os.path.join(folder, "a.wav")
+            hound.write(path, samples, 8000)
+            with hound.open(path) as reader, open(path, "rb") as file, hound.open(file) as shared:
+
+                def are_right(seed):
+                    some = random.Random(seed)
+                    for _ in range(1000):
+                        first = some.randrange(len(samples) - 50)
+                        reader.seek(first)
+                        if reader.read(50) != samples[first : first + 50]:
+                            return False
+                    return True
+
+                def is_rejected():
+                    for call in (shared.read, lambda: shared.seek(0)):
+                        with self.assertRaisesRegex(RuntimeError, "the process that made it"):
+                            call()
+                    shared.close()
+                    return hound.open(io.BytesIO(content_of(path))).read(1)[0] == 0
+
+                children = [forked(lambda: are_right(seed) and is_rejected()) for seed in range(3)]
+                self.assertTrue(are_right(3))
+                for child in children:
+                    self.assertEqual(os.waitpid(child, 0)[1], 0)
+                self.assertEqual(shared.read(), samples)
+
+    def test_a_process_that_is_forked_in_a_read_of_another_thread(self):
+        """It doesn't wait for that thread, which it hasn't got."""
+        begun, ended, pread = threading.Event(), threading.Event(), os.pread
+
+        def late(*arguments):
+            begun.set()
+            ended.wait(60)
+            return pread(*arguments)
+
+        with tempfile.TemporaryDirectory() as folder:
+            path = os.path.join(folder, "a.wav")
+            hound.write(path, SAMPLES, 8000)
+            with hound.open(path) as reader:
+                with unittest.mock.patch("os.pread", late):
+                    thread = threading.Thread(target=reader.read)
+                    thread.start()
+                    begun.wait(60)
+                    child = os.fork()
+                    if not child:
+                        signal.alarm(20)
+                        os.pread = pread
+                        os._exit(reader.read() != SAMPLES)
+                    self.assertEqual(os.waitpid(child, 0)[1], 0)
+                    ended.set()
+                    thread.join()
+                self.assertEqual(reader.tell(), 10)
+
     def test_a_file_that_ends_early(self):
         reader = hound.open(io.BytesIO(by_hand(SAMPLES.tobytes()[:-3], counted=20)))
         self.assertEqual(list(reader.read(3)), list(SAMPLES[:6]))
@@ -335,6 +396,18 @@ class Streams(Case):
         self.assertLess(peak, 8 << 20)
 
 
+def forked(call):
+    """A process that ends with status 0 if a call returns what is true."""
+    child = os.fork()
+    if child:
+        return child
+    status = 1
+    try:
+        status = 0 if call() else 1
+    finally:
+        os._exit(status)
+
+
 def content_of(path):
     with open(path, "rb") as file:
         return file.read()
@@ -370,6 +443,56 @@ class Calls:
     def __exit__(self, *_):
         for patch in self.patches:
             patch.stop()
+
+
+def samples_from(first, bits):
+    """Three samples whose bytes are numbers from the first one on."""
+    content = bytes(range(first, first + 3 * bits // 8))
+    return array.array("b", [byte - 128 for byte in content]) if bits == 8 else array.array("h", content)
+
+
+class Effects(Case):
+    """What a library requests that is newer than the package."""
+
+    def requested(self, kind):
+        file = types.SimpleNamespace(
+            put=lambda *_: None, read_at=lambda *_: b"", cut=lambda *_: None, sync=lambda *_: None
+        )
+        effect = hound._Effect(kind=kind, report=0)
+        hound.disk.perform(effect, file, True)
+        return effect.report
+
+    def test_each_kind_of_hound_h_is_performed(self):
+        header = os.path.join(os.path.dirname(__file__), "..", "..", "c", "hound.h")
+        with open(header) as file:
+            body = re.search(r"HOUND_NOTHING,(.*?)};", re.sub(r"/\*.*?\*/", "", file.read(), flags=re.S), flags=re.S)[1]
+        names = re.findall(r"HOUND_(\w+)", body)
+        self.assertGreaterEqual(len(names), 5)
+        for kind, name in enumerate(names, 1):
+            self.assertEqual((getattr(hound.disk, name), self.requested(kind)), (kind, hound.disk.DONE))
+        for kind in 0, len(names) + 1:
+            with self.assertRaisesRegex(NotImplementedError, f"an effect of kind {kind}"):
+                self.requested(kind)
+
+    def test_an_effect_that_isn_t_known_is_never_done(self):
+        def requests(machine, *_):
+            machine._obj.effect.kind = 6
+            reports.append(machine._obj.effect.report)
+            return 1 if len(reports) < 3 else 0
+
+        file = io.BytesIO()
+        writer, reports = hound.create(file, 8000, 2, 16), []
+        before = file.getvalue()
+        with unittest.mock.patch("hound_bindings.streams._recorder_next", requests):
+            self.assertRaises(NotImplementedError, writer.flush)
+        self.assertEqual((reports, file.getvalue()), ([0], before))
+        writer.close()
+        for name, call in ("_walk_next", hound.open), ("_repairer_next", hound.repair):
+            reports.clear()
+            file.seek(0)
+            with unittest.mock.patch(f"hound_bindings.{name}", requests):
+                self.assertRaises(NotImplementedError, lambda: call(file))
+            self.assertEqual(reports, [0])
 
 
 class Recordings(Case):
@@ -531,7 +654,7 @@ class Recordings(Case):
             return array.array("i", range(10 * number, 10 * number + channels))
 
         accepted, maybe = [], []
-        writer = hound.create(self.path, 8000, channels, bits, durable)
+        writer = hound.create(self.path, 8000, channels, bits, durable=durable)
         with Interruption(at) as interruption:
             try:
                 for number in 1, 2:
@@ -735,6 +858,147 @@ class Recordings(Case):
         new = os.path.join(self.path + ".none", "b.wav")
         for call in (lambda: hound.write(new, SAMPLES, 8000), lambda: hound.repair(self.path, copy=new)):
             self.assertRaisesRegex(FileNotFoundError, f"No such file or directory: .*'{new}'$", call)
+
+    def test_an_append_that_fails_leaves_the_file(self):
+        """Also where a size can't be written: so it can be done again. After a sync that failed nothing is written."""
+        for bits, durable in itertools.product((8, 16), (False, True)):
+            contents = (bytes(range(1, 1 + count)) for count in (8, 8 + 3 * bits // 8))
+            before, after = (by_hand(content, channels=1, bits=bits) for content in contents)
+            after += bytes(len(after) % 2)
+            after = after[:4] + struct.pack("<I", len(after) - 8) + after[8:]
+            for nth in itertools.count(1):
+                self.leave(before)
+                with Calls(nth) as calls:
+                    try:
+                        hound.append(self.path, samples_from(9, bits), durable=durable)
+                        break
+                    except OSError:
+                        failed = calls.made[nth - 1]
+                if str(failed).startswith("sync"):
+                    self.assertEqual(calls.made[nth:], [])
+                    continue
+                if failed != 40:  # Else the size was written but for its last byte, a zero: then all are appended.
+                    self.assertEqual(content_of(self.path), before, failed)
+                    hound.append(self.path, samples_from(9, bits), durable=durable)
+                self.assertEqual(content_of(self.path), after)
+            self.assertGreater(nth, 3)
+
+    def test_an_append_that_fails_and_can_t_be_cut_off(self):
+        before = made_by_wave(SAMPLES)
+        for nth in 1, 2:
+            self.leave(before)
+            patch = unittest.mock.patch("os.ftruncate", side_effect=OSError(errno.EIO, "another fault"))
+            with Calls(nth), patch, self.assertRaises(OSError) as caught:
+                hound.append(self.path, SAMPLES)
+            self.assertIn("a fault, and the file couldn't be cut off, so a repair may take", str(caught.exception))
+            self.assertEqual(hound.info(self.path).frames, 5)
+
+    def test_what_can_t_be_cut_off_is_warned_of(self):
+        """It follows the samples, though no call failed since."""
+        chunk = b"LIST" + struct.pack("<I", 100) + b"\1" * 100
+        cut = unittest.mock.patch("os.ftruncate", side_effect=OSError(errno.EIO, "a fault"))
+        words = "a.wav: the file couldn't be cut off, so a repair may take"
+        self.leave(made_by_wave(SAMPLES[:4]) + chunk)
+        with cut, self.assertWarnsRegex(RuntimeWarning, words) as caught:
+            hound.append(self.path, SAMPLES[4:], overwrite=True)
+        self.assertEqual((caught.filename, hound.read(self.path)), (__file__, SAMPLES))
+        writer = hound.create(self.path, 8000, 2, 16)
+        with cut, Calls(1):
+            self.assertRaisesRegex(OSError, "a fault, and the file couldn't be", lambda: writer.write(SAMPLES))
+        with self.assertWarnsRegex(RuntimeWarning, words):
+            writer.close()
+        with warnings.catch_warnings():
+            warnings.simplefilter("error")
+            writer.close()
+            writer = hound.create(self.path, 8000, 2, 16)
+            with Calls(1):
+                self.assertRaises(OSError, lambda: writer.write(SAMPLES))
+            writer.close()
+
+    def test_an_append_whose_last_size_was_written_though_it_failed(self):
+        """The header never counts what isn't there: the block stays."""
+        def put(file, content, place):
+            count = write(file, content, place)
+            if place == 40 and not failed:
+                failed.append(place)
+                raise OSError(errno.EIO, "a fault")
+            return count
+
+        failed, write = [], os.pwrite
+        self.leave(made_by_wave(SAMPLES[:4]))
+        with unittest.mock.patch("os.pwrite", put), unittest.mock.patch("os.ftruncate", side_effect=AssertionError):
+            self.assertRaises(OSError, lambda: hound.append(self.path, SAMPLES[4:]))
+        self.assertEqual(content_of(self.path), made_by_wave(SAMPLES))
+
+    def test_a_forked_process_has_no_recorder(self):
+        for ends_first in True, False:
+            inner, outer = os.pipe()
+
+            def leave():
+                for call in (lambda: writer.write(SAMPLES), writer.flush):
+                    with self.assertRaisesRegex(RuntimeError, "the process that made it"):
+                        call()
+                if not ends_first:
+                    os.read(inner, 1)
+                before = content_of(self.path)
+                with writer:
+                    pass
+                writer.close()
+                return content_of(self.path) == before
+
+            with hound.create(self.path, 8000, 2, 16) as writer:
+                writer.write(SAMPLES[:4])
+                writer.flush()
+                child = forked(leave)
+                if ends_first:
+                    self.assertEqual(os.waitpid(child, 0)[1], 0)
+                    self.assertRaises(BlockingIOError, lambda: hound.append_to(self.path))
+                writer.write(SAMPLES[4:])
+            os.write(outer, b"x")
+            if not ends_first:
+                self.assertEqual(os.waitpid(child, 0)[1], 0)
+            os.close(inner)
+            os.close(outer)
+            self.assertEqual(content_of(self.path), made_by_wave(SAMPLES))
+
+    def test_a_forked_process_that_ends_writes_nothing_to_an_object(self):
+        """Neither does its object, when Python closes it."""
+        ran = self.run_program(
+            "file = open(path, 'w+b')\nwriter = hound.create(file, 8000, 2, 16)\n"
+            "for first in range(0, 10, 2):\n"
+            "    writer.write(array.array('h', range(first, first + 2)))\n"
+            "    if os.fork() == 0:\n"
+            "        raise SystemExit\n"
+            "    os.wait()\n"
+            "writer.close()\n"
+        )
+        self.assertEqual((ran.returncode, ran.stderr), (0, b""))
+        self.assertEqual(content_of(self.path), made_by_wave(array.array("h", range(10))))
+
+    def test_a_process_that_is_forked_in_a_call_of_another_thread(self):
+        """It doesn't wait for that thread, which it hasn't got."""
+        begun, ended, pwrite = threading.Event(), threading.Event(), os.pwrite
+
+        def put(*arguments):
+            begun.set()
+            ended.wait(60)
+            return pwrite(*arguments)
+
+        with hound.create(self.path, 8000, 2, 16) as writer:
+            with unittest.mock.patch("os.pwrite", put):
+                thread = threading.Thread(target=lambda: writer.write(SAMPLES))
+                thread.start()
+                begun.wait(60)
+                child = forked(lambda: signal.alarm(20) or writer.close() or True)
+                self.assertEqual(os.waitpid(child, 0)[1], 0)
+                ended.set()
+                thread.join()
+        self.assertEqual(content_of(self.path), made_by_wave(SAMPLES))
+
+    def test_no_copy_of_a_writer(self):
+        with hound.create(self.path, 8000, 2, 16) as writer:
+            for call in copy.copy, copy.deepcopy:
+                self.assertRaisesRegex(TypeError, "can't be copied", lambda: call(writer))
 
     def test_a_write_after_one_that_failed_publishes(self):
         writer = hound.create(self.path, 8000, 2, 16)

@@ -16,6 +16,9 @@ import types
 import unittest
 import unittest.mock
 
+if "hound_bindings" in sys.modules:
+    raise unittest.SkipTest("the package was imported with all that this system has: run this file alone")
+
 # What the package may use of these modules.
 NAMES = {
     os: (
@@ -166,8 +169,7 @@ class Windows(test_streams.Case):
         self.assertEqual(content_of(self.path), made_by_wave(SAMPLES))
 
     def test_writes_that_fail(self):
-        """An append leaves the file as it was, but for samples that aren't counted, and a recording has the other
-        blocks."""
+        """An append leaves the file as it was, and a recording has the other blocks."""
         write, made = os.write, []
 
         def put(file, content):
@@ -191,8 +193,7 @@ class Windows(test_streams.Case):
                 made.clear()
                 if failing < 3:
                     self.assertRaises(OSError, lambda: hound.append(self.path, SAMPLES))
-                    uncounted = bytes(memoryview(SAMPLES)) if failing == 2 else b""
-                    self.assertEqual(content_of(self.path), made_by_wave(accepted) + uncounted)
+                    self.assertEqual(content_of(self.path), made_by_wave(accepted))
 
 
 def load_tests(loader, tests, _):

@@ -766,15 +766,17 @@ pub enum Container {
 
 impl Container {
     /// The containers of a spec, if they are read.
+    #[inline]
     pub fn of(spec: &Spec) -> Option<Container> {
-        let width = spec.width().ok()?;
-        Some(match (spec.format, spec.bits_per_sample) {
-            (Format::Float, _) => Container::Float,
-            (_, 8) => Container::Int8,
-            (_, 16) => Container::Int16,
-            (_, 24) if width == 3 => Container::Int24,
-            (_, 24) => Container::Int24In4,
-            _ => Container::Int32,
+        let width = if spec.bytes_per_sample == 0 { spec.bits_per_sample / 8 } else { spec.bytes_per_sample };
+        Some(match (spec.format, spec.bits_per_sample, width) {
+            (Format::Float, 32, 4) => Container::Float,
+            (Format::Int, 8, 1) => Container::Int8,
+            (Format::Int, 16, 2) => Container::Int16,
+            (Format::Int, 24, 3) => Container::Int24,
+            (Format::Int, 24, 4) => Container::Int24In4,
+            (Format::Int, 32, 4) => Container::Int32,
+            _ => return None,
         })
     }
 }

@@ -15,3 +15,4 @@ pub mod Whole
 pub mod Batching
 pub mod WholeSessions
 mod InUse
+pub mod Ending

@@ -37,6 +37,8 @@ pub use Rattle.hound_repair.specs.declared.sizes.Repair.{Repair}
 pub use Rattle.hound.specs.Sessions.{AnswersAll, AnswersCall, AnswersSession, AnswersStep, IsReturned, RunsFrom, RunsOn, RunsOnce, RunsUntil, StopsAt, StopsEarly, all_steps, writer_after}
 pub use Rattle.hound.specs.Headline.{BeginInOrder, CanonicalAtEnd, CountedAfterLoss, CountedAtEach, FlushedByFlushes, FrontAtEach, FrontInWrites, HasPublished, HasWholeLength, HeadAtEach, Holds, HoldsAtEnd, IfBegun, IsLeftAfter, IsUncut, Keeps, Kept, KeptAfterLoss, KeptWithin, LastsToEnd, LeftWithin, LosesNothing, MixedInPatches, NeverLess, NoFault, OldOrNewInPatches, Promises, PublishedByFlushes, SaidByFlushes, SaysFrames, StoredAtEach, SurvivesAtEnd, accepted, accepted_as_seen, accepted_by_all, accepted_of, begins_at, contents_at, seen}
 pub use Rattle.hound.specs.Run.{BeginsAs, EndsAs, IsNotBegunAs, IsSession, Ran, Takes, accepted_by, accepted_by_steps, asked_by, batch_containers, begun_spec, containers_of, end_call, file_of, is_int, is_sixteen}
+pub use Rattle.hound.specs.Ending.{actions_left, cuts_left}
 pub mod Sessions
 pub mod Headline
 pub mod Run
+pub mod Ending

@@ -1,5 +1,5 @@
 // What holds for every run.
-ghost use Rattle.std.specs.Prelude.{◌≡◌, ◌<◌, ◌≤◌, ◌-◌, ◌/◌, ◌%◌, ℕ, Bool, true, IsTrue, List, [], ◌∷◌, ◌++◌, Ok, Result, is_ok, length, map};
+ghost use Rattle.std.specs.Prelude.{◌≡◌, ◌<◌, ◌≤◌, ◌-◌, ◌/◌, ◌%◌, ℕ, Bool, true, IsTrue, List, [], ◌∷◌, ◌++◌, Ok, Some, Result, is_ok, length, map};
 ghost use Rattle.std.specs.List.{AllByRecursion, concat};
 ghost use Rattle.std.specs.declared.io.Error.{Error as IoFault};
 ghost use Rattle.hound_spec.specs.declared.error.Error.{Error};
@@ -8,8 +8,11 @@ ghost use Rattle.hound_spec.specs.{canonical, data_start, riff_size};
 ghost use Rattle.hound_medium.specs.{MediumState, WhereKeeps, WhereTells, moment};
 ghost use Rattle.hound_durable.specs.{Ascends, SurvivesLoss, place_of};
 ghost use Rattle.hound_sample.specs.{Rejection, int_container};
-ghost use Rattle.hound_writer.specs.{mark_of, AcceptAnswer, AcceptsBytes, ChangesSizesOnly, appended, AcceptsEach, i16_bytes, AreKnown, Asked, Begun, Call, IsKnown, Known, Lead, Left, Recorded, returned, sample_count, asked_by_all, found_in, made, marked, new_file, publish, start_of, IsSameFile, Finishes, WriterState, IsWhole, accepted_samples, data_length, IsSound, CountsAtMost, LeavesWriter, PutsAt, ReadsAs, field, Log, Performed, handed_in, log_kind, Directed, IsSynced, AgreeTo, Counts, end_of};
+ghost use Rattle.hound_writer.specs.{Advances, mark_of, AcceptAnswer, AcceptsBytes, ChangesSizesOnly, appended, AcceptsEach, i16_bytes, AreKnown, Asked, Begun, Call, IsKnown, Known, Lead, Left, Recorded, returned, sample_count, asked_by_all, found_in, made, marked, new_file, publish, start_of, IsSameFile, Finishes, WriterState, IsWhole, accepted_samples, data_length, IsSound, CountsAtMost, LeavesWriter, PutsAt, ReadsAs, field, Log, Performed, handed_in, log_kind, Directed, IsSynced, AgreeTo, Counts, end_of};
 ghost use Rattle.hound_writer.specs.declared.recorder.Recorder.{Recorder};
+ghost use Rattle.hound_writer.specs.declared.effects.Action.{Action};
+ghost use Rattle.hound_writer.specs.declared.effects.Report.{Report};
+ghost use Rattle.hound_writer.specs.declared.effects.Report.TheVariants.{Pending};
 ghost use Rattle.hound_writer.specs.declared.effects.Effect.TheVariants.{Size, Sync};
 ghost use Rattle.hound_repair.specs.{ReadsFrames, Repairs};
 ghost use Rattle.hound_repair.specs.declared.sizes.Repair.{Repair};
@@ -17,6 +20,7 @@ ghost use Rattle.hound_writer.specs.declared.resuming.RepairState.TheVariants.{H
 ghost use Rattle.hound.specs.declared.session.Begin.TheVariants.{New};
 ghost use Rattle.hound.specs.declared.session.Begin.{Begin};
 ghost use Rattle.hound.specs.declared.session.End.{End};
+ghost use Rattle.hound.specs.Ending.{actions_left};
 ghost use Rattle.hound.specs.Headline.{HasPublished, Holds, HoldsAtEnd, IsLeftAfter, Keeps, Kept, KeptWithin, LeftWithin, accepted_as_seen, accepted_by_all, begins_at, seen};
 ghost use Rattle.hound.specs.Run.{BeginsAs, EndsAs, Ran, asked_by, containers_of};
 ghost use Rattle.hound.specs.Sessions.{RunsOn, all_steps};
@@ -258,4 +262,15 @@ pub fn other_orders_lose()
         → old.flushed ≤ i → i < length old.past → at ≤ place_of old.past i
         → PutsAt true at bytes result old new → length old.past < length new.past
         → Ascends new.past new.flushed (length new.past) → ⊥ }
+{}
+
+/// A recorder's request ends: after an action that was reported, as done or as failed, fewer are left, and there are
+/// at most eleven (`bounded`). So a loop over `next` that reports each action needs no other end. An action
+/// without a report is requested again.
+pub fn a_request_ends()
+    ensures nearer { (report : Report) (old new : Recorder) (action : Action) → (report ≡ Pending → ⊥)
+        → Advances report old new (Ok (Some action)) → actions_left new < actions_left old }
+    ensures again { (old new : Recorder) (action : Action) → Advances Pending old new (Ok (Some action))
+        → actions_left new ≤ actions_left old }
+    ensures bounded { (r : Recorder) → actions_left r ≤ 11 }
 {}

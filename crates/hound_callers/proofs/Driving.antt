@@ -4,7 +4,7 @@ use Rattle.std.specs.declared.io.Error.{Error as IoFault}
 use Rattle.std.proofs.lemmas.List.{append-nil}
 use Rattle.std.proofs.Common.{List, [], ◌∷◌, ◌++◌, length, is_ok, ◌≡◌, ◌⊎◌, ◌<◌, ◌≤◌, ◌+◌, ◌*◌, ℕ, Bool, true, false, inl, inr, Option, None, Some, Result, Ok, Err, refl, sym, ◌∙◌, ap, subst, arith}
 use Rattle.std.specs.Prelude.{⊤, ◌==◌, if◌then◌else◌}
-use Rattle.hound.specs.{Action, Asked, Begun, Directed, Effect, Known, Log, MediumState, Performs, PutsAt, WavSpecEx, block_known, cut_known, marked, publish, whole_containers, write, EffectEnds, GoesOn, HasData, HasEnded, IsSaved, NextEffect, Places, Reports, Recorder, RecorderError, Report, Settles, Advances, ThenGoesOn, effects_of, length_with, nth}
+use Rattle.hound.specs.{Action, Asked, Begun, Directed, Effect, Known, Log, MediumState, Performs, PutsAt, WavSpecEx, block_known, cut_known, marked, publish, whole_containers, write, EffectEnds, GoesOn, HasData, HasEnded, IsSaved, NextEffect, Places, Reports, Recorder, RecorderError, Report, Settles, Advances, ThenGoesOn, length_with}
 use Rattle.hound.specs.declared.Action.TheVariants.{Cut, Perform, Read, WriteBlock}
 use Rattle.hound.specs.declared.Report.TheVariants.{Done, Failed, Pending}
 use Rattle.hound.specs.declared.RecorderError.TheVariants.{NotWritable, UnfinishedFrame, TooLong, Truncated, CutOff, HasChunksAfterData, NeedsCheckpoint, SyncFailed}
@@ -29,10 +29,6 @@ abbrev pub step_of : Report → ℕ
 step_of Pending = 0
 step_of _ = 1
 
--- how far the loop has come
-abbrev pub come : Recorder → ℕ
-come r = r.number + r.task
-
 -- nothing is reported yet, or the action that the recorder returned
 abbrev pub HasAction : Report → (Action → Type 0) → Recorder → Type 0
 HasAction report does r = (report ≡ Pending)
@@ -49,9 +45,10 @@ pub settles_as : (b : Bool) (old new : Recorder) (outcome : Result (Unit {0}) Re
 settles_as true old new outcome is = is
 settles_as false old new outcome is = is
 
-one_step : (b : Bool) (report : Report) → report ≡ report_for b → step_of report ≡ 1
-one_step true report is = ap step_of is
-one_step false report is = ap step_of is
+pub at_rest : (report : Report) → step_of report ≡ 0 → report ≡ Pending
+at_rest Pending none = refl
+at_rest Done none = absurd (omega (arith, none))
+at_rest Failed none = absurd (omega (arith, none))
 
 pub not_at_rest : (report : Report) → (report ≡ Pending → ⊥) → step_of report ≡ 1
 not_at_rest Pending other = absurd (other refl)
@@ -116,16 +113,9 @@ shape b r mid effect outcome one rest (some, few, _, _, _, after, next) (inr (in
     (subst (λ (x : Recorder × Result (Option Effect) RecorderError). EffectEnds b r x.0 x.1 mid outcome)
     (λ i. (same i, is i)) ends)
 
-few_effects : (r : Recorder) (effect : Effect) → Some effect ≡ nth (effects_of r) r.number → r.number ≤ 5
-few_effects r effect is = grind (arith, common_steps)
-
 pub begins : (asked : Recorder) (n : ℕ) → IsAsked asked n → IsWithin asked Pending asked None
 begins asked n (_, _, _, inl one) = inl (one, refl, refl)
 begins asked n (_, _, _, inr (two, _, _)) = inr (inl (two, refl, refl, refl))
-
-pub begins_few : (asked : Recorder) (n : ℕ) → IsAsked asked n → come asked ≤ 10
-begins_few asked n (none, _, _, inl one) = omega (arith, none, one)
-begins_few asked n (none, _, _, inr (two, _, _)) = omega (arith, none, two)
 
 pub is_made : (report : Report) → (report ≡ Pending → ⊥) → (b : Bool) × (report ≡ report_for b)
 is_made Pending other = absurd (other refl)
@@ -210,61 +200,29 @@ module _ (asked : Recorder) (n : ℕ) (is_asked : IsAsked asked n) where
   settled_low mid over (inr (two, is, ok)) =
       let c = ap (λ (x : Recorder). x.condition) is in omega (arith, c)
 
-  -- there are at most six effects
-  few : (r : Recorder) (action : Action) (over : Option Bool) → IsWithin asked Done r over
-      → GoesOn r r (Ok (Some action)) → come r ≤ 10
-  few r (Perform effect) over (inl (one, is, none)) (some, less, rest, same, saves, x, next) =
-      let number = few_effects r effect next.3 in
-      let task = ap (λ (x : Recorder). x.task) is in omega (arith, number, task, one)
-  few r (WriteBlock at len) over (inl (one, is, none)) goes =
-      absurd (let task = ap (λ (x : Recorder). x.task) is in omega (arith, goes.0, task, one))
-  few r (Cut at) over (inl (one, is, none)) goes =
-      absurd (let rest = ap (λ (x : Recorder). x.has_rest) is in omega (arith, goes.1, rest, is_asked.2))
-  few r (Read at len) over within goes = absurd goes
-  few r action over (inr (inl (two, never, is, none))) goes = cc
-  few r action over (inr (inr (inl (two, is, none)))) goes =
-      let number = ap (λ (x : Recorder). x.number) is in
-      let task = ap (λ (x : Recorder). x.task) is in omega (arith, number, task, is_asked.0)
-  few r action over (inr (inr (inr (two, is, lost)))) goes =
-      let number = ap (λ (x : Recorder). x.number) is in
-      let task = ap (λ (x : Recorder). x.task) is in omega (arith, number, task, is_asked.0)
-
   module _ (report : Report) (before after : Option Bool → Recorder → Type 0) (does : Action → Type 0)
       (laws : Laws asked report before after does) where
     -- what is known once the action is reported
     abbrev After : Recorder → Result (Unit {0}) RecorderError → Recorder → Type 0
     After r (Ok x) mid = (over : Option Bool) × IsSettled asked mid over × after over mid
-        × ((mid.task ≡ 0) ⊎ (come r + step_of report ≤ come mid))
     After r (Err error) mid = (mid.number ≡ 0) × after (Some false) mid
 
-    effect_over : (outcome : Result (Unit {0}) RecorderError) (r mid : Recorder) → step_of report ≡ 1 → asked.task ≡ 1
+    effect_over : (outcome : Result (Unit {0}) RecorderError) (r mid : Recorder) → asked.task ≡ 1
         → r ≡ record asked { number = r.number } → Shape outcome r mid → after (reported_as outcome) mid → After r outcome mid
-    effect_over (Ok x) r mid step one is shaped known =
-        let number : mid.number ≡ r.number + 1 = ap (λ (x : Recorder). x.number) shaped in
-        let task : mid.task ≡ r.task = ap (λ (x : Recorder). x.task) shaped in (
+    effect_over (Ok x) r mid one is shaped known =
+        let number : mid.number ≡ r.number + 1 = ap (λ (x : Recorder). x.number) shaped in (
           None,
           inl (inl (one, shaped ∙ (λ i. record (is i) { number = sym number i }), refl)),
           known,
-          inr (omega (arith, step, number, task)),
         )
-    effect_over (Err error) r mid step one is shaped known = (shaped, known)
+    effect_over (Err error) r mid one is shaped known = (shaped, known)
 
-    block_over : (b : Bool) (outcome : Result (Unit {0}) RecorderError) (r mid : Recorder) → step_of report ≡ 1
+    block_over : (b : Bool) (outcome : Result (Unit {0}) RecorderError) (r mid : Recorder)
         → asked.task ≡ 2 → r ≡ record asked { task = 3 }
         → outcome ≡ Ok tt → Wrote b mid → after (Some b) mid → After r outcome mid
-    block_over true outcome r mid step two at ok is known =
-        rw ok (Some true, inr (two, is, refl), known, inl (ap (λ (x : Recorder). x.task) is))
-    block_over false outcome r mid step two at ok is known =
-        let number = ap (λ (x : Recorder). x.number) is in
-        let task = ap (λ (x : Recorder). x.task) is in
-        let before_number = ap (λ (x : Recorder). x.number) at in
-        let before_task = ap (λ (x : Recorder). x.task) at in
-        rw ok (
-          Some false,
-          inl (inr (inr (inr (two, is, refl)))),
-          known,
-          inr (omega (arith, step, number, task, before_number, before_task)),
-        )
+    block_over true outcome r mid two at ok is known = rw ok (Some true, inr (two, is, refl), known)
+    block_over false outcome r mid two at ok is known =
+        rw ok (Some false, inl (inr (inr (inr (two, is, refl)))), known)
 
     cut_over : (b : Bool) (r mid : Recorder) (outcome : Result (Unit {0}) RecorderError) → r.task ≡ 4
         → 0 < r.has_rest → r.number ≡ 0 → HasEnded b r mid outcome → after (Some false) mid → After r outcome mid
@@ -280,7 +238,7 @@ module _ (asked : Recorder) (n : ℕ) (is_asked : IsAsked asked n) where
         (outcome : Result (Unit {0}) RecorderError) (action : Action) → IsWithin asked report r over → before over r
         → GoesOn r r (Ok (Some action)) → does action → HasEnded b r mid outcome → Settles report r mid outcome → After r outcome mid
     over_by b reported r mid over outcome (Perform effect) (inl (one, is, none)) known goes did ended settles =
-        effect_over outcome r mid (one_step b report reported) one is
+        effect_over outcome r mid one is
         (shape b r mid effect outcome (rw is one) (rw is is_asked.2) goes ended)
         (laws.performed r mid effect outcome one (subst (λ o. before o r) none known) goes did settles)
     over_by b reported r mid over outcome (WriteBlock at len) (inl (one, is, none)) known goes did ended settles =
@@ -292,7 +250,7 @@ module _ (asked : Recorder) (n : ℕ) (is_asked : IsAsked asked n) where
         absurd (not_pending b (sym reported ∙ pending))
     over_by b reported r mid over outcome (WriteBlock at len) (inr (inr (inl (two, is, none)))) known goes did ended settles =
         let (ok, wrote, place) = block_ended b r mid at len outcome two is goes ended in
-        block_over b outcome r mid (one_step b report reported) two is ok wrote
+        block_over b outcome r mid two is ok wrote
         (laws.wrote b r mid at len outcome two reported (subst (λ o. before o r) none known) is place did ended)
     over_by b reported r mid over outcome (Perform effect) (inr (inr (inl (two, is, none)))) known goes did ended settles =
         absurd (let task = ap (λ (x : Recorder). x.task) is in omega (arith, goes.1, task))
@@ -319,20 +277,19 @@ module _ (asked : Recorder) (n : ℕ) (is_asked : IsAsked asked n) where
           over,
           inl (subst (λ x. IsWithin asked x r over) pending within),
           laws.same pending over r known,
-          inr (let none = ap step_of pending in omega (arith, none)),
         )
 
     -- what was requested continues
     abbrev pub OnWith : Recorder → Recorder → Action → Type 0
     OnWith mid r action = (over : Option Bool) × ((next : Report) → IsWithin asked next r over) × after over r
-        × GoesOn r r (Ok (Some action)) × (come mid ≤ come r)
+        × GoesOn r r (Ok (Some action))
 
     handed_on : (mid r saved : Recorder) (at len : ℕ) → asked.task ≡ 2
         → record saved { task = 3 } ≡ record asked { task = 3 } → Places saved mid.samples (Ok at)
-        → mid.samples ≡ asked.samples → mid.number ≡ asked.number → mid.task ≤ 3
+        → mid.samples ≡ asked.samples
         → len ≡ mid.samples * saved.bytes_per_sample
         → r ≡ record saved { task = 3 } → after None r → OnWith mid r (WriteBlock at len)
-    handed_on mid r saved at len two same there samples number few long is known =
+    handed_on mid r saved at len two same there samples long is known =
         let x : Recorder = record asked { task = 3 } in
         let this : r ≡ x = is ∙ same in
         let place : at ≡ asked.data_start + asked.data_length =
@@ -340,22 +297,19 @@ module _ (asked : Recorder) (n : ℕ) (is_asked : IsAsked asked n) where
         let all : len ≡ asked.samples * asked.bytes_per_sample =
         long ∙ (λ i. samples i * (same i).bytes_per_sample) in
         let has : HasData asked (length_with asked asked.samples) =
-        subst (λ (x : Recorder × ℕ). HasData x.0 (length_with x.0 x.1)) (λ i. (same i, samples i)) there.2 in
-        let is_number = ap (λ (x : Recorder). x.number) this in
-        let is_task = ap (λ (x : Recorder). x.task) this in (
+        subst (λ (x : Recorder × ℕ). HasData x.0 (length_with x.0 x.1)) (λ i. (same i, samples i)) there.2 in (
           None,
           (λ _. inr (inr (inl (two, this, refl)))),
           known,
           subst (λ r. GoesOn r r (Ok (Some (WriteBlock at len)))) (sym this)
               (omega arith, is_asked.2, x, inl (inl (omega arith), refl), (is_clean two, is_asked.0, has, place), all, refl),
-          omega (arith, few, number, is_number, is_task),
         )
 
     pub goes_on : (mid r : Recorder) (over : Option Bool) (action : Action) → IsSettled asked mid over → after over mid
         → GoesOn mid r (Ok (Some action)) → OnWith mid r action
     goes_on mid r over (Read at len) settled known goes = absurd goes
     goes_on mid r over (Perform effect) (inl (inl (one, is, none))) known (some, few, rest, same, saves, x, next) =
-        rw same (over, (λ _. inl (one, is, none)), known, (some, few, rest, refl, saves, x, next), omega arith)
+        rw same (over, (λ _. inl (one, is, none)), known, (some, few, rest, refl, saves, x, next))
     goes_on mid r over (WriteBlock at len) (inl (inl (one, is, none))) known goes =
         absurd (let task = ap (λ (x : Recorder). x.task) is in omega (arith, goes.0, task, one))
     goes_on mid r over (Cut at) (inl (inl (one, is, none))) known goes =
@@ -367,9 +321,7 @@ module _ (asked : Recorder) (n : ℕ) (is_asked : IsAsked asked n) where
         omega (arith, more, number, condition, is_asked.0, is_clean two))
     goes_on mid r over (WriteBlock at len) (inl (inr (inl (two, p, is, none)))) known (some, rest, saved, how, places, long, same) =
         let number : mid.number ≡ asked.number = ap (λ (x : Recorder). x.number) is in
-        let task : mid.task ≡ asked.task = ap (λ (x : Recorder). x.task) is in
-        handed_on mid r saved at len two (as_asked how) places (ap (λ (x : Recorder). x.samples) is) number
-        (omega (arith, task, two)) long same
+        handed_on mid r saved at len two (as_asked how) places (ap (λ (x : Recorder). x.samples) is) long same
         (laws.handed mid r at len (number ∙ is_asked.0) (subst (λ o. after o mid) none known)
         (some, rest, saved, how, places, long, same))
       where
@@ -385,8 +337,7 @@ module _ (asked : Recorder) (n : ℕ) (is_asked : IsAsked asked n) where
     goes_on mid r over (WriteBlock at len) (inl (inr (inr (inl (two, is, none))))) known (some, rest, saved, how, places, long, same) =
         let number : mid.number ≡ asked.number = ap (λ (x : Recorder). x.number) is in
         let task : mid.task ≡ 3 = ap (λ (x : Recorder). x.task) is in
-        handed_on mid r saved at len two (as_asked task how) places (ap (λ (x : Recorder). x.samples) is) number
-        (omega (arith, task)) long same
+        handed_on mid r saved at len two (as_asked task how) places (ap (λ (x : Recorder). x.samples) is) long same
         (laws.handed mid r at len (number ∙ is_asked.0) (subst (λ o. after o mid) none known)
         (some, rest, saved, how, places, long, same))
       where
@@ -396,7 +347,7 @@ module _ (asked : Recorder) (n : ℕ) (is_asked : IsAsked asked n) where
     goes_on mid r over (Cut at) (inl (inr (inr (inl (two, is, none))))) known goes =
         absurd (let rest = ap (λ (x : Recorder). x.has_rest) is in omega (arith, goes.1, rest, is_asked.2))
     goes_on mid r over (Cut at) (inl (inr (inr (inr (two, is, lost))))) known (some, rest, same, place) =
-        rw same (over, (λ _. inr (inr (inr (two, is, lost)))), known, (some, rest, refl, place), omega arith)
+        rw same (over, (λ _. inr (inr (inr (two, is, lost)))), known, (some, rest, refl, place))
     goes_on mid r over (Perform effect) (inl (inr (inr (inr (two, is, lost))))) known goes =
         absurd (let rest = ap (λ (x : Recorder). x.has_rest) is in omega (arith, goes.2, rest))
     goes_on mid r over (WriteBlock at len) (inl (inr (inr (inr (two, is, lost))))) known goes =
@@ -451,18 +402,15 @@ module _ (asked : Recorder) (n : ℕ) (is_asked : IsAsked asked n) where
     pub next_some : (r new : Recorder) (over : Option Bool) (action : Action) → IsWithin asked report r over
         → before over r → HasAction report does r → Advances report r new (Ok (Some action))
         → (over : Option Bool) × ((next : Report) → IsWithin asked next new over) × after over new
-        × GoesOn new new (Ok (Some action)) × (come r + step_of report ≤ come new) × (come new ≤ 10)
+        × GoesOn new new (Ok (Some action))
     next_some r new over action within known has (mid, outcome, settles, on) =
         by outcome (settled r mid over outcome within known has settles) on
       where
         by : (outcome : Result (Unit {0}) RecorderError) → After r outcome mid → ThenGoesOn outcome mid new (Ok (Some action))
             → (over : Option Bool) × ((next : Report) → IsWithin asked next new over) × after over new
-            × GoesOn new new (Ok (Some action)) × (come r + step_of report ≤ come new) × (come new ≤ 10)
+            × GoesOn new new (Ok (Some action))
         by (Ok x) k (inr (_, never, _)) = cc
-        by (Ok x) (o, where_is, known, inl idle) (inl (_, on)) = absurd (let some = busy mid new action on in omega (arith, some, idle))
-        by (Ok x) (o, where_is, known, inr grows) (inl (_, on)) =
-            let (o, w, k, goes, more) = goes_on mid new o action where_is known on in
-            (o, w, k, goes, omega (arith, grows, more), few new action o (w Done) goes)
+        by (Ok x) (o, where_is, known) (inl (_, on)) = goes_on mid new o action where_is known on
         by (Err error) k (never, _) = cc
 
     pub next_none : (r new : Recorder) (over : Option Bool) → IsWithin asked report r over → before over r
@@ -473,7 +421,7 @@ module _ (asked : Recorder) (n : ℕ) (is_asked : IsAsked asked n) where
       where
         by : (outcome : Result (Unit {0}) RecorderError) → After r outcome mid → ThenGoesOn outcome mid new (Ok None)
             → (new ≡ once_done asked) × after (Some true) new
-        by (Ok x) (o, where_is, known, grows) (inl (_, on)) = finished mid new o where_is known on
+        by (Ok x) (o, where_is, known) (inl (_, on)) = finished mid new o where_is known on
         by (Ok x) k (inr (_, never, _)) = cc
         by (Err error) k (never, _) = cc
 
@@ -486,8 +434,8 @@ module _ (asked : Recorder) (n : ℕ) (is_asked : IsAsked asked n) where
       where
         by : (outcome : Result (Unit {0}) RecorderError) → After r outcome mid → ThenGoesOn outcome mid new (Err error)
             → (new.number ≡ 0) × after (Some false) new
-        by (Ok x) (o, where_is, known, grows) (inl (low, on)) = absurd (failed o mid known low on)
-        by (Ok x) (o, where_is, known, grows) (inr (high, _, _)) =
+        by (Ok x) (o, where_is, known) (inl (low, on)) = absurd (failed o mid known low on)
+        by (Ok x) (o, where_is, known) (inr (high, _, _)) =
             absurd (let low = settled_low mid o where_is in omega (arith, low, high))
         by (Err other) (none, known) (is, same) = rw same (none, known)
 

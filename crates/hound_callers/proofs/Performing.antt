@@ -51,18 +51,18 @@ not_taken r new block error whole ready (end, gives, takes) =
     by : (error : RecorderError) → TakesBlock (length block.now / r.bytes_per_sample) r new (Err error)
         → (new ≡ r) × IsRejected r block
     by SyncFailed (same, high) = absurd (omega (arith, high, ready.1))
-    by UnfinishedFrame (same, inl none) = absurd (let some = ready.5 in omega (arith, some, none))
-    by UnfinishedFrame (same, inr torn) = (same, inr (inl torn))
-    by TooLong (same, (clean, none, long)) =
+    by UnfinishedFrame (same, alive, inl none) = absurd (let some = ready.5 in omega (arith, some, none))
+    by UnfinishedFrame (same, alive, inr torn) = (same, inr (inl torn))
+    by TooLong (same, alive, (clean, none, long)) =
         let size : length_with r (length block.now / r.bytes_per_sample) ≡ r.data_length + length block.now =
         omega (arith, whole_samples (length block.now) r.bytes_per_sample whole) in
         (same, inr (inr (rw size at long)))
-    by NotWritable (same, (clean, none, inl low)) = absurd (let start = ready.4 in omega (arith, start, low))
-    by NotWritable (same, (clean, none, inr thin)) = absurd (let wide = ready.6 in omega (arith, wide, thin))
-    by NeedsCheckpoint (same, (low, some)) = absurd (omega (arith, some))
-    by Truncated (same, (clean, none, never)) = absurd never
-    by CutOff (same, (clean, none, never)) = absurd never
-    by HasChunksAfterData (same, (clean, none, never)) = absurd never
+    by NotWritable (same, alive, (clean, none, inl low)) = absurd (let start = ready.4 in omega (arith, start, low))
+    by NotWritable (same, alive, (clean, none, inr thin)) = absurd (let wide = ready.6 in omega (arith, wide, thin))
+    by NeedsCheckpoint (same, alive, (low, some)) = absurd (omega (arith, some))
+    by Truncated (same, alive, (clean, none, never)) = absurd never
+    by CutOff (same, alive, (clean, none, never)) = absurd never
+    by HasChunksAfterData (same, alive, (clean, none, never)) = absurd never
 
 -- what holds at an Ok, or at an Err
 pub on_ok : {T E P : Type 0} (r : Result T E) → (is_ok r ≡ true → P) → OnOk r P

@@ -1,5 +1,5 @@
 -- Actions that are performed again until their end is reported.
-use Rattle.std.proofs.Common.{List, [], ◌∷◌, length, is_ok, ◌≡◌, ◌⊎◌, ◌<◌, ◌≤◌, ◌+◌, ◌-◌, ◌*◌, ℕ, Bool, true, false, inl, inr, Option, None, Some, Result, Ok, Err, refl, sym, ◌∙◌, ap, subst, arith}
+use Rattle.std.proofs.Common.{List, [], ◌∷◌, length, is_ok, ◌≡◌, ◌⊎◌, ◌<◌, ◌≤◌, ◌+◌, ◌-◌, ◌*◌, ℕ, Bool, true, false, inl, inr, Option, None, Some, Result, Ok, Err, refl, sym, ◌∙◌, ap, subst, arith, zero, suc}
 use Rattle.std.specs.Prelude.{⊤}
 use Rattle.std.specs.declared.io.Error.{Error as IoFault}
 use Rattle.hound.specs.{Action, Advances, AreBytes, Begun, Directed, Effect, Flushes, Known, WavSpecEx, GoesOn, IsSaid, IsSaved, Log, MediumState, NextEffect, PutsAt, Recorder, RecorderError, Repeats, Report, Settles, bytes_of, ThenGoesOn, written_first}
@@ -174,7 +174,7 @@ module _ (laws : Again) (block : List ℕ) where
       by (inl on) = absurd (goes_none r new a goes on)
       by (inr (_, never)) = cc
 
-  -- no effect and no block is asked for once a sync has failed, and a cut writes nothing
+  -- no effect and no block is requested once a sync has failed, and a cut writes nothing
   nothing_tried : (r : Recorder) (a : Action) (m now : MediumState) → 1 < r.condition → GoesOn r r (Ok (Some a))
       → Tried a block m now → Repeats m now
   nothing_tried r (Perform e) m now high (_, _, _, _, _, after, next) was = absurd (let low = next.0 in omega (arith, low, high))
@@ -234,8 +234,15 @@ has_action report r action goes = by (pending_or_made report)
     by (inr (b, is)) = inr (b, is, action, goes, tt)
 
 -- each turn comes closer to the end, or uses up one of the reports that may be lost
-pub smaller : (is_lost : Bool) (from to reported now made after all : ℕ) → from + reported ≤ to → to ≤ 10 → reported ≤ 1
-    → (is_lost ≡ true → after ≡ made + 1) → made ≤ after → after ≤ all → (is_lost ≡ false → now ≡ 1)
-    → 2 * (10 - to) + (1 - now) + 2 * (all - after) < 2 * (10 - from) + (1 - reported) + 2 * (all - made)
-smaller true from to reported now made after all more far low counted grows within kept = omega (arith, counted refl, more, far, low, within)
-smaller false from to reported now made after all more far low counted grows within kept = omega (arith, kept refl, more, far, low, grows, within)
+pub smaller : (is_lost : Bool) (left after reported now made more all : ℕ)
+    → (reported ≡ 0 → after ≤ left) → (reported ≡ 1 → after < left) → reported ≤ 1
+    → (is_lost ≡ true → more ≡ made + 1) → made ≤ more → more ≤ all → (is_lost ≡ false → now ≡ 1)
+    → 2 * after + (1 - now) + 2 * (all - more) < 2 * left + (1 - reported) + 2 * (all - made)
+smaller true left after zero now made more all again next few counted grows within kept =
+    omega (arith, counted refl, again refl, within)
+smaller true left after (suc n) now made more all again next few counted grows within kept =
+    omega (arith, counted refl, next (omega (arith, few)), few, within)
+smaller false left after zero now made more all again next few counted grows within kept =
+    omega (arith, kept refl, again refl, grows, within)
+smaller false left after (suc n) now made more all again next few counted grows within kept =
+    omega (arith, kept refl, next (omega (arith, few)), few, grows, within)

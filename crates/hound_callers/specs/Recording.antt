@@ -1,5 +1,5 @@
 -- What a recorder asks of its writer, and what it sees; the checkpoints of a session.
-use Rattle.std.specs.Prelude.{◌≡◌, ◌⊎◌, ℕ, suc, ◌-◌, ◌*◌, ◌/◌, ◌%◌, ◌==◌, Bool, true, false, ⊤, List, [], ◌∷◌, ◌++◌, Option, None, Some, Result, Ok, Err, IsOk, ◌<◌, ◌≤◌, drop, length, take}
+use Rattle.std.specs.Prelude.{◌≡◌, ◌⊎◌, ℕ, suc, ◌-◌, ◌*◌, ◌/◌, ◌%◌, ◌==◌, Bool, true, false, List, [], ◌∷◌, ◌++◌, Option, None, Some, Result, Ok, Err, IsOk, ◌<◌, ◌≤◌, drop, length, take}
 use Rattle.std.specs.Borrow.{Bor}
 use Rattle.std.specs.List.{All, flat_map}
 use Rattle.hound.specs.{Ghosts, Accepts, AreKnown, Asked, Begun, Call, Checkpoints, Error, HasPublished, HasRoom, IsFoundAt, IsWhole, KeptWithin, Known, MediumState, ReadsAs, Rejection, Repair, Repairs, SurvivesLoss, WavSpecEx, WriterState, accepted_samples, containers_in, accepted_by_all, found_in, frame_length, if_marked, made, marked, moment, publish, seen, start_of, write}

@@ -8,8 +8,8 @@ ghost use Rattle.hound_callers.specs.Recording.{published_calls};
 
 use hound::{
     Action, Effect, Error, FoundFile, Medium, Recorder, RecorderError, RepairState, Report,
-    WavReader, WavSpecEx, a_recorder_directs, a_recording_is_kept, an_effect_may_be_repeated,
-    header_of, put_all, put_all_at,
+    WavReader, WavSpecEx, a_recorder_directs, a_recording_is_kept, a_request_ends,
+    an_effect_may_be_repeated, header_of, put_all, put_all_at,
 };
 use std::{io, result};
 
@@ -98,6 +98,7 @@ fn perform_all<M: Medium>(
         → PerformsAll recorder.old start result (M.state medium.new)) }
 {
     a_recorder_directs();
+    a_request_ends();
     an_effect_may_be_repeated();
     let mut report = Report::Pending;
     while let Some(action) = recorder.next(report)? {

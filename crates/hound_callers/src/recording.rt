@@ -2,6 +2,7 @@
 ghost use Rattle.std.specs.Prelude.{◌≡◌, ◌⊎◌, ◌-◌, ◌/◌, ◌<◌, ◌≤◌, ℕ, Bool, false, true, List, ◌∷◌, ◌++◌, [], Err, Ok, Result, MatchResult, is_ok, IsFalse, IsOk, IfOk, IfErr, IsErrAnd, IsTrue, OnErr, OnOk, drop, length, map, replicate, take};
 ghost use Rattle.std.specs.List.{All, concat};
 ghost use Rattle.hound.specs.{Accepts, AcceptsBytes, AreKnown, Asked, Begins, ReadsAs, IsSameFile, Takes, Checkpoints, Error, Finishes, accepted_as_seen, field, found_in, start_of, i16_bytes, whole_containers, IsNotBegun, MediumState, Repair, Repairs, SurvivesLoss, Begun, Call, Known, Left, Recorded, returned, made, marked, new_file, publish, seen, write, int_container, Around, within, Kept, KeptWithin, accepted_by_all, canonical, data_start, AcceptsEach, Ascends, WritesToBatch, containers_in, fits, remaining, signed_bytes_of, ReadsFrames, IsSixteen, Ran, asked_by, containers_of, WhereKeeps, WhereTells, WriterState, IsWhole, accepted_samples, data_length, WavSpecEx};
+ghost use Rattle.hound.specs.declared.RepairState.TheVariants.{HasChunksAfterData};
 ghost use Rattle.hound.specs.declared.session.Begin.TheVariants.{New};
 ghost use Rattle.hound.specs.declared.session.End.TheVariants.{Drop, Finalize};
 ghost use Rattle.hound.specs.declared.session.Step.TheVariants.{Whole};
@@ -117,7 +118,8 @@ fn publish_blocks<S: Sample + Copy, M: Medium>(writer: &mut WavWriter<M>, blocks
 /// of the next block, if there is one, which didn't, and the end. One of these flushes has published exactly the
 /// samples of the blocks, if there are some; and whatever sectors keep what was written since the medium was
 /// flushed, what is left counts, and has lost no sample that a flush has published (`published`). Once that is
-/// repaired, the samples of these blocks are read first, as many as whole frames have (`safe`).
+/// repaired, the samples of these blocks are read first, as many as whole frames have, unless a repair that looks
+/// for chunks finds some (`safe`).
 ///
 /// The medium must be new: its place is 0, and nothing has been written to it yet.
 pub fn record_checkpoints<S: Sample + Copy, M: Source + Medium>(
@@ -135,11 +137,11 @@ pub fn record_checkpoints<S: Sample + Copy, M: Source + Medium>(
         (new_file (durable.state first)) blocks.now done.1 last (within last)))) }
     ensures safe { IfOk result (λ done. WhereKeeps M.tells M.keeps (0 < done.1 → (list : List (List ℕ))
         × HaveContainers (containers_by S.container spec_ex) (take done.1 blocks.now) list
-        × ((sector : ℕ) (cut mended : MediumState) (found : Repair) → 1 ≤ sector
+        × ((looks : Bool) (sector : ℕ) (cut mended : MediumState) (found : Repair) → 1 ≤ sector
         → (data_start spec_ex - 4) / sector ≡ (data_start spec_ex - 1) / sector
         → (let s = M.state done.0 in
         SurvivesLoss sector s.start s.past s.flushed (length s.past) cut.contents)
-        → Repairs false cut found mended →
+        → Repairs looks cut found mended → (IsTrue looks → found.state ≡ HasChunksAfterData → ⊥) →
         (found.spec_ex ≡ spec_ex) × ReadsFrames found (data_start spec_ex) list mended.contents))) }
     ensures rejected { IfErr result (λ rejected. Around (M.state medium) (M.state rejected.0) (λ first last.
         IsNotBegun (⟦<Durable<M> as Placed>⟧) spec_ex first last rejected.1)) }

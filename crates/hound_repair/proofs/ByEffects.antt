@@ -6,7 +6,7 @@ use Rattle.hound_number.specs.{AreBytes}
 use Rattle.hound_spec.specs.declared.error.Error.{Error}
 use Rattle.hound_spec.specs.declared.error.Error.TheVariants.{IoError}
 use Rattle.hound_medium.specs.{MediumState, moment, one_more, overlay}
-use Rattle.hound_writer.specs.{IsIoError, PutsNothing}
+use Rattle.hound_writer.specs.{PutsNothing}
 use Rattle.hound_writer.proofs.Heads.{head_beyond, head_inside}
 use Rattle.hound_repair.specs.Damages.{FindsDamage, IsSoundDamage, repair_of}
 use Rattle.hound_repair.specs.Held.{held}

@@ -19,7 +19,6 @@ use Rattle.hound_spec.specs.declared.error.Error.{Error}
 use Rattle.hound_repair.specs.Repairing.{IsNoPad, IsRepairFault, LeavesFor, ReadsFrames, Repairs, repair_fault}
 use Rattle.hound_repair.specs.Steps.{IsNotRepaired, LeavesPartly}
 use Rattle.hound_repair.specs.declared.sizes.Repair.{Repair}
-use Rattle.hound_writer.specs.declared.resuming.RepairState.{RepairState}
 use Rattle.hound_writer.specs.declared.resuming.RepairState.TheVariants.{HasChunksAfterData}
 use Rattle.hound_repair.proofs.Again.{uncounted_cases}
 use Rattle.hound_repair.proofs.Joining.{AreWide, concat_front, wide_take}

@@ -1,20 +1,12 @@
 -- What a head is found as, by what the file holds.
-use Rattle.std.proofs.lemmas.Grind.{common_steps}
-use Rattle.std.proofs.Common.{◌≡◌, ℕ, ◌+◌, ◌<◌, true, false, List, Option, Some, Err, inl, inr, refl, sym, ◌∙◌, arith}
+use Rattle.std.proofs.Common.{◌≡◌, ℕ, ◌+◌, ◌<◌, true, false, Some, arith}
 use Rattle.std.proofs.lemmas.Bool.Decides.{nat_tests}
-use Rattle.hound_spec.specs.declared.error.Error.{Error}
 use Rattle.hound_spec.specs.declared.spec.WavSpecEx.{WavSpecEx}
 use Rattle.hound_spec.specs.{is_pair}
-use Rattle.hound_walk.specs.declared.cause.Cause.{Cause}
 use Rattle.hound_walk.specs.declared.cause.Cause.TheVariants.{Unsupported}
-use Rattle.hound_walk.specs.declared.chunks.FileHead.{FileHead}
-use Rattle.hound_walk.specs.{Head}
-use Rattle.hound_walk.proofs.Unique.{head_no_fault, heads_agree}
-use Rattle.hound_writer.specs.{AppendFault, by_bytes, FailsCheck, NamesFault, too_long}
-use Rattle.hound_repair.specs.Held.{data_held, ends_with_pad, held, shown_length}
-use Rattle.hound_repair.specs.Repairing.{IsRepairFault, repair_fault, size_fault}
-use Rattle.hound_repair.specs.declared.steps.Rejection.{Rejection}
-use Rattle.hound_repair.specs.declared.steps.Rejection.TheVariants as rejections
+use Rattle.hound_writer.specs.{by_bytes}
+use Rattle.hound_repair.specs.Held.{data_held, ends_with_pad}
+use Rattle.hound_repair.specs.Repairing.{repair_fault, size_fault}
 
 -- where two bytes and more follow the data length all that is held is data
 pub no_pad : (f len n : ℕ) → len + 1 < n → data_held f len n ≡ n

@@ -1,7 +1,7 @@
 -- What the effects of a repair leave, wherever they stop.
 use Rattle.std.proofs.lemmas.Grind.{common_steps}
-use Rattle.std.proofs.Common.{◌≡◌, ℕ, ◌+◌, ◌-◌, ◌/◌, ◌^◌, ◌≤◌, ◌<◌, Bool, List, None, Some, zero, suc, true, [], ◌∷◌, ◌++◌, length, take, drop, inl, Result, Ok, Err, refl, sym, ap, ◌∙◌, subst, arith, append-nil, append_assoc, length-append, length-drop, length-take}
-use Rattle.std.proofs.lemmas.List.{drop-append-le, take-append-le, take-take, take_at}
+use Rattle.std.proofs.Common.{◌≡◌, ℕ, ◌+◌, ◌-◌, ◌/◌, ◌^◌, ◌≤◌, ◌<◌, Bool, List, None, Some, zero, suc, true, [], ◌∷◌, ◌++◌, length, take, drop, inl, Result, Ok, Err, refl, sym, ap, ◌∙◌, subst, arith, append-nil, length-drop, length-take}
+use Rattle.std.proofs.lemmas.List.{take-take}
 use Rattle.std.specs.declared.io.Error.{Error as IoFault}
 use Rattle.hound_number.specs.{AreBytes, bytes_of, mix}
 use Rattle.hound_number.proofs.Mixing.{mix_all, mix_none}

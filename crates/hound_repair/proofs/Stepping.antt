@@ -5,7 +5,6 @@ use Rattle.std.proofs.lemmas.Bool.{cases_lt}
 use Rattle.std.proofs.lemmas.List.{take-append-le, take-take, take_all, drop-drop}
 use Rattle.std.specs.Result.{is_ok, result_unwrap_or}
 use Rattle.std.specs.Prelude.{MatchResult, bytes_eq, codes, slice_index, if◌then◌else◌}
-use Rattle.hound_spec.specs.declared.error.Error.{Error}
 use Rattle.hound_spec.specs.declared.spec.WavSpecEx.{WavSpecEx}
 use Rattle.std.proofs.lemmas.Bool.Decides.{nat_tests}
 use Rattle.std.proofs.Math.Nat.{le-mul_of_pos_right, lt-div-mul-add}
@@ -22,7 +21,7 @@ use Rattle.hound_repair.specs.declared.look.Damage.{Damage}
 use Rattle.hound_repair.specs.declared.steps.LookStep.TheVariants.{Found}
 use Rattle.hound_repair.specs.declared.steps.Stage.TheVariants as stages
 use Rattle.hound_repair.specs.Damages.{IsSoundDamage, shown_of}
-use Rattle.hound_writer.specs.{AppendFault, FailsCheck, field, too_long}
+use Rattle.hound_writer.specs.{field, too_long}
 use Rattle.hound_writer.proofs.Heads.{head_inside}
 use Rattle.hound_repair.proofs.Measuring.{written}
 use Rattle.hound_repair.proofs.Chunking.{chunk_then, known_chunk, no_chunk, none_left, tag_is}

@@ -1,11 +1,11 @@
 -- What the private parts of a repair find and do, and what a repair of a file in memory leaves.
-use Rattle.std.specs.Prelude.{◌≡◌, ℕ, ◌+◌, ◌≤◌, ◌^◌, Bool, not, false, [], ◌∷◌, length, take, Some, true, List, drop, Option, None, if◌then◌else◌}
+use Rattle.std.specs.Prelude.{◌≡◌, ℕ, ◌+◌, ◌≤◌, ◌^◌, Bool, not, [], ◌∷◌, length, take, true, List, drop, if◌then◌else◌}
 use Rattle.hound_spec.specs.{riff_size}
 use Rattle.hound_medium.specs.{MediumState, unknown}
 use Rattle.hound_walk.specs.{IsDataPlace, IsSoundSpec}
-use Rattle.hound_writer.specs.{AppendFault, PutsNothing, by_bytes, too_long}
-use Rattle.hound_repair.specs.Held.{frames_held, held, right_length, shown_length, torn_bytes, missing_pad}
-use Rattle.hound_repair.specs.Repairing.{IsFoundAt, frames_found, is_mended, repair_fault, torn_found, Repairs, found_length}
+use Rattle.hound_writer.specs.{PutsNothing}
+use Rattle.hound_repair.specs.Held.{frames_held, held, right_length, torn_bytes, missing_pad}
+use Rattle.hound_repair.specs.Repairing.{IsFoundAt, frames_found, is_mended, torn_found, Repairs, found_length}
 use Rattle.hound_repair.specs.declared.look.Damage.{Damage}
 use Rattle.hound_repair.specs.declared.look.SeenHead.{SeenHead}
 use Rattle.hound_repair.specs.declared.sizes.Repair.{Repair}

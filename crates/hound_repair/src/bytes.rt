@@ -48,11 +48,13 @@ pub fn repair_bytes(bytes: &mut [u8], used: usize, task: Task, damage: Damage) -
     requires used { used ≤ length bytes.old }
     requires sound { IsSoundDamage damage }
     requires inside { damage.head.data_start + damage.held ≡ used }
-    ensures repairs { FindsDamage (looks_for_chunks task) (as_medium (take used bytes.old)) damage (as_medium (take used bytes.old))
+    ensures repairs { let file = as_medium (take used bytes.old) in
+        FindsDamage (looks_for_chunks task) file damage file
         → IfSome result (λ n. RepairsBytes (looks_for_chunks task) used n (repair_of damage) bytes.old bytes.new) }
     ensures within { IfSome result (λ n. n ≤ length bytes.old) }
     ensures kept { IfNone result (bytes.new ≡ bytes.old) }
-    ensures lacks { FindsDamage (looks_for_chunks task) (as_medium (take used bytes.old)) damage (as_medium (take used bytes.old))
+    ensures lacks { let file = as_medium (take used bytes.old) in
+        FindsDamage (looks_for_chunks task) file damage file
         → IfNone result (LacksRoom (looks_for_chunks task) used bytes.old) }
 {
     if !task.mends(damage.state) {

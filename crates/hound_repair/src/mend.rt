@@ -16,11 +16,11 @@ use std::result;
 ///
 /// Where both sizes are right, nothing is written. Where chunks or a tag follow the data, by the data
 /// length, it wasn't cut off ([`RepairState::HasChunksAfterData`]), nor where the data length counts all whole
-/// frames ([`RepairState::AllCounted`]): that is reported, and nothing is
-/// written ([`repair_to_end`] repairs it all the same). Else the two sizes become those of the whole
-/// frames from the data on: the medium is flushed, the RIFF size is written, then the data length, and last the pad byte where
-/// data of an odd length end with the file, each flushed. No other byte changes.
-/// All other bytes after the data are taken for samples.
+/// frames ([`RepairState::AllCounted`]): that is reported, and nothing is written ([`repair_to_end`] repairs
+/// it all the same). Else the two sizes become those of the whole frames from the data on: the medium is
+/// flushed, the RIFF size is written, then the data length, and last the pad byte where data of an odd
+/// length end with the file, each flushed. No other byte changes. All other bytes after the data are taken
+/// for samples.
 ///
 /// The errors, in their order: those of a reader's walk to the data, by the bytes; `Unsupported`,
 /// for samples that are not written with these bits, bytes and format; `TooLong`, where the RIFF

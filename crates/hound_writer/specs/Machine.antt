@@ -106,15 +106,16 @@ AsksForCheckpoint report old new = (end : Recorder) × Abandons report old end �
 abbrev pub saved_of : Recorder → Recorder
 saved_of r = record r { number = 0; condition = 0 }
 
--- a block of whole frames that has room is requested
+-- A block of whole frames that has room is requested. After a failed sync no other error is returned.
 abbrev pub TakesBlock : ℕ → Recorder → Recorder → Result (Unit {0}) RecorderError → Type 0
 TakesBlock samples end new (Ok x) = (end.condition ≤ 1) × (1 ≤ end.channels) × (samples % end.channels ≡ 0)
     × ((place : ℕ) × Places (saved_of end) samples (Ok place))
     × (new ≡ record end { samples = samples; task = 2 })
 TakesBlock samples end new (Err SyncFailed) = (new ≡ end) × (1 < end.condition)
-TakesBlock samples end new (Err UnfinishedFrame) = (new ≡ end)
+TakesBlock samples end new (Err UnfinishedFrame) = (new ≡ end) × (end.condition ≤ 1)
     × ((end.channels ≡ 0) ⊎ (samples % end.channels ≡ 0 → ⊥))
-TakesBlock samples end new (Err error) = (new ≡ end) × Places (saved_of end) samples (Err error)
+TakesBlock samples end new (Err error) = (new ≡ end) × (end.condition ≤ 1)
+    × Places (saved_of end) samples (Err error)
 
 -- what the call for a block does
 abbrev pub AsksForBlock : Report → ℕ → Recorder → Recorder → Result (Unit {0}) RecorderError → Type 0

@@ -133,8 +133,8 @@ pub fn an_effect_may_be_repeated()
         → SurvivesLoss sector once.start once.past (r.state f) (r.state k) contents }
 {}
 
-/// What a cut leaves agrees up to its place with what was there (`cut`), and it still does once more is written
-/// before that place or after it (`written`): what is cut off, or isn't, is ignored until it is overwritten.
+/// What a cut leaves agrees up to its place with what was there (`cut`), and it still does once bytes are written
+/// that begin at that place or before it (`written`): what is cut off, or isn't, is ignored until it is overwritten.
 pub fn a_cut_is_ignored()
     ensures cut { (n : ℕ) (contents : List ℕ) → n ≤ length contents → AgreeTo n (take n contents) contents }
     ensures written { (n at : ℕ) (bytes cut : List ℕ) (old new : MediumState) (result : Result Unit IoFault)

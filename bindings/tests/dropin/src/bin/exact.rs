@@ -1,8 +1,9 @@
 //! Readers that give few bytes, fail, are interrupted or end, read by both crates: each call has the same answer and
-//! takes the same bytes.   exact COUNT
+//! takes the same bytes; but after a closure that panics the reader may have given more of them.   exact COUNT
 use dropin::{both, Blocks, Chooser, Tally};
 use std::cell::Cell;
 use std::io::{self, BufReader, Cursor, Read};
+use std::panic::{catch_unwind, set_hook, AssertUnwindSafe};
 use std::rc::Rc;
 
 /// Gives a few bytes at a time, as many as its place says, so that other pieces make no difference; and fails once at
@@ -32,6 +33,11 @@ impl Read for Unsteady {
     }
 }
 
+/// Whether closures panic in this history; it doesn't show then where the reader is.
+fn panics(seed: u64) -> bool {
+    seed % 4 == 1
+}
+
 const READERS: [&str; 9] = [
     "few bytes",
     "faults",
@@ -51,12 +57,25 @@ both! {
         sample.map_or_else(|error| format!("[{error}] "), |sample| sample.to_string() + " ")
     }
 
-    // One call of many: a block, an iterator's next, nth, take with a fold or a loop, a whole fold, collect.
+    // One call of many: a block, an iterator's next, nth, take with a fold or a loop, a whole fold, collect; and a fold
+    // whose closure panics.
     fn call<R: Read, S: original::Sample + package::Sample + Copy + Default + ToString>(
         reader: &mut WavReader<R>,
         chooser: &mut Chooser,
+        panics: bool,
     ) -> String {
         let some = chooser.below(9) as usize;
+        if panics && chooser.below(4) == 0 {
+            let mut seen = String::new();
+            let fold = AssertUnwindSafe(|| {
+                reader.samples::<S>().for_each(|sample| {
+                    seen += &show(sample);
+                    assert!(seen.len() < 20 * some, "the closure panics");
+                })
+            });
+            let has_panicked = catch_unwind(fold).is_err();
+            return format!("panics {has_panicked}: {seen}");
+        }
         if chooser.below(7) == 0 {
             let mut block = vec![S::default(); chooser.one_of(&[some, 15 + some, 5000])];
             let (count, result) = reader.block(&mut block);
@@ -92,19 +111,21 @@ both! {
     ) -> String {
         let mut chooser = Chooser::new(seed);
         let mut reader = reader;
+        let panics = panics(seed);
         let mut history = format!("{:?} {} ", reader.spec(), reader.len());
         let is_float = reader.spec().sample_format == SampleFormat::Float;
         for _ in 0..12 {
             history += &match chooser.below(9) {
-                0 => call::<R, i8>(&mut reader, &mut chooser),
-                1 | 2 => call::<R, i16>(&mut reader, &mut chooser),
-                3 => call::<R, f32>(&mut reader, &mut chooser),
-                _ if is_float => call::<R, f32>(&mut reader, &mut chooser),
-                _ => call::<R, i32>(&mut reader, &mut chooser),
+                0 => call::<R, i8>(&mut reader, &mut chooser, panics),
+                1 | 2 => call::<R, i16>(&mut reader, &mut chooser, panics),
+                3 => call::<R, f32>(&mut reader, &mut chooser, panics),
+                _ if is_float => call::<R, f32>(&mut reader, &mut chooser, panics),
+                _ => call::<R, i32>(&mut reader, &mut chooser, panics),
             };
-            history += &format!("<{} {}> ", place(), reader.samples::<i32>().len());
+            let place = if panics { 0 } else { place() };
+            history += &format!("<{place} {}> ", reader.samples::<i32>().len());
         }
-        history + &format!("end {}", end(reader.into_inner()))
+        history + &if panics { "end".into() } else { format!("end {}", end(reader.into_inner())) }
     }
 
     pub fn run(bytes: &[u8], seed: u64, reader: &str, path: &str) -> String {
@@ -127,7 +148,7 @@ both! {
             "&mut Cursor" => {
                 let mut cursor = Cursor::new(bytes);
                 let history = WavReader::new(&mut cursor).map_or_else(error, |it| history(it, seed, &|| 0, position));
-                history + &cursor.position().to_string()
+                history + &if panics(seed) { String::new() } else { cursor.position().to_string() }
             }
             "BufReader of few bytes" | "BufReader of faults" => {
                 let taken = |end: BufReader<Unsteady>| end.get_ref().place.get() - end.buffer().len();
@@ -143,7 +164,7 @@ both! {
                 let mut rest = bytes;
                 let history =
                     WavReader::new(&mut rest).map_or_else(error, |it| history(it, seed, &|| 0, |end| end.len()));
-                history + &rest.len().to_string()
+                history + &if panics(seed) { String::new() } else { rest.len().to_string() }
             }
         }
     }
@@ -176,6 +197,7 @@ fn file(chooser: &mut Chooser, is_long: bool) -> Vec<u8> {
 }
 
 fn main() {
+    set_hook(Box::new(|_| {}));
     let count: u64 = std::env::args().nth(1).map_or(70_000, |word| word.parse().unwrap());
     let path = std::env::temp_dir().join(format!("dropin-exact-{}.wav", std::process::id()));
     let path = path.to_str().unwrap();

@@ -1,8 +1,8 @@
-use Rattle.std.proofs.Common.{None, ap, inl, length, refl, subst, sym}
+use Rattle.std.proofs.Common.{None, Ok, Some, ap, arith, inl, length, refl, subst, sym}
 use Rattle.std.specs.Prelude.{⊤}
-use Rattle.hound.specs.{Recorder, Repeats}
+use Rattle.hound.specs.{Advances, Recorder, Repeats, actions_left}
 use Rattle.hound_callers.specs.Recorder.{DoesAction}
-use Rattle.hound_callers.proofs.Driving.{IsWithin, KnownAt, begins, begins_few, laws_of, next_err, next_none, next_some, no_laws, not_failed, not_at_rest, one_at_most, settled_low, come, step_of}
+use Rattle.hound_callers.proofs.Driving.{IsWithin, KnownAt, at_rest, begins, laws_of, next_err, next_none, next_some, no_laws, not_failed, not_at_rest, one_at_most, settled_low, step_of}
 use Rattle.hound_callers.proofs.Mending.{PerformedAt, begins_effects, effect_laws, effects_not_failed}
 use Rattle.hound_callers.proofs.Performing.{not_ok}
 use Rattle.hound_callers.proofs.Repeating.{Again, all_done, begins_directed, come_again, comes, has_action, has_failed, is_tried, smaller}
@@ -15,7 +15,6 @@ loop-action-init g c =
     record {
       within = (None, within);
       action = inl refl;
-      far = begins_few c.args.recorder.now (length c.args.block.now) c.requires.asked;
       made = c.requires.within;
       directed = λ tells keeps s file known (once, d, repeats). begins_directed s file known c.args.recorder.now
           c.args.block.now once (M.state c.args.medium.now) within d repeats;
@@ -28,13 +27,12 @@ loop-action-preserved g c =
     let asked = c.args.recorder.now in
     let (over, within) = c.loop-action.invariant.within in
     let next = rw c.in-Some.is at c.in_ok-action.ensures in
-    let (o, w, k, goes, more, far) = next_some asked (length c.args.block.now) c.requires.asked c.loop-action.report
+    let (o, w, k, goes) = next_some asked (length c.args.block.now) c.requires.asked c.loop-action.report
     (λ _ _. ⊤) (λ _ _. ⊤) (λ _. ⊤) (no_laws asked c.loop-action.report) c.loop-action.recorder c.next.new.self over
     c.in-Some.action within tt c.loop-action.invariant.action next in
     record {
       within = (o, w c.perform-report.result);
       action = has_action c.perform-report.result c.next.new.self c.in-Some.action goes;
-      far = far;
       made = c.is_next_lost.ensures.within;
       directed = λ tells keeps s file known d.
           let M = g.M.Placed in
@@ -48,7 +46,7 @@ loop-action-preserved g c =
           (λ known old new ok modelled. says.cut s file known old new before ok modelled)
           (λ old new place len. says.handed s file known old new end.state place len)
           (λ old new. says.saved s file known old new end.state) still in
-          let (o, w, k, goes, more, far) = next_some asked (length c.args.block.now) c.requires.asked c.loop-action.report
+          let (o, w, k, goes) = next_some asked (length c.args.block.now) c.requires.asked c.loop-action.report
           (λ o r. KnownAt s file known asked c.args.block.now before o r)
           (λ o r. KnownAt s file known asked c.args.block.now end.state o r)
           (λ action. DoesAction action c.args.block.now c.loop-action.report before end.state) laws
@@ -66,7 +64,7 @@ loop-action-preserved g c =
           let law = c.an_effect_may_be_repeated.ensures in
           let again : Again = record { begun = law.begun; again = law.again; written = law.written; synced = law.synced } in
           let laws = effect_laws asked start one c.args.block.now c.loop-action.report before end still in
-          let (o, w, k, goes, more, far) = next_some asked (length c.args.block.now) c.requires.asked c.loop-action.report
+          let (o, w, k, goes) = next_some asked (length c.args.block.now) c.requires.asked c.loop-action.report
           (λ o r. PerformedAt asked start before o r) (λ o r. PerformedAt asked start end.state o r)
           (λ action. DoesAction action c.args.block.now c.loop-action.report before end.state) laws
           c.loop-action.recorder c.next.new.self over c.in-Some.action within k has next in
@@ -81,16 +79,16 @@ loop-action-preserved g c =
 
 pub loop-action-smaller : goal.loop-action-smaller
 loop-action-smaller g c =
-    let asked = c.args.recorder.now in
-    let (over, within) = c.loop-action.invariant.within in
     let next = rw c.in-Some.is at c.in_ok-action.ensures in
-    let (o, w, k, goes, more, far) = next_some asked (length c.args.block.now) c.requires.asked c.loop-action.report
-    (λ _ _. ⊤) (λ _ _. ⊤) (λ _. ⊤) (no_laws asked c.loop-action.report) c.loop-action.recorder c.next.new.self over
-    c.in-Some.action within tt c.loop-action.invariant.action next in
-    let low = one_at_most c.loop-action.report in
-    smaller c.is_next_lost.result (come c.loop-action.recorder) (come c.next.new.self) (step_of c.loop-action.report)
-    (step_of c.perform-report.result) c.loop-action.made c.is_next_lost.new.made (length c.args.lost.now)
-    more far low c.is_next_lost.ensures.counted c.is_next_lost.ensures.grows c.is_next_lost.ensures.within
+    let law = c.a_request_ends.ensures in
+    smaller c.is_next_lost.result (actions_left c.loop-action.recorder) (actions_left c.next.new.self)
+    (step_of c.loop-action.report) (step_of c.perform-report.result) c.loop-action.made c.is_next_lost.new.made
+    (length c.args.lost.now)
+    (λ none. law.again _ _ c.in-Some.action (subst (λ r. Advances r c.loop-action.recorder c.next.new.self (Ok (Some c.in-Some.action)))
+    (at_rest c.loop-action.report none) next))
+    (λ one. law.nearer c.loop-action.report _ _ c.in-Some.action
+    (λ pending. absurd (let none = ap step_of pending in omega (arith, none, one))) next)
+    (one_at_most c.loop-action.report) c.is_next_lost.ensures.counted c.is_next_lost.ensures.grows c.is_next_lost.ensures.within
     (λ kept. not_at_rest c.perform-report.result (c.perform-report.ensures.ended kept))
 
 pub returns-clause-done : goal.returns-clause-done

@@ -1,8 +1,8 @@
 use Rattle.std.proofs.Common.{◌≡◌, ◌≤◌, ◌+◌, ◌*◌, ◌-◌, List, Option, Bool, length}
 use Rattle.std.specs.Prelude.{⊤}
-use Rattle.hound.specs.{Begun, HasData, Known, Log, Repeats, WavSpecEx, WhereKeeps}
+use Rattle.hound.specs.{Begun, HasData, Known, Log, Repeats, WavSpecEx, WhereKeeps, actions_left}
 use Rattle.hound_callers.specs.Recorder.{IsDirected}
-use Rattle.hound_callers.proofs.Driving.{HasAction, IsWithin, come, step_of}
+use Rattle.hound_callers.proofs.Driving.{HasAction, IsWithin, step_of}
 use Rattle.hound_callers.proofs.Repeating.{IsUnderWay, IsUnderWayBy}
 use Rattle.hound_callers.proofs.Mending.{PerformedAt}
 use Rattle.hound_callers.proofs.recorder.perform_all.Given as goal
@@ -13,7 +13,6 @@ invariant-loop-action g l =
     record {
       within : (over : Option Bool) × IsWithin l.fn.recorder l.report l.recorder over;
       action : HasAction l.report (λ _. ⊤) l.recorder;
-      far : come l.recorder ≤ 10;
       made : l.made ≤ length l.lost;
       directed : WhereKeeps M.tells M.keeps ((s : WavSpecEx) (file : Begun) (known : List Known)
           → IsDirected s file known l.fn.recorder (M.state l.fn.medium)
@@ -25,4 +24,4 @@ invariant-loop-action g l =
     }
 
 abbrev pub decreases-loop-action : goal.decreases-loop-action
-decreases-loop-action g l = 2 * (10 - come l.recorder) + (1 - step_of l.report) + 2 * (length l.lost - l.made)
+decreases-loop-action g l = 2 * actions_left l.recorder + (1 - step_of l.report) + 2 * (length l.lost - l.made)

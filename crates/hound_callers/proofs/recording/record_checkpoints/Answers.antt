@@ -1,5 +1,4 @@
-use Rattle.std.proofs.Common.{false, ◌∷◌, [], IsOk, length, take, arith, sym, subst, length-take}
-use Rattle.std.proofs.lemmas.Bool.{false≢true}
+use Rattle.std.proofs.Common.{◌∷◌, [], IsOk, length, take, arith, sym, subst, length-take}
 use Rattle.std.specs.List.{All}
 use Rattle.hound.specs.{MediumState, SurvivesLoss, accepted_by_all, made, publish, WavSpecEx}
 use Rattle.hound_callers.specs.Recording.{containers_by}
@@ -43,13 +42,13 @@ returns-clause-safe g c modelled keeps some =
     let (before, after, flush, parts, has_all, have) = flushes some in (
       accepted_by_all before,
       have,
-      λ sector cut mended found one lies lost repairs.
+      λ looks sector cut mended found one lies lost repairs apart.
           c.a_repair_loses_no_published_sample.ensures c.args.spec_ex _ kept.left.recorded.calls _ kept.promised
-          before after flush false cut mended found parts has_all
+          before after flush looks cut mended found parts has_all
           (kept.left_after before after flush parts has_all sector cut.contents one lies
           (subst (λ (s : MediumState). SurvivesLoss sector s.start s.past s.flushed (length s.past)
           cut.contents) (sym new) lost))
-          repairs (λ looks here. absurd (false≢true looks)),
+          repairs apart,
     )
 
 pub returns-in-Err-clause-rejected : goal.returns-in-Err-clause-rejected

@@ -1,4 +1,4 @@
-use Rattle.std.proofs.Common.{Ok, refl, subst, ap, ◌∙◌, take, drop, arith, rules, length-drop}
+use Rattle.std.proofs.Common.{Ok, refl, subst, ◌∙◌, take, drop, arith, rules, length-drop}
 use Rattle.hound_writer.proofs.Heads.{head_inside}
 use Rattle.hound_repair.specs.Steps.{LooksTo, looks_for_chunks}
 use Rattle.hound_repair.proofs.bytes.find_damage_in_bytes.Goals as goal

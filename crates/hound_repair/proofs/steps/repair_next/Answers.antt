@@ -1,5 +1,4 @@
-use Rattle.std.proofs.Common.{◌≡◌, Ok, Err, inl, inr, refl, sym, subst, ap, ◌∙◌, rules}
-use Rattle.hound_repair.specs.Damages.{IsSoundDamage}
+use Rattle.std.proofs.Common.{◌≡◌, Ok, Err, inl, inr, refl, sym, subst, rules}
 use Rattle.hound_repair.specs.Steps.{AsksNext, MeasuresTo}
 use Rattle.hound_repair.specs.declared.steps.Rejection.{Rejection}
 use Rattle.hound_repair.specs.declared.steps.RepairError.TheVariants.{Rejected as rejected}

@@ -1,5 +1,5 @@
 use Rattle.std.proofs.lemmas.Result.{err_from_is_err_and}
-use Rattle.std.proofs.Common.{◌≡◌, ◌*◌, ◌++◌, Ok, length, drop, refl, ◌∙◌, ap, subst, arith, rules, inr}
+use Rattle.std.proofs.Common.{◌≡◌, ◌*◌, ◌++◌, Ok, length, drop, refl, ◌∙◌, ap, subst, arith, rules}
 use Rattle.std.proofs.lemmas.List.{drop_at, take_at}
 use Rattle.hound_writer.specs.{containers_in}
 use Rattle.hound_sample.proofs.Joined.{joined}

@@ -1,5 +1,5 @@
 use Rattle.std.proofs.lemmas.Result.{err_from_is_err_and}
-use Rattle.std.proofs.Common.{◌≡◌, ◌+◌, ◌-◌, ◌*◌, ◌%◌, ◌≤◌, ◌++◌, Ok, length, take, drop, refl, sym, ◌∙◌, ap, subst, arith, rules, inr, length-append, length-drop}
+use Rattle.std.proofs.Common.{◌≡◌, ◌+◌, ◌-◌, ◌*◌, ◌%◌, ◌≤◌, ◌++◌, Ok, length, take, drop, refl, sym, ◌∙◌, ap, subst, arith, rules, length-append, length-drop}
 use Rattle.std.proofs.lemmas.List.{take_at}
 use Rattle.std.proofs.lemmas.Slice.{drop-append-drop}
 use Rattle.hound_slices.proofs.Puts.{drop_put, put, take_put}
