@@ -277,7 +277,7 @@ def check_kinds(program, path):
 
 
 def check_read_only(program, path):
-    """A file of which nothing is to be written needs no leave to write it."""
+    """A file of which nothing is to be written needs no permission to write it."""
     for how, data in ("mend", WHOLE), ("to_end", WHOLE), ("mend", FOLLOWED), ("mend", ALL_COUNTED):
         leave(path, data)
         os.chmod(path, 0o444)
@@ -432,8 +432,8 @@ def all_checks(program, path, is_short):
     calls = sum(check_calls(program, path, how, before) for how, before in CALLED)
     losses = sum(check_losses(program, path, how, before) for how, before in CALLED)
     errors = check_errors(program, path)
+    check_read_only(program, path)
     if not IN_CARGO:
-        check_read_only(program, path)
         check_kinds(program, path)
     check_lock(program, path)
     cut = list(cut_files())
