@@ -93,6 +93,34 @@ fn existing(folder: &Path) -> PathBuf {
     archive.parent().unwrap_or(Path::new("/")).to_path_buf()
 }
 
+// Compares the version of an archive that HOUND_C_LIB names with that of this crate, by a program that returns it. For
+// another target there is none.
+fn compare_version(folder: &Path) {
+    if variable("TARGET") != variable("HOST") {
+        return;
+    }
+    let (source, program) = ("version.rs", &format!("version{}", env::consts::EXE_SUFFIX));
+    let text = r#"extern "C" { fn hound_version() -> i32; } fn main() { print!("{}", unsafe { hound_version() }) }"#;
+    let here = PathBuf::from(variable("OUT_DIR"));
+    fs::write(here.join(source), text).expect("OUT_DIR can be written");
+    let mut compiler = Command::new(variable("RUSTC"));
+    if !variable("RUSTC_LINKER").is_empty() {
+        compiler.arg(format!("-Clinker={}", variable("RUSTC_LINKER")));
+    }
+    compiler.arg("-L").arg(folder).args(["-lstatic=hound_c", "--crate-name", "version", "-o", program, source]);
+    let made = compiler.current_dir(&here).output().map_or(false, |made| made.status.success());
+    let said = Command::new(here.join(program)).output().map(|ran| ran.stdout).unwrap_or_default();
+    let numbers = ["MAJOR", "MINOR", "PATCH"].map(|part| variable(&format!("CARGO_PKG_VERSION_{part}")));
+    let wanted = numbers.iter().fold(0, |sum, number| 256 * sum + number.parse::<u32>().unwrap_or(0));
+    if !made || String::from_utf8_lossy(&said) != wanted.to_string() {
+        fail(format!(
+            "{} has no library of version {}: set HOUND_C_LIB to the folder of one, or build without it",
+            folder.display(),
+            numbers.join(".")
+        ));
+    }
+}
+
 // Whether this processor runs the library that is carried for it: that for x86-64 needs x86-64-v2. Which processor runs
 // what is built for another target isn't known.
 fn runs_here() -> bool {
@@ -112,7 +140,9 @@ fn main() {
     let mut carried = [package.join(&carried), package.join("..").join(&carried)].into_iter();
     let (named, from_source) = (variable("HOUND_C_LIB"), variable("HOUND_C_SOURCE"));
     let folder = if !named.is_empty() {
-        existing(Path::new(&named))
+        let folder = existing(Path::new(&named));
+        compare_version(&folder);
+        folder
     } else {
         match carried.find(|folder| from_source.is_empty() && folder.join("libhound_c.a").exists() && runs_here()) {
             Some(folder) => existing(&folder),

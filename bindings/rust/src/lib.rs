@@ -133,10 +133,14 @@ pub struct Info {
 pub enum State {
     /// Both sizes were right.
     Whole,
-    /// A size was wrong, as after a recording that was cut off.
+    /// The data length was wrong, as after a recording that was cut off.
     CutOff,
     /// Chunks or a tag follow the data, and nothing was written.
     HasChunksAfterData,
+    /// The data length counts all whole frames, so no sample is concerned: only the RIFF size isn't that of the
+    /// canonical form, as where a program writes no pad byte after data of an odd length. [`repair`] leaves such a file
+    /// as it is; [`repair_to_end`] and [`Mode::MakeCanonical`] write that size, and a missing pad byte.
+    AllCounted,
 }
 
 /// What a file holds, and how it was found.
@@ -157,6 +161,9 @@ pub struct Repair {
     pub length: u64,
     /// How many bytes of samples the header counted.
     pub data_length: u32,
+    /// How many whole frames these are: a repair of a recording that was cut off adds `frames - counted` to them. They
+    /// are more than `frames` where the header counts what the file doesn't hold.
+    pub counted: u32,
 }
 
 // The C interface, as hound.h has it.
@@ -289,6 +296,7 @@ mod c {
         pub fn hound_walk_to_end(walk: *mut Walk, info: *mut Info) -> i32;
         pub fn hound_whole_frames(spec: *const Spec, length: u64) -> i64;
         pub fn hound_guess_data(file: *const u8, length: usize) -> i64;
+        pub fn hound_kind(file: *const u8, length: usize) -> i32;
         pub fn hound_size(spec: *const Spec, samples: u64) -> i64;
         pub fn hound_header(spec: *const Spec, samples: u64, out: *mut u8, capacity: usize) -> i64;
         pub fn hound_sizes(spec: *const Spec, data_start: u64, samples: u64, out: *mut u8, capacity: usize) -> i64;
@@ -425,7 +433,7 @@ impl Repair {
             data_start: self.data_start,
             length: self.length,
             data_length: self.data_length,
-            unused: 0,
+            counted: self.counted,
         }
     }
 
@@ -437,11 +445,13 @@ impl Repair {
             state: match found.state {
                 0 => State::Whole,
                 1 => State::CutOff,
-                _ => State::HasChunksAfterData,
+                2 => State::HasChunksAfterData,
+                _ => State::AllCounted,
             },
             data_start: found.data_start,
             length: found.length,
             data_length: found.data_length,
+            counted: found.counted,
         }
     }
 }
@@ -649,8 +659,8 @@ pub fn append_to<S: Sample>(file: &mut [u8], used: usize, samples: &[S]) -> Resu
 }
 
 /// Repairs the file in the first `used` bytes, whose recording was cut off: both sizes become those of the whole
-/// frames that it holds. Where that needs a pad byte, `file` has to be one byte longer than `used`. Where it
-/// isn't, or is shorter than `used`, the error is `NoRoom`.
+/// frames that it holds. One that is [`AllCounted`](State::AllCounted) stays as it is. Where that needs a pad byte,
+/// `file` has to be one byte longer than `used`. Where it isn't, or is shorter than `used`, the error is `NoRoom`.
 pub fn repair(file: &mut [u8], used: usize) -> Result<Repair> {
     let mut found = c::Repair::default();
     // SAFETY: as above.
@@ -687,6 +697,42 @@ pub fn whole_frames(spec: &Spec, length: u64) -> Result<usize> {
 pub fn guess_data(file: &[u8]) -> Result<usize> {
     // SAFETY: as above.
     checked(unsafe { c::hound_guess_data(file.as_ptr(), file.len()) })
+}
+
+/// What a file is that isn't read, by its first bytes, of which a few thousand will do: as "Microsoft ADPCM", for a
+/// sentence beside its error. None for samples that are read, and for what isn't known.
+///
+/// ```
+/// # use hound_bindings::{info, kind, Error};
+/// let file = b"fLaC\0\0\0\x22";
+/// assert_eq!((info(file), kind(file)), (Err(Error::NoRiffTag), Some("FLAC")));
+/// ```
+pub fn kind(file: &[u8]) -> Option<&'static str> {
+    // SAFETY: as above.
+    Some(match unsafe { c::hound_kind(file.as_ptr(), file.len()) } {
+        // The names of kinds of files, made from hound.h by scripts/make_interface.
+        2 => "Microsoft ADPCM",
+        6 => "A-law",
+        7 => "mu-law",
+        17 => "IMA ADPCM",
+        34 => "TrueSpeech",
+        49 => "GSM 6.10",
+        64 => "G.721 ADPCM",
+        80 => "MPEG",
+        85 => "MP3",
+        8192 => "AC-3",
+        65537 => "RIFX, whose numbers have their highest byte first",
+        65538 => "RF64, which is for more than 4 GiB",
+        65539 => "BW64, which is for more than 4 GiB",
+        65540 => "Wave64",
+        65541 => "AIFF",
+        65542 => "FLAC",
+        65543 => "Ogg",
+        65544 => "MP3, or another MPEG audio",
+        65545 => "floats of 64 bits",
+        // The end of what is made from hound.h.
+        _ => return None,
+    })
 }
 
 /// Decodes samples without a file around them, and returns how many.

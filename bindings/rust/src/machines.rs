@@ -394,6 +394,9 @@ pub enum Mode {
     Repair = c::REPAIR,
     /// It repairs as [`repair_to_end`](crate::repair_to_end) does.
     RepairToEnd = c::REPAIR_TO_END,
+    /// It repairs as `Repair` does, and also writes the RIFF size and the pad byte of a file that it finds
+    /// [`AllCounted`](crate::State::AllCounted).
+    MakeCanonical = c::MAKE_CANONICAL,
 }
 
 /// A repairer of a file that isn't in memory. It looks at few parts of it: those that a walk looks at, the headers of
@@ -519,7 +522,9 @@ impl Recorder {
     /// A recorder of a file as a repairer of [`Mode::FindDamage`], or [`find_damage`](crate::find_damage), found it.
     /// One that ends with the samples that its header counts, or with their pad byte, needs nothing that is allowed.
     /// Else the error is [`IsCutOff`](crate::Error::IsCutOff) or [`ChunksFollow`](crate::Error::ChunksFollow); where
-    /// samples are missing that the header counts it is [`Truncated`](crate::Error::Truncated).
+    /// samples are missing that the header counts it is [`Truncated`](crate::Error::Truncated). Where the header counts
+    /// a part of a frame it is [`UnfinishedFrame`](crate::Error::UnfinishedFrame), also with `mend`, since a recorder
+    /// never cuts off what is counted: repair the file first.
     pub fn resume(found: &Repair, allowed: Allowed) -> Result<Recorder> {
         let (mut recorder, allowed) =
             (c::Recorder::default(), c::MEND * u32::from(allowed.mend) + c::OVERWRITE * u32::from(allowed.overwrite));
@@ -551,8 +556,9 @@ impl Recorder {
     }
 
     /// The next effect of what was requested, until all are done. After a block or an effect that failed the error is
-    /// [`NeedsCheckpoint`](crate::Error::NeedsCheckpoint), and after a sync that failed it is
-    /// [`SyncFailed`](crate::Error::SyncFailed), and so for each later request. An error ends the request.
+    /// [`NeedsCheckpoint`](crate::Error::NeedsCheckpoint), which ends the request. After a sync that failed it is
+    /// [`SyncFailed`](crate::Error::SyncFailed), and so at each later call: look at the file again, and begin another
+    /// recorder.
     #[allow(clippy::should_implement_trait)]
     pub fn next(&mut self) -> Result<Next<'_, ()>> {
         self.next_effect()

@@ -1,7 +1,7 @@
 //! The calls over small files.
 use hound_bindings::{
-    append_to, decode, decode_scaled, encode, encode_scaled, find_damage, from_f32, guess_data, header, info, read,
-    read_into, read_scaled, repair, repair_to_end, size, sizes, to_f32, value_16, value_24, value_32, value_8,
+    append_to, decode, decode_scaled, encode, encode_scaled, find_damage, from_f32, guess_data, header, info, kind,
+    read, read_into, read_scaled, repair, repair_to_end, size, sizes, to_f32, value_16, value_24, value_32, value_8,
     whole_frames, write, write_scaled, write_to, Allowed, Container, Error, Format, Kind, Medium, Mode, Next, Recorder,
     Repairer, Spec, State, Walk, ERRORS,
 };
@@ -85,7 +85,67 @@ fn a_cut_file_is_repaired() {
     file[40..44].fill(0);
     let found = repair(&mut file, 49).unwrap();
     assert_eq!((found.state, found.frames, found.left_over, found.length), (State::CutOff, 2, 1, 49));
+    assert_eq!((found.data_length, found.counted), (0, 0));
     assert_eq!(read::<i16>(&file[..49]).unwrap(), [2, 3]);
+    let whole = repair(&mut file, 49).unwrap();
+    assert_eq!((whole.state, whole.frames, whole.counted), (State::Whole, 2, 2));
+}
+
+#[test]
+fn a_file_whose_frames_are_all_counted_is_made_canonical_where_that_is_wanted() {
+    let canonical = write(&Spec { bits_per_sample: 8, ..SPEC }, &[1i16, 2, 3]).unwrap();
+    let mut odd = canonical[..47].to_vec(); // as of a program that writes no pad byte
+    odd[4] = 39;
+    let mut same = [&odd[..], &[9]].concat();
+    let found = repair(&mut same, 47).unwrap();
+    assert_eq!((found.state, found.frames, found.counted), (State::AllCounted, 3, 3));
+    assert_eq!((&same[..47], found.length, same[47]), (&odd[..], 47, 9));
+    assert_eq!(find_damage(&odd).unwrap(), found);
+    let resumed = Recorder::resume(&found, Allowed::default()).unwrap();
+    assert_eq!(resumed.samples(), 3);
+    for (mode, wanted) in [
+        (Mode::FindDamage, &odd),
+        (Mode::Repair, &odd),
+        (Mode::MakeCanonical, &canonical),
+        (Mode::RepairToEnd, &canonical),
+    ] {
+        let mut medium = Memory::of(odd.clone());
+        assert_eq!(Repairer::new(47, mode).run(&mut medium).unwrap(), Ok(found));
+        assert_eq!(&medium.file, wanted);
+    }
+    assert_eq!(repair_to_end(&mut same, 47).unwrap().length, 48);
+    assert_eq!(same, canonical);
+}
+
+#[test]
+fn a_counted_part_of_a_frame_is_repaired_before_it_is_continued() {
+    let stereo = Spec { channels: 2, ..SPEC };
+    let mut file = write(&stereo, &[1i16, 2, 3, 4]).unwrap()[..50].to_vec();
+    file[4] = 42; // as where three samples were flushed
+    file[40] = 6;
+    let found = find_damage(&file).unwrap();
+    assert_eq!((found.state, found.frames, found.counted, found.left_over), (State::CutOff, 1, 1, 2));
+    assert_eq!(Recorder::resume(&found, MEND).err(), Some(Error::UnfinishedFrame));
+    repair(&mut file, 50).unwrap();
+    let recorder = Recorder::resume(&find_damage(&file).unwrap(), MEND).unwrap();
+    assert_eq!(recorder.samples(), 2);
+}
+
+#[test]
+fn what_a_file_is_that_is_not_read_is_named() {
+    let mut file = write(&SPEC, &[1i16]).unwrap();
+    assert_eq!((kind(&file), kind(&[]), kind(b"just text")), (None, None, None));
+    for (tag, name) in [(2, "Microsoft ADPCM"), (6, "A-law"), (7, "mu-law"), (17, "IMA ADPCM"), (49, "GSM 6.10")] {
+        file[20] = tag;
+        assert_eq!((info(&file), kind(&file)), (Err(Error::Unsupported), Some(name)));
+    }
+    file[20] = 3;
+    file[34] = 64;
+    assert_eq!(kind(&file), Some("floats of 64 bits"));
+    for (tag, name) in [(b"OggS", "Ogg"), (b"FORM", "AIFF"), (b"riff", "Wave64")] {
+        file[..4].copy_from_slice(tag);
+        assert_eq!((info(&file), kind(&file)), (Err(Error::NoRiffTag), Some(name)));
+    }
 }
 
 #[test]
@@ -525,7 +585,10 @@ fn a_sync_that_failed_or_panicked_is_the_end() {
         assert!(catch_unwind(run).map_or(panics, |result| result.is_err() && !panics));
         assert_eq!(recorder.write(1), Err(Error::SyncFailed));
         recorder.checkpoint();
-        assert_eq!(recorder.run(&mut medium, &[]).unwrap(), Err(Error::SyncFailed));
+        for _ in 0..3 {
+            assert_eq!(recorder.next().err(), Some(Error::SyncFailed));
+            assert_eq!(recorder.run(&mut medium, &[]).unwrap(), Err(Error::SyncFailed));
+        }
         assert_eq!(medium.said, ["write [1, 0] at 44", "sync"]);
     }
 }
@@ -636,7 +699,7 @@ fn a_file_is_repaired_as_in_memory() {
     let effects: Vec<_> = medium.said.iter().filter(|call| !call.starts_with("read")).collect();
     assert_eq!(
         effects,
-        ["sync", "write [3, 0, 0, 0] at 40", "sync", "write [0] at 47", "sync", "write [40, 0, 0, 0] at 4", "sync"]
+        ["sync", "write [40, 0, 0, 0] at 4", "sync", "write [3, 0, 0, 0] at 40", "sync", "write [0] at 47", "sync"]
     );
     assert_eq!(medium.file, write(&bytes, &[1i16, 2, 3]).unwrap());
 
