@@ -507,6 +507,7 @@ fn after_counted(info: &Info, length: Option<u64>) -> Result<Recorder> {
         data_start: info.data_start,
         length: length.unwrap_or(info.data_start + u64::from(data_length)),
         data_length,
+        counted: info.frames(),
     };
     Ok(Recorder::resume(&found, Allowed { mend: false, overwrite: true })?)
 }
