@@ -721,14 +721,16 @@ fn a_file_that_was_cut_off_is_repaired() {
     drop(writer);
     file.truncate(47);
     file[4..8].fill(0);
-    fs::write(&path, &file).unwrap();
-    let found = hound::repair_file(&path).unwrap();
-    assert_eq!(
-        (found.state, found.frames, found.left_over, found.spec_ex.bytes_per_sample),
-        (hound::RepairState::CutOff, 3, 0, 1)
-    );
-    let samples = WavReader::open(&path).unwrap().into_samples::<i8>().collect::<Result<Vec<_>>>().unwrap();
-    assert_eq!((samples, fs::metadata(&path).unwrap().len()), (vec![1, 2, 3], 48));
+    for (counted, state, length) in [(0, hound::RepairState::CutOff, 48), (3, hound::RepairState::AllCounted, 47)] {
+        file[40] = counted;
+        fs::write(&path, &file).unwrap();
+        let found = hound::repair_file(&path).unwrap();
+        assert_eq!((found.state, found.frames, found.left_over, found.spec_ex.bytes_per_sample), (state, 3, 0, 1));
+        let samples = WavReader::open(&path).unwrap().into_samples::<i8>().collect::<Result<Vec<_>>>().unwrap();
+        assert_eq!((samples, fs::metadata(&path).unwrap().len()), (vec![1, 2, 3], length));
+    }
+    assert_eq!(fs::read(&path).unwrap(), file);
+    hound::repair_file_to_end(&path).unwrap();
     assert_eq!(hound::repair_file(&path).unwrap().state, hound::RepairState::Whole);
 }
 
