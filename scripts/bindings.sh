@@ -1,5 +1,6 @@
-# What scripts/try_bindings and scripts/release share.
+# What scripts/try_bindings, scripts/try_install and scripts/release share.
 
+subject=${0##*/try_}
 unset HOUND_C_LIB HOUND_C_LIBRARY HOUND_C_SOURCE
 export PYTHONDONTWRITEBYTECODE=1
 
@@ -7,11 +8,40 @@ export PYTHONDONTWRITEBYTECODE=1
 offline="unshare -rn"
 if ! $offline true 2> /dev/null; then
     offline=
-    echo "bindings: passed over, since unshare isn't allowed here: that pip and cargo need no network"
+    echo "$subject: passed over, since unshare isn't allowed here: that pip and cargo need no network"
 fi
 
 # Writes the program of docs/BINDINGS.md, or of another page, that begins with the fence of that language.
 page() { # LANGUAGE [PAGE]
     awk -v fence="\`\`\`$1" \
         '$0 == fence && !done { on = 1; next } /^```/ && on { on = 0; done = 1 } on' "${2:-docs/BINDINGS.md}"
+}
+
+# Runs a command; its output is written where it fails.
+tried=0
+passed=0
+check() { # WHAT COMMAND..
+    tried=$((tried + 1))
+    if (shift; "$@") > "$work/log" 2>&1; then
+        passed=$((passed + 1))
+        echo "$subject: $1"
+    else
+        echo "$subject: FAILED: $1"
+        tail -n 20 "$work/log"
+    fi
+}
+
+has() { # PROGRAM WHAT
+    command -v "$1" > /dev/null 2>&1 || { echo "$subject: passed over, since $1 isn't here: $2"; return 1; }
+}
+
+# The files of this repository, also where git doesn't read it.
+files() {
+    git ls-files -z -co --exclude-standard 2> /dev/null || find . -type f -not -path './.git*' -not -path '*/out/*' -print0
+}
+
+# Makes a clone of what is here, as if it were committed.
+clone_to() { # FOLDER
+    mkdir "$1" && files | tar -c --null -T - --ignore-failed-read | tar -x -C "$1" || return 1
+    git -C "$1" init -q && git -C "$1" add -A && git -C "$1" -c user.name=nobody -c user.email=nobody commit -qm "what is here"
 }

@@ -1,6 +1,7 @@
 /* Recordings and repairs of files at a path, over hound.h: what record.c and repair.c share. The library says what is
    read and written, and this performs it by the calls of POSIX or of Windows. Nothing of it is proved. All functions
-   are static and inline, so nothing else is linked; include it before the headers of the system.
+   are static and inline, so nothing else is linked. Include it before the headers of the system, or define
+   _XOPEN_SOURCE as 700 or _DEFAULT_SOURCE, because with -std=c99 the first of them hides what it calls.
 
      hound_file file;
      int32_t code = hound_file_create(&file, "take.wav", &spec, 0, 0);
@@ -35,6 +36,9 @@
 #include <stdlib.h>
 #include <string.h>
 #include <sys/stat.h>
+#if !defined(_WIN32) && !(defined(O_CLOEXEC) && defined(S_ISVTX)) /* as where glibc declares pread and realpath */
+#error "compile with -D_XOPEN_SOURCE=700 or -D_DEFAULT_SOURCE, or include hound_file.h before the headers of the system"
+#endif
 
 /* The calls of the system. Those that return an int return 0, or -1 and errno. */
 #ifdef _WIN32
@@ -368,6 +372,9 @@ static inline int32_t hound_file_open(hound_file *file, const char *path, int fl
     return file->fault ? hound_file_give_up(file, path, is_made, HOUND_NOT_PERFORMED) : 0;
 }
 
+/* As is_emptied: the file may exist without bytes, as a recorder leaves it that is killed before its header. */
+enum { HOUND_FILE_IF_EMPTY = 2 };
+
 /* Begins a recording in a new file; one that exists is an error (EEXIST), or is emptied. */
 static inline int32_t hound_file_create(hound_file *file, const char *path, const hound_spec *spec, int is_durable,
                                         int is_emptied) {
@@ -379,11 +386,11 @@ static inline int32_t hound_file_create(hound_file *file, const char *path, cons
     file->descriptor = -1, file->fault = 0, file->counted = 0, file->kind = HOUND_KIND_UNKNOWN;
     if (code == 0) code = hound_file_open(file, path, flags, is_durable, &held);
     if (code < 0) return code;
-    if (hound_file_cut(file->descriptor, 0) == 0
-        && hound_file_write_at(file->descriptor, header, (size_t)length, 0) == 0)
-        return 0;
-    file->fault = errno;
-    return hound_file_give_up(file, path, !is_emptied, HOUND_NOT_PERFORMED);
+    if (is_emptied == HOUND_FILE_IF_EMPTY && held > 0) file->fault = EEXIST;
+    else if (hound_file_cut(file->descriptor, 0) < 0
+             || hound_file_write_at(file->descriptor, header, (size_t)length, 0) < 0)
+        file->fault = errno;
+    return file->fault ? hound_file_give_up(file, path, !is_emptied, HOUND_NOT_PERFORMED) : 0;
 }
 
 /* Continues the recording in a file, as hound_recorder_resume does with what is allowed: nothing of it changes yet. */

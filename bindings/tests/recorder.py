@@ -78,6 +78,8 @@ WRONG = {
         "effect->report = HOUND_DONE;",
     ),
     "a recording that was cut off is overwritten": ("HOUND_MEND, is_durable", "HOUND_OVERWRITE, is_durable"),
+    "an empty file isn't begun anew": ("if (code == HOUND_ENDED) {", "if (0) {"),
+    "a file with a part of a header is emptied": ("is_emptied == HOUND_FILE_IF_EMPTY && held > 0", "0"),
     "chunks after the data are overwritten": ("HOUND_MEND, is_durable", "HOUND_MEND | HOUND_OVERWRITE, is_durable"),
 }
 
@@ -312,10 +314,25 @@ def failing_header(record, path):
     expect("how many are counted isn't said", b"record: the header counts only %d samples" % counted in ran.stderr)
 
 
+def killed_before_the_header(record, path):
+    run([*failing(path, "pwrite64:signal=KILL:when=1"), record, path, *SHAPE, "--durable"])
+    expect("the killed recorder leaves no empty file", os.path.getsize(path) == 0)
+    expect("it is recorded over", is_rejected(run([record, path, *SHAPE]), b"the file exists"))
+    ran = run([record, path, *SHAPE, "--durable", "--append"])
+    expect("it isn't begun anew", ran.returncode == 0 and counted_in(path) == len(DATA) // 2)
+    whole = contents_of(path)
+    for length in 1, 20, 43:
+        with open(path, "wb") as file:
+            file.write(whole[:length])
+        expect("a cut header is overwritten", is_rejected(run([record, path, *SHAPE, "--append"]), b"the bytes end"))
+        expect("a file with a cut header changes", contents_of(path) == whole[:length])
+    os.remove(path)
+    ran = run([record, path, *SHAPE, "--append"])
+    expect("a missing file is made", is_rejected(ran, b"No such file") and not os.path.exists(path))
+
+
 def not_appended(record, path):
-    open(path, "w").close()
-    expect("an empty file is appended to", is_rejected(run([record, path, *SHAPE, "--append"]), b"the bytes end"))
-    whole = run([record, path, *SHAPE, "--overwrite"]) and contents_of(path)
+    whole = run([record, path, *SHAPE]) and contents_of(path)
     with open(path, "wb") as file:
         file.write(whole + CHUNK)
     expect("chunks are overwritten", is_rejected(run([record, path, *SHAPE, "--append"]), b"chunks or a tag"))
@@ -345,6 +362,7 @@ CHECKS = [
     full_disk,
     failing_cut,
     failing_header,
+    killed_before_the_header,
     not_appended,
     closed_streams,
     replaced,

@@ -660,8 +660,8 @@ pub fn append_to<S: Sample>(file: &mut [u8], used: usize, samples: &[S]) -> Resu
 
 /// Repairs the file in the first `used` bytes, whose recording was cut off: both sizes become those of the whole
 /// frames that it holds. Where that needs a pad byte, `file` has to be one byte longer than `used`. Where it
-/// isn't, or is shorter than `used`, the error is `NoRoom`. A file that is [`AllCounted`](State::AllCounted) stays as it
-/// is.
+/// isn't, or is shorter than `used`, the error is `NoRoom`. A file that is [`AllCounted`](State::AllCounted) stays as
+/// it is.
 pub fn repair(file: &mut [u8], used: usize) -> Result<Repair> {
     let mut found = c::Repair::default();
     // SAFETY: as above.
