@@ -11,6 +11,7 @@ pub mod Running
 pub mod Knowing
 pub mod Within
 pub mod Recorders
+pub mod Mended
 pub mod Whole
 pub mod Batching
 pub mod WholeSessions

@@ -5,11 +5,13 @@ ghost use Rattle.std.specs.declared.io.Error.{Error as IoFault};
 ghost use Rattle.hound_spec.specs.declared.error.Error.{Error};
 ghost use Rattle.hound_spec.specs.declared.spec.WavSpecEx.{WavSpecEx};
 ghost use Rattle.hound_spec.specs.{canonical, data_start, riff_size};
+ghost use Rattle.hound_number.specs.{mix};
 ghost use Rattle.hound_medium.specs.{MediumState, WhereKeeps, WhereTells, moment};
 ghost use Rattle.hound_durable.specs.{Ascends, SurvivesLoss, place_of};
 ghost use Rattle.hound_sample.specs.{Rejection, int_container};
-ghost use Rattle.hound_writer.specs.{Advances, mark_of, AcceptAnswer, AcceptsBytes, ChangesSizesOnly, appended, AcceptsEach, i16_bytes, AreKnown, Asked, Begun, Call, IsKnown, Known, Lead, Left, Recorded, returned, sample_count, asked_by_all, found_in, made, marked, new_file, publish, start_of, IsSameFile, Finishes, WriterState, IsWhole, accepted_samples, data_length, IsSound, CountsAtMost, LeavesWriter, PutsAt, ReadsAs, field, Log, Performed, handed_in, log_kind, Directed, IsSynced, AgreeTo, Counts, end_of};
+ghost use Rattle.hound_writer.specs.{Advances, mark_of, AcceptAnswer, AcceptsBytes, ChangesSizesOnly, appended, AcceptsEach, i16_bytes, AreKnown, Asked, Begun, Call, IsKnown, Known, Lead, Left, Recorded, returned, sample_count, asked_by_all, found_in, made, marked, new_file, publish, start_of, IsSameFile, Finishes, WriterState, IsWhole, accepted_samples, data_length, IsSound, CountsAtMost, LeavesWriter, PutsAt, ReadsAs, field, Log, Performed, handed_in, log_kind, Directed, IsSynced, AgreeTo, Counts, end_of, IsCutOff, Resumes, effects_of, writer_of};
 ghost use Rattle.hound_writer.specs.declared.recorder.Recorder.{Recorder};
+ghost use Rattle.hound_writer.specs.declared.resuming.FoundFile.{FoundFile};
 ghost use Rattle.hound_writer.specs.declared.effects.Action.{Action};
 ghost use Rattle.hound_writer.specs.declared.effects.Report.{Report};
 ghost use Rattle.hound_writer.specs.declared.effects.Report.TheVariants.{Pending};
@@ -224,6 +226,10 @@ pub fn what_a_loss_leaves<M: Medium>()
 /// A file that is cut off where the data of its recorder end, or not, counts the same (`cut`), and so does what
 /// a loss of power leaves of it, where it agrees up to there with what one could leave without the cut
 /// (`cut_survives`).
+///
+/// Of a recording that was cut off, and is mended, a loss of power within the first checkpoint leaves a file that
+/// counts no more than the samples that its recorder keeps, if the file was synced before. These are all, or as many
+/// as its header counted, unless only some bytes of the data length are new (`mended`).
 pub fn a_recording_is_kept()
     ensures kept { (s : WavSpecEx) (file : Begun) (known : List Known) (r : Recorder) (m : MediumState)
         → Directed s file known r m → r.number ≡ 0
@@ -247,6 +253,13 @@ pub fn a_recording_is_kept()
         → SurvivesLoss sector m.start m.past m.flushed (length m.past) contents
         → (cut : List ℕ) → AgreeTo (end_of r) cut contents → Counts s (start_of s file)
         (found_in file ++ accepted_by_all kept.left.recorded.calls) cut) }
+    ensures mended { (f : FoundFile) (mends overwrites : Bool) (old end : Log) (r : Recorder)
+        (result : Result Unit IoFault) → Resumes f mends overwrites (Ok r) → IsCutOff f r.data_length old.state
+        → IsSynced old.state → Performed (effects_of r) result old end → (sector : ℕ) (left : List ℕ) → 1 ≤ sector
+        → (f.data_start - 4) / sector ≡ (f.data_start - 1) / sector
+        → SurvivesLoss sector end.state.start end.state.past end.state.flushed (length end.state.past) left
+        → Counts f.spec_ex f.data_start (accepted_samples log_kind.state (writer_of f.spec_ex r old)) left
+        × ((j : ℕ) × (j ≤ 4) × (field (f.data_start - 4) left ≡ mix j f.data_length r.data_length)) }
 {}
 
 /// Other orders of effects don't serve. Where the RIFF size is left out, and isn't right already, nothing is

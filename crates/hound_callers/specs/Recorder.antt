@@ -1,9 +1,9 @@
 -- What callers do that perform a recorder's effects themselves.
-use Rattle.std.specs.Prelude.{◌≡◌, ◌⊎◌, ℕ, ◌+◌, ◌*◌, ◌/◌, ◌%◌, ◌<◌, ◌≤◌, ◌==◌, if◌then◌else◌, Bool, true, false, List, [], ◌∷◌, ◌++◌, length, take, drop, codes, Result, Ok, Err, is_ok}
+use Rattle.std.specs.Prelude.{◌≡◌, ◌⊎◌, ℕ, ◌+◌, ◌-◌, ◌*◌, ◌/◌, ◌%◌, ◌<◌, ◌≤◌, ◌==◌, if◌then◌else◌, Bool, true, false, List, [], ◌∷◌, ◌++◌, length, take, drop, codes, Result, Ok, Err, is_ok}
 use Rattle.std.specs.declared.io.Error.{Error as IoFault}
 use Rattle.std.specs.Borrow.{Bor}
 use Rattle.std.specs.List.{AllByRecursion, flat_map}
-use Rattle.hound.specs.{Action, AppendsRecorder, FoundFile, HasData, Head, IsSoundSpec, LeavesWriter, Resumes, mark_of, resumed_file, writer_of, Asked, Begun, Directed, Error, Flushes, IsRejection, IsSaid, KeptWithin, Known, Log, MediumState, Performed, Performs, Places, PutsAt, ReadsAs, Readable, Repeats, Recorder, RecorderError, Rejection, Report, Unreadable, WavSpecEx, bytes_of, effects_of, found_in, greatest_u32, if_marked, length_with, log_kind, padded, publish, riff_size, seen, start_of, whole_containers, write}
+use Rattle.hound.specs.{Action, AppendsRecorder, Counts, SurvivesLoss, accepted_samples, field, mix, FoundFile, HasData, Head, IsSoundSpec, LeavesWriter, Resumes, mark_of, resumed_file, writer_of, Asked, Begun, Directed, Error, Flushes, IsRejection, IsSaid, KeptWithin, Known, Log, MediumState, Performed, Performs, Places, PutsAt, ReadsAs, Readable, Repeats, Recorder, RecorderError, Rejection, Report, Unreadable, WavSpecEx, bytes_of, effects_of, found_in, greatest_u32, if_marked, length_with, log_kind, padded, publish, riff_size, seen, start_of, whole_containers, write}
 use Rattle.hound.specs.declared.Action.TheVariants.{Cut, Perform, Read, WriteBlock}
 use Rattle.hound.specs.declared.Effect.TheVariants.{Pad, Size, Sync}
 use Rattle.hound.specs.declared.RecorderError.TheVariants.{Truncated, HasChunksAfterData}
@@ -164,12 +164,23 @@ pub record IsFound (f : FoundFile) (m : MediumState) : Type 0 where
   pub head : Head m.contents f.spec_ex f.data_length f.data_start
   pub all : f.length ≡ length m.contents
 
--- The first checkpoint of a recorder that continues such a file was performed, to its end or not: it has published
--- the samples that the recorder keeps, as a `flush` does, where all of it is done.
+-- A loss of power within the first checkpoint of a recorder that continues such a file leaves one that counts no more
+-- than the samples that the recorder keeps: all of them, or as many as the header did before, unless only some bytes of
+-- the data length are new.
+abbrev pub CountsAfterLoss : FoundFile → Recorder → Log → Log → Type 0
+CountsAfterLoss f r start end = (sector : ℕ) (left : List ℕ) → 1 ≤ sector
+    → (f.data_start - 4) / sector ≡ (f.data_start - 1) / sector
+    → SurvivesLoss sector end.state.start end.state.past end.state.flushed (length end.state.past) left
+    → Counts f.spec_ex f.data_start (accepted_samples log_kind.state (writer_of f.spec_ex r start)) left
+    × ((j : ℕ) × (j ≤ 4) × (field (f.data_start - 4) left ≡ mix j f.data_length r.data_length))
+
+-- That checkpoint was performed, to its end or not: it has published the samples that the recorder keeps, as a
+-- `flush` does, where all of it is done.
 abbrev pub Mends : FoundFile → Recorder → Bool → MediumState → Log → Type 0
 Mends f r done old end = (start : Log) × (answer : Result (Unit {0}) Error) × Resumes f true false (Ok r)
     × (start.state ≡ old) × (mark_of answer ≡ done)
     × LeavesWriter log_kind answer (writer_of f.spec_ex r start) (writer_of f.spec_ex r end)
+    × CountsAfterLoss f r start end
 
 -- a recorder doesn't continue such a file
 abbrev pub IsNotContinued : FoundFile → RecorderError → Type 0

@@ -226,7 +226,8 @@ fn mend<M: Medium>(
 /// Continues a recording that was cut off, of a file that was found so: by a checkpoint of all whole frames
 /// that it holds, and then as [`record_by_effects`] does. It is an error if a recorder doesn't continue it,
 /// or its header counts more than whole frames, and the file is as it was (`rejected`); or the checkpoint fails,
-/// which then has left what a `flush` of these samples leaves that fails.
+/// which then has left what a `flush` of these samples leaves that fails. What a loss of power leaves within that
+/// checkpoint counts no more than these samples.
 ///
 /// What it promises holds if the file is as it was found ([`IsFound`](crate)).
 pub fn continue_by_effects<M: Medium>(

@@ -19,7 +19,7 @@ use Rattle.hound_repair.specs.Held.{held, mended, missing_pad}
 use Rattle.hound_repair.specs.Steps.{Mends, PartlyMended, PerformedOn, PerformsOn, mending_effects, pads}
 
 -- the bytes of a number are bytes
-small_bytes : (k n : ℕ) → AreBytes (bytes_of k n)
+pub small_bytes : (k n : ℕ) → AreBytes (bytes_of k n)
 small_bytes zero n i = omega arith
 small_bytes (suc k) n zero = omega arith
 small_bytes (suc k) n (suc i) = small_bytes k (n / 256) i

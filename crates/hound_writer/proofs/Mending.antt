@@ -30,7 +30,7 @@ use Rattle.hound_writer.proofs.Directing.{no_fault, save_call, step_resumed}
 use Rattle.hound_writer.proofs.Heads.{head_beyond}
 
 -- whole frames of n bytes
-whole_frames : (n channels width : ℕ) → n % (channels * width) ≡ 0 → (frames : ℕ) × (n ≡ frames * channels * width)
+pub whole_frames : (n channels width : ℕ) → n % (channels * width) ≡ 0 → (frames : ℕ) × (n ≡ frames * channels * width)
 whole_frames n channels width whole =
     (n / (channels * width), let all = div-add-mod' n (channels * width) in omega (arith, all, whole))
 
@@ -137,18 +137,23 @@ mended_at f old end r result cut did start takes =
     result old end = rw start at did in
     rw start (mends f r old cut takes clean end result performed, continues f r old cut takes clean end result performed)
 
-pub mended : (f : FoundFile) (allowed overwrites : Bool) (old end : Log) (r : Recorder) (result : Result (Unit {0}) IoFault)
-    → Resumes f allowed overwrites (Ok r) → IsCutOff f r.data_length old.state → Performed (effects_of r) result old end
-    → Mends f r old end result
-mended f allowed overwrites old end r result resumes cut did =
-    let (start, takes) = begun (kept_length f allowed overwrites) resumes in
-    mended_at f old end r result cut did start takes
+-- the data of a recorder of a file that was found begin where those of the file do, and are whole frames
+pub begins_with : (f : FoundFile) (allowed overwrites : Bool) (r : Recorder) → Resumes f allowed overwrites (Ok r)
+    → (r.data_start ≡ f.data_start)
+    × AppendsRecorder f.spec_ex f.data_start r.data_length (Ok (recorder_of f.spec_ex f.data_start r.data_length))
+begins_with f allowed overwrites r resumes = by_kept (kept_length f allowed overwrites) resumes
   where
-    begun : (kept : Result ℕ RecorderError) → ResumesAfter f kept (Ok r) → (r.data_start ≡ f.data_start)
+    by_kept : (kept : Result ℕ RecorderError) → ResumesAfter f kept (Ok r) → (r.data_start ≡ f.data_start)
         × AppendsRecorder f.spec_ex f.data_start r.data_length (Ok (recorder_of f.spec_ex f.data_start r.data_length))
-    begun (Ok n) (appends, held, this) = (
+    by_kept (Ok n) (appends, held, this) = (
       ap (λ (x : Recorder). x.data_start) this,
       subst (λ n. AppendsRecorder f.spec_ex f.data_start n (Ok (recorder_of f.spec_ex f.data_start n)))
           (sym (ap (λ (x : Recorder). x.data_length) this)) appends,
     )
-    begun (Err error) never = absurd (false≢true (ap is_ok (sym never)))
+    by_kept (Err error) never = absurd (false≢true (ap is_ok (sym never)))
+
+pub mended : (f : FoundFile) (allowed overwrites : Bool) (old end : Log) (r : Recorder) (result : Result (Unit {0}) IoFault)
+    → Resumes f allowed overwrites (Ok r) → IsCutOff f r.data_length old.state → Performed (effects_of r) result old end
+    → Mends f r old end result
+mended f allowed overwrites old end r result resumes cut did =
+    let (start, takes) = begins_with f allowed overwrites r resumes in mended_at f old end r result cut did start takes

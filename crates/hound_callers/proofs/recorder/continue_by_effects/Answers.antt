@@ -17,7 +17,9 @@ returns-in_err-mend-clause-rejected g c = if_err c.from_residual-in_err-mend.res
     let cut = is_cut_off f r start.state is_found c.in_ok-continued.ensures.resumes
     c.in_ok-continued.ensures.counted in
     let ((answer, mark, leaves), on) = c.a_recorder_directs.ensures.mended f true false start end r result c.in_ok-continued.ensures.resumes cut done in
-    (r, end, (start, answer, c.in_ok-continued.ensures.resumes, refl, mark ∙ failed, leaves), now)))
+    let lost = c.a_recording_is_kept.ensures.mended f true false start end r result c.in_ok-continued.ensures.resumes cut
+    (c.requires.synced tells keeps) done in
+    (r, end, (start, answer, c.in_ok-continued.ensures.resumes, refl, mark ∙ failed, leaves, lost), now)))
 
 pub returns-clause-saved : goal.returns-clause-saved
 returns-clause-saved g c tells keeps is_found =
@@ -41,7 +43,16 @@ returns-clause-saved g c tells keeps is_found =
       r,
       end,
       samples,
-      (start, answer, c.in_ok-continued.ensures.resumes, refl, mark ∙ ok, leaves),
+      (
+        start,
+        answer,
+        c.in_ok-continued.ensures.resumes,
+        refl,
+        mark ∙ ok,
+        leaves,
+        c.a_recording_is_kept.ensures.mended f true false start end r result c.in_ok-continued.ensures.resumes cut
+            (c.requires.synced tells keeps) done,
+      ),
       counted,
       saves s (resumed_file s samples f.data_start end.state) c.args.blocks.now c.save_blocks.result c.save_blocks.new.recorder _
           c.save_blocks.ensures.within
