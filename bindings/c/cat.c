@@ -8,15 +8,17 @@
 
 enum { BLOCK = 65536 }; /* bytes of samples: a frame has fewer */
 static uint64_t taken; /* how many bytes of the input were read */
+static uint8_t front[HOUND_FILE_FRONT]; /* the first ones of these */
+
+static size_t least(uint64_t a, size_t b) { return a < b ? (size_t)a : b; }
 
 /* Reads so many bytes; fewer only at the end, or where reading fails. */
 static size_t take(uint8_t *out, size_t count) {
     size_t got = fread(out, 1, count, stdin);
+    if (taken < sizeof front) memcpy(front + taken, out, least(got, sizeof front - (size_t)taken));
     taken += got;
     return got;
 }
-
-static size_t least(uint64_t a, size_t b) { return a < b ? (size_t)a : b; }
 
 /* Reads the part of the input that a walk requests. What comes before it is read, too. */
 static void perform(hound_effect *effect) {
@@ -52,6 +54,15 @@ static int fail(const char *why) {
     return 1;
 }
 
+/* Names what the input is that isn't read. Its fmt chunk may begin after the last byte that was read. */
+static int fail_by_kind(const char *otherwise) {
+    static uint8_t fmt[64];
+    char room[HOUND_FILE_SENTENCE];
+    take(fmt, sizeof fmt);
+    const char *reason = hound_file_kind_reason(hound_kind(front, least(taken, sizeof front)), room);
+    return fail(reason ? reason : otherwise);
+}
+
 /* Copies the samples that follow, and returns the status. Those of a stream end where the input does. */
 static int copy(const hound_info_t *info, int to_end, int as_floats) {
     static uint8_t bytes[BLOCK];
@@ -60,7 +71,7 @@ static int copy(const hound_info_t *info, int to_end, int as_floats) {
     while (left > 0) {
         size_t wanted = least(left, (size_t)hound_whole_frames(spec, BLOCK)), got = take(bytes, wanted);
         int64_t length = decode(spec, bytes, to_end ? (size_t)hound_whole_frames(spec, got) : got, as_floats);
-        if (length < 0) return fail("these samples are not read");
+        if (length < 0) return fail_by_kind("these samples are not read");
         if (fwrite(&out, 1, (size_t)length, stdout) != (size_t)length || (got < wanted && fflush(stdout)))
             return fail("writing failed");
         if (got < wanted && ferror(stdin)) return fail("reading failed");
@@ -83,5 +94,5 @@ int main(int argc, char **argv) {
     hound_file_set_binary(0), hound_file_set_binary(1);
     int32_t code = find_data(&info, to_end);
     if (ferror(stdin)) return fail("reading failed");
-    return code < 0 ? fail(hound_error_text(code)) : copy(&info, to_end, as_floats);
+    return code < 0 ? fail_by_kind(hound_error_text(code)) : copy(&info, to_end, as_floats);
 }

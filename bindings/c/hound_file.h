@@ -13,9 +13,10 @@
      if (code < 0) puts(hound_file_text(&file, code));
      hound_file_close(&file);
 
-   A call returns 0 or an error of hound.h; hound_file_text has its sentence. Where the system failed the error isn't 0
-   and `fault` is the errno. A hound_file is for one thread at a time. Windows syncs no folder: a loss of power there
-   may take the name of a new file. There a path is UTF-8, too, may be longer than 260, and takes 128 KB of stack.
+   A call returns 0 or an error of hound.h; hound_file_text has its sentence, and hound_file_reason one that names what
+   a file is that isn't read. Where the system failed the error isn't 0 and `fault` is the errno. A hound_file is for
+   one thread at a time. Windows syncs no folder: a loss of power there may take the name of a new file. There a path is
+   UTF-8, too, may be longer than 260, and takes 128 KB of stack.
 
    A descriptor of your own may be in `descriptor`. One that was opened to append (O_APPEND, `>>`) is rejected before
    anything is written, since the system would write at the end; on Windows only after the first write, which is there.
@@ -211,6 +212,7 @@ typedef struct {
     int fault;      /* the errno of what first failed in the last call; 0 where nothing of the system did */
     int has_rest;   /* a part of a block that failed couldn't be cut off: a repair would take it for samples */
     uint32_t counted; /* how many bytes of samples the header counts */
+    int32_t kind;     /* what hound_kind returned for a file that wasn't appended to or repaired */
     hound_recorder recorder;
 } hound_file;
 
@@ -224,6 +226,27 @@ static inline const char *hound_file_text(const hound_file *file, int32_t code) 
     case EPROTO: return "the library requests what this hound_file.h can't do: compile with that of the library";
     default: return strerror(file->fault);
     }
+}
+
+/* How many bytes of the front of a file are looked at for its kind, and how many a sentence on it has at most. */
+enum { HOUND_FILE_FRONT = 4096, HOUND_FILE_SENTENCE = 192 };
+
+/* A sentence on a file of this kind, which isn't read, without its full stop, in this room: what it is, and by what
+   program it becomes one that is read, with as many bits as it may have. NULL where hound_kind_text knows no name. */
+static inline const char *hound_file_kind_reason(int32_t kind, char *room) {
+    const char *name = hound_kind_text(kind), *codec = kind < HOUND_KIND_UNKNOWN ? "pcm_s16le" : "pcm_s24le";
+    if (!name) return NULL;
+    if (kind == HOUND_KIND_FLOAT64) codec = "pcm_f32le";
+    snprintf(room, HOUND_FILE_SENTENCE,
+             "the file holds %s, and isn't read: convert it by ffmpeg -i FILE -c:a %s NEW.wav", name, codec);
+    return room;
+}
+
+/* The sentence of hound_file_text after hound_file_append or hound_file_repair, or what the file is that isn't read, in
+   this room of HOUND_FILE_SENTENCE bytes. */
+static inline const char *hound_file_reason(const hound_file *file, int32_t code, char *room) {
+    const char *reason = file->fault == 0 ? hound_file_kind_reason(file->kind, room) : NULL;
+    return reason ? reason : hound_file_text(file, code);
 }
 
 /* As many bytes as one call of a system takes. */
@@ -298,6 +321,13 @@ static inline int32_t hound_file_finish(hound_file *file, const uint8_t *block) 
     return code;
 }
 
+/* Finds what kind of file it is, by its front. */
+static inline void hound_file_look(hound_file *file) {
+    uint8_t front[HOUND_FILE_FRONT];
+    int64_t count = hound_file_read_at(file->descriptor, front, sizeof front, 0);
+    if (count >= 0) file->kind = hound_kind(front, (size_t)count);
+}
+
 /* Performs what a repairer of this mode requests: all of it, or the reads alone, and then 1 says that more is left. */
 static inline int32_t hound_file_examine(hound_file *file, uint64_t length, uint32_t mode, int is_read_only,
                                          hound_repair_t *found) {
@@ -306,6 +336,7 @@ static inline int32_t hound_file_examine(hound_file *file, uint64_t length, uint
     hound_repairer_begin(length, mode, &repairer);
     while ((code = hound_repairer_next(&repairer, found)) == 1 && !(is_read_only && repairer.effect.kind != HOUND_READ))
         hound_file_perform(file, &repairer.effect, NULL);
+    if (code < 0) hound_file_look(file);
     return code;
 }
 
@@ -324,6 +355,7 @@ static inline int32_t hound_file_give_up(hound_file *file, const char *path, int
 static inline int32_t hound_file_open(hound_file *file, const char *path, int flags, int is_durable, uint64_t *length) {
     int is_regular = 1, is_there = 0, attempts, is_made;
     file->descriptor = -1, file->is_durable = is_durable, file->has_rest = 0, file->fault = 0;
+    file->kind = HOUND_KIND_UNKNOWN;
     for (attempts = 0; attempts < 10 && is_there == 0 && file->fault == 0; attempts++) {
         if (file->descriptor >= 0) hound_file_close_at(file->descriptor);
         file->descriptor = hound_file_open_at(path, flags);
@@ -351,7 +383,7 @@ static inline int32_t hound_file_create(hound_file *file, const char *path, cons
     int64_t length = hound_header(spec, 0, header, sizeof header);
     int32_t code = length < 0 ? (int32_t)length : hound_recorder_begin(spec, &file->recorder);
     int flags = O_RDWR | O_CREAT | (is_emptied ? 0 : O_EXCL);
-    file->descriptor = -1, file->fault = 0, file->counted = 0;
+    file->descriptor = -1, file->fault = 0, file->counted = 0, file->kind = HOUND_KIND_UNKNOWN;
     if (code == 0) code = hound_file_open(file, path, flags, is_durable, &held);
     if (code < 0) return code;
     if (is_emptied == HOUND_FILE_IF_EMPTY && held > 0) file->fault = EEXIST;

@@ -39,6 +39,7 @@ static int32_t begin(const char *path, const hound_spec *spec, int is_durable, i
 
 int main(int argc, char **argv) {
     static uint8_t block[1 << 17];
+    char room[HOUND_FILE_SENTENCE];
     static const char usage[] = "usage: record FILE RATE CHANNELS BITS FRAMES [--durable] [--append | --overwrite]";
     uint64_t numbers[4] = {0}, most[4] = {UINT32_MAX, UINT16_MAX, 32, UINT32_MAX};
     int is_durable = 0, is_appended = 0, is_overwritten = 0, fault;
@@ -55,7 +56,8 @@ int main(int argc, char **argv) {
                        (uint16_t)((numbers[2] + 7) / 8), HOUND_INT};
     int32_t code = begin(argv[1], &spec, is_durable, is_appended, is_overwritten);
     if (file.fault == EEXIST) stop("the file exists: --append continues it, --overwrite empties it");
-    if (code < 0) stop(hound_file_text(&file, code));
+    if (code == HOUND_UNFINISHED_FRAME) stop("the header counts a part of a frame: repair the file first");
+    if (code < 0) stop(hound_file_reason(&file, code, room));
     hound_file_set_binary(0);
 #ifdef SIGPIPE
     signal(SIGPIPE, SIG_IGN); /* the recording continues where nobody reads what it prints */

@@ -39,10 +39,15 @@ export interface Info extends Spec {
 }
 
 export interface Damage extends Spec {
-  /** How the file was found. */
-  state: "whole" | "cutOff" | "hasChunksAfterData";
+  /**
+   * How the file was found. With "allCounted" no sample is concerned: the header counts all whole frames, and only the
+   * RIFF size isn't that of the canonical form, as where a program writes no pad byte after data of an odd length.
+   */
+  state: "whole" | "cutOff" | "hasChunksAfterData" | "allCounted";
   /** How many whole frames the file holds. */
   frames: number;
+  /** How many whole frames the header counted; more than `frames` where it counts what the file doesn't hold. */
+  counted: number;
   /** How many bytes of a torn frame follow them. */
   leftOver: number;
   /** How many bytes are before the first frame. */
@@ -99,6 +104,8 @@ export class HoundError extends Error {
   constructor(code: Code);
   /** The name of the cause in hound.h, without HOUND_. */
   readonly code: Code;
+  /** What a file is that isn't read, as "Microsoft ADPCM", if that is known. */
+  readonly kind?: string;
 }
 
 /** What the header of a file says. The data needn't all be there; of a stream `frames` are those that are. */
@@ -142,8 +149,14 @@ export function append(
 ): Promise<Uint8Array>;
 export function append(file: Blob, samples: Samples, options?: { overwrite?: boolean } & Clipping): Promise<Blob>;
 
-export interface RepairOptions {
+export interface Repairing {
+  /** Whether all that follows the header of the data is taken for samples, also what looks like chunks or a tag. */
   toEnd?: boolean;
+  /** Whether a file that is "allCounted" gets the RIFF size and the pad byte that the format asks for. */
+  canonical?: boolean;
+}
+
+export interface RepairOptions extends Repairing {
   /** The format of the samples, where the header is lost. */
   like?: Format & { bitsPerSample: number };
   /** How many bytes of what is left aren't samples, at the front; without it as many as `guessStart` returns. */
@@ -157,11 +170,11 @@ export function guessStart(file: WavFile): Promise<number>;
 export function findDamage(file: WavFile): Promise<Damage>;
 
 /**
- * Repairs a file whose recording was cut off, and returns how it was found and the repaired file, in which only the two
- * sizes and a missing pad byte differ. A file that is whole, or that chunks or a tag follow, is returned as it is; with
- * `toEnd` all that follows the header of the data is taken for samples, also what looks like chunks. Where the header
- * is lost all that follows the first `skip` bytes is, and a header like that of another file, or of this format, comes
- * before it.
+ * Repairs a file whose recording was cut off, and returns how it was found and the repaired file: it has the two sizes
+ * of its whole frames, and ends after them and their pad byte, without the bytes of a torn frame. A file that is whole,
+ * "allCounted", or that chunks or a tag follow, is returned as it is, unless an option says otherwise. Where the header
+ * is lost all that follows the first `skip` bytes is taken for samples, and a header like that of another file, or of
+ * this format, comes before it.
  *
  * A Blob of Node's `openAsBlob` is read when the result is: don't write that to the same path. `repairFile` does it.
  */
@@ -170,9 +183,10 @@ export function repair(file: Blob, options?: RepairOptions): Promise<Damage & { 
 
 /**
  * Repairs a file at a path in place, in Node, and returns how it was found. Each step is synced, so that a file can be
- * repaired again after an error, a kill or a loss of power. Node has no locks: no other program may write it meanwhile.
+ * repaired again after an error, a kill or a loss of power. Nothing is deleted: bytes of a torn frame stay. Node has
+ * no locks: no other program may write it meanwhile.
  */
-export function repairFile(path: string | URL, options?: { toEnd?: boolean }): Promise<Damage>;
+export function repairFile(path: string | URL, options?: Repairing): Promise<Damage>;
 
 /**
  * Reports what `repairFile` would find, or fails as it would. The file may be read-only, and is read as far as needed:

@@ -55,16 +55,49 @@ const ERRORS = {
 };
 const NAMES = new Map(Object.entries(ERRORS).map(([name, [code]]) => [code, name]));
 
-/** A call failed: `code` is the cause's name, and `message` its sentence. */
+// What a file is that isn't read, by the number of its kind.
+const KINDS = new Map([
+  // The names of kinds of files, made from hound.h by scripts/make_interface.
+  [2, "Microsoft ADPCM"],
+  [6, "A-law"],
+  [7, "mu-law"],
+  [17, "IMA ADPCM"],
+  [34, "TrueSpeech"],
+  [49, "GSM 6.10"],
+  [64, "G.721 ADPCM"],
+  [80, "MPEG"],
+  [85, "MP3"],
+  [8192, "AC-3"],
+  [65537, "RIFX, whose numbers have their highest byte first"],
+  [65538, "RF64, which is for more than 4 GiB"],
+  [65539, "BW64, which is for more than 4 GiB"],
+  [65540, "Wave64"],
+  [65541, "AIFF"],
+  [65542, "FLAC"],
+  [65543, "Ogg"],
+  [65544, "MP3, or another MPEG audio"],
+  [65545, "floats of 64 bits"],
+  // The end of what is made from hound.h.
+]);
+
+/** A sentence on a file of a kind that isn't read: what it is, and what makes one of it that is read. */
+function sentenceOn(kind) {
+  const codec = kind < KIND_UNKNOWN ? "pcm_s16le" : kind === KIND_FLOAT64 ? "pcm_f32le" : "pcm_s24le";
+  return `the file holds ${KINDS.get(kind)}, and isn't read: convert it by ffmpeg -i FILE -c:a ${codec} NEW.wav`;
+}
+
+/** A call failed: `code` is the cause's name, `message` a sentence, and `kind` what a file is that isn't read, if it is
+    known. */
 export class HoundError extends Error {
-  constructor(code) {
-    super(ERRORS[code][1]);
+  constructor(code, kind) {
+    super(KINDS.has(kind) ? sentenceOn(kind) : ERRORS[code][1]);
     this.name = "HoundError";
     this.code = code;
+    this.kind = KINDS.get(kind);
   }
 }
 
-const errorOf = (code) => new HoundError(NAMES.get(-Number(code)));
+const errorOf = (code, kind) => new HoundError(NAMES.get(-Number(code)), kind);
 
 function checked(code) {
   if (code < 0) throw errorOf(code);
@@ -72,9 +105,11 @@ function checked(code) {
 }
 
 // The constants, and where fields are, made from hound.h by scripts/make_interface.
+const VERSION = 512;
 const [INT, FLOAT, EFFECT_BYTES, DONE, FAILED] = [0, 1, 40, 1, 2];
 const [READ, WRITE, WRITE_BLOCK, SYNC, CUT] = [1, 2, 3, 4, 5];
 const [FIND_DAMAGE, REPAIR, REPAIR_TO_END, MAKE_CANONICAL, OVERWRITE] = [0, 1, 2, 3, 2];
+const [KIND_UNKNOWN, KIND_FLOAT64] = [65536, 65545];
 const LAYOUT = {
   spec: { sampleRate: 0, channels: 4, bitsPerSample: 6, bytesPerSample: 8, sampleFormat: 10, size: 12 },
   info: { spec: 0, samples: 12, dataStart: 16, size: 24 },
@@ -145,7 +180,11 @@ let shared, loading;
 
 async function load() {
   try {
-    shared = new Memory(await WebAssembly.instantiate(await module()), SECOND + BLOCK_BYTES);
+    const instance = await WebAssembly.instantiate(await module());
+    if (instance.exports.hound_version?.() !== VERSION) {
+      throw new Error("hound_c32.wasm and hound.js have different versions: install both from one version");
+    }
+    shared = new Memory(instance, SECOND + BLOCK_BYTES);
   } finally {
     loading = undefined; // After an error the next call tries it again.
   }
@@ -297,11 +336,19 @@ class Machine {
 const unknownEffect = () =>
   new Error("the WebAssembly module requests what this hound.js can't do: install both from one version");
 
-/** Performs all that a walk or a repairer requests, and returns what `found` gives for its last code. */
+/** Makes a call over the front of a file. */
+async function callOverFront(name, perform) {
+  const front = await perform({ kind: READ, place: 0, length: FRONT });
+  shared.bytes.set(front, FIRST);
+  return Number(shared.call(name, shared.at(FIRST), front.length));
+}
+
+/** Performs all that a walk or a repairer requests, and returns what `found` gives then. */
 async function performAll(machine, name, perform, found) {
   for (;;) {
     const code = machine.call(name, shared.at(MACHINE), shared.at(FOUND));
-    if (code !== 1) return found(code);
+    if (code === 0) return found();
+    if (code < 0) throw errorOf(code, await callOverFront("kind", perform));
     const { effect } = machine;
     machine.report(effect, await perform(effect));
   }
@@ -329,8 +376,7 @@ function walkOver(file, toEnd) {
     if (kind !== READ) throw unknownEffect();
     return bytesOf(file, Math.min(place, size), Math.min(place + length, size));
   };
-  return performAll(new Machine("walk"), toEnd ? "walk_to_end" : "walk_next", readPart, (code) => {
-    checked(code);
+  return performAll(new Machine("walk"), toEnd ? "walk_to_end" : "walk_next", readPart, () => {
     const samples = shared.view.getUint32(FOUND + LAYOUT.info.samples, true);
     const dataStart = Number(shared.view.getBigUint64(FOUND + LAYOUT.info.dataStart, true));
     return { spec: shared.specAt(FOUND), samples, dataStart };
@@ -467,18 +513,18 @@ export async function write(samples, { onClipped = warn, ...format } = {}) {
   return file;
 }
 
-const STATES = ["whole", "cutOff", "hasChunksAfterData"];
+const STATES = ["whole", "cutOff", "hasChunksAfterData", "allCounted"];
 
 /** What a repairer of this mode finds in a file of so many bytes, once all that it requests is performed. */
 function repairBy(size, mode, perform) {
   const repairer = new Machine("repairer");
   repairer.call("repairer_begin", size, mode, shared.at(MACHINE));
-  return performAll(repairer, "repairer_next", perform, (code) => {
-    checked(code);
+  return performAll(repairer, "repairer_next", perform, () => {
     const number = (name) => shared.view.getUint32(FOUND + LAYOUT.repair[name], true);
-    const [frames, leftOver, state, dataLength] = ["frames", "leftOver", "state", "dataLength"].map(number);
+    const [frames, counted, leftOver, dataLength] = ["frames", "counted", "leftOver", "dataLength"].map(number);
     const dataStart = Number(shared.view.getBigUint64(FOUND + LAYOUT.repair.dataStart, true));
-    const report = { state: STATES[state], frames, leftOver, ...shared.specAt(FOUND), dataStart, dataLength };
+    const state = STATES[number("state")], spec = shared.specAt(FOUND);
+    const report = { state, frames, counted, leftOver, ...spec, dataStart, dataLength };
     return { report, found: shared.bytes.slice(FOUND, FOUND + LAYOUT.repair.size) };
   });
 }
@@ -495,9 +541,7 @@ export async function findDamage(file) {
 export async function guessStart(file) {
   const given = fileOf(file);
   await ready();
-  const front = await bytesOf(given, 0, Math.min(FRONT, sizeOf(given)));
-  shared.bytes.set(front, FIRST);
-  return Math.max(Number(shared.call("guess_data", shared.at(FIRST), front.length)), 0);
+  return Math.max(await callOverFront("guess_data", readerOf(given)), 0);
 }
 
 /** What a file becomes by effects: its own parts and those that were written, one after the other. The file stays. */
@@ -534,25 +578,34 @@ class Overlay {
   }
 }
 
+/** What a repair does. */
+const modeOf = ({ toEnd = false, canonical = false }) => toEnd ? REPAIR_TO_END : canonical ? MAKE_CANONICAL : REPAIR;
+
 /**
- * Repairs a file whose recording was cut off, and returns how it was found and the repaired file, in which only the two
- * sizes and a missing pad byte differ. A file that is whole, or that chunks or a tag follow, is returned as it is; with
- * `toEnd` all that follows the header of the data is taken for samples, also what looks like chunks. Where the header
- * is lost, all that follows the first `skip` bytes is taken for samples, and a header as `like` says is put before it.
+ * Repairs a file whose recording was cut off, and returns how it was found and the repaired file: it has the two sizes
+ * of its whole frames, and ends after them and their pad byte. A file that is whole, of which all frames are counted,
+ * or that chunks or a tag follow, is returned as it is. With `canonical` one of which all frames are counted gets the
+ * RIFF size and the pad byte that the format asks for; with `toEnd` all that follows the header of the data is taken
+ * for samples, also what looks like chunks. Where the header is lost, all that follows the first `skip` bytes is taken
+ * for samples, and a header as `like` says is put before it.
  */
-export async function repair(file, { toEnd = false, like, skip } = {}) {
+export async function repair(file, { like, skip, ...how } = {}) {
   const whole = fileOf(file), spec = like && specFor({}, like);
   const start = skip === undefined ? like && await guessStart(whole) : integer("skip", skip, 0, sizeOf(whole));
   await ready();
   const given = like ? joined([headerOf(spec, 0), partOf(whole, start, sizeOf(whole))], whole instanceof Blob) : whole;
-  return repairedFile(given, like || toEnd ? REPAIR_TO_END : REPAIR);
+  return repairedFile(given, like ? REPAIR_TO_END : modeOf(how));
 }
 
 async function repairedFile(given, mode) {
   const readPart = readerOf(given), repaired = new Overlay([given]);
   const perform = (effect) => effect.kind === READ ? readPart(effect) : repaired.perform(effect);
   const { report } = await repairBy(sizeOf(given), mode, perform);
-  return { ...report, file: repaired.parts.length > 1 ? joined(repaired.parts, given instanceof Blob) : given };
+  if (repaired.parts.length === 1) return { ...report, file: given };
+  if (report.leftOver === 0) return { ...report, file: joined(repaired.parts, given instanceof Blob) };
+  // The bytes of a torn frame stay in the original, since some players play nothing of a file that has them at its end.
+  const { file } = await repairedFile(partOf(given, 0, sizeOf(given) - report.leftOver), REPAIR_TO_END);
+  return { ...report, file };
 }
 
 async function readAt(handle, { place, length }) {
@@ -611,8 +664,8 @@ async function repairAt(path, flags, mode) {
 }
 
 /** Repairs a file at a path in place, in Node, and returns how it was found. */
-export async function repairFile(path, { toEnd = false } = {}) {
-  return repairAt(path, "r+", toEnd ? REPAIR_TO_END : REPAIR);
+export async function repairFile(path, how = {}) {
+  return repairAt(path, "r+", modeOf(how));
 }
 
 /** Reports what `repairFile` would find, or fails as it would; the file may be read-only. */

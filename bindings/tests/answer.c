@@ -23,6 +23,8 @@ static int64_t call(const char *name, const uint64_t *a) {
     if (!strcmp(name, "walk_to_end")) return walked(hound_walk_to_end, AT(uint8_t, 0), a[1], AT(hound_info_t, 2));
     if (!strcmp(name, "whole_frames")) return hound_whole_frames(AT(hound_spec, 0), a[1]);
     if (!strcmp(name, "guess_data")) return hound_guess_data(AT(uint8_t, 0), a[1]);
+    if (!strcmp(name, "kind")) return hound_kind(AT(uint8_t, 0), a[1]);
+    if (!strcmp(name, "version")) return hound_version();
     if (!strcmp(name, "find_damage")) return hound_find_damage(AT(uint8_t, 0), a[1], AT(hound_repair_t, 2));
     if (!strcmp(name, "header")) return hound_header(AT(hound_spec, 0), a[1], AT(uint8_t, 2), a[3]);
     if (!strcmp(name, "sizes")) return hound_sizes(AT(hound_spec, 0), a[1], a[2], AT(uint8_t, 3), a[4]);

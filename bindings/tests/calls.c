@@ -203,14 +203,17 @@ static void files_of_each_kind(void) {
                  "the spec, by parts");
             must(parted.samples == n + more && parted.data_start == start, "the samples, by parts");
             must(info.samples == n + more && info.data_start == start, "the samples of a file");
-            for (int cut = 0; cut < 2; cut++) {
+            for (int other = 0; other < 2; other++) { /* a file that is whole; and one with another RIFF size */
                 hound_repair_t found;
-                if (cut) put32(file + 4, 0);
+                if (other) put32(file + 4, 0);
                 must(hound_repair(file, (size_t)used, (size_t)used, &found) == used, "the length of a repaired file");
-                must(!memcmp(&found.spec, &spec, sizeof spec) && found.frames == n + more, "what a repair finds");
-                must(found.left_over == 0 && found.state == (cut ? HOUND_CUT_OFF : HOUND_WHOLE),
+                must(!memcmp(&found.spec, &spec, sizeof spec) && found.frames == n + more && found.counted == n + more,
+                     "what a repair finds");
+                must(found.left_over == 0 && found.state == (other ? HOUND_ALL_COUNTED : HOUND_WHOLE),
                      "how a repair finds a file");
-                whole(file, used, start, (n + more) * width, "a repaired file");
+                must(le32(file + 4) == (other ? 0 : (uint32_t)used - 8), "a file whose samples are all counted stays");
+                must(repaired(file, (size_t)used, HOUND_MAKE_CANONICAL, &found) == used, "a canonical file");
+                whole(file, used, start, (n + more) * width, "a file that was made canonical");
             }
         }
         /* Containers that fill their memory, and one byte less. */
@@ -556,11 +559,40 @@ static void recorders(void) {
             ends(&recorder, 0, "a checkpoint after one that failed");
             continue;
         }
-        ends(&recorder, HOUND_SYNC_FAILED, "a sync that failed");
+        for (int i = 0; i < 3; i++) ends(&recorder, HOUND_SYNC_FAILED, "a sync that failed");
         hound_recorder_checkpoint(&recorder);
-        ends(&recorder, HOUND_SYNC_FAILED, "a checkpoint after a sync that failed");
+        for (int i = 0; i < 3; i++) ends(&recorder, HOUND_SYNC_FAILED, "a checkpoint after a sync that failed");
         must(hound_recorder_write(&recorder, 1) == HOUND_SYNC_FAILED, "a block after a sync that failed");
     }
+}
+
+/* A recorder never cuts off what the header counts, as a part of a frame: a repair comes before it. */
+static void counted_torn_frame(void) {
+    hound_spec spec = {8000, 2, 16, 0, HOUND_INT};
+    uint8_t file[53];
+    hound_repair_t found;
+    hound_recorder recorder, before;
+    must(hound_write_i16(&spec, shorts, 4, file, sizeof file) == 52, "two frames");
+    put32(file + 4, 42), put32(file + 40, 6); /* as where a flush came after three samples */
+    memset(&recorder, 9, sizeof recorder);
+    before = recorder;
+    must(hound_find_damage(file, 50, &found) == 0 && found.state == HOUND_CUT_OFF && found.counted == 1,
+         "a part of a frame is counted");
+    must(hound_recorder_resume(&found, HOUND_MEND, &recorder) == HOUND_UNFINISHED_FRAME
+             && !memcmp(&recorder, &before, sizeof before),
+         "a recorder over a part of a frame that is counted");
+    must(hound_repair(file, 52, 50, &found) == 50 && hound_find_damage(file, 50, &found) == 0 && found.counted == 1,
+         "its repair");
+    must(hound_recorder_resume(&found, HOUND_MEND, &recorder) == 0 && recorder.data_length == 4,
+         "a recorder after the repair");
+    hound_recorder_checkpoint(&recorder);
+    for (size_t used = 50; hound_recorder_next(&recorder) == 1; recorder.effect.report = HOUND_DONE) {
+        hound_effect *effect = &recorder.effect;
+        if (effect->kind == HOUND_CUT && effect->place < used) used = (size_t)effect->place;
+        if (effect->kind == HOUND_WRITE) memcpy(file + effect->place, effect->bytes, effect->length);
+        must(44 + le32(file + 40) <= used, "the header counts what is there");
+    }
+    ends(&recorder, 0, "the end of that checkpoint");
 }
 
 /* What no recorder is begun for, and what has no room. */
@@ -623,12 +655,12 @@ static void repairers(void) {
         for (size_t length = 0; length < 100; length++)
             for (uint32_t mode = HOUND_REPAIR; mode <= HOUND_REPAIR_TO_END; mode++) {
         hound_spec spec = spec_of(kind, 1);
-        uint8_t file[101], same[101];
+        uint8_t file[101], same[101], before[101], canonical[101];
         char type = kinds[kind].format == HOUND_FLOAT ? 'f' : 'i';
         int64_t used = written(type, &spec, 4, file, sizeof file);
         if (used < 0 || length > (size_t)used) continue;
         file[4] = 0, file[kinds[kind].start - 4] = (uint8_t)(length % 3);
-        memcpy(same, file, sizeof same);
+        memcpy(same, file, sizeof same), memcpy(before, file, sizeof before);
         hound_repair_t found, whole, looked;
         memset(&found, 7, sizeof found), memset(&whole, 7, sizeof whole), memset(&looked, 7, sizeof looked);
         int64_t by_effects = repaired(file, length, mode, &found);
@@ -639,11 +671,16 @@ static void repairers(void) {
         must(mode == HOUND_REPAIR_TO_END || by_effects < 0 || found.state == HOUND_CUT_OFF
                  || repaired(file, length, HOUND_FIND_DAMAGE, &looked) == (int64_t)length,
              "a look by its effects");
+        /* No chunk follows: a repair to the end leaves the canonical file, too. */
+        memcpy(canonical, before, sizeof canonical);
+        must(mode == HOUND_REPAIR || repaired(canonical, length, HOUND_MAKE_CANONICAL, &looked) == by_effects,
+             "the length of a canonical file");
+        must(mode == HOUND_REPAIR || !memcmp(canonical, file, sizeof file), "a canonical file by its effects");
     }
     /* The effects of a file that lacks a pad byte; each may fail. */
     static const uint16_t order[] = {HOUND_SYNC, HOUND_WRITE, HOUND_SYNC, HOUND_WRITE,
                                      HOUND_SYNC, HOUND_WRITE, HOUND_SYNC};
-    static const uint64_t places[] = {0, 40, 0, 47, 0, 4, 0};
+    static const uint64_t places[] = {0, 4, 0, 40, 0, 47, 0};
     for (int fails = 0; fails < 8; fails++) {
         hound_spec spec = {44100, 1, 8, 1, HOUND_INT};
         int16_t three[3] = {1, 2, 3};
@@ -690,7 +727,7 @@ static void repairs(void) {
     uint8_t *file = copy(four, 51);
     hound_repair_t found;
     must(hound_find_damage(file, 51, &found) == 0 && !memcmp(file, four, 51), "looking for damage changes nothing");
-    must(found.state == HOUND_CUT_OFF && found.frames == 3 && found.left_over == 1, "the damage");
+    must(found.state == HOUND_CUT_OFF && found.frames == 3 && found.left_over == 1 && found.counted == 4, "the damage");
     must(hound_repair(file, 51, 51, &found) == 51, "repair");
     must(found.state == HOUND_CUT_OFF && found.frames == 3 && found.left_over == 1, "what was found");
     must(file[4] == 42 && file[40] == 6 && !memcmp(file + 44, four + 44, 7), "the sizes, and nothing else");
@@ -699,10 +736,20 @@ static void repairs(void) {
     hound_spec spec = {44100, 1, 8, 0, HOUND_INT};
     uint8_t odd[46];
     must(hound_write_i16(&spec, shorts, 1, odd, 46) == 46, "a byte and its pad byte");
-    odd[4] = 0;
     odd[45] = 7;
-    must(hound_find_damage(odd, 45, &found) == 0 && found.state == HOUND_CUT_OFF && found.frames == 1,
-         "a pad byte is missing");
+    odd[4] = 37; /* as a program writes it that writes no pad byte */
+    must(hound_find_damage(odd, 45, &found) == 0 && found.state == HOUND_ALL_COUNTED && found.frames == 1,
+         "a pad byte is missing, and no sample");
+    must(hound_repair(odd, 45, 45, &found) == 45 && odd[4] == 37, "a file without a pad byte stays");
+    must(hound_repair_to_end(odd, 45, 45, &found) == HOUND_NO_ROOM && odd[4] == 37, "no room for its pad byte");
+    must(hound_repair_to_end(odd, 46, 45, &found) == 46 && found.state == HOUND_ALL_COUNTED && odd[45] == 0
+             && odd[4] == 38,
+         "a pad byte by a repair to the end");
+    odd[4] = odd[40] = 0;
+    odd[45] = 7;
+    must(hound_find_damage(odd, 45, &found) == 0 && found.state == HOUND_CUT_OFF && found.frames == 1
+             && found.counted == 0,
+         "a sample isn't counted, and a pad byte is missing");
     memset(&found, 7, sizeof found);
     must(hound_find_damage(odd, 43, &found) == HOUND_ENDED
              && hound_find_damage(four + 1, 51, &found) == HOUND_NO_RIFF_TAG,
@@ -814,10 +861,43 @@ static void long_files(void) {
 #endif
 }
 
+/* Files by their first bytes. The numbers of formats are those of mmreg.h. */
+static void names_of_kinds(void) {
+    static const struct { const char *tag; int32_t kind; } tags[] = {
+        {"RIFX", HOUND_KIND_RIFX}, {"RF64", HOUND_KIND_RF64}, {"BW64", HOUND_KIND_BW64}, {"riff", HOUND_KIND_W64},
+        {"FORM", HOUND_KIND_AIFF}, {"fLaC", HOUND_KIND_FLAC}, {"OggS", HOUND_KIND_OGG},  {"ID3\3", HOUND_KIND_MPEG},
+        {"\xff\xfb\x90\x64", HOUND_KIND_MPEG}, {"\0\0\0\0", HOUND_KIND_UNKNOWN}, {"text", HOUND_KIND_UNKNOWN}};
+    static const struct { uint16_t format; const char *name; } formats[] = {
+        {1, NULL}, {2, "Microsoft ADPCM"}, {3, NULL}, {6, "A-law"}, {7, "mu-law"}, {17, "IMA ADPCM"},
+        {34, "TrueSpeech"}, {49, "GSM 6.10"}, {64, "G.721 ADPCM"}, {80, "MPEG"}, {85, "MP3"}, {0x2000, "AC-3"},
+        {999, NULL}};
+    uint8_t *file = copy(four, 52), *extended = copy(one, 72);
+    must(hound_kind(file, 52) == 1 && hound_kind(extended, 72) == 1, "PCM, also by its subformat");
+    for (size_t i = 0; i < sizeof formats / sizeof *formats; i++) {
+        uint16_t format = formats[i].format;
+        const char *name = hound_kind_text(format);
+        file[20] = extended[44] = (uint8_t)format, file[21] = extended[45] = (uint8_t)(format >> 8);
+        must(hound_kind(file, 52) == format && hound_kind(extended, 72) == format, "a format");
+        must(formats[i].name ? name && !strcmp(name, formats[i].name) : !name, "its name");
+    }
+    file[20] = 3, file[21] = 0, file[34] = 64;
+    must(hound_kind(file, 52) == HOUND_KIND_FLOAT64, "floats of 64 bits");
+    must(hound_kind(file, 35) == HOUND_KIND_UNKNOWN && hound_kind(file, 36) == HOUND_KIND_FLOAT64, "a cut fmt chunk");
+    for (size_t i = 0; i < sizeof tags / sizeof *tags; i++) {
+        memcpy(file, tags[i].tag, 4), memset(file + 12, 0, 4);
+        must(hound_kind(file, 52) == tags[i].kind && hound_kind(file, 4) == tags[i].kind, "a tag");
+        must(hound_kind(file, 3) == HOUND_KIND_UNKNOWN && hound_kind(file, 0) == HOUND_KIND_UNKNOWN, "a cut tag");
+        must((tags[i].kind == HOUND_KIND_UNKNOWN) == !hound_kind_text(tags[i].kind), "the name of a tag's kind");
+    }
+    free(file), free(extended);
+}
+
 static void texts(void) {
     char version[40];
     sprintf(version, "%d.%d.%d", HOUND_VERSION_MAJOR, HOUND_VERSION_MINOR, HOUND_VERSION_PATCH);
     must(!strcmp(version, HOUND_VERSION), "the version");
+    sprintf(version, "%d.%d.%d", hound_version() >> 16, hound_version() >> 8 & 255, hound_version() & 255);
+    must(!strcmp(version, HOUND_VERSION) && hound_version() == HOUND_VERSION_NUMBER, "the version of the library");
     for (int code = 0; code >= HOUND_NOT_PERFORMED; code--) {
         must(strcmp(hound_error_text(code), "unknown error") != 0, "a text for each error");
         for (int other = 0; other > code; other--)
@@ -839,12 +919,14 @@ int main(void) {
     scales();
     sizes_of_none();
     recorders();
+    counted_torn_frame();
     no_recorders();
     repairers();
     floats();
     repairs();
     repairs_to_the_end();
     long_files();
+    names_of_kinds();
     texts();
     puts("calls: each call returned what it must");
     return 0;

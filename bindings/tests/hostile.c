@@ -45,6 +45,9 @@ int main(int argc, char **argv) {
         hound_info_t info;
         int32_t code = hound_info(file, length, &info);
         must(code <= 0 && code >= HOUND_FRAME_LENGTH, "a code");
+        int32_t kind = hound_kind(file, length);
+        must(kind >= 0 && kind <= HOUND_KIND_FLOAT64, "a kind");
+        must(code < 0 || !hound_kind_text(kind), "no name of what is read");
         hound_info_t parted;
         must(walked(hound_walk_next, file, length, &parted) == code, "the same by parts");
         must(code < 0 || (!memcmp(&parted.spec, &info.spec, sizeof info.spec) && parted.samples == info.samples
@@ -109,8 +112,11 @@ int main(int argc, char **argv) {
         must(looked == (mended < 0 ? mended : 0), "what is looked at is repaired");
         must(looked < 0
                  || (!memcmp(&damage.spec, &repaired.spec, sizeof damage.spec) && damage.frames == repaired.frames
-                     && damage.left_over == repaired.left_over && damage.state == repaired.state),
+                     && damage.left_over == repaired.left_over && damage.state == repaired.state
+                     && damage.counted == repaired.counted),
              "the same damage");
+        must(looked < 0 || damage.state == HOUND_CUT_OFF || !memcmp(copy, base, length), "what isn't cut off stays");
+        must(looked < 0 || damage.state != HOUND_ALL_COUNTED || damage.counted == damage.frames, "all are counted");
         memcpy(base, file, length);
         must(hound_repair_to_end(base, sizeof base, length, &to_end) < 0 ? mended < 0 && !memcmp(copy, base, length)
                  : mended >= 0 && to_end.state != HOUND_HAS_CHUNKS_AFTER_DATA

@@ -15,7 +15,7 @@ const call = (name, ...words) => Number(exports["hound_" + name](...words.map(Bi
 const header = fs.readFileSync(new URL("../c/hound.h", import.meta.url), "utf8");
 const coded = [...header.matchAll(/^ {4}HOUND_(\w+) = (-\d+)/gm)];
 const names = new Map(coded.map(([, name, code]) => [Number(code), name]));
-const tried = new Map();
+const tried = new Map(), STATES = ["whole", "cutOff", "hasChunksAfterData", "allCounted"];
 
 /** What a call of the package gives: its result, or its error's name. */
 async function given(what, promise) {
@@ -68,9 +68,13 @@ async function compare(bytes, kind) {
       must(found === names.get(length), what, bytes, found, length);
       continue;
     }
-    const [frames, leftOver] = [12, 16].map((n) => view.getUint32(start + n, true));
-    const isFound = found.frames === frames && found.leftOver === leftOver;
-    const isSame = isFound && same(await bytesOf(found.file), memory.subarray(file, file + length));
+    const [frames, leftOver, state] = [12, 16, 20].map((n) => view.getUint32(start + n, true));
+    const isFound = found.frames === frames && found.leftOver === leftOver && found.state === STATES[state];
+    // A copy of a file that was repaired ends after its frames and a pad byte, which is 0.
+    const isCopy = found.file !== kind && leftOver > 0;
+    if (isCopy) memory[file + length - leftOver] = 0;
+    const end = length - leftOver + (length - leftOver - found.dataStart) % 2;
+    const isSame = isFound && same(await bytesOf(found.file), memory.subarray(file, file + (isCopy ? end : length)));
     must(isSame, what, bytes, found);
   }
 

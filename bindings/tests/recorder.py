@@ -56,6 +56,10 @@ WRONG = {
         "else if (file->fault == 0) file->fault = errno;",
         "else file->fault = errno;",
     ),
+    "what to do with a part of a frame isn't said": (
+        'if (code == HOUND_UNFINISHED_FRAME) stop("the header counts a part of a frame: repair the file first");',
+        "",
+    ),
     "a rest of a block isn't reported": (
         'if (file.has_rest) complain("a part of a block that was lost stays in the file");',
         "",
@@ -243,6 +247,23 @@ def cut_off(record, path):
     expect("frames that the file held are lost", counted_in(path) == 600 and os.path.getsize(path) == 44 + 1200)
 
 
+def counted_torn_frame(record, path):
+    """A file whose header counts a part of a frame, which a recorder never cuts off."""
+    run([record, path, *SHAPE], DATA[:8])
+    with open(path, "r+b") as file:
+        file.truncate(44 + 6)
+        file.seek(40)
+        file.write(b"\6")
+    before = contents_of(path)
+    said = b"the header counts a part of a frame: repair the file first"
+    expect("what to do isn't said", is_rejected(run([record, path, *SHAPE, "--append"]), said))
+    expect("it changes", contents_of(path) == before)
+    repair = compiled(os.path.dirname(path), "repair", open(os.path.join(C, "repair.c")).read())
+    expect("it isn't repaired", run([repair, path]).returncode == 0)
+    expect("it isn't continued", run([record, path, *SHAPE, "--append"], DATA[4:400]).returncode == 0)
+    expect("other samples are in it", counted_in(path) == 200)
+
+
 def torn_frame(record, path):
     ran = run([record, path, *SHAPE], DATA[:-1])
     expect("a torn frame isn't reported", ran.returncode == 1 and b"within a frame" in ran.stderr)
@@ -316,6 +337,10 @@ def not_appended(record, path):
         file.write(whole + CHUNK)
     expect("chunks are overwritten", is_rejected(run([record, path, *SHAPE, "--append"]), b"chunks or a tag"))
     expect("chunks that aren't overwritten change", contents_of(path) == whole + CHUNK)
+    with open(path, "wb") as file:
+        file.write(whole[:20] + b"\2\0" + whole[22:])
+    said = b"the file holds Microsoft ADPCM, and isn't read: convert it by ffmpeg"
+    expect("ADPCM isn't named", is_rejected(run([record, path, *SHAPE, "--append"]), said))
     os.remove(path)
     os.mkfifo(path)
     for words in ["--append"], ["--overwrite"]:
@@ -333,6 +358,7 @@ CHECKS = [
     slow_input,
     cut_off,
     torn_frame,
+    counted_torn_frame,
     full_disk,
     failing_cut,
     failing_header,

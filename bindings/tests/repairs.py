@@ -26,9 +26,19 @@ SOURCE = "rust/src/machines.rs" if IN_CARGO else "c/repair.c"
 # A file of 8 bits and one channel that was cut off, with no pad byte after its 1,099 samples, of which 100 are counted.
 CUT_OFF = head(CASES[1], 100) + STREAM[:1099]
 WHOLE, FOLLOWED = file_of(CASES[1], 1099), file_of(CASES[1], 1099, LIST)
-WAYS = {"mend": [], "to_end": ["to_end" if IN_CARGO else "--to-end"]}
-SAID = ("Whole", "CutOff", "HasChunksAfterData") if IN_CARGO else ("whole", "cut off", "with chunks after the data")
-STATES = dict(zip(("whole", "cut_off", "followed"), SAID))
+# As a program leaves one that writes no pad byte.
+ALL_COUNTED = b"RIFF" + struct.pack("<I", HEADER - 8 + 1099) + WHOLE[8:-1]
+WAYS = {"mend": [], "to_end": ["to_end"]} if IN_CARGO else {
+    "mend": [],
+    "to_end": ["--to-end"],
+    "canonical": ["--canonical"],
+}
+STATES = {
+    "whole": "Whole" if IN_CARGO else "whole",
+    "cut_off": "CutOff" if IN_CARGO else "cut off",
+    "followed": "HasChunksAfterData" if IN_CARGO else "with chunks after the data",
+    "all_counted": "AllCounted" if IN_CARGO else "whole, but not canonical (see --canonical)",
+}
 WRITES = ("write", "pwrite64")
 TAG = b"TAG" + bytes(125)
 # One that may not write what the user who tests has made.
@@ -36,7 +46,7 @@ OTHER_USER = {"user": 65534} if os.getuid() == 0 else {}
 # Wrong versions of it: a part, and what is in its place.
 SYNC = "is_done = !file->is_durable || hound_file_sync(file->descriptor) == 0;"
 REPORT = "effect->report = is_done ? HOUND_DONE : HOUND_FAILED;"
-MODE, BEGIN = "is_to_end ? HOUND_REPAIR_TO_END : HOUND_REPAIR", "hound_repairer_begin(length, mode, &repairer);"
+MODE, BEGIN = "return HOUND_REPAIR;", "hound_repairer_begin(length, mode, &repairer);"
 # A version that is right: of three reports two are lost, so that each effect is performed three times.
 LOST = (
     REPORT,
@@ -54,9 +64,12 @@ WRONG = {
         "pwrite(descriptor, bytes, count, (off_t)place)",
         "((void)place, lseek(descriptor, 0, SEEK_END), write(descriptor, bytes, count))",
     ),
-    "a file is only looked at": (MODE, "HOUND_FIND_DAMAGE"),
-    "--to-end without an effect": (MODE, "HOUND_REPAIR"),
-    "a file with chunks after the data is written": (MODE, "HOUND_REPAIR_TO_END"),
+    "a file is only looked at": (MODE, "return HOUND_FIND_DAMAGE;"),
+    "--to-end without an effect": ("return HOUND_REPAIR_TO_END;", "return HOUND_REPAIR;"),
+    "--canonical without an effect": ("return HOUND_MAKE_CANONICAL;", "return HOUND_REPAIR;"),
+    "a file with chunks after the data is written": (MODE, "return HOUND_REPAIR_TO_END;"),
+    "a file whose frames are all counted is written": (MODE, "return HOUND_MAKE_CANONICAL;"),
+    "the frames that are held are said to be counted": ("(unsigned long)found.counted", "(unsigned long)found.frames"),
     "a length that isn't the file's": (BEGIN, BEGIN.replace("length", "length + 1")),
     "a short write isn't continued": (
         "if (more > 0) done += (size_t)more;\n        else if (more == 0) return errno = EIO, -1;",
@@ -72,6 +85,7 @@ WRONG = {
     ),
     "a pipe is waited for": ("flags & O_RDWR ? 0 : O_NONBLOCK", "0"),
     "an error ends with status 0": ('why), 1)); }', 'why), 0)); }'),
+    "what isn't read isn't named": ("if (code < 0) hound_file_look(file);", ""),
     "no lock": ("flock(descriptor, LOCK_EX | LOCK_NB)", "0"),
 }
 if IN_CARGO:
@@ -144,9 +158,14 @@ def is_error(ran):
     return (ran.returncode, ran.stdout) == (1, b"") and re.fullmatch(rb"(repair|Error): .+\n", ran.stderr)
 
 
-def line_of(words):
-    """What is printed of what the model finds."""
-    return f"found {STATES[words[0]]}: {words[2]} frames, {words[4]} bytes left over\n"
+def line_of(words, data):
+    """What is printed of what the model finds of a file."""
+    counted = ""
+    if words[0] == "cut_off" and not IN_CARGO:
+        start, channels, width = model.Damage(data, False).start, int(words[6]), int(words[10])
+        number = int.from_bytes(data[start - 4 : start], "little") // (channels * width)
+        counted = f", {'and' if number > int(words[2]) else 'of which'} the header counted {number}"
+    return f"found {STATES[words[0]]}: {words[2]} frames{counted}, {words[4]} bytes left over\n"
 
 
 def check(program, path, how, data):
@@ -159,11 +178,13 @@ def check(program, path, how, data):
     if isinstance(words, set):
         is_right = is_error(ran)
     else:
-        is_right = (ran.returncode, ran.stdout.decode(), ran.stderr) == (0, line_of(words), b"")
+        is_right = (ran.returncode, ran.stdout.decode(), ran.stderr) == (0, line_of(words, data), b"")
     if not is_right:
         raise Wrong(f"{what} ends with {ran}, and not {words}")
     if contents_of(path) != wanted or (time == 1) != (wanted == data):
         raise Wrong(f"{what} leaves another file, or writes without need")
+    if how == "canonical":
+        return
     leave(path, data)
     try:
         hound.repair(path, to_end=how == "to_end")
@@ -242,13 +263,26 @@ def check_errors(program, path):
     return 8
 
 
+def check_kinds(program, path):
+    """A file that isn't read is named, and by what it becomes one that is. The numbers are those of mmreg.h."""
+    for place, other, name, codec in [
+        (20, b"\2\0", "Microsoft ADPCM", "pcm_s16le"),
+        (20, b"\x55\0", "MP3", "pcm_s16le"),
+        (0, b"riff", "Wave64", "pcm_s24le"),
+    ]:
+        leave(path, WHOLE[:place] + other + WHOLE[place + len(other) :])
+        ran, says = run(program, path), f"the file holds {name}, and isn't read: convert it by ffmpeg -i FILE"
+        if not is_error(ran) or ran.stderr.decode() != f"repair: {path}: {says} -c:a {codec} NEW.wav\n":
+            raise Wrong(f"{name} isn't named: {ran}")
+
+
 def check_read_only(program, path):
-    """A file of which nothing is to be written needs no leave to write it."""
-    for how, data in ("mend", WHOLE), ("to_end", WHOLE), ("mend", FOLLOWED):
+    """A file of which nothing is to be written needs no permission to write it."""
+    for how, data in ("mend", WHOLE), ("to_end", WHOLE), ("mend", FOLLOWED), ("mend", ALL_COUNTED):
         leave(path, data)
         os.chmod(path, 0o444)
         ran = run(program, path, how, **OTHER_USER)
-        if (ran.returncode, ran.stdout.decode()) != (0, line_of(repaired_by_model(how, data)[0])):
+        if (ran.returncode, ran.stdout.decode()) != (0, line_of(repaired_by_model(how, data)[0], data)):
             raise Wrong(f"a read-only file that needs no repair: {ran}")
         os.chmod(path, 0o644)
 
@@ -262,6 +296,7 @@ CALLED = [
     ("mend", head(CASES[3], 0) + STREAM[: 4 * 1099 + 3]),
     ("mend", head(CASES[5], 100) + STREAM[:1099]),
     ("to_end", head(CASES[1], 100) + STREAM[:101] + LIST),
+    *([] if IN_CARGO else [("canonical", ALL_COUNTED)]),
 ]
 
 
@@ -296,13 +331,22 @@ def written(contents, calls):
     return bytes(contents)
 
 
+def are_wanted(contents, how, before):
+    """Whether these are what a repair has to leave. Where one ended before the pad byte, which is written last, both
+    sizes are right, so that another one leaves it out."""
+    wanted = repaired_by_model(how, before)[1]
+    start = before.index(b"data") + 8
+    has_pad = wanted[start - 4] % 2 == 1 and len(wanted) > len(before)
+    return contents == wanted or has_pad and contents == wanted[:-1]
+
+
 def check_state(contents, how, before, what):
     """Looks whether a file counts only samples that it holds, and becomes the wanted one when it is repaired again."""
     start = before.index(b"data") + 8
     (length,) = struct.unpack("<I", contents[start - 4 : start])
     if len(contents) < start + length or contents[start : start + length] != before[start : start + length]:
         raise Wrong(f"{what}: samples are counted that aren't there")
-    if len(contents) >= len(before) and repaired_by_model(how, contents)[1] != repaired_by_model(how, before)[1]:
+    if len(contents) >= len(before) and not are_wanted(repaired_by_model(how, contents)[1], how, before):
         raise Wrong(f"{what}: what is left doesn't become the wanted file")
 
 
@@ -335,7 +379,7 @@ def check_calls(program, path, how, before):
             if "retval" in fault:
                 continue
             check_state(left, how, before, what)
-            if run(program, path, how).returncode or contents_of(path) != done:
+            if run(program, path, how).returncode or not are_wanted(contents_of(path), how, before):
                 raise Wrong(f"{what}: what is left isn't repaired")
     return runs
 
@@ -388,12 +432,13 @@ def all_checks(program, path, is_short):
     calls = sum(check_calls(program, path, how, before) for how, before in CALLED)
     losses = sum(check_losses(program, path, how, before) for how, before in CALLED)
     errors = check_errors(program, path)
+    check_read_only(program, path)
     if not IN_CARGO:
-        check_read_only(program, path)
+        check_kinds(program, path)
     check_lock(program, path)
     cut = list(cut_files())
     files = check_files(program, path, (("mend", data) for data in (cut[:500] if is_short else cut)))
-    files += check_files(program, path, (("to_end", data) for data in cut[:: 9 if is_short else 3]))
+    files += check_files(program, path, ((how, data) for how in WAYS for data in cut[:: 9 if is_short else 3]))
     if is_short:
         return ""
     check_same(program, path)

@@ -83,7 +83,7 @@ def repairer(some):
         some.randrange(12),
         some.choice((16, 18, 40)),
         some.randrange(9),
-        some.choice((0, 1, 2, 3, 2**16 + 1)),
+        some.choice((0, 1, 2, 3, 4, 2**16 + 1)),
         0,
     ]
     return effect(some) + struct.pack("<QQQ", *places) + spec + struct.pack("<7I", *numbers)
@@ -93,8 +93,8 @@ def recorded(some, spec):
     """What is found of a file of this spec that has samples."""
     start, counted = some.choice((44, 44, 68, 20, 19, 2**33)), some.choice((0, 1, 6, 12, 2**31, 2**32 - 1))
     length = start + counted + some.choice((-1, 0, 0, 1, 2, 40))
-    frames, left_over, state = counted // 2 + some.randrange(3), some.randrange(3), some.randrange(4)
-    return spec + struct.pack("<IIIQQII", frames, left_over, state, start, length, counted, 0)
+    frames, left_over, state = counted // 2 + some.randrange(3), some.randrange(3), some.randrange(5)
+    return spec + struct.pack("<IIIQQII", frames, left_over, state, start, length, counted, counted // 2)
 
 
 def requests(file, some):
@@ -119,6 +119,8 @@ def requests(file, some):
             yield f"walk_to_end @{FILE} {used} @{FOUND}"
             yield f"whole_frames @{SPEC} {some.choice((used, used, 2**63 - 1, 2**63))}"
             yield f"guess_data @{FILE} {used}"
+            yield f"kind @{FILE} {used}"
+            yield "version"
             yield f"find_damage @{FILE} {used} @{FOUND}"
             yield f"size @{SPEC} {some.choice((few, used, 2**31, 2**64 - 1))}"
             yield f"header @{SPEC} {some.choice((few, used, 2**31))} @{OUT} {some.choice((68, 67, 44, 43))}"
@@ -132,7 +134,7 @@ def requests(file, some):
             yield f"recorder_checkpoint @{FOUND}"
             yield f"recorder_next @{FOUND}"
             yield f"repairer_next @{FOUND} @{OUT}"
-            for mode in range(4):
+            for mode in range(5):
                 yield f"repairer @{FILE} {used} #{mode} @{FOUND}"
             for room in (used, used + 1, used - (used > 0)):
                 yield f"repair @{FILE} {room} {used} @{FOUND}"

@@ -158,6 +158,22 @@ def check_cat(program, data):
             sys.exit(f"rows: {program} makes something else of {given[:80].hex()} .. ({len(given)} bytes): {run}"[:600])
 
 
+def check_kinds(program):
+    """What cat.c says of what it doesn't read, also after a chunk."""
+    wav = b"RIFF\0\0\0\0WAVE%sfmt \x10\0\0\0\2\0" + bytes(14) + b"data\0\0\0\0"
+    for data, name in [
+        (wav % b"", b"Microsoft ADPCM"),
+        (wav % (b"LIST\xa0\x0f\0\0" + bytes(4000)), b"Microsoft ADPCM"),
+        (b"fLaC" + bytes(60), b"FLAC"),
+        (b"OggS", b"Ogg"),
+        (b"just text, and more of it", None),
+        (b"", None),
+    ]:
+        said = subprocess.run([program], input=data, capture_output=True).stderr
+        if (b"the file holds %s, and isn't read: convert it" % name not in said) if name else b"holds" in said:
+            sys.exit(f"rows: of {data[:40]} {program} says {said}")
+
+
 def file_by_model(spec, data):
     """The file of this data."""
     size = len(spec.header(0, 0)) - 8 + len(data) + len(data) % 2
@@ -193,13 +209,14 @@ def check_record(program):
     return count
 
 
-STATES = ["whole", "cut_off", "followed"]
+STATES = ["whole", "cut_off", "followed", "all_counted"]
 
 
 def repaired_by_model(how, data):
     """What a repair finds and leaves, or the codes that its error may have; then all stays."""
     try:
-        damage = model.Damage(data, how == "mend")
+        damage = model.Damage(data, how != "to_end")
+        damage.is_mended = damage.is_mended or how == "canonical" and damage.was == "all_counted"
     except model.Rejected as error:
         text = str(error)
         codes = {"Unsupported": {Cause.UNSUPPORTED, Cause.NOT_WRITABLE}, "TooLong": {Cause.TOO_LONG}}
@@ -288,6 +305,7 @@ def check_reports():
     assert next_after(hound.disk.DONE)[0] == -Cause.NEEDS_CHECKPOINT
     assert streams._recorder_write(ctypes.byref(recorder), 3) == 0 and next_after(0) == (1, hound.disk.SYNC, 0)
     assert next_after(hound.disk.FAILED)[0] == streams._recorder_write(ctypes.byref(recorder), 3) == -Cause.SYNC_FAILED
+    assert next_after(0)[0] == next_after(0)[0] == -Cause.SYNC_FAILED
     file = hound.to_bytes(array.array("h", [1, 2]), 44100)
     for length, state, results in (
         (48, 0, [0, 0, 0, 0]),
@@ -318,6 +336,8 @@ def main():
         if len(sys.argv) > 1:
             check_cat(sys.argv[1], data)
         count += 1
+    if len(sys.argv) > 1:
+        check_kinds(sys.argv[1])
     recorded = check_record(sys.argv[2]) if len(sys.argv) > 2 else 0
     repairs = check_repairs()
     other_codes()

@@ -25,6 +25,15 @@ REAL(int32_t, info, (const uint8_t *file, size_t length, hound_info_t *info)) {
     return code;
 }
 
+REAL(int32_t, version, (void)) { return __real_hound_version() + has("another version"); }
+
+REAL(int32_t, kind, (const uint8_t *file, size_t length)) {
+    int32_t kind = __real_hound_kind(file, length);
+    if (kind == HOUND_KIND_FLOAT64 && has("floats of 64 bits are floats")) return 3;
+    if (kind == 85 && has("MP3 in a WAV file isn't known")) return HOUND_KIND_UNKNOWN;
+    return kind == HOUND_KIND_RIFX && has("RIFX is RF64") ? HOUND_KIND_RF64 : kind;
+}
+
 REAL(int64_t, repair, (uint8_t *file, size_t capacity, size_t used, hound_repair_t *found)) {
     if (has("repair takes at most the capacity") && used > capacity) used = capacity;
     int64_t n = __real_hound_repair(file, capacity, used, found);
@@ -114,7 +123,11 @@ REAL(int64_t, size, (const hound_spec *spec, uint64_t samples)) {
 REAL(int32_t, recorder_resume, (const hound_repair_t *found, uint32_t allowed, hound_recorder *recorder)) {
     if (has("chunks are overwritten")) allowed |= HOUND_OVERWRITE;
     if (has("what was cut off is mended")) allowed |= HOUND_MEND;
-    int32_t code = __real_hound_recorder_resume(found, allowed, recorder);
+    hound_repair_t whole = *found;
+    whole.data_length -= whole.data_length % (2 * found->spec.channels);
+    int is_torn = allowed == HOUND_MEND && whole.data_length != found->data_length;
+    int32_t code = __real_hound_recorder_resume(is_torn && has("a counted part of a frame is cut off") ? &whole : found,
+                                                allowed, recorder);
     if (code == 0 && has("appending from the first sample")) recorder->data_length = 0;
     if (code == 0 && has("what follows stays")) recorder->has_rest = 0;
     return code;
@@ -137,6 +150,8 @@ REAL(int32_t, recorder_next, (hound_recorder *recorder)) {
     if (recorder->condition == 2 && has("a failed sync is forgotten")) recorder->condition = 0;
     if (recorder->number == 0 && recorder->condition == 1 && has("no sync after a failed write"))
         recorder->condition = 0;
+    int is_said = recorder->condition == 2 && recorder->effect.kind == HOUND_NOTHING && recorder->task == 0;
+    if (is_said && has("a failed sync is reported once")) return 0;
     int32_t code = __real_hound_recorder_next(recorder);
     int is_left_out = (recorder->effect.kind == HOUND_CUT && has("no cut"))
                       || (recorder->effect.length == 1 && has("no pad byte in a checkpoint"))
@@ -157,6 +172,9 @@ REAL(int32_t, repairer_next, (hound_repairer *repairer, hound_repair_t *found)) 
         || (repairer->effect.length == 1 && repairer->effect.kind == HOUND_WRITE && has("a repair without a pad byte"));
     if (code == 1 && is_left_out) return *report = HOUND_DONE, __real_hound_repairer_next(repairer, found);
     if (code == 0 && has("a repair finds a frame more")) found->frames++;
+    if (code == 0 && has("a repair counts a frame more")) found->counted++;
+    if (code == 0 && found->state == HOUND_ALL_COUNTED && has("what is all counted is cut off"))
+        found->state = HOUND_CUT_OFF;
     if (code == 0 && has("a repair finds another length")) found->length++;
     return code;
 }

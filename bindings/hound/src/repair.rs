@@ -1,8 +1,8 @@
 use crate::medium::open_locked;
 pub use crate::proved::State as RepairState;
 use crate::proved::{Mode, Repairer};
-use crate::{Result, WavSpecEx};
-use std::io::{Seek, SeekFrom};
+use crate::{Error, Result, WavSpecEx};
+use std::io::{self, Seek, SeekFrom};
 use std::{fs, path};
 
 /// What a file holds (own).
@@ -16,19 +16,23 @@ pub struct Repair {
     pub left_over: u32,
     /// How the file was found.
     pub state: RepairState,
+    /// How many whole frames its header counted before.
+    pub counted: u32,
 }
 
 /// Gives a file whose recording was cut off the sizes of the whole frames that it holds, and a pad byte
-/// where one is missing (own). A file that is whole stays as it is. So does one in which chunks or a tag follow the
-/// data, also where its header counts too few samples: of that one [`repair_file_to_end`] is the repair.
+/// where one is missing (own). A file that is whole stays as it is, and so does one whose header counts all its frames
+/// already ([`RepairState::AllCounted`]). So does one in which chunks or a tag follow the data, also where its header
+/// counts too few samples: of that one [`repair_file_to_end`] is the repair.
 ///
-/// Only a few parts of the file are read. Where another program repairs it, or records to it durably, the error is
-/// `WouldBlock`. Where another file was renamed to the path before this one was locked, that one is repaired (on
-/// Unix). It is synced as it was found; then the data length, the pad byte and the RIFF
-/// size are written in this order, each with a sync. So after a kill or an error, also an `IoError` between these
-/// steps, the header counts only samples that are there, and a second call finishes the repair: the pad byte follows
-/// data that are already counted, and a wrong RIFF size marks the file as unrepaired. Where that size was right before,
-/// the second call takes a file without its pad byte for whole; its samples are all there.
+/// Only a few parts of the file are read, and permission to write it is needed only where it is written. Where another
+/// program repairs it, or records to it durably, the error is `WouldBlock`. Where another file was renamed to the path
+/// before this one was locked, that one is repaired (on Unix).
+///
+/// It is synced as it was found; then the RIFF size, the data length and the pad byte are written in this order, each
+/// with a sync. So after a kill or an error, also an `IoError` between these steps, the header counts only samples that
+/// are there, and a second call finishes the repair: until the data length is right, the file is found to be cut off.
+/// Only a pad byte may then be missing, and the second call reports that all frames are counted.
 pub fn repair_file<P: AsRef<path::Path>>(filename: P) -> Result<Repair> {
     repair_by(Mode::Repair, filename.as_ref())
 }
@@ -41,8 +45,27 @@ pub fn repair_file_to_end<P: AsRef<path::Path>>(filename: P) -> Result<Repair> {
 }
 
 fn repair_by(mode: Mode, filename: &path::Path) -> Result<Repair> {
-    let mut file = open_locked(fs::OpenOptions::new().read(true).write(true), filename)?;
+    let denied = match open_locked(fs::OpenOptions::new().read(true).write(true), filename) {
+        Ok(mut file) => return repair_in(mode, &mut file),
+        Err(error) if error.kind() == io::ErrorKind::PermissionDenied => error,
+        Err(error) => return Err(error.into()),
+    };
+    // A file that stays as it is needs no more than to be read. Of another one the first write fails.
+    let mut file = open_locked(fs::OpenOptions::new().read(true), filename)?;
+    repair_in(mode, &mut file).map_err(|error| match error {
+        Error::IoError(_) => Error::IoError(denied),
+        error => error,
+    })
+}
+
+fn repair_in(mode: Mode, file: &mut fs::File) -> Result<Repair> {
     let length = file.seek(SeekFrom::End(0))?;
-    let found = Repairer::new(length, mode).run(&mut file)??;
-    Ok(Repair { spec_ex: found.spec.into(), frames: found.frames, left_over: found.left_over, state: found.state })
+    let found = Repairer::new(length, mode).run(file)??;
+    Ok(Repair {
+        spec_ex: found.spec.into(),
+        frames: found.frames,
+        left_over: found.left_over,
+        state: found.state,
+        counted: found.counted,
+    })
 }

@@ -720,18 +720,33 @@ fn a_file_that_was_cut_off_is_repaired() {
     let mut file = fs::read(&path).unwrap(); // as after a kill
     drop(writer);
     file.truncate(47);
-    file[4..8].fill(0);
-    for (counted, state, length) in [(0, hound::RepairState::CutOff, 48), (3, hound::RepairState::AllCounted, 47)] {
-        file[40] = counted;
-        fs::write(&path, &file).unwrap();
-        let found = hound::repair_file(&path).unwrap();
-        assert_eq!((found.state, found.frames, found.left_over, found.spec_ex.bytes_per_sample), (state, 3, 0, 1));
-        let samples = WavReader::open(&path).unwrap().into_samples::<i8>().collect::<Result<Vec<_>>>().unwrap();
-        assert_eq!((samples, fs::metadata(&path).unwrap().len()), (vec![1, 2, 3], length));
-    }
-    assert_eq!(fs::read(&path).unwrap(), file);
-    hound::repair_file_to_end(&path).unwrap();
+    file[40..44].fill(0);
+    fs::write(&path, &file).unwrap();
+    let found = hound::repair_file(&path).unwrap();
+    assert_eq!(
+        (found.state, found.frames, found.left_over, found.counted, found.spec_ex.bytes_per_sample),
+        (hound::RepairState::CutOff, 3, 0, 0, 1)
+    );
+    let samples = WavReader::open(&path).unwrap().into_samples::<i8>().collect::<Result<Vec<_>>>().unwrap();
+    assert_eq!((samples, fs::metadata(&path).unwrap().len()), (vec![1, 2, 3], 48));
     assert_eq!(hound::repair_file(&path).unwrap().state, hound::RepairState::Whole);
+}
+
+#[test]
+fn a_file_without_its_pad_byte_stays_as_it_is() {
+    let path = Path::new("unpadded");
+    // As hound 3.5.1 leaves odd data: with no pad byte, and a RIFF size that counts none.
+    let mut file = written(WavSpec { bits_per_sample: 8, ..MONO }, &[1i8, 2, 3]);
+    file.truncate(47);
+    file[4..8].copy_from_slice(&39u32.to_le_bytes());
+    fs::write(&path, &file).unwrap();
+    let found = hound::repair_file(&path).unwrap();
+    assert_eq!((found.state, found.frames, found.counted), (hound::RepairState::AllCounted, 3, 3));
+    assert_eq!(fs::read(&path).unwrap(), file);
+    assert_eq!(hound::repair_file_to_end(&path).unwrap().state, hound::RepairState::AllCounted);
+    file.push(0);
+    file[4..8].copy_from_slice(&40u32.to_le_bytes());
+    assert_eq!(fs::read(&path).unwrap(), file);
 }
 
 #[test]

@@ -19,13 +19,13 @@ const HINTS = {
   ENDED: LOST,
   NO_DATA_CHUNK: LOST,
   NO_FMT_CHUNK: LOST,
-  NO_RIFF_TAG: "It is no WAV file, or another kind of it (RF64, BW64, RIFX, a tag in front), which an audio editor " +
-    `may read. Or its beginning was lost: ${CHOOSE}`,
+  NO_RIFF_TAG: `It is no WAV file, or its beginning was lost: ${CHOOSE}`,
   NO_WAVE_TAG: `It is another RIFF file, or its beginning was lost: ${CHOOSE}`,
   UNSUPPORTED: `Its sound is compressed, and an audio editor may read it; or its header is damaged: ${CHOOSE}`,
   NOT_WRITABLE: READS,
   BITS_NOT_32: READS,
 };
+const NAMED = `An audio editor converts it, too. Or its header is damaged: ${CHOOSE}`;
 const CARD = "Record nothing more on the card it came from: a recovery program may find the sound there.";
 // What samples may be, the usual ones first, the rates of most recorders, and the channels that are guessed.
 const FORMS = [[16, 2], [24, 3], [32, 4, true], [8, 1], [32, 4], [24, 4]]
@@ -62,6 +62,7 @@ function failure(file, error) {
     return `${file.name} is too large for a WAV file: ${large} an audio editor may read it as RF64, ` +
       "or import it as raw data, if you know its rate, channels and bits.";
   }
+  if (error.kind) return `${file.name}: ${error.message}.\n${NAMED}`;
   if (error instanceof HoundError) {
     return `${file.name} can't be read: ${error.message}.\n${HINTS[error.code] ?? DAMAGED}`;
   }
@@ -83,7 +84,7 @@ function claims(file, { dataStart, dataLength }) {
 
 /** What is said of a file that was looked at, and repaired to its end if that was requested. */
 function verdict(found, { rest, mayBeSound }, toEnd) {
-  const { state, frames, leftOver } = found;
+  const { state, frames, leftOver, counted: before } = found;
   if (state === "hasChunksAfterData") {
     const counts = frames ? `only ${framesOf(found)}` : "no sound";
     const what = frames ? "the rest of the recording" : "the recording";
@@ -95,11 +96,15 @@ function verdict(found, { rest, mayBeSound }, toEnd) {
       "repair the file to its end, and listen.", "cut"];
   }
   if (frames === 0) return [`The file has a header and no sound: nothing can be brought back from it. ${CARD}`, "bad"];
-  if (state === "whole") return ["The file is whole: both of its sizes are right. There is nothing to repair.", "good"];
+  if (state !== "cutOff") {
+    return ["The file is whole: its header counts all frames. There is nothing to repair.", "good"];
+  }
   const isThere = leftOver === 1 ? "is there" : "are there";
   const left = leftOver ? ` Of one more frame only ${counted(leftOver, "byte")} ${isThere}.` : "";
   const cause = toEnd ? "All bytes up to the end are taken for sound." : "The recording was cut off.";
-  const back = `${framesOf(found)} come${frames === 1 ? "s" : ""} back.${left}`;
+  const ofThese = before > frames ? `; its header counted ${number(before)}` :
+    `, of which its header counted ${before ? number(before) : "none"}`;
+  const back = `${framesOf(found)} come${frames === 1 ? "s" : ""} back${ofThese}.${left}`;
   return [`${cause} ${back}\nListen to its end: if silence, noise, a click or older sound is there, ` +
     "cut it off in an audio editor.", "cut"];
 }
@@ -132,8 +137,10 @@ function formText({ bitsPerSample, bytesPerSample, isFloat }) {
 function rows(file, { head, found, begins }) {
   const { sampleRate, channels } = found;
   const duration = `${sampleRate ? `${time(lengthOfTime(found))}, ` : ""}${counted(found.frames, "frame")}`;
-  const counts = head ? `counts ${counted(head.frames, "frame")}` : "counts no whole frames";
+  const counts = `counts ${counted(found.counted, "frame")}`;
   const stays = found.leftOver === 1 ? "It stays" : "They stay";
+  const where = found.state === "cutOff" ? "in the original: the repaired file ends after the last whole frame." :
+    "in the file, after the last whole frame.";
   return [
     ["File", `${file.name}, ${counted(file.size, "byte")}`],
     ["Duration", duration, "A frame has one sample of each channel."],
@@ -143,8 +150,9 @@ function rows(file, { head, found, begins }) {
     ["Sound begins", `at byte ${number(begins)}`],
     ...(found.state === "cutOff" && head !== undefined ?
       [["Header", counts, "The repaired file counts all whole frames that are there."]] : []),
-    ...(found.leftOver ?
-      [["Left over", counted(found.leftOver, "byte"), `${stays} in the file, after the last whole frame.`]] : []),
+    ...(found.state === "allCounted" ?
+      [["Header", counts, "Its RIFF size or pad byte isn't as the format asks, which concerns no sample."]] : []),
+    ...(found.leftOver ? [["Left over", counted(found.leftOver, "byte"), `${stays} ${where}`]] : []),
   ];
 }
 
@@ -484,14 +492,14 @@ function summary({ found, says }) {
     return says.mayBeSound ? "may be cut off: look at it" : "other data follow the sound";
   }
   if (found.frames === 0) return "no sound";
-  return found.state === "whole" ? "whole" : "was cut off";
+  return found.state === "cutOff" ? "was cut off" : "whole";
 }
 
 /** Adds a file to the table, and returns its repaired form, if there is one. */
 async function listed(file, isCurrent) {
   const seen = await judged(file, false).catch((error) => ({ error }));
   if (!isCurrent()) return null;
-  const texts = seen.error ? ["", `${seen.error.message}: look at it`] :
+  const texts = seen.error ? ["", `${seen.error.kind ?? seen.error.message}: look at it`] :
     [time(lengthOfTime(seen.found)), summary(seen)];
   const cells = ["", ...texts].map((textContent) => Object.assign(document.createElement("td"), { textContent }));
   const row = document.createElement("tr"), button = document.createElement("button");

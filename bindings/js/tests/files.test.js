@@ -209,26 +209,79 @@ test("of a long file only the header and the frames are read", async () => {
 
 test("a file that was cut off is repaired", async () => {
   const data = [2, 0, 253, 255, 5, 0, 249, 255, 9, 9];
-  const good = byHand([2, 0, 253, 255, 5, 0, 249, 255], { channels: 2, after: [9, 9], riff: 44 });
+  const good = byHand([2, 0, 253, 255, 5, 0, 249, 255], { channels: 2 });
   for (const [counted, riff] of [[0, 36], [4, 40], [400, 436], [0xffffffff, 0xffffffff], [10, 46], [3, 39]]) {
     const cut = byHand(data, { channels: 2, counted, riff }), before = cut.slice();
     for (const file of kinds(cut)) {
-      const { state, frames, leftOver, dataStart, dataLength } = await findDamage(file);
-      const expected = { state: "cutOff", frames: 2, leftOver: 2, dataStart: 44, dataLength: counted };
-      assert.deepEqual({ state, frames, leftOver, dataStart, dataLength }, expected);
-      const repaired = await repair(file);
-      assert.deepEqual(await bytes(repaired.file), good);
-      assert.deepEqual((await repair(repaired.file)).state, "whole");
+      const expected = {
+        state: "cutOff", frames: 2, counted: Math.floor(counted / 4), leftOver: 2, dataStart: 44, dataLength: counted,
+        sampleRate: 8000, channels: 2, bitsPerSample: 16, bytesPerSample: 2, isFloat: false,
+      };
+      assert.deepEqual(await findDamage(file), expected);
+      const { file: repaired, ...found } = await repair(file);
+      assert.deepEqual(found, expected);
+      assert.deepEqual(await bytes(repaired), good); // without the torn frame
+      const again = await repair(repaired);
+      assert.deepEqual([again.state, again.leftOver, again.file], ["whole", 0, repaired]);
     }
     assert.deepEqual(cut, before);
   }
 });
 
+test("a repair reports how many frames the header counted, also before a chunk that was itself cut off", async () => {
+  for (const file of kinds(byHand([1, 0, 2, 0], { after: [...text("abcd"), ...u32(100), 7, 7] }))) {
+    const { state, frames, counted } = await repair(file);
+    assert.deepEqual({ state, frames, counted }, { state: "cutOff", frames: 2 + 5, counted: 2 });
+  }
+});
+
 test("a missing pad byte is added", async () => {
-  const cut = byHand([1, 2, 3], { bits: 8, riff: 39 });
+  const cut = byHand([1, 2, 3], { bits: 8, counted: 2, riff: 38 });
   for (const file of kinds(cut)) {
     assert.deepEqual(await bytes((await repair(file)).file), byHand([1, 2, 3], { bits: 8, after: [0] }));
   }
+});
+
+test("a repaired file ends after its frames and a pad byte that is 0", async () => {
+  for (const [channels, bits] of [[1, 24], [2, 24], [3, 8], [5, 8], [1, 16]]) {
+    const frame = channels * bits / 8, data = Array.from({ length: 3 * frame }, (_, i) => i + 1);
+    const whole = byHand(data, { channels, bits, after: Array(data.length % 2).fill(0) });
+    for (let torn = 0; torn < frame; torn++) {
+      for (const counted of [0, frame, 2 * frame + 1]) {
+        const cut = byHand([...data, ...Array(torn).fill(7)], { channels, bits, counted, riff: 36 });
+        for (const [file, toEnd] of [...kinds(cut), cut].map((file, i) => [file, i > 1])) {
+          const found = await repair(file, { toEnd });
+          assert.deepEqual([found.state, found.frames, found.leftOver], ["cutOff", 3, torn]);
+          assert.deepEqual(await bytes(found.file), whole);
+        }
+      }
+    }
+  }
+});
+
+test("a file whose frames are all counted stays, and is made canonical where that is wanted", async () => {
+  const odd = [[1, 2, 3], { bits: 8 }];
+  for (const [file, canonical] of [
+    [byHand(odd[0], odd[1]), byHand(odd[0], { ...odd[1], after: [0], riff: 40 })], // as without a pad byte
+    [byHand(odd[0], { ...odd[1], after: [0], riff: 39 }), byHand(odd[0], { ...odd[1], after: [0], riff: 40 })],
+    [byHand([1, 0, 2, 0], { riff: 0 }), byHand([1, 0, 2, 0])],
+    [byHand([1, 0, 2, 0], { after: [7], riff: 41 }), byHand([1, 0, 2, 0])], // with a torn frame
+  ]) {
+    for (const kind of kinds(file)) {
+      const { state, frames, counted, file: same } = await repair(kind);
+      assert.deepEqual([state, counted, same], ["allCounted", frames, kind]);
+      for (const how of [{ canonical: true }, { toEnd: true }]) {
+        const made = await repair(kind, how);
+        assert.deepEqual([made.state, made.frames], ["allCounted", frames]);
+        assert.deepEqual(await bytes(made.file), canonical);
+        assert.equal((await findDamage(made.file)).state, "whole");
+      }
+    }
+  }
+  const followed = byHand([1, 0], { after: LIST });
+  assert.equal((await repair(followed, { canonical: true })).file, followed);
+  const cut = byHand([1, 0, 2, 0], { counted: 0 });
+  assert.deepEqual((await repair(cut, { canonical: true })).file, byHand([1, 0, 2, 0]));
 });
 
 test("chunks and a tag after the data stay", async () => {
@@ -268,8 +321,7 @@ test("a lost header is made like another one", async () => {
     }
   }
   const torn = await repair(Uint8Array.from([...data, 9]), { like });
-  const expected = byHand(data, { channels: 2, after: [9], riff: 44 });
-  assert.deepEqual([torn.frames, torn.leftOver, torn.file], [2, 1, expected]);
+  assert.deepEqual([torn.frames, torn.leftOver, torn.file], [2, 1, byHand(data, { channels: 2 })]);
   const odd = await repair(Uint8Array.of(5, 6, 7), { like: { sampleRate: 8000, bitsPerSample: 8 } });
   assert.deepEqual(odd.file, byHand([5, 6, 7], { bits: 8, after: [0] }));
   assert.equal((await repair(new Uint8Array(2), { like, skip: 2 })).frames, 0);
@@ -366,7 +418,7 @@ test("a header that counts more than there is", async () => {
 test("errors have the sentences of hound.h", async () => {
   for (const [file, code, sentence] of [
     [[], "ENDED", "the bytes end before the data begin"],
-    [[...text("RIFX"), ...Array(60).fill(0)], "NO_RIFF_TAG", "no RIFF tag found"],
+    [[...text("RIFY"), ...Array(60).fill(0)], "NO_RIFF_TAG", "no RIFF tag found"],
     [[...text("RIFF"), ...u32(4), ...text("AVI ")], "NO_WAVE_TAG", "no WAVE tag found"],
     [byHand([], { channels: 0 }), "ZERO_CHANNELS", "file contains zero channels"],
     [byHand([1], { counted: 1 }), "FRAME_LENGTH", /./],
@@ -379,6 +431,31 @@ test("errors have the sentences of hound.h", async () => {
   await fails(write(Int32Array.of(128), { sampleRate: 8000, bitsPerSample: 8 }), "TOO_WIDE");
   await fails(write(Int16Array.of(1), { sampleRate: 8000, bitsPerSample: 12 }), "NOT_WRITABLE");
   await fails(write(Int16Array.of(1), { sampleRate: 8000, channels: 2 }), "UNFINISHED_FRAME");
+});
+
+test("an error names what a file is that isn't read, and what to do", async () => {
+  const wide = byHand([0, 0, 0, 0, 0, 0, 240, 63], { bits: 64, tag: 3 });
+  const folder = await fs.mkdtemp(path.join(os.tmpdir(), "hound-")), name = path.join(folder, "a.wav");
+  for (const [file, code, kind, codec] of [
+    [byHand([], { tag: 2, bits: 4 }), "BITS_NOT_WHOLE_BYTES", "Microsoft ADPCM", "pcm_s16le"],
+    [byHand([0], { tag: 6, bits: 8 }), "UNSUPPORTED", "A-law", "pcm_s16le"],
+    [wide, "BITS_NOT_32", "floats of 64 bits", "pcm_f32le"],
+    [[...text("RF64"), ...Array(60).fill(0)], "NO_RIFF_TAG", "RF64, which is for more than 4 GiB", "pcm_s24le"],
+    [text("fLaC\0\0\0\x22"), "NO_RIFF_TAG", "FLAC", "pcm_s24le"],
+  ]) {
+    const message = `the file holds ${kind}, and isn't read: convert it by ffmpeg -i FILE -c:a ${codec} NEW.wav`;
+    await fs.writeFile(name, Uint8Array.from(file));
+    const calls = [info, read, repair, findDamage], given = kinds(Uint8Array.from(file));
+    const all = calls.flatMap((call) => given.map((one) => [call, one]));
+    for (const [call, one] of [...all, [findDamageInFile, name], [repairFile, name]]) {
+      await assert.rejects(call(one), { name: "HoundError", code, kind, message });
+    }
+  }
+  for (const file of [[], text("just text"), byHand([], { channels: 0 }), byHand([1, 0], { counted: 3 })]) {
+    const says = ({ kind, message }) => kind === undefined && !/holds/.test(message);
+    await assert.rejects(info(Uint8Array.from(file)), says);
+  }
+  await fs.rm(folder, { recursive: true });
 });
 
 test("an argument out of range is named", async () => {
@@ -432,7 +509,7 @@ test("a file that fills a card of FAT32 is repaired", async () => {
   await fs.truncate(full, 2 ** 32 - 1);
   const { state, frames, leftOver, file: repaired } = await repair(await openAsBlob(full));
   assert.deepEqual({ state, frames, leftOver }, { state: "cutOff", frames: (2 ** 32 - 48) / 4, leftOver: 3 });
-  assert.equal(repaired.size, 2 ** 32 - 1);
+  assert.equal(repaired.size, 2 ** 32 - 4);
   const head = byHand([], { channels: 2, counted: 2 ** 32 - 48, riff: 2 ** 32 - 12 });
   assert.deepEqual(await bytes(repaired.slice(0, 44)), head);
   await fs.rm(folder, { recursive: true });

@@ -8,6 +8,7 @@ import path from "node:path";
 import { HoundError, append, appendTo, info, read, record, repairFile } from "../hound.js";
 
 const SPEC = { sampleRate: 8000, channels: 2, bitsPerSample: 16 };
+const COMMAND = new URL("../command.js", import.meta.url).pathname;
 const folder = await fs.mkdtemp(path.join(os.tmpdir(), "hound-")), take = path.join(folder, "take.wav");
 test.after(() => fs.rm(folder, { recursive: true }));
 const fails = (promise, code) => assert.rejects(promise, (error) => error instanceof HoundError && error.code === code);
@@ -216,9 +217,8 @@ test("require gives the same, with the samples of the call", async () => {
 
 test("the command says what files are, and repairs them", async () => {
   const cut = path.join(folder, "cut.wav"), other = path.join(folder, "other.txt");
-  const command = new URL("../command.js", import.meta.url).pathname;
   const run = (...words) => {
-    const { status, stdout, stderr } = spawnSync(process.execPath, [command, ...words], { encoding: "utf8" });
+    const { status, stdout, stderr } = spawnSync(process.execPath, [COMMAND, ...words], { encoding: "utf8" });
     return [status, stdout, stderr];
   };
   await fs.writeFile(take, fileOf([block(1)]));
@@ -226,23 +226,45 @@ test("the command says what files are, and repairs them", async () => {
   await fs.writeFile(other, "text");
   const spec = "8000 Hz, 2 channels, integers of 16 bits\n";
   const whole = `${take}: whole, 3 frames (0.000 s), ${spec}`;
-  const found = "cut off, 4 frames (0.001 s), 1 byte left over";
-  const counts = `${cut}: ${found}, ${spec.trim()}; the header counts 3 frames\n`;
-  assert.deepEqual(run("info", take, cut), [0, whole + counts, ""]);
-  assert.deepEqual(run("repair", other, cut), [1, `${cut}: found ${found}, ${spec}`, `${other}: no RIFF tag found\n`]);
+  const found = (counts) => `cut off, 4 frames (0.001 s), of which the header ${counts} 3, 1 byte left over, ${spec}`;
+  assert.deepEqual(run("info", take, cut), [0, whole + `${cut}: ${found("counts")}`, ""]);
+  const repaired = [1, `${cut}: found ${found("counted")}`, `${other}: no RIFF tag found\n`];
+  assert.deepEqual(run("repair", other, cut), repaired);
   assert.deepEqual(run("info", cut), [0, `${cut}: whole, 4 frames (0.001 s), 1 byte left over, ${spec}`, ""]);
   await fs.writeFile(cut, Buffer.concat([fileOf([block(1)]), Buffer.from("LIST\x04\0\0\0INFO", "latin1")]));
   assert.equal(run("repair", cut)[1], `${cut}: found chunks or a tag follow the sound, 3 frames (0.000 s), ${spec}`);
-  assert.equal(run("repair", "--to-end", cut)[1], `${cut}: found cut off, 6 frames (0.001 s), ${spec}`);
+  const toEnd = `${cut}: found cut off, 6 frames (0.001 s), of which the header counted 3, ${spec}`;
+  assert.equal(run("repair", "--to-end", cut)[1], toEnd);
+  await fs.truncate(cut, 52);
+  assert.match(run("info", cut)[1], /: cut off, 2 frames \(0\.000 s\), and the header counts 6, /);
   await fs.truncate(cut, 2 ** 32 + 44); // Of these bytes 44 are left where a size has 32 bits.
   for (const word of ["info", "repair"]) {
     assert.deepEqual(run(word, cut), [1, "", `${cut}: the sizes of the file would not fit in 32 bits\n`]);
   }
   const uses = [
     [], ["info"], ["repair", "--to-end"], ["info", "--to-end", take], ["show", take], ["repair", "--help"],
+    ["repair", "--to-end", "--canonical", take], ["repair", "--details", take], ["toString", take],
   ];
   for (const words of uses) assert.deepEqual(run(...words).slice(0, 2), [2, ""]);
   assert.match(run("info", path.join(folder, "none.wav"))[2], /none\.wav: .*(ENOENT|no such file)/i);
   assert.deepEqual(run("info", folder), [1, "", `${folder}: it is a folder, and files are named here\n`]);
   assert.deepEqual(run("--help"), [0, run()[2], ""]);
+});
+
+test("the command worries nobody about a file whose frames are all counted", async () => {
+  const file = path.join(folder, "odd.wav"), mono = fileOf([block(1)]).subarray(0, 44 + 3);
+  for (const [place, value] of [[22, 1], [32, 1], [34, 8]]) mono.writeUInt16LE(value, place);
+  for (const [place, value] of [[4, 39], [28, 8000], [40, 3]]) mono.writeUInt32LE(value, place); // without a pad byte
+  await fs.writeFile(file, mono);
+  const run = (...words) => spawnSync(process.execPath, [COMMAND, ...words], { encoding: "utf8" }).stdout;
+  const says = "whole, 3 frames (0.000 s), 8000 Hz, 1 channel, integers of 8 bits";
+  const details = "; its RIFF size or pad byte isn't as the format asks";
+  assert.equal(run("info", file), `${file}: ${says}\n`);
+  assert.equal(run("info", "--details", file), `${file}: ${says}${details}\n`);
+  assert.equal(run("repair", file), `${file}: found ${says}\n`);
+  assert.ok((await fs.readFile(file)).equals(mono));
+  assert.equal(run("repair", "--canonical", file), `${file}: found ${says}${details}\n`);
+  mono.writeUInt32LE(40, 4);
+  assert.ok((await fs.readFile(file)).equals(Buffer.concat([mono, Buffer.alloc(1)])));
+  assert.equal(run("info", "--details", file), `${file}: ${says}\n`);
 });

@@ -15,7 +15,7 @@ function whole(call, file) {
   const length = Number(hound[call](BigInt(start + PAGE), BigInt(file.length + 1), BigInt(file.length), BigInt(start)));
   if (length < 0) return length;
   const [frames, leftOver, state] = [12, 16, 20].map((n) => view.getUint32(n, true));
-  const states = ["whole", "cutOff", "hasChunksAfterData"];
+  const states = ["whole", "cutOff", "hasChunksAfterData", "allCounted"];
   return { state: states[state], frames, leftOver, file: memory.slice(PAGE, PAGE + length) };
 }
 
@@ -71,9 +71,13 @@ test("parts and the whole give the same", async () => {
       assert.equal(looked[name], expected[name]);
     }
     const left = file instanceof Blob ? new Uint8Array(await found.file.arrayBuffer()) : found.file;
-    assert.ok(Buffer.compare(left, expected.file) === 0, `file ${i} is another one`);
+    // A copy ends after its frames and a pad byte, which is 0.
+    const isCopy = found.file !== file && found.leftOver > 0;
+    const data = found.frames * found.channels * found.bytesPerSample, end = found.dataStart + data;
+    const copy = Buffer.concat([expected.file.subarray(0, end), Buffer.alloc(data % 2)]);
+    assert.ok(Buffer.compare(left, isCopy ? copy : expected.file) === 0, `file ${i} is another one`);
   }
-  for (const state of ["whole", "cutOff", "hasChunksAfterData"]) {
+  for (const state of ["whole", "cutOff", "hasChunksAfterData", "allCounted"]) {
     assert.ok(seen.get(state) >= 20, `${state}: ${seen.get(state)}`);
   }
 });

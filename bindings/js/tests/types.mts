@@ -1,6 +1,6 @@
 // What hound.d.ts declares: `tsc` accepts this file, where each call has its arguments and its result.
 import {
-  HoundError, append, appendTo, findDamage, findDamageInFile, info, read, record, repair, write,
+  HoundError, append, appendTo, findDamage, findDamageInFile, info, read, record, repair, repairFile, write,
 } from "../hound.js";
 import type { Damage, Info, Recorder } from "../hound.js";
 
@@ -16,6 +16,11 @@ export async function uses(blob: Blob, bytes: Uint8Array): Promise<string> {
   const mended: Blob = (await repair(longer, { toEnd: true })).file;
   const head: Info = await info(mended);
   await repair(mended, { like: head, skip: 44 });
+  const added: number = found.state === "allCounted" ? 0 : found.frames - found.counted;
+  await repairFile("take.wav", { canonical: added === 0, toEnd: false });
+  const kind: string | undefined = new HoundError("ENDED").kind;
+  // @ts-expect-error: there is no such state.
+  if (found.state === "broken") throw new Error(kind);
   await write([left!, right!], { ...head, bitsPerSample: 16 });
   const form = { ...head, bitsPerSample: 24 };
   const recorder: Recorder = await record("take.wav", form, { durable: true, exclusive: true });
