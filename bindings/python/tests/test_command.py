@@ -432,6 +432,8 @@ class Command(Folder):
         self.assertIn(b"b.wav: the header counts a sample that the file does not hold", self.said)
 
     def test_a_pipe_that_is_closed_and_ctrl_c(self):
+        # A shell lets what it starts in the background ignore Ctrl-C, and a program inherits that.
+        self.addCleanup(signal.signal, signal.SIGINT, signal.signal(signal.SIGINT, signal.default_int_handler))
         self.leave_as("a.wav", wave_of(16, [1] * 1000000))
         running = self.begun("cat", "a.wav")
         running.stdout.read(10)
