@@ -63,7 +63,7 @@ def compiling(words, library):
     name, machine, has_32_bits = system()
     if is_msvc(words):
         with open(HEADER) as file:
-            exports = re.findall(r"^int(?:32|64)_t (hound_\w+)\(", file.read(), flags=re.M)
+            exports = re.findall(r"^(?:void|int32_t|int64_t) (hound_\w+)\(", file.read(), flags=re.M)
         return [
             *words, "/nologo", "/O2", "/LD", SOURCE, f"/Fo{library}.obj", f"/Fe{library}",
             "/link", *(f"/EXPORT:{export}" for export in exports),

@@ -22,11 +22,12 @@ import mmap
 import operator
 import os
 import secrets
+import shlex
 import shutil
 import sys
 import tempfile
 from typing import (
-    IO, Any, Callable, ContextManager, Iterator, Literal, NamedTuple, Optional, Protocol, Tuple, Type, Union,
+    IO, Any, Callable, ContextManager, Dict, Iterator, Literal, NamedTuple, Optional, Protocol, Tuple, Type, Union,
 )  # fmt: skip
 
 from . import disk, processor
@@ -116,18 +117,67 @@ class State(enum.IntEnum):
     WHOLE = 0
     CUT_OFF = 1
     HAS_CHUNKS_AFTER_DATA = 2
+    # All frames are counted: only the RIFF size isn't the canonical one, as where a program writes no pad byte.
+    ALL_COUNTED = 3
+
+
+_KINDS: Dict[int, str] = {
+    # The names of what files are, made from hound.h by scripts/make_interface.
+    2: "Microsoft ADPCM",
+    6: "A-law",
+    7: "mu-law",
+    17: "IMA ADPCM",
+    34: "TrueSpeech",
+    49: "GSM 6.10",
+    64: "G.721 ADPCM",
+    80: "MPEG",
+    85: "MP3",
+    8192: "AC-3",
+    65537: "RIFX, whose numbers have their highest byte first",
+    65538: "RF64, which is for more than 4 GiB",
+    65539: "BW64, which is for more than 4 GiB",
+    65540: "Wave64",
+    65541: "AIFF",
+    65542: "FLAC",
+    65543: "Ogg",
+    65544: "MP3, or another MPEG audio",
+    65545: "floats of 64 bits",
+    # The end of what is made from hound.h.
+}
 
 
 class HoundError(ValueError):
-    """A call failed, for this cause; `filename` is the name of the file, if it has one."""
+    """A call failed, for this cause; `filename` is the name of the file, if it has one. Where its header was rejected,
+    `kind` is the number of what it is, as `hound_kind` of hound.h has it, and the text names it."""
 
     def __init__(self, cause: Cause) -> None:
         super().__init__(cause)
         self.cause = cause
         self.filename: Optional[str] = None
+        self.kind: Optional[int] = None
+
+    @property
+    def held(self) -> Optional[str]:
+        """The name of what the file holds, where it is known and isn't read."""
+        return None if self.kind is None else _KINDS.get(self.kind)
 
     def __str__(self) -> str:
-        return self.cause.sentence if self.filename is None else f"{self.filename}: {self.cause.sentence}"
+        if self.held is None:
+            return self.cause.sentence if self.filename is None else f"{self.filename}: {self.cause.sentence}"
+        name = self.filename or "FILE"
+        name = "FILE" if name.startswith("<") else name  # It is that of a stream.
+        command = self._converting(shlex.quote(name), shlex.quote(os.path.splitext(name)[0] + ".pcm.wav"))
+        holds = f"{self.filename or 'the file'} holds {self.held}, so it isn't read"
+        return f"{holds}: convert it by {command} ({self.cause.sentence})"
+
+    def _converting(self, source: str, target: str) -> str:
+        """The command that converts a file, and keeps what it holds: what a number of a format names has at most 16
+        bits. FFmpeg 5.1 makes noise of RIFX, since it takes its bytes in the other order."""
+        if self.kind == _KIND_RIFX:
+            return f"sox {source} -L {target}"
+        is_narrow = self.kind is not None and self.kind < 1 << 16
+        codec = "pcm_f32le" if self.kind == _KIND_FLOAT64 else "pcm_s16le" if is_narrow else "pcm_s32le"
+        return f"ffmpeg -i {source} -c:a {codec} {target}"
 
 
 def _name_error(error: BaseException, file: Any) -> None:
@@ -167,18 +217,38 @@ class Info(NamedTuple):
         return self.frames / self.sample_rate if self.sample_rate else 0.0
 
 
-class Repair(NamedTuple):
-    """What a file holds, and how it was found."""
-
+class _Held(NamedTuple):
     state: State
     frames: int
     left_over: int
+
+
+class Repair(_Held):
+    """What a file holds, and how it was found. It is the tuple of these three, and equal to one. `counted` is how many
+    frames the header counted before, and `info` what it says after a repair."""
+
+    counted: int
+    info: Info
+
+    def __new__(
+        cls, state: State, frames: int, left_over: int, counted: int = 0, info: Info = Info(0, 0, 0)
+    ) -> "Repair":
+        self = super().__new__(cls, state, frames, left_over)
+        self.counted, self.info = counted, info
+        return self
+
+    @property
+    def added(self) -> int:
+        """How many frames a repair adds to those that the header counted."""
+        return max(self.frames - self.counted, 0)
 
 
 # The constants and structs, made from hound.h by scripts/make_interface.
 _FIND_DAMAGE, _REPAIR, _REPAIR_TO_END, _MAKE_CANONICAL = 0, 1, 2, 3
 _MEND, _OVERWRITE = 1, 2
 _HEADER_BYTES = 68
+_KIND_RIFX = 65537
+_KIND_FLOAT64 = 65545
 
 
 class _Spec(ctypes.Structure):
@@ -292,20 +362,34 @@ _SPARE = ctypes.create_string_buffer(16)
 def _function(name: str, *arguments: Any, result: Any = _I64) -> Any:
     function = getattr(_LIBRARY, "hound_" + name, None)
     if function is None:
-        what = f"isn't the library of hound_bindings {__version__}: it lacks hound_{name}"
-        raise ImportError(
-            f"{_LIBRARY._name} {what}. Install the package again, without HOUND_C_LIB or with the folder of a library "
-            "of that version"
-        )
+        raise _other_library(f"it lacks hound_{name}")
     function.argtypes, function.restype = arguments, result
     return function
 
 
+def _other_library(why: str) -> ImportError:
+    return ImportError(
+        f"{_LIBRARY._name} isn't the library of hound_bindings {__version__}: {why}. Install the package again, "
+        "without HOUND_C_LIB or with the folder of a library of that version"
+    )
+
+
+def _check_version() -> None:
+    """An ImportError where the library has another version, whose structs may be others."""
+    number = _function("version", result=ctypes.c_int32)()
+    version = f"{number >> 16}.{number >> 8 & 255}.{number & 255}"
+    if version != __version__:
+        raise _other_library(f"it is that of version {version}")
+
+
+_check_version()
 _info = _function("info", _POINTER, _SIZE, _POINTER, result=ctypes.c_int32)
 _walk_next = _function("walk_next", _POINTER, _POINTER, result=ctypes.c_int32)
 _walk_to_end = _function("walk_to_end", _POINTER, _POINTER, result=ctypes.c_int32)
 _whole_frames = _function("whole_frames", _POINTER, _U64)
 _guess_data = _function("guess_data", _POINTER, _SIZE)
+_kind = _function("kind", _POINTER, _SIZE, result=ctypes.c_int32)
+_sizes = _function("sizes", _POINTER, _U64, _U64, _POINTER, _SIZE)
 _repairer_begin = _function("repairer_begin", _U64, ctypes.c_uint32, _POINTER, result=None)
 _repairer_next = _function("repairer_next", _POINTER, _POINTER, result=ctypes.c_int32)
 _size = _function("size", _POINTER, _U64)
@@ -318,6 +402,20 @@ def _checked(code: Any) -> int:
     if code < 0:
         raise HoundError(Cause(-code))  # type: ignore[call-arg]
     return int(code)
+
+
+# How many bytes of a file's front say what it is.
+_FRONT_BYTES = 4096
+
+
+def _check_header(code: int, front: Callable[[], bytes]) -> int:
+    """A code, or the error of a header, which says what the file is by its front."""
+    try:
+        return _checked(code)
+    except HoundError as error:
+        with contextlib.suppress(OSError, ValueError), conversion.address(front()) as place:
+            error.kind = _kind(*place)
+        raise
 
 
 def _integer(name: str, value: Any, low: int, high: int) -> int:
@@ -333,8 +431,12 @@ def _integer(name: str, value: Any, low: int, high: int) -> int:
 
 def _info_of(start: Any, length: int) -> _Info:
     found = _Info()
-    _checked(_info(start, length, ctypes.byref(found)))
+    _check_header(_info(start, length, ctypes.byref(found)), lambda: _front_of(start, length))
     return found
+
+
+def _front_of(start: Any, length: int) -> bytes:
+    return ctypes.string_at(start, min(length, _FRONT_BYTES))
 
 
 def _walk_over(file: Any, to_end: bool = False) -> _Info:
@@ -342,14 +444,17 @@ def _walk_over(file: Any, to_end: bool = False) -> _Info:
     walk, found, take = _Walk(), _Info(), _walk_to_end if to_end else _walk_next
     while (code := take(ctypes.byref(walk), ctypes.byref(found))) == 1:
         disk.perform(walk.effect, file, False)
-    _checked(code)
+    _check_header(code, lambda: bytes(file.read_at(_FRONT_BYTES, 0)))
     return found
 
 
-def _info_from(found: _Info) -> Info:
-    spec, frames = found.spec, found.samples // found.spec.channels
+def _info_from(spec: _Spec, frames: int, data_start: int) -> Info:
     said = (spec.sample_rate, spec.channels, spec.bits_per_sample, spec.sample_format != 0)
-    return Info(*said, frames, found.data_start, spec.bytes_per_sample)
+    return Info(*said, frames, data_start, spec.bytes_per_sample)
+
+
+def _info_of_header(found: _Info) -> Info:
+    return _info_from(found.spec, found.samples // found.spec.channels, found.data_start)
 
 
 class _InMemory:
@@ -358,7 +463,7 @@ class _InMemory:
     def __init__(self, start: Any, length: int) -> None:
         self._place = start, length
         self._found = _info_of(start, length)
-        self.info = _info_from(self._found)
+        self.info = _info_of_header(self._found)
 
     def _read_from(self, start: int, frames: int, dtype: Optional[Dtype]) -> "array.array[Any]":
         """The samples of at most so many frames (of all where it is -1) from number `start` on."""
@@ -373,7 +478,8 @@ class _InMemory:
             count = min(count, frames * channels)
 
         def take(number: int, out: Any, count: int) -> int:
-            return _checked(_read[kind](*self._place, first + number, out, count))
+            code = _read[kind](*self._place, first + number, out, count)
+            return _check_header(code, lambda: _front_of(*self._place))
 
         samples = conversion.collected(count, name, spec, kind, take)
         if name == "int8" and spec.bits_per_sample > 8:
@@ -664,7 +770,7 @@ def _repaired(file: disk.Medium, mode: int, durable: bool, denied: Optional[Exce
             repairer.effect.report = disk.FAILED
     if faults:
         raise faults[0]
-    _checked(code)
+    _check_header(code, lambda: bytes(file.read_at(_FRONT_BYTES, 0)))
     return found
 
 
@@ -686,7 +792,8 @@ def _repaired_object(file: IO[bytes], mode: int) -> Repair:
 
 
 def _report_of(found: _Repair) -> Repair:
-    return Repair(State(found.state), found.frames, found.left_over)
+    info = _info_from(found.spec, found.frames, found.data_start)
+    return Repair(State(found.state), found.frames, found.left_over, found.counted, info)
 
 
 def _opened_for_repair(path: Path) -> Tuple[disk.File, Optional[OSError]]:
@@ -716,6 +823,7 @@ def repair(
     *,
     durable: bool = False,
     to_end: bool = False,
+    canonical: bool = False,
     copy: Optional[Path] = None,
     like: Optional[Info] = None,
     skip: Optional[int] = None,
@@ -723,12 +831,15 @@ def repair(
     """Repairs a file whose recording was cut off, in place, and returns how it was found. Copy it first if it
     is the only one: some recorders leave older sound at the end, which then counts.
 
-    It writes the data length, a missing pad byte, and then the RIFF size; with `durable` it syncs before and after each
+    It writes the RIFF size, the data length, and then a missing pad byte; with `durable` it syncs before and after each
     of them. A file that is whole, or that chunks follow, is only read; with `to_end` all that follows the header of the
-    data is taken for samples, also what looks like chunks. At an error, or if a signal handler raises, the header
-    counts only what is there, and the file can be repaired again.
+    data is taken for samples, also what looks like chunks. So is one whose frames are all counted, since no sample is
+    concerned: with `canonical` its RIFF size and pad byte are written. At an error, or if a signal handler raises, the
+    header counts only what is there, and the file can be repaired again.
 
-    With `copy` the file stays as it is, and a copy of this name, which must not be there, is repaired. With `like` the
+    With `copy` the file stays as it is, and a copy of this name, which must not be there, is repaired. What is mended
+    so ends after the last whole frame and its pad byte, since GStreamer 1.22 plays nothing of a file with a few bytes
+    after them; in place nothing is cut off. With `like` the
     header is taken for lost: a copy, by default NAME.repaired.wav, gets the header of such a file, and all whole frames
     from byte `skip` on. Without `skip` they begin after what looks like the header of the data near the beginning, or
     else at byte `like.data_start`. `guess` makes such an Info.
@@ -736,8 +847,8 @@ def repair(
     if skip is not None and like is None:
         raise ValueError("skip is for a header that is lost: give `like`, too, which says what the samples are")
     if like is not None or copy is not None:
-        return _repaired_copy(path, durable, to_end, copy, like, skip)
-    mode = _REPAIR_TO_END if to_end else _REPAIR
+        return _repaired_copy(path, durable, to_end, canonical, copy, like, skip)
+    mode = _mode_of(to_end, canonical)
     with _named(path):
         if not isinstance(path, (str, os.PathLike)):
             return _repaired_object(path, mode)
@@ -746,8 +857,35 @@ def repair(
             return _report_of(_repaired(file, mode, durable, denied))
 
 
+def _mode_of(to_end: bool, canonical: bool) -> int:
+    return _REPAIR_TO_END if to_end else _MAKE_CANONICAL if canonical else _REPAIR
+
+
+def _mends(state: State, to_end: bool, canonical: bool) -> bool:
+    """Whether a repair writes to a file of this state."""
+    return state == State.CUT_OFF or (to_end and state != State.WHOLE) or (canonical and state == State.ALL_COUNTED)
+
+
+def _repaired_part(part: str, durable: bool, to_end: bool, canonical: bool) -> Repair:
+    """Repairs a copy, which ends after its last whole frame and the pad byte where it was mended."""
+    with disk.File(part, os.O_RDWR) as file:
+        found = _repaired(file, _mode_of(to_end, canonical), durable)
+        report, sizes = _report_of(found), ctypes.create_string_buffer(8)
+        if _mends(report.state, to_end, canonical):
+            samples = found.frames * found.spec.channels
+            file.cut(_checked(_sizes(ctypes.byref(found.spec), found.data_start, samples, sizes, len(sizes))))
+            file.sync(durable)
+        return report
+
+
 def _repaired_copy(
-    path: Any, durable: bool, to_end: bool, copy: Optional[Path], like: Optional[Info], skip: Optional[int]
+    path: Any,
+    durable: bool,
+    to_end: bool,
+    canonical: bool,
+    copy: Optional[Path],
+    like: Optional[Info],
+    skip: Optional[int],
 ) -> Repair:
     if not isinstance(path, (str, os.PathLike)):
         raise TypeError("a copy is made of a file at a path")
@@ -757,15 +895,15 @@ def _repaired_copy(
     with _named(path), _replaced(copy, durable) as part:
         if like is None:
             lost.copy(path, part)
-            return repair(part, durable=durable, to_end=to_end)
+            return _repaired_part(part, durable, to_end, canonical)
         if skip is None:
             start = lost.start_of(path, like.data_start)
         else:
             start = _integer("skip", skip, 0, sys.maxsize)
-        found = None
+        found = lost.Progress(start, 0, 0)
         for found in lost.recovered(path, part, like, start, durable):
             pass
-        return lost.repair_of(found)
+        return Repair(State.CUT_OFF, found.frames, found.left_over, info=info(part))
 
 
 from . import conversion, streams  # noqa: E402

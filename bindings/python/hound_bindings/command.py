@@ -24,7 +24,9 @@ _STATES = {
     hound.State.WHOLE: "whole",
     hound.State.CUT_OFF: "cut off",
     hound.State.HAS_CHUNKS_AFTER_DATA: "chunks after data",
+    hound.State.ALL_COUNTED: "all counted",
 }
+_NOT_CANONICAL = "the RIFF size or the pad byte isn't as the format asks"
 _BLOCK = 1 << 16
 # What would end a line, or be more than text for a terminal, is written as Python does in a string.
 _ESCAPES = {code: repr(chr(code))[1:-1] for code in (*range(32), *range(127, 160), 0x2028, 0x2029)}
@@ -152,17 +154,30 @@ def _found(name: str) -> Tuple[hound.Info, Optional[hound.Repair]]:
         return reader.info, None
 
 
+def _said_of(info: hound.Info, found: Optional[hound.Repair]) -> str:
+    """How long a file is, and how it was found."""
+    frames = f"{info.frames} frames, {info.duration:.3f} s, "
+    if found is None:
+        return frames + "as its header says"
+    if found.state == hound.State.ALL_COUNTED:
+        return frames + f"whole ({_NOT_CANONICAL})"
+    if found.state != hound.State.CUT_OFF:
+        return frames + _STATES[found.state]
+    joined = "of which" if found.counted <= found.frames else "where"
+    held = f"{found.frames} frames, {joined} the header counted {found.counted}"
+    return f"{found.info.duration:.3f} s, cut off: {held}"
+
+
 def _info(options: argparse.Namespace) -> int:
     def show(name: str) -> bool:
         info, found = _found(name)
-        state = found and _STATES[found.state]
         if options.json:
-            more = found and {"state": state, "frames_held": found.frames, "bytes_left_over": found.left_over}
-            _print_json(file=name, **info._asdict(), seconds=info.duration, **(more or {}))
+            more = {} if found is None else {"state": _STATES[found.state], "frames_held": found.frames}
+            if found is not None:
+                more.update(frames_counted=found.counted, bytes_left_over=found.left_over)
+            _print_json(file=name, **info._asdict(), seconds=info.duration, **more)
         else:
-            held = f" ({found.frames} frames are held)" if found and found.state == hound.State.CUT_OFF else ""
-            said = (state or "as its header says") + held
-            _say(f"{name}: {_form(info)}, {info.frames} frames, {info.duration:.3f} s, {said}")
+            _say(f"{name}: {_form(info)}, {_said_of(info, found)}")
         return found is None or found.state != hound.State.CUT_OFF
 
     return _each(_files_of(options.files), show, _failure(options))
@@ -225,23 +240,28 @@ def _repair(options: argparse.Namespace) -> int:
         try:
             found = hound.find_damage(name)
         except hound.HoundError as error:
-            hints[_HINTS.get(error.cause, _USUAL_HINT)] = True
+            if error.held is None:
+                hints[_HINTS.get(error.cause, _USUAL_HINT)] = True
             raise
-        is_damaged = found.state == hound.State.CUT_OFF or (options.to_end and found.state != hound.State.WHOLE)
-        copy = hound._copy_name(name) if options.copy and is_damaged else None
-        if is_damaged and not options.dry_run:
-            found = hound.repair(name, durable=options.durable, to_end=options.to_end, copy=copy)
-        seconds = _header_of(name)._replace(frames=found.frames).duration
-        done = "" if options.dry_run or not is_damaged else f"repaired{f': {copy}' if copy else ''}"
+        is_mended = hound._mends(found.state, options.to_end, options.canonical)
+        copy = hound._copy_name(name) if options.copy and is_mended else None
+        if is_mended and not options.dry_run:
+            more = {"to_end": options.to_end, "canonical": options.canonical}
+            found = hound.repair(name, durable=options.durable, copy=copy, **more)
+        is_done, seconds = is_mended and not options.dry_run, found.info.duration
         if options.json:
-            _print_json(file=name, state=_STATES[found.state], frames=found.frames, seconds=seconds,
-                        bytes_left_over=found.left_over, repaired=bool(done), copy=copy)  # fmt: skip
+            _print_json(file=name, state=_STATES[found.state], frames=found.frames, frames_counted=found.counted,
+                        seconds=seconds, bytes_left_over=found.left_over, repaired=is_done, copy=copy)  # fmt: skip
         else:
-            _say(f"{_STATES[found.state]:18}{found.frames:>11}{seconds:>12.3f}  {name}{'  ' if done else ''}{done}")
-        return not (options.dry_run and is_damaged)
+            is_whole = found.state == hound.State.ALL_COUNTED
+            state, note = ("whole", _NOT_CANONICAL) if is_whole else (_STATES[found.state], "")
+            done = f"repaired{f': {copy}' if copy else ''}" if is_done else note
+            numbers = f"{found.frames:>11}{found.counted:>11}{seconds:>12.3f}"
+            _say(f"{state:18}{numbers}  {name}{'  ' if done else ''}{done}")
+        return is_done or not is_mended
 
     if not options.json:
-        _say(f"{'found':18}{'frames':>11}{'seconds':>12}  file")
+        _say(f"{'found':18}{'frames':>11}{'counted':>11}{'seconds':>12}  file")
     status = _each(names, repair, _failure(options))
     for hint in [] if options.json else hints:
         _complain(hint)
@@ -479,8 +499,10 @@ def _parser() -> argparse.ArgumentParser:
     words = "repair files whose recording was cut off, in place: copy what can't be replaced, or use --copy"
     add = command("repair", _repair, words)
     add("files", nargs="+", metavar="FILE", type=_file, help="or a folder, of whose .wav files a table is printed")
-    add("--dry-run", help="only say what would be repaired: then damage is status 1", **flag)
+    add("--dry-run", help="only say what would be repaired: then the status of a file that would be is 1", **flag)
     add("--to-end", help="take chunks after the data for samples, too", **flag)
+    words = "of a file whose frames are all counted, too, write the RIFF size and the pad byte as the format asks"
+    add("--canonical", help=words, **flag)
     add("--copy", help="leave each damaged file as it is, and repair a copy NAME.repaired.wav", **flag)
     add("--durable", help="sync what is written", **flag)
     add("--json", help="print a JSON object in a line for each file", **flag)

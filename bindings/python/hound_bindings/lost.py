@@ -4,13 +4,12 @@ import math
 import os
 from typing import Any, Iterator, List, NamedTuple, Optional
 
-from . import Info, Path, Repair, State, _guess_data, _integer, _named, conversion, disk, streams, to_bytes
+from . import _FRONT_BYTES, Info, Path, _guess_data, _integer, _named, conversion, disk, streams, to_bytes
 from . import info as info_of
 
 __all__ = ["copy", "guess", "recovered"]
 
 _MOST = (1 << 63) - 1
-_FRONT_BYTES = 4096
 # Blocks of whole frames of each form, and how many.
 _BLOCK_BYTES, _BLOCKS = 4800, 16
 # The mean step of noise of full scale is a quarter of it. By turns the steps of a channel need as many bits, but for so
@@ -50,11 +49,6 @@ def recovered(path: Path, part: Path, like: Info, skip: int, durable: bool) -> I
             place, left = place + len(content), len(content) % size
             writer.write(streams.decoded(content, len(content) // size * channels, spec))
             yield Progress(place, writer.tell(), left)
-
-
-def repair_of(last: Optional[Progress]) -> Repair:
-    """What was found of a file."""
-    return Repair(State.CUT_OFF, last.frames, last.left_over) if last else Repair(State.CUT_OFF, 0, 0)
 
 
 def _some(path: Path, skip: int) -> List[bytes]:

@@ -16,9 +16,9 @@ import weakref
 from typing import IO, Any, Callable, Iterator, List, NamedTuple, NoReturn, Optional, Tuple, TypeVar, Union
 
 from . import (
-    _FIND_DAMAGE, _HEADER_BYTES, _OVERWRITE, _POINTER, _SIZE, _SPARE, _U64, Cause, Dtype, HoundError, Info, Path,
-    _checked, _Effect, _function, _info_from, _integer, _name_error, _named, _Recorder, _repaired, _Spec, _spec_of,
-    _walk_over, _whole_frames, conversion, disk,
+    _FIND_DAMAGE, _FRONT_BYTES, _HEADER_BYTES, _OVERWRITE, _POINTER, _SIZE, _SPARE, _U64, Cause, Dtype, HoundError,
+    Info, Path, _check_header, _checked, _function, _info_from, _info_of_header, _integer, _name_error, _named,
+    _Recorder, _repaired, _Spec, _spec_of, _walk_over, _whole_frames, conversion, disk,
 )  # fmt: skip
 
 __all__ = ["Reader", "Writer", "append_to", "create"]
@@ -132,7 +132,7 @@ class Reader(_OneAtATime):
     def __init__(self, file: Union[Path, IO[bytes]], *, to_end: bool = False) -> None:
         super().__init__()
         _READERS.add(self)
-        self._name, self._to_end = file, to_end
+        self._name, self._to_end, self._front = file, to_end, b""
         self._is_own = isinstance(file, (str, os.PathLike))
         if not self._is_own:
             disk.check_object(file, "read")
@@ -208,15 +208,18 @@ class Reader(_OneAtATime):
             part = self._fill(count, place)
             self._state = _Next(0, [])
             taken = place + len(part)
+            self._front += part[: max(_FRONT_BYTES - len(self._front), 0)]
             return part
 
         def read(count: int, place: int) -> bytes:
+            if self._start is None and place < taken:
+                return self._front[place:]  # A pipe can't be read again.
             while self._start is None and taken < place and take(min(place - taken, _PIECE), taken):
                 pass  # What can't be sought in is read up to there.
             return take(count, place)
 
         found = _walk_over(types.SimpleNamespace(read_at=read), self._to_end)
-        self._spec, self.info = found.spec, _info_from(found)
+        self._spec, self.info = found.spec, _info_of_header(found)
         self._most = _MOST_FRAMES if self._to_end else self.info.frames
 
     @_one_at_a_time
@@ -230,7 +233,7 @@ class Reader(_OneAtATime):
         name = conversion.type_of(dtype, self._spec)
         kind = conversion.kind_of(name, self._spec)
         # Whether the type reads the file is known before a byte is taken.
-        _checked(_decode[kind](ctypes.byref(self._spec), _SPARE, 0, _SPARE, 0))
+        _check_header(_decode[kind](ctypes.byref(self._spec), _SPARE, 0, _SPARE, 0), lambda: self._front)
         frame, channels = self._state.frame, self._spec.channels
         left = self._most - frame
         frames = left if frames < 0 else min(frames, left)
@@ -379,9 +382,9 @@ class Writer(_OneAtATime):
     @property
     def info(self) -> Info:
         """What the header says after the next checkpoint."""
-        recorder, spec = self._state.recorder, self._spec
-        said = (spec.sample_rate, spec.channels, spec.bits_per_sample, spec.sample_format != 0)
-        return Info(*said, self.tell(), recorder.data_start, recorder.bytes_per_sample)
+        recorder = self._state.recorder
+        info = _info_from(self._spec, self.tell(), recorder.data_start)
+        return info._replace(bytes_per_sample=recorder.bytes_per_sample)
 
     def tell(self) -> int:
         """The number of the next frame."""

@@ -143,7 +143,7 @@ class Backend(unittest.TestCase):
         subprocess.run(words, input=b"int hound_info(void) { return 0; }", check=True)
         subprocess.run(["ar", "rcs", "libhound_c.a", "one.o"], cwd=self.folder, check=True)
         os.environ["HOUND_C_LIB"] = self.folder
-        words = f"isn't the library of hound_bindings {backend.VERSION}: it lacks hound_walk_next"
+        words = f"isn't the library of hound_bindings {backend.VERSION}: it lacks hound_version"
         self.assertRaisesRegex(SystemExit, words, lambda: backend.build_wheel(self.folder))
         self.assertFalse(any(name.endswith(".whl") for name in os.listdir(self.folder)))
 
@@ -152,7 +152,7 @@ class Backend(unittest.TestCase):
             words, library = self.command()
         self.assertEqual(library, "hound_c.dll")
         exports = [word for word in words if word.startswith("/EXPORT:hound_")]
-        self.assertEqual((len(set(exports)), words[-len(exports) - 1]), (39, "/link"))
+        self.assertEqual((len(set(exports)), words[-len(exports) - 1]), (43, "/link"))
         with on("Windows", "amd64"), compilers("gcc"):
             self.assertEqual(self.command()[1], "hound_c.dll")
         with on("Darwin", "arm64"):

@@ -140,15 +140,21 @@ class Command(Folder):
         form = b"8000 Hz, 2 channels, 16 bits, 5 frames, 0.001 s"
         self.assertEqual(self.run_command("info", "a.wav"), b"a.wav: " + form + b", whole\n")
         said = self.run_command("info", "b.wav", status=1)
-        self.assertIn(b"1 channel, 16 bits, 2 frames, 0.000 s, cut off (4 frames are held)", said)
+        said_of_it = b"1 channel, 16 bits, 0.001 s, cut off: 4 frames, of which the header counted 2\n"
+        self.assertIn(said_of_it, said)
         self.assertEqual(self.run_command("info", ".", status=1).count(b"\n"), 2)
+        self.leave_as("c.wav", by_hand(bytes(3), width=1))  # It lacks the pad byte.
+        said = self.run_command("info", "c.wav")
+        note = b"the RIFF size or the pad byte isn't as the format asks"
+        self.assertEqual(said, b"c.wav: 8000 Hz, 1 channel, 8 bits, 3 frames, 0.000 s, whole (" + note + b")\n")
+        os.unlink(os.path.join(self.folder, "c.wav"))
         said = self.run_command("info", "-", given=whole)
         self.assertIn(b"-: " + form + b", as its header says\n", said)
         names = ("a.wav", "none.wav", "b.wav", "-")
         rows = self.run_command("info", "--json", *names, given=whole[:50], status=1).splitlines()
         first, second, third, last = map(json.loads, rows)
         self.assertEqual((first["frames"], first["seconds"], first["state"]), (5, 5 / 8000, "whole"))
-        self.assertEqual(third["frames_held"], 4)
+        self.assertEqual((third["frames"], third["frames_counted"], third["frames_held"]), (2, 2, 4))
         self.assertEqual(second, {"file": "none.wav", "error": "none.wav: No such file or directory"})
         self.assertEqual((last["frames"], "state" in last), (5, False))
 
@@ -305,7 +311,7 @@ class Command(Folder):
             "x/y/b.WAV": by_hand(bytes(2)),
             "x/c.wav": followed,
             "x/d.txt": b"text",
-            "x/e.wav": b"RIFX" + bytes(60),
+            "x/e.wav": b"RIFY" + bytes(60),
         }
         for name, content in before.items():
             self.leave_as(name, content)
@@ -328,14 +334,56 @@ class Command(Folder):
         self.leave_as("z/d.txt", b"")
         self.run_command("repair", "z", status=2)
 
+    def test_repair_of_what_is_all_counted(self):
+        content, canonical = by_hand(b"\x81\x82\x83", width=1), by_hand(b"\x81\x82\x83", width=1, after=b"\0")
+        self.leave_as("a.wav", content)
+        line = rb"whole +3 +3 +0.000  a.wav  the RIFF size or the pad byte isn't as the format asks"
+        for words in [], ["--dry-run"], ["--copy"], ["--durable"]:
+            self.assertRegex(self.run_command("repair", *words, "a.wav").splitlines()[1], b"^" + line + b"$")
+        self.run_command("repair", "--canonical", "--dry-run", "a.wav", status=1)
+        self.assertEqual(os.listdir(self.folder), ["a.wav"])
+        self.assertIn(b"  repaired: a.repaired.wav\n", self.run_command("repair", "--copy", "--canonical", "a.wav"))
+        self.assertEqual((self.content("a.wav"), self.content("a.repaired.wav")), (content, canonical))
+        said = json.loads(self.run_command("repair", "--json", "a.wav"))
+        self.assertEqual((said["state"], said["repaired"], said["frames_counted"]), ("all counted", False, 3))
+        for words in "--canonical", "--to-end":
+            self.leave_as("a.wav", content)
+            self.assertRegex(self.run_command("repair", words, "a.wav"), rb"\nwhole +3 +3 +0.000  a.wav  repaired\n")
+            self.assertEqual(self.content("a.wav"), canonical)
+
+    def test_repair_says_how_many_were_counted(self):
+        self.leave_as("a.wav", by_hand(bytes(24), 8))
+        out = self.run_command("repair", "--dry-run", "a.wav", status=1).decode().splitlines()
+        self.assertEqual([line.split() for line in out], [
+            ["found", "frames", "counted", "seconds", "file"], ["cut", "off", "12", "4", "0.002", "a.wav"],
+        ])  # fmt: skip
+        said = json.loads(self.run_command("repair", "--json", "a.wav"))
+        self.assertEqual((said["frames"], said["frames_counted"], said["repaired"]), (12, 4, True))
+
+    def test_repair_of_a_copy_within_a_frame(self):
+        self.leave_as("a.wav", by_hand(bytes(27), 0, channels=3))
+        self.assertIn(b"a.wav  repaired: a.repaired.wav\n", self.run_command("repair", "--copy", "a.wav"))
+        self.assertEqual(self.content("a.repaired.wav"), by_hand(bytes(24), channels=3))
+        self.assertEqual(self.content("a.wav"), by_hand(bytes(27), 0, channels=3))
+
+    def test_what_isn_t_read_is_named(self):
+        self.leave_as("x/a.wav", b"fLaC" + bytes(60))
+        held = b"x/a.wav holds FLAC, so it isn't read: convert it by ffmpeg -i x/a.wav -c:a pcm_s32le x/a.pcm.wav"
+        for words in ["info"], ["repair"], ["repair", "--copy"], ["cat"], ["record", "--append"], ["convert", "b.wav"]:
+            self.run_command(words[0], "x/a.wav", *words[1:], status=1)
+            self.assertEqual(self.said, b"hound-wav: " + held + b" (no RIFF tag found)\n")
+        self.run_command("info", "-", given=b"fLaC" + bytes(60), status=1)
+        self.assertIn(b" holds FLAC, so it isn't read: convert it by ffmpeg -i FILE -c:a pcm_s32le FILE.pcm", self.said)
+
     def test_a_length_that_no_frames_have(self):
         """Recorders that were cut off, and programs that write into a pipe, leave such a length."""
         cut_off = by_hand(bytes(8), 0xFFFFFFFF)
         self.leave_as("a.wav", cut_off)
-        self.assertIn(b" 0 frames, 0.000 s, cut off (4 frames are held)\n", self.run_command("info", "a.wav", status=1))
+        said = b" 0.001 s, cut off: 4 frames, where the header counted 2147483647\n"
+        self.assertIn(said, self.run_command("info", "a.wav", status=1))
         for words in ("--dry-run",), ("--copy",), ():
             out = self.run_command("repair", *words, "a.wav", status=1 if words == ("--dry-run",) else 0)
-            self.assertRegex(out.splitlines()[1], rb"^cut off +4 +0.001  a.wav")
+            self.assertRegex(out.splitlines()[1], rb"^cut off +4 +2147483647 +0.001  a.wav")
             self.assertEqual((self.said, self.content("a.wav")), (b"", cut_off if words else by_hand(bytes(8))))
         self.assertEqual(self.content("a.repaired.wav"), by_hand(bytes(8)))
 

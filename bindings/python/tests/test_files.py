@@ -1,11 +1,15 @@
 """Files written, read, appended to and repaired, beside the module `wave` of Python and files made by hand."""
 import array
 import contextlib
+import copy
 import ctypes
 import errno
+import io
+import itertools
 import os
 import pickle
 import random
+import re
 import shutil
 import signal
 import stat
@@ -30,6 +34,23 @@ def by_hand(data, counted=None, after=b"", riff=None, channels=1, width=2):
     fmt = struct.pack("<IHHIIHH", 16, 1, channels, 8000, 8000 * channels * width, channels * width, 8 * width)
     rest = b"WAVEfmt " + fmt + b"data" + struct.pack("<I", counted) + data + after
     return b"RIFF" + struct.pack("<I", len(rest) if riff is None else riff) + rest
+
+
+def with_riff(content, size):
+    """The same bytes with this RIFF size."""
+    return content[:4] + struct.pack("<I", size) + content[8:]
+
+
+def with_chunk(content, chunk):
+    """A file with a chunk before its fmt chunk."""
+    return with_riff(content[:12] + chunk + content[12:], len(content) + len(chunk) - 8)
+
+
+class Pipe:
+    """What can't seek."""
+
+    def __init__(self, content):
+        self.read = io.BytesIO(content).read
 
 
 def two_d(samples, columns):
@@ -214,6 +235,170 @@ class Files(unittest.TestCase):
         self.assertEqual(hound.repair(self.path, to_end=True), (State.CUT_OFF, 1 + len(CHUNK), 0))
         self.assert_file(by_hand(b"\1" + CHUNK, width=1, after=bytes(1)))
 
+    def test_files_whose_frames_are_all_counted(self):
+        """Programs write no pad byte, or another RIFF size: no sample is concerned, and no file is called cut off."""
+        for width, channels, frames in itertools.product((1, 2, 3), range(1, 8), (4, 5)):
+            length = width * channels * frames
+            data = bytes(range(1, length + 1))
+            pad = bytes(length % 2)
+            for before, after in (b"", b""), (CHUNK, b""), (b"", CHUNK), (CHUNK, CHUNK + b"LIST" + bytes(4)):
+                whole = with_chunk(by_hand(data, after=pad + after, channels=channels, width=width), before)
+                right = len(whole) - 8
+                no_pad = whole[: len(whole) - len(pad)] if not after else whole
+                for content, riff in (
+                    *((whole, riff) for riff in (right, right - 1, right + 1, 0, 2**32 - 1)),
+                    *((no_pad, riff) for riff in (right, right - 1, 36)),
+                ):
+                    self.leave(with_riff(content, riff))
+                    state = State.WHOLE if riff == right else State.ALL_COUNTED
+                    state = State.HAS_CHUNKS_AFTER_DATA if after else state
+                    for call in hound.find_damage, hound.repair:
+                        found = call(self.path)
+                        self.assertEqual((found, found.counted, found.added), ((state, frames, 0), frames, 0))
+                    self.assert_file(with_riff(content, riff))
+                    self.assertEqual(hound.repair(self.path, canonical=True), (state, frames, 0))
+                    is_mended = state == State.ALL_COUNTED
+                    self.assert_file(with_riff(whole, right) if is_mended else with_riff(content, riff))
+        with open(self.path, "wb") as file:  # What hound 3.5.1 writes of three frames of 8 bits: no pad byte.
+            file.write(by_hand(b"\x81\x82\x83", width=1))
+        self.assertEqual(hound.repair(self.path, copy=self.path + "2"), (State.ALL_COUNTED, 3, 0))
+        self.assertEqual(os.path.getsize(self.path + "2"), 47)
+        os.unlink(self.path + "2")
+        for more in {"canonical": True}, {"to_end": True}:
+            self.assertEqual(hound.repair(self.path, copy=self.path + "2", **more), (State.ALL_COUNTED, 3, 0))
+            os.replace(self.path + "2", self.path + "3")
+            self.assert_file(by_hand(b"\x81\x82\x83", width=1))
+        self.path += "3"
+        self.assert_file(by_hand(b"\x81\x82\x83", width=1, after=b"\0"))
+
+    def test_a_repaired_copy_ends_after_its_frames(self):
+        """GStreamer plays nothing of a file that has some bytes after them. In place nothing is cut off."""
+        copy = self.path + ".copy"
+        for width, channels, counted, durable in (
+            (2, 1, 0, False), (3, 2, 2, True), (3, 6, 0, False), (1, 3, 1, True), (1, 1, 0, False), (3, 1, 9, False),
+        ):  # fmt: skip
+            size = width * channels
+            for left in range(size):
+                data = bytes(range(1, 5 * size + left + 1))
+                torn = by_hand(data, counted * size, channels=channels, width=width)
+                self.leave(torn)
+                found = hound.repair(self.path, copy=copy, durable=durable)
+                self.assertEqual(found, (State.CUT_OFF, 5, left))
+                self.assertEqual((found.counted, found.added), (counted, max(5 - counted, 0)))
+                self.assertEqual(found.info, (8000, channels, 8 * width, False, 5, 44, width))
+                self.assert_file(torn)
+                pad = data[5 * size : 5 * size + 1] or b"\0"
+                right = by_hand(data[: 5 * size], after=pad[: 5 * size % 2], channels=channels, width=width)
+                with open(copy, "rb") as file:
+                    self.assertEqual(file.read(), right)
+                os.unlink(copy)
+                self.assertEqual(hound.repair(self.path), (State.CUT_OFF, 5, left))
+                self.assertEqual(os.path.getsize(self.path), max(len(torn), len(right)))
+        whole = by_hand(b"\1\0\2\0\3", 4, riff=40)
+        for content in (whole, by_hand(b"\1\2", after=CHUNK), by_hand(b"\1\2", after=b"TAG" + bytes(125))):
+            self.leave(content)
+            self.assertNotEqual(hound.repair(self.path, copy=copy)[0], State.CUT_OFF)
+            os.replace(copy, self.path)
+            self.assert_file(content)
+        self.assertEqual(hound.repair(self.path, copy=copy, to_end=True), (State.CUT_OFF, 65, 0))
+        self.assertEqual(os.path.getsize(copy), 44 + 130)
+
+    def test_what_is_synced_of_a_repaired_copy(self):
+        sync, sizes = os.fsync, []
+
+        def noted(descriptor):
+            sizes.append(os.fstat(descriptor).st_size)
+            sync(descriptor)
+
+        self.leave(by_hand(b"\1\0\2\0\3", 0))
+        with mock.patch("os.fsync", noted):
+            hound.repair(self.path, copy=self.path + "2", durable=True)
+        self.assertEqual(sizes[-2], 48)  # The last one is that of the folder.
+
+    def test_what_a_repair_says(self):
+        self.leave(by_hand(bytes(24), 8))
+        for found in hound.find_damage(self.path), hound.repair(self.path):
+            state, frames, left_over = found
+            self.assertEqual((state, frames, left_over), (State.CUT_OFF, 12, 0))
+            for same in pickle.loads(pickle.dumps(found)), copy.copy(found):
+                self.assertEqual((same, same.counted, same.added), (found, 4, 8))
+                self.assertEqual(same.info, (8000, 1, 16, False, 12, 44, 2))
+        self.assertEqual(hound.repair(self.path).info, hound.info(self.path))
+        self.leave(by_hand(bytes(4), 24))  # More are counted than there are.
+        self.assertEqual((hound.repair(self.path).counted, hound.repair(self.path).added), (12, 0))
+
+    def test_what_is_in_a_file_that_is_rejected(self):
+        def tagged(tag, bits=16, size=16, extra=b""):
+            fmt = struct.pack("<IHHIIHH", size + len(extra), tag, 1, 8000, 8000, 1, bits) + extra
+            rest = b"WAVEfmt " + fmt + b"data" + struct.pack("<I", 4) + bytes(4)
+            return b"RIFF" + struct.pack("<I", len(rest)) + rest
+
+        def converting(codec):
+            source, target = f"'{self.folder.name}/a b.wav'", f"'{self.folder.name}/a b.pcm.wav'"
+            return f"ffmpeg -i {source} -c:a {codec} {target}" if codec else f"sox {source} -L {target}"
+
+        path = os.path.join(self.folder.name, "a b.wav")
+        for content, held, codec in (
+            (tagged(2, 4, extra=b"\2\0\0\2"), "Microsoft ADPCM", "pcm_s16le"),
+            (tagged(17, 4, extra=b"\2\0\xf9\1"), "IMA ADPCM", "pcm_s16le"),
+            (tagged(6, 8, extra=b"\0\0"), "A-law", "pcm_s16le"),
+            (tagged(7, 8), "mu-law", "pcm_s16le"),
+            (tagged(49, 0, extra=b"\2\0\x40\1"), "GSM 6.10", "pcm_s16le"),
+            (tagged(85, 0, extra=bytes(14)), "MP3", "pcm_s16le"),
+            (tagged(3, 64), "floats of 64 bits", "pcm_f32le"),
+            (b"RIFX" + bytes(60), "RIFX, whose numbers have their highest byte first", None),
+            (b"RF64" + bytes(60), "RF64, which is for more than 4 GiB", "pcm_s32le"),
+            (b"FORM" + bytes(4) + b"AIFF" + bytes(60), "AIFF", "pcm_s32le"),
+            (b"fLaC" + bytes(60), "FLAC", "pcm_s32le"),
+            (b"OggS" + bytes(60), "Ogg", "pcm_s32le"),
+        ):
+            with open(path, "wb") as file:
+                file.write(content)
+            for call in hound.read, hound.find_damage, hound.repair, hound.append_to:
+                with self.assertRaises(HoundError) as caught:
+                    call(path)
+                words = f"{path} holds {held}, so it isn't read: convert it by {converting(codec)}"
+                error = pickle.loads(pickle.dumps(caught.exception))
+                self.assertEqual((str(error), error.held), (f"{words} ({error.cause.sentence})", held))
+            for given in content, io.BytesIO(content), Pipe(content):
+                with self.assertRaisesRegex(HoundError, f"^the file holds {held}, so .* FILE .* FILE.pcm.wav"):
+                    hound.read(given)
+        noise = random.Random(3).getrandbits(8000).to_bytes(1000, "big")
+        for content in b"", b"text", b"R", noise, tagged(1, 12), bytes(99):
+            with self.assertRaises(HoundError) as caught:
+                hound.read(content)
+            self.assertEqual((str(caught.exception), caught.exception.held), (caught.exception.cause.sentence, None))
+        with self.assertRaises(HoundError) as caught:
+            hound.read(by_hand(b"\1\2"), dtype="int8")  # It is another error than one of the header.
+        self.assertEqual(str(caught.exception), Cause.TOO_WIDE.sentence)
+
+    def test_what_other_programs_write_is_named(self):
+        if not shutil.which("sox") or not shutil.which("ffmpeg"):
+            self.skipTest("sox or ffmpeg isn't here")
+        samples = array.array("h", range(-3000, 3000, 7))
+        hound.write(self.path, samples, 8000)
+        for name, held, words in (
+            ("b.wav", "IMA ADPCM", "sox a.wav -e ima-adpcm b.wav"),
+            ("b.wav", "Microsoft ADPCM", "ffmpeg -v error -y -i a.wav -c:a adpcm_ms b.wav"),
+            ("b.wav", "RIFX", "sox a.wav -B b.wav"),
+            ("b.wav", "floats of 64 bits", "sox a.wav -e floating-point -b 64 b.wav"),
+            ("b.wav", "RF64", "ffmpeg -v error -y -i a.wav -rf64 always b.wav"),
+            ("b.w64", "Wave64", "sox a.wav b.w64"),
+            ("b.flac", "FLAC", "sox a.wav b.flac"),
+            ("b.aiff", "AIFF", "sox a.wav b.aiff"),
+        ):
+            run = lambda words: subprocess.run(words, cwd=self.folder.name, shell=True, check=True)
+            run(words)
+            path = os.path.join(self.folder.name, name)
+            with self.assertRaises(HoundError) as caught:
+                hound.read(path)
+            self.assertIn(f" holds {held}", str(caught.exception))
+            command = re.findall(r"(?:ffmpeg|sox) .*\.pcm\.wav", str(caught.exception))[0]
+            run(command.replace("ffmpeg", "ffmpeg -v error -y"))
+            found = hound.read(os.path.join(self.folder.name, "b.pcm.wav"), dtype="float64")
+            if "ADPCM" not in held:
+                self.assertEqual(list(found), [sample / 32768 for sample in samples])
+
     def test_short_writes_continue(self):
         pwrite = os.pwrite
         with mock.patch("os.pwrite", lambda file, content, place: pwrite(file, content[:3], place)):
@@ -366,6 +551,7 @@ class Files(unittest.TestCase):
                     if size < 0:
                         self.fails(Cause(-size), lambda: hound.repair(self.path, to_end=to_end))
                         self.assert_file(content)
+                        counts.clear()  # What a rejected file is, is looked for in its front.
                         continue
                     wanted = (State(found.state), found.frames, found.left_over)
                     if not to_end:
@@ -493,11 +679,19 @@ class Files(unittest.TestCase):
         if not compiler:
             self.skipTest("no C compiler is here")
         words = [compiler, "-shared", "-x", "c", "-", "-o", library]
-        subprocess.run(words, input=b"int hound_info(void) { return 0; }", check=True)
         env = {**os.environ, "HOUND_C_LIBRARY": library, "PYTHONPATH": os.path.dirname(os.path.dirname(hound.__file__))}
-        ran = subprocess.run([sys.executable, "-c", "import hound_bindings"], env=env, stderr=subprocess.PIPE)
-        said = f"{library} isn't the library of hound_bindings {hound.__version__}: it lacks hound_walk_next."
-        self.assertIn(f"ImportError: {said}", ran.stderr.decode())
+        major, minor, patch = map(int, hound.__version__.split("."))
+        version = "int hound_version(void) { return %d; }"
+        for source, why in (
+            ("", "it lacks hound_version"),
+            (version % (major << 16 | minor << 8 | patch), "it lacks hound_info"),
+            (version % (major << 16 | minor << 8 | patch + 1), f"it is that of version {major}.{minor}.{patch + 1}"),
+            (version % (1 << 16 | 2 << 8 | 34), "it is that of version 1.2.34"),
+        ):
+            subprocess.run(words, input=source.encode(), check=True)
+            ran = subprocess.run([sys.executable, "-c", "import hound_bindings"], env=env, stderr=subprocess.PIPE)
+            said = f"{library} isn't the library of hound_bindings {hound.__version__}: {why}. Install"
+            self.assertIn(f"ImportError: {said}", ran.stderr.decode())
 
     def test_types_of_samples(self):
         eight = hound.to_bytes(array.array("b", [-128, -1, 127]), 8000)

@@ -312,7 +312,7 @@ class Specs(Folder):
         torn = self.path + "2"
         with open(torn, "wb") as file:
             file.write(by_hand(bytes(8), 16))
-        named = io.BytesIO(b"RIFX" + bytes(60))
+        named = io.BytesIO(b"RIFY" + bytes(60))
         named.name = "mine"
         for name, call in (
             (self.path, lambda: hound.append(self.path, [1])),
