@@ -24,6 +24,7 @@ import sys
 import tempfile
 import time
 from typing import NamedTuple
+from unittest import mock
 
 import hound_bindings as hound
 from hound_bindings import streams
@@ -538,6 +539,12 @@ def continued(path, case, durable, at):
     return interruption, first
 
 
+def in_pieces(call):
+    """A call during which four samples are written at once, so that most blocks have several pieces."""
+    return mock.patch.object(hound.conversion, "BLOCK", 4)(call)
+
+
+@in_pieces
 def interrupt(folder, step):
     """A signal handler that raises, at some bytecodes of each recorder."""
     path, runs = os.path.join(folder, "interrupted.wav"), 0
@@ -557,6 +564,7 @@ def interrupt(folder, step):
     return runs
 
 
+@in_pieces
 def interrupt_changes(folder, step):
     """The same of other calls, which do all or nothing."""
     path, runs = os.path.join(folder, "changed.wav"), 0

@@ -457,6 +457,10 @@ def _info_of_header(found: _Info) -> Info:
     return _info_from(found.spec, found.samples // found.spec.channels, found.data_start)
 
 
+def _room_of(out: Any) -> "conversion.Room":
+    return out if isinstance(out, conversion.Room) else conversion.Room(out)
+
+
 class _InMemory:
     """A file whose bytes are in memory, at an address."""
 
@@ -465,29 +469,29 @@ class _InMemory:
         self._found = _info_of(start, length)
         self.info = _info_of_header(self._found)
 
-    def _read_from(self, start: int, frames: int, dtype: Optional[Dtype]) -> "array.array[Any]":
+    def _read_from(self, start: int, frames: int, dtype: Optional[Dtype], always_2d: bool, out: Any) -> Any:
         """The samples of at most so many frames (of all where it is -1) from number `start` on."""
         spec, channels = self._found.spec, self._found.spec.channels
-        name = conversion.type_of(dtype, spec)
-        kind = "i16" if name == "int8" else conversion.kind_of(name, spec)
+        room = _room_of(out).bound(spec, dtype)
+        kind = "i16" if room.dtype == "int8" else room.kind
+        if room.dtype == "int8" and spec.bits_per_sample > 8 and not spec.sample_format:
+            raise HoundError(Cause.TOO_WIDE)
         first = min(start, 1 << 32) * channels  # A file has fewer frames than that.
         # The bytes may hold fewer samples than the header counts: then the read of one is the error.
         held = (self._place[1] - self._found.data_start) // spec.bytes_per_sample - first
         count = min(max(self._found.samples - first, 0), max(held, 1))
-        if frames >= 0:
-            count = min(count, frames * channels)
+        count = min(count, (room.most if frames < 0 else min(frames, room.most)) * channels)
+        count -= count % channels if count > channels else 0
 
         def take(number: int, out: Any, count: int) -> int:
             code = _read[kind](*self._place, first + number, out, count)
             return _check_header(code, lambda: _front_of(*self._place))
 
-        samples = conversion.collected(count, name, spec, kind, take)
-        if name == "int8" and spec.bits_per_sample > 8:
-            raise HoundError(Cause.TOO_WIDE)
-        if 0 < len(samples) < channels:
+        with room.place(count) as (place, _):
+            count = conversion.filled(place, count, room.dtype, spec, kind, take)
+        if 0 < count < channels:
             raise HoundError(Cause.TRUNCATED)
-        del samples[len(samples) // channels * channels :]
-        return samples
+        return room.result(count // channels * channels, always_2d)
 
 
 @contextlib.contextmanager
@@ -515,26 +519,23 @@ def read_into(file: File, buffer: Any, start: int = 0) -> int:
     """Reads frames from number `start` on into a buffer, and returns how many there were.
 
     The buffer is filled as far as it has room for whole frames and the file holds them. Its type is
-    that of the samples; it has to be writable and contiguous.
+    that of the samples; it has to be writable and contiguous. After an error a part of it may be overwritten.
     """
     start = _integer("start", start, 0, sys.maxsize)
-    with memoryview(buffer) as view:
-        dtype, columns = conversion.form_of(view, "buffer", conversion.READ)
-        if view.readonly or not view.c_contiguous:
-            raise TypeError("buffer isn't writable and contiguous")
-        with conversion.address(view) as (out, size):
-            if out % view.itemsize:
-                raise TypeError("buffer isn't aligned")
-            with _opened(file) as source:
-                channels: int = source.info.channels
-                conversion.check_columns("buffer", columns, channels)
-                block = source._read_from(start, size // view.itemsize // channels, dtype)
-            ctypes.memmove(out, block.buffer_info()[0], len(block) * view.itemsize)
-            return len(block) // channels
+    with conversion.Room(buffer, "buffer") as room, _opened(file) as source:
+        channels: int = source.info.channels
+        with source._read_from(start, -1, None, False, room) as block:
+            return int(block.nbytes // block.itemsize // channels)
 
 
 def read(
-    file: File, start: int = 0, frames: int = -1, dtype: Optional[Dtype] = None, *, always_2d: bool = False
+    file: File,
+    start: int = 0,
+    frames: int = -1,
+    dtype: Optional[Dtype] = None,
+    *,
+    always_2d: bool = False,
+    out: Any = None,
 ) -> Any:
     """Reads frames from number `start` on, at most so many (all where it is -1), and returns their samples.
 
@@ -543,19 +544,28 @@ def read(
     without it, it is the narrowest from 16 bits on that reads the file. Integers of up to 24 bits are exact as float32,
     all of them as float64. Of a file that holds fewer frames than its header counts these are read, and a read that
     starts after them is an error.
+
+    With `out` they are stored in that buffer, as a numpy array, as far as it has room for whole frames, and the result
+    is a memoryview of this part of it. Its type and its dimensions are those of the samples; it has to be writable and
+    contiguous. After an error a part of it may be overwritten.
     """
-    return read_with_info(file, start, frames, dtype, always_2d=always_2d)[0]
+    return read_with_info(file, start, frames, dtype, always_2d=always_2d, out=out)[0]
 
 
 def read_with_info(
-    file: File, start: int = 0, frames: int = -1, dtype: Optional[Dtype] = None, *, always_2d: bool = False
+    file: File,
+    start: int = 0,
+    frames: int = -1,
+    dtype: Optional[Dtype] = None,
+    *,
+    always_2d: bool = False,
+    out: Any = None,
 ) -> Tuple[Any, Info]:
     """What `read` returns, and what the header says: `write(.., like=info)` makes such a file of these samples."""
     start = _integer("start", start, 0, sys.maxsize)
     frames = _integer("frames", frames, -1, sys.maxsize)
     with _opened(file) as source:
-        samples = source._read_from(start, frames, dtype)
-        return conversion.shaped(samples, source.info.channels, always_2d), source.info
+        return source._read_from(start, frames, dtype, always_2d, _room_of(out)), source.info
 
 
 def _check_like(like: Any) -> None:
@@ -696,11 +706,12 @@ def _replaced(path: Path, durable: bool) -> ContextManager[str]:
     return _written_into(path, durable) if is_device else _renamed(path, durable)
 
 
-def _write_to(file: Any, content: bytearray, durable: bool) -> None:
-    """Writes all of this to an object."""
+def _write_to(file: Any, content: bytearray, durable: bool) -> int:
+    """Writes all of this to an object, and returns its length."""
     disk.put_here(file, content)
     if durable:
         disk.sync(file.fileno())
+    return len(content)
 
 
 def write(
@@ -724,15 +735,16 @@ def write(
     pipe at a path isn't replaced: the file is written into it.
     """
     with _named(path):
-        content = to_bytes(samples, rate, channels, bits, bytes_per_sample=bytes_per_sample, like=like, dither=dither)
         if not isinstance(path, (str, os.PathLike)):
-            _write_to(path, content, durable)
-        else:
-            with _replaced(path, durable) as part, io.open(part, "xb", buffering=0) as file:
-                disk.put(file.fileno(), content, 0)
-                if durable:
-                    disk.sync(file.fileno())
-    return len(content)
+            form = rate, channels, bits
+            file = to_bytes(samples, *form, bytes_per_sample=bytes_per_sample, like=like, dither=dither)
+            return _write_to(path, file, durable)
+        with conversion.Given(samples) as given:
+            spec = _spec_for(given, rate, channels, bits, bytes_per_sample, like)
+            length = _checked(_size(ctypes.byref(spec), given.count))
+            with _replaced(path, durable) as part, streams._create(part, spec, False, True, dither) as writer:
+                writer._end_with(given, durable)
+        return length
 
 
 def append(
@@ -838,11 +850,11 @@ def repair(
     header counts only what is there, and the file can be repaired again.
 
     With `copy` the file stays as it is, and a copy of this name, which must not be there, is repaired. What is mended
-    so ends after the last whole frame and its pad byte, since GStreamer 1.22 plays nothing of a file with a few bytes
-    after them; in place nothing is cut off. With `like` the
-    header is taken for lost: a copy, by default NAME.repaired.wav, gets the header of such a file, and all whole frames
-    from byte `skip` on. Without `skip` they begin after what looks like the header of the data near the beginning, or
-    else at byte `like.data_start`. `guess` makes such an Info.
+    so ends after the last whole frame and its pad byte, since GStreamer 1.22 plays nothing of a file with 1 to 7 bytes
+    after the data (so it plays none with a pad byte either); in place nothing is cut off. With `like` the header is
+    taken for lost: a copy, by default NAME.repaired.wav, gets the header of such a file, and all whole frames from byte
+    `skip` on. Without `skip` they begin after what looks like the header of the data near the beginning, or else at
+    byte `like.data_start`. `guess` makes such an Info.
     """
     if skip is not None and like is None:
         raise ValueError("skip is for a header that is lost: give `like`, too, which says what the samples are")

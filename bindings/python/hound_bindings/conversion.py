@@ -11,8 +11,8 @@ from typing import Any, Callable, Dict, Iterator, List, NamedTuple, Optional, Tu
 from . import _POINTER, _SIZE, _SPARE, Cause, HoundError, Info, _checked, _function, _integer, _Spec
 
 __all__ = [
-    "CODES", "Given", "Scale", "TYPES", "address", "check_columns", "collected", "form_of", "kind_of", "noise_of",
-    "shaped", "spec_like", "type_of", "warn_caller",
+    "BLOCK", "CODES", "Given", "Room", "Scale", "TYPES", "Take", "address", "check_columns", "filled", "form_of",
+    "kind_of", "noise_of", "spec_like", "type_of", "warn_caller", "width_of",
 ]  # fmt: skip
 
 
@@ -39,8 +39,10 @@ _FORMATS.update(((form.code, array.array(form.code).itemsize), name) for name, f
 _SPELLINGS = {"i1": "int8", "i2": "int16", "i4": "int32", "f4": "float32", "f8": "float64", "float": "float64"}
 READ = "int8, int16, int32, float32 and float64 are read"
 GIVEN = "int8, int16, int32, int64, float32, float64 and lists are written"
-# How many samples are converted at once.
-_BLOCK = 1 << 16
+# How many samples are converted or encoded at once: so they stay in the processor's cache.
+BLOCK = 1 << 16
+# What decodes the samples of a file from a number on, to an address, at most so many, and returns how many there were.
+Take = Callable[[int, Any, int], int]
 
 _to_f32 = _function("to_f32", _POINTER, _SIZE, ctypes.c_uint16, _POINTER, _SIZE)
 _from_f32 = _function("from_f32", _POINTER, _SIZE, ctypes.c_uint16, _POINTER, _SIZE, _POINTER)
@@ -118,43 +120,46 @@ def kind_of(dtype: str, spec: _Spec) -> str:
     return "i8" if dtype == "int8" else TYPES[dtype].kind
 
 
-def _taken(code: str, first: int, count: int, take: Callable[[int, Any, int], int]) -> "array.array[Any]":
-    samples = array.array(code, bytes(count * array.array(code).itemsize))
-    with address(samples) as (out, _):
-        count = take(first, out, count)
-    del samples[count:]
-    return samples
+def _zeros(code: str, count: int) -> "array.array[Any]":
+    return array.array(code, bytes(array.array(code).itemsize)) * count
 
 
-def _floats(integers: "array.array[int]", bits: int, dtype: str) -> "array.array[float]":
-    """Integers divided by 2^(bits - 1) by the library, which rounds those of more than 24 bits: for float64 these are
-    multiplied here."""
-    if dtype == "float64" and bits > 24:
-        scale = 2.0 ** (1 - bits)
-        return array.array("d", [integer * scale for integer in integers])
-    floats = array.array("f", bytes(4 * len(integers)))
-    with address(integers) as (start, _), address(floats) as (out, _):
-        _checked(_to_f32(start, len(integers), bits, out, len(floats)))
-    return array.array("d", floats.tolist()) if dtype == "float64" else floats
+def width_of(dtype: str) -> int:
+    """How many bytes a sample of a type has in an array."""
+    return array.array(TYPES[dtype].code).itemsize
 
 
-def collected(
-    count: int, dtype: str, spec: _Spec, kind: str, take: Callable[[int, Any, int], int]
-) -> "array.array[Any]":
-    """At most so many samples of a file in a type. `take` decodes samples by calls of this kind: those from a number
-    on, to an address, at most so many, and returns how many there were."""
+def _converted(samples: "array.array[Any]", dtype: str, spec: _Spec) -> "array.array[Any]":
+    """Samples that the library decoded in another type, where it doesn't convert them: it rounds integers of more than
+    24 bits to float32, and for float64 all are multiplied here."""
+    if dtype == "int8":
+        return array.array("b", samples.tobytes()[::2])
     if not _is_scaled(dtype, spec):
-        samples = _taken(CODES[kind], 0, count, take)
-        if dtype == "int8" and kind != "i8":
-            return array.array("b", samples.tobytes()[::2])
-        return array.array("d", samples) if dtype == "float64" else samples
-    samples = array.array(TYPES[dtype].code)
-    for first in range(0, count, _BLOCK):
-        samples += _floats(_taken(CODES[kind], first, min(_BLOCK, count - first), take), spec.bits_per_sample, dtype)
-    return samples
+        return array.array("d", samples)
+    scale = 2.0 ** (1 - spec.bits_per_sample)
+    return array.array("d", [sample * scale for sample in samples])
 
 
-def shaped(samples: "array.array[Any]", channels: int, always_2d: bool) -> Any:
+def filled(out: Any, count: int, dtype: str, spec: _Spec, kind: str, take: Take) -> int:
+    """Stores at most so many samples of a file in a type at an address, and returns how many. `take` decodes them by
+    calls of this kind."""
+    if CODES[kind] == TYPES[dtype].code:
+        return take(0, out, count)
+    part, done, some, wanted = _zeros(CODES[kind], min(BLOCK, count)), 0, 0, 0
+    with address(part) as (start, _):
+        while done < count and some == wanted:
+            place, wanted = out + done * width_of(dtype), min(BLOCK, count - done)
+            some = take(done, start, wanted)
+            if dtype == "float32":
+                _checked(_to_f32(start, some, spec.bits_per_sample, place, some))
+            else:
+                with address(_converted(part[:some], dtype, spec)) as (converted, size):
+                    ctypes.memmove(place, converted, size)
+            done += some
+    return done
+
+
+def _shaped(samples: "array.array[Any]", channels: int, always_2d: bool) -> Any:
     """Samples as they are, or as frames by channels."""
     if not always_2d:
         return samples
@@ -162,6 +167,55 @@ def shaped(samples: "array.array[Any]", channels: int, always_2d: bool) -> Any:
     # A view has no shape with 0 frames: one more is cut off again.
     samples.frombytes(bytes(channels * samples.itemsize))
     return memoryview(samples).cast("B").cast(samples.typecode, [frames + 1, channels])[:frames]
+
+
+class Room:
+    """Where samples that are read are stored: a buffer of the caller, or a new array. It is `bound` to what a file is:
+    then `dtype` is the type of the samples, `kind` the calls that decode them, and `most` how many frames have room."""
+
+    def __init__(self, buffer: Any = None, name: str = "out") -> None:
+        self._view, self._name = None if buffer is None else memoryview(buffer), name
+        self._array: "array.array[Any]" = array.array("b")
+        self.most = sys.maxsize
+        if self._view is not None:
+            self._own_dtype, self._columns = form_of(self._view, name, READ)
+            if self._view.readonly or not self._view.c_contiguous:
+                raise TypeError(f"{name} isn't writable and contiguous")
+            with address(self._view) as (start, _):
+                if start % self._view.itemsize:
+                    raise TypeError(f"{name} isn't aligned")
+
+    def __enter__(self) -> "Room":
+        return self
+
+    def __exit__(self, *_: Any) -> None:
+        if self._view is not None:
+            self._view.release()
+
+    def bound(self, spec: _Spec, dtype: Any) -> "Room":
+        self._channels = spec.channels
+        self.dtype = type_of(dtype, spec) if self._view is None or dtype is not None else self._own_dtype
+        self.kind = kind_of(self.dtype, spec)
+        if self._view is not None:
+            if self.dtype != self._own_dtype:
+                raise TypeError(f"{self._name} has samples of the type {self._own_dtype}, and dtype is {dtype!r}")
+            check_columns(self._name, self._columns, spec.channels)
+            self.most = self._view.nbytes // self._view.itemsize // spec.channels
+        return self
+
+    def place(self, count: int) -> address:
+        """The address of the room for so many samples, while they are stored."""
+        if self._view is not None:
+            return address(self._view)
+        self._array = _zeros(TYPES[self.dtype].code, count)
+        return address(self._array)
+
+    def result(self, count: int, always_2d: bool) -> Any:
+        """The samples, of which there are so many."""
+        if self._view is not None:
+            return self._view[: count // self._channels if self._columns else count]
+        del self._array[count:]
+        return _shaped(self._array, self._channels, always_2d)
 
 
 def spec_like(info: Info) -> _Spec:
@@ -291,8 +345,15 @@ class Given:
     def __exit__(self, *_: Any) -> None:
         self._view.release()
 
+    def fits(self, spec: _Spec) -> bool:
+        """Whether a file has a container for each value of this type, so that no sample is an error."""
+        is_float = self.form.kind == "f32"
+        is_narrow = self.dtype not in ("int64", "float64") and self.form.bits <= spec.bits_per_sample
+        return _is_scaled(self.dtype, spec) or (is_narrow and is_float == bool(spec.sample_format))
+
     def scale(self, spec: _Spec, noise: Optional[random.Random]) -> Scale:
-        """What scales the samples for a file; an error where noise can't be added to them."""
+        """What scales the samples for a file; an error where it has other channels, or noise can't be added to them."""
+        check_columns(self._name, self.columns, spec.channels)
         if noise and not _is_scaled(self.dtype, spec):
             raise ValueError("dither is for floats that become integers")
         return Scale(spec.bits_per_sample, noise)
@@ -300,14 +361,13 @@ class Given:
     def parts(self, spec: _Spec, scale: Scale) -> Iterator[Tuple[str, Any, int]]:
         """The samples as the library takes them: the calls, an address, and how many. They are one part, or where they
         are converted, parts of whole frames."""
-        check_columns(self._name, self.columns, spec.channels)
         if self.dtype in _LIBRARYS and not _is_scaled(self.dtype, spec):
             with address(self._view, self._view.itemsize) as (start, _):
                 yield self.form.kind, start, self.count
             return
         is_scaled = _is_scaled(self.dtype, spec)
         kind, convert = ("i32", scale.integers) if is_scaled else (self.form.kind, _CONVERSIONS[self.dtype])
-        rows = max(_BLOCK // spec.channels, 1) * (1 if self.columns else spec.channels)
+        rows = max(BLOCK // spec.channels, 1) * (1 if self.columns else spec.channels)
         for first in range(0, len(self._view), rows):
             part = convert(array.array(self.form.code, self._view[first : first + rows].tobytes()))
             with address(part) as (start, _):

@@ -8,7 +8,7 @@ import errno
 import io
 import os
 import stat
-from typing import Any, Iterator, Optional, Union
+from typing import Any, Iterable, Iterator, Optional, Union
 
 try:
     import fcntl
@@ -66,13 +66,11 @@ def _pwrite(descriptor: int, content: Any, place: int) -> int:
 
 def read_at(descriptor: int, count: int, place: int) -> bytes:
     """So many bytes from a place on, and fewer only at the end of the file."""
-    content, read = bytearray(), getattr(os, "pread", _pread)
-    while len(content) < count:
-        piece = read(descriptor, min(count - len(content), _PIECE), place + len(content))
-        if not piece:
-            break
-        content += piece
-    return bytes(content)
+    pieces, left, read = [], count, getattr(os, "pread", _pread)
+    while left and (piece := read(descriptor, min(left, _PIECE), place + count - left)):
+        pieces.append(piece)
+        left -= len(piece)
+    return b"".join(pieces)
 
 
 def put(descriptor: int, content: Any, place: int) -> None:
@@ -106,15 +104,18 @@ def cut(descriptor: int, place: int) -> None:
         os.ftruncate(descriptor, place)
 
 
-def perform(effect: Any, file: "Medium", durable: bool, block: Any = b"") -> None:
-    """Performs an effect of hound.h on a file, and reports it as done; an OSError says why it failed. A sync of a file
-    that isn't durable only passes on to the system what was written. What a read gives is shorter only at the end of
-    the file."""
+def perform(effect: Any, file: "Medium", durable: bool, block: Iterable[Any] = ()) -> None:
+    """Performs an effect of hound.h on a file, and reports it as done; an OSError says why it failed. A block comes in
+    pieces. A sync of a file that isn't durable only passes on to the system what was written. What a read gives is
+    shorter only at the end of the file."""
     kind = effect.kind
     if kind == WRITE:
         file.put(bytes(effect.bytes)[: effect.length], effect.place)
     elif kind == WRITE_BLOCK:
-        file.put(memoryview(block)[: effect.length], effect.place)
+        place = effect.place
+        for piece in block:
+            file.put(piece, place)
+            place += len(piece)
     elif kind == READ:
         content = file.read_at(effect.length, effect.place)
         effect.length, effect.bytes[: len(content)] = len(content), content

@@ -13,12 +13,14 @@ import threading
 import types
 import warnings
 import weakref
-from typing import IO, Any, Callable, Iterator, List, NamedTuple, NoReturn, Optional, Tuple, TypeVar, Union
+from typing import (
+    IO, Any, Callable, Generator, Iterable, Iterator, List, NamedTuple, NoReturn, Optional, Tuple, TypeVar, Union,
+)  # fmt: skip
 
 from . import (
     _FIND_DAMAGE, _FRONT_BYTES, _HEADER_BYTES, _OVERWRITE, _POINTER, _SIZE, _SPARE, _U64, Cause, Dtype, HoundError,
     Info, Path, _check_header, _checked, _function, _info_from, _info_of_header, _integer, _name_error, _named,
-    _Recorder, _repaired, _Spec, _spec_of, _walk_over, _whole_frames, conversion, disk,
+    _Recorder, _repaired, _room_of, _Spec, _spec_of, _walk_over, _whole_frames, conversion, disk,
 )  # fmt: skip
 
 __all__ = ["Reader", "Writer", "append_to", "create"]
@@ -98,20 +100,30 @@ class _Next(NamedTuple):
     held: List[Any]
 
 
-# How many bytes are read at once, and how many frames a stream has at most.
-_PIECE, _MOST_FRAMES = 1 << 20, 1 << 46
+# How many bytes are read at once, of them those that stay in the processor's cache, and how many frames a stream has at
+# most.
+_PIECE, _CACHED, _MOST_FRAMES = 1 << 20, 1 << 18, 1 << 46
 
 
-def decoded(content: bytes, count: int, spec: _Spec, dtype: Optional[str] = None) -> "array.array[Any]":
-    """The first samples of these bytes."""
-    name, width = conversion.type_of(dtype, spec), spec.bytes_per_sample
-    kind = conversion.kind_of(name, spec)
+def _store(content: bytes, count: int, spec: _Spec, room: conversion.Room, out: Any) -> None:
+    """Stores the first samples of these bytes at an address."""
+    width = spec.bytes_per_sample
     with conversion.address(content) as (start, _):
 
-        def take(first: int, out: Any, count: int) -> int:
-            return _checked(_decode[kind](ctypes.byref(spec), start + first * width, count * width, out, count))
+        def take(first: int, place: Any, count: int) -> int:
+            begin, length = start + first * width, count * width
+            return _checked(_decode[room.kind](ctypes.byref(spec), begin, length, place, count))
 
-        return conversion.collected(count, name, spec, kind, take)
+        conversion.filled(out, count, room.dtype, spec, room.kind, take)
+
+
+def decoded(content: bytes, count: int, spec: _Spec) -> "array.array[Any]":
+    """The first samples of these bytes."""
+    room = conversion.Room().bound(spec, None)
+    with room.place(count) as (out, _):
+        _store(content, count, spec, room, out)
+    samples: "array.array[Any]" = room.result(count, False)
+    return samples
 
 
 class Reader(_OneAtATime):
@@ -222,35 +234,59 @@ class Reader(_OneAtATime):
         self._spec, self.info = found.spec, _info_of_header(found)
         self._most = _MOST_FRAMES if self._to_end else self.info.frames
 
+    def _pieces(self, frames: int, size: int, place: int) -> Tuple[Iterator[bytes], int]:
+        """The bytes of so many frames from a place on, and how many whole ones there are at most. They are read in
+        pieces if the system says that the file holds them all: then nothing is lost if a read fails."""
+        if self._reads_at and os.fstat(self._source.fileno()).st_size >= place + frames * size:
+            return self._read_in_pieces(frames, size, place), frames
+        content = self._fill(frames * size, place)
+        whole = _checked(_whole_frames(ctypes.byref(self._spec), len(content))) // size
+        return iter((content,)), min(whole, frames)
+
+    def _read_in_pieces(self, frames: int, size: int, place: int) -> Iterator[bytes]:
+        end, piece = place + frames * size, max(_CACHED // size, 1) * size
+        while place < end:
+            wanted = min(piece, end - place)
+            content = disk.read_at(self._source.fileno(), wanted, place)
+            yield content
+            if len(content) < wanted:
+                break  # It became shorter.
+            place += wanted
+
     @_one_at_a_time
-    def read(self, frames: int = -1, dtype: Optional[Dtype] = None, *, always_2d: bool = False) -> Any:
+    def read(
+        self, frames: int = -1, dtype: Optional[Dtype] = None, *, always_2d: bool = False, out: Any = None
+    ) -> Any:
         """The next frames, at most so many (all for -1); none after the last one.
 
-        They have the form that `hound_bindings.read` gives them. Where the file ends before the frames
+        They have the form that `hound_bindings.read` gives them, also with `out`. Where the file ends before the frames
         that its header counts, those that it holds are returned, and the next call is an error.
         """
         frames = _integer("frames", frames, -1, sys.maxsize)
-        name = conversion.type_of(dtype, self._spec)
-        kind = conversion.kind_of(name, self._spec)
+        room = _room_of(out).bound(self._spec, dtype)
         # Whether the type reads the file is known before a byte is taken.
-        _check_header(_decode[kind](ctypes.byref(self._spec), _SPARE, 0, _SPARE, 0), lambda: self._front)
+        _check_header(_decode[room.kind](ctypes.byref(self._spec), _SPARE, 0, _SPARE, 0), lambda: self._front)
         frame, channels = self._state.frame, self._spec.channels
-        left = self._most - frame
+        left = min(self._most - frame, room.most)
         frames = left if frames < 0 else min(frames, left)
         size = self._spec.bytes_per_sample * channels
-        content = self._fill(frames * size, self.info.data_start + frame * size)
-        count = min(_checked(_whole_frames(ctypes.byref(self._spec), len(content))) // size, frames)
-        samples = decoded(content, count * channels, self._spec, name)
+        pieces, most = self._pieces(frames, size, self.info.data_start + frame * size)
+        count, rest, step = 0, b"", channels * conversion.width_of(room.dtype)
+        with room.place(most * channels) as (start, _):
+            for content in pieces:
+                whole = min(len(content) // size, most - count)
+                _store(content, whole * channels, self._spec, room, start + count * step)
+                count, rest = count + whole, content[whole * size :]
         if count == 0 and frames > 0 and not self._to_end:
             raise HoundError(Cause.TRUNCATED)
-        shaped = conversion.shaped(samples, channels, always_2d)
-        self._finish(_Next(frame + count, [content[count * size :]]))
-        return shaped
+        result = room.result(count * channels, always_2d)
+        self._finish(_Next(frame + count, [rest]))
+        return result
 
-    def _read_from(self, start: int, frames: int, dtype: Optional[Dtype]) -> Any:
+    def _read_from(self, start: int, frames: int, dtype: Optional[Dtype], always_2d: bool, out: Any) -> Any:
         if start > 0:
             self.seek(min(start, self._most))
-        return self.read(frames, dtype)
+        return self.read(frames, dtype, always_2d=always_2d, out=out)
 
     def blocks(self, frames: int, dtype: Optional[Dtype] = None, *, always_2d: bool = False) -> Iterator[Any]:
         """The frames from the next one on, in blocks of so many; the last one may be shorter."""
@@ -397,21 +433,26 @@ class Writer(_OneAtATime):
         first, as `flush` does."""
         self._check_open()
         with block if isinstance(block, conversion.Given) else conversion.Given(block, "block") as given:
-            clipped = self._encoded(given)
-        self._request(_recorder_write, given.count)
-        self._finish(_Recording(self._perform_all(self._out), [], self._state.clipped + clipped))
+            scale = given.scale(self._spec, self._noise)
+            with contextlib.closing(self._encoded(given, scale)) as encoded:
+                # Where a sample may be an error all are encoded before any is written.
+                pieces = encoded if given.fits(self._spec) else list(map(bytes, encoded))
+                self._request(_recorder_write, given.count)
+                recorder = self._perform_all(pieces)
+        scale.warn(given.count)
+        self._finish(_Recording(recorder, [], self._state.clipped + scale.clipped))
 
-    def _encoded(self, given: conversion.Given) -> int:
-        """Encodes all samples, before any is written, and returns how many were clipped."""
-        scale = given.scale(self._spec, self._noise)
-        length, done = given.count * self._state.recorder.bytes_per_sample, 0
+    def _encoded(self, given: conversion.Given, scale: conversion.Scale) -> Generator[memoryview, None, None]:
+        """The bytes of all samples, in pieces that stay in the processor's cache, each of them until the next one."""
+        length = min(given.count, conversion.BLOCK) * self._state.recorder.bytes_per_sample
         if length > len(self._out):
             self._out = ctypes.create_string_buffer(length)
         for kind, start, count in given.parts(self._spec, scale):
-            out = ctypes.byref(self._out, done)
-            done += _checked(_encode[kind](ctypes.byref(self._spec), start, count, out, length - done))
-        scale.warn(given.count)
-        return scale.clipped
+            width = array.array(conversion.CODES[kind]).itemsize
+            for first in range(0, count, conversion.BLOCK):
+                place, some = start + first * width, min(conversion.BLOCK, count - first)
+                used = _checked(_encode[kind](ctypes.byref(self._spec), place, some, self._out, len(self._out)))
+                yield memoryview(self._out)[:used]
 
     @_one_at_a_time
     def flush(self) -> None:
@@ -438,6 +479,14 @@ class Writer(_OneAtATime):
         except (OSError, HoundError):
             self._file.close()
             raise
+        self._file.close()
+
+    def _end_with(self, block: Any, durable: bool) -> None:
+        """Writes the last block, and closes the file. If it is durable it is stored by one sync, which is enough for a
+        file that nobody knows yet."""
+        self.write(block)
+        self.flush()
+        self._file.sync(durable)
         self._file.close()
 
     def _append(self, block: Any) -> None:
@@ -495,7 +544,7 @@ class Writer(_OneAtATime):
             synced.clear()
         return recorder
 
-    def _perform_all(self, block: Any = b"") -> _Recorder:
+    def _perform_all(self, block: Iterable[Any] = ()) -> _Recorder:
         """Performs all that is requested, and returns the recorder after it. The state has no report of a block that is
         done: so it is given up unless its call returns."""
         fault: Optional[OSError] = None
@@ -521,7 +570,7 @@ class Writer(_OneAtATime):
         _checked(code)
         return recorder
 
-    def _written(self, block: Any) -> _Recorder:
+    def _written(self, block: Iterable[Any]) -> _Recorder:
         """The recorder once the block is written."""
         recorder = _Recorder.from_buffer_copy(self._state.recorder)
         disk.perform(recorder.effect, self._file, self._durable, block)
@@ -566,7 +615,10 @@ def create(
     the file is locked, or its folder can't be synced though it is to be durable. An object is cut off where it is; it
     can't be durable or locked.
     """
-    spec = _spec_of(rate, channels, bits, bytes_per_sample, is_float, like)
+    return _create(path, _spec_of(rate, channels, bits, bytes_per_sample, is_float, like), durable, exclusive, dither)
+
+
+def _create(path: Union[Path, IO[bytes]], spec: _Spec, durable: bool, exclusive: bool, dither: int) -> Writer:
     recorder, header = _Recorder(), ctypes.create_string_buffer(_HEADER_BYTES)
     with _named(path):
         length = _checked(_header(ctypes.byref(spec), 0, header, len(header)))

@@ -24,6 +24,7 @@ from unittest import mock
 
 import hound_bindings as hound
 from hound_bindings import Cause, HoundError, State
+from interruptions import Interrupted, Interruption
 
 CHUNK = b"LIST" + struct.pack("<I", 4) + b"INFO"
 
@@ -652,6 +653,7 @@ class Files(unittest.TestCase):
             lambda: hound.repair(self.path, True),
             lambda: hound.guess(self.path, 44),
             lambda: hound.read(self.path, 0, -1, "int16", True),
+            lambda: hound.read(self.path, 0, -1, "int16", array.array("h", [1])),
             lambda: hound.read_with_info(self.path, 0, -1, "int16", True),
         ):
             self.assertRaisesRegex(TypeError, "positional argument", call)
@@ -759,6 +761,175 @@ class Files(unittest.TestCase):
             with self.assertRaisesRegex(TypeError, f"^buffer isn't .*{words}"):
                 hound.read_into(file, other)
 
+    def large(self, width, channels, frames):
+        """Data of so many frames, which are more than are read, encoded or decoded at once."""
+        length = width * channels * frames
+        data = random.Random(width).getrandbits(8 * length).to_bytes(length, "big")
+        if width == 3:
+            wide = bytearray(len(data) // 3 * 4)
+            for place in range(3):
+                wide[place + 1 :: 4] = data[place::3]
+            samples = array.array("i", [sample >> 8 for sample in array.array("i", bytes(wide))])
+        elif width == 1:
+            samples = array.array("b", bytes(byte ^ 128 for byte in data))
+        else:
+            samples = array.array("h" if width == 2 else "i", data)
+        return data, samples
+
+    def test_large_files(self):
+        """They are read and written in pieces, as other files."""
+        for width, channels, frames in (1, 1, 700001), (2, 2, 200003), (3, 5, 70001), (4, 3, 90001), (1, 65535, 7):
+            data, samples = self.large(width, channels, frames)
+            pad = bytes(len(data) % 2)
+            for write in (
+                lambda: hound.write(self.path, samples, 8000, channels=channels, bits=8 * width),
+                lambda: self.record(samples, channels, 8 * width),
+            ):
+                write()
+                with open(self.path, "rb") as file:
+                    content = file.read()
+                start = 44 if width < 3 and channels < 3 else 68
+                self.assertEqual(content[start:], data + pad)
+                self.assertEqual(content[4:8], struct.pack("<I", len(content) - 8))
+                self.assertEqual(content[start - 4 : start], struct.pack("<I", len(data)))
+                self.assertEqual(content, hound.to_bytes(samples, 8000, channels=channels, bits=8 * width))
+            dtype = "int8" if width == 1 else None
+            for source in self.path, content, io.BytesIO(content), Pipe(content):
+                self.assertEqual(hound.read(source, dtype=dtype), samples)
+            first = frames // 3
+            self.assertEqual(hound.read(self.path, first, dtype=dtype), samples[first * channels :])
+            self.assertEqual(hound.read(self.path, first, 3, dtype), samples[first * channels : (first + 3) * channels])
+            with hound.open(self.path) as reader:
+                blocks = list(reader.blocks(frames // 2 + 1, dtype))
+            self.assertEqual((blocks[0] + blocks[1], len(blocks)), (samples, 2))
+            scale = 2.0 ** (1 - 8 * width)
+            doubles = array.array("d", [sample * scale for sample in samples])
+            self.assertEqual(hound.read(self.path, dtype="float64"), doubles)
+            floats = hound.read(self.path, dtype="float32")
+            self.assertEqual(floats, array.array("f", doubles))
+            if width < 3:
+                hound.write(self.path, floats, 8000, channels, 8 * width)
+                self.assertEqual(hound.read(self.path, dtype=dtype), samples)
+
+    def record(self, samples, channels, bits):
+        with hound.create(self.path, 8000, channels, bits) as writer:
+            writer.write(samples)
+
+    def test_samples_are_read_into_what_is_given(self):
+        data, samples = self.large(2, 2, 200003)
+        content = by_hand(data, channels=2)
+        self.leave(content)
+        for source in (lambda: self.path), (lambda: content), (lambda: io.BytesIO(content)), (lambda: Pipe(content)):
+            out = array.array("h", bytes(4 * 200005))
+            part = hound.read(source(), out=out)
+            self.assertEqual((type(part), len(part), part.tolist()), (memoryview, 400006, list(samples)))
+            self.assertEqual(out, samples + array.array("h", bytes(8)))
+            part.release()
+            if isinstance(source(), Pipe):
+                continue  # It can't seek.
+            out = array.array("f", bytes(4 * 7))
+            part, info = hound.read_with_info(source(), 5, out=out)
+            self.assertEqual((len(part), info.frames), (6, 200003))
+            self.assertEqual(list(out), [sample / 32768 for sample in samples[10:16]] + [0])
+            frames = two_d(array.array("i", bytes(4 * 2 * 10)), 2)
+            self.assertEqual(hound.read(source(), 3, 4, out=frames).tolist(), two_d(samples[6:14], 2).tolist())
+            self.assertEqual(frames.tolist()[4:], [[0, 0]] * 6)
+            self.assertEqual(len(hound.read(source(), 200003, out=frames)), 0)
+        with hound.open(self.path) as reader:
+            out = array.array("h", bytes(4 * 100001))
+            for first in 0, 100001:
+                part = reader.read(out=out)
+                self.assertEqual(part, memoryview(samples[2 * first : 2 * (first + 100001)]))
+            self.assertEqual((reader.tell(), len(reader.read(out=out))), (200002, 2))
+        good = array.array("h", bytes(400))
+        for out, more, words in (
+            (memoryview(bytes(4)).cast("h"), {}, "^out isn't writable and contiguous"),
+            (memoryview(good)[::2], {}, "^out isn't writable and contiguous"),
+            (memoryview(bytearray(5))[1:].cast("h"), {}, "^out isn't aligned"),
+            (array.array("H", [1]), {}, "^out has the format"),
+            (good, {"dtype": "float32"}, "^out has samples of the type int16, and dtype is 'float32'"),
+        ):
+            for source in self.path, content:
+                self.assertRaisesRegex(TypeError, words, lambda: hound.read(source, out=out, **more))
+        self.assertRaisesRegex(ValueError, "^out has 4 columns", lambda: hound.read(self.path, out=two_d(good, 4)))
+        self.assertEqual(hound.read(self.path, out=good, dtype="int16"), memoryview(samples[:200]))
+        good.append(1)  # Nothing holds it.
+
+    def test_a_large_file_that_is_shorter_than_its_header_says(self):
+        """It needs no memory for what isn't there, and the whole frames that are there are read."""
+        data, samples = self.large(2, 2, 200003)
+        self.leave(by_hand(data, 0xFFFFFFF0, channels=2)[:-1])
+        self.assertEqual(hound.read(self.path), samples[:-2])
+        with hound.open(self.path) as reader:
+            self.assertEqual(reader.read(150000), samples[:300000])
+            self.assertEqual(reader.read(), samples[300000:-2])
+            self.fails(Cause.TRUNCATED, reader.read)
+        pread, left = os.pread, [2]
+
+        def shortened(descriptor, count, place):
+            left[0] -= place > 44
+            if not left[0]:
+                os.truncate(self.path, place + 101)  # The system has said that it holds all.
+            return pread(descriptor, count, place)
+
+        self.leave(by_hand(data, channels=2))
+        with mock.patch("os.pread", shortened), hound.open(self.path) as reader:
+            frames = 2 * (1 << 16) + 25  # Two pieces, and those of the third one that are there.
+            self.assertEqual(reader.read(), samples[: 2 * frames])
+            self.assertEqual(reader.tell(), frames)
+
+    def test_a_read_in_pieces_that_is_interrupted(self):
+        """The next read begins at the same frame."""
+        self.leave(by_hand(bytes(range(40)), channels=2))
+        samples = array.array("h", bytes(range(40)))
+        with mock.patch.object(hound.streams, "_CACHED", 8):
+            for at in itertools.count(1, 3):
+                with hound.open(self.path) as reader:
+                    found = array.array("h")
+                    with Interruption(at) as interruption, contextlib.suppress(Interrupted):
+                        found += reader.read(5)
+                    if interruption.is_at_the_end():
+                        found = samples[:10]
+                    while len(block := reader.read(3)):
+                        found += block
+                self.assertEqual(found, samples, interruption.place)
+                if interruption.place is None:
+                    break
+
+    def test_a_large_block_that_fails(self):
+        """It is in the file wholly or not at all, though it is written in pieces."""
+        data, samples = self.large(2, 2, 200003)
+        small, pwrite = array.array("h", [1, 2]), os.pwrite
+        for last in range(1, 9):
+            left = [last]
+
+            def failing(descriptor, content, place):
+                left[0] -= len(content) > 99
+                if not left[0]:
+                    raise OSError(errno.ENOSPC, "full")
+                return pwrite(descriptor, content, place)
+
+            with hound.create(self.path, 8000, 2, 16) as writer:
+                writer.write(small)
+                with mock.patch("os.pwrite", failing), contextlib.suppress(OSError):
+                    writer.write(samples)
+                    self.assertGreater(left[0], 0)
+                    continue
+                self.assertEqual(writer.tell(), 1)
+                writer.write(samples)
+            self.assert_file(by_hand(small.tobytes() + data, channels=2))
+        self.assertEqual(left[0], 1)  # It has seven pieces.
+        wide = array.array("i", samples)
+        wide[-1] = 1 << 15
+        before = by_hand(b"\1\0\2\0", channels=2)
+        self.leave(before)
+        self.fails(Cause.TOO_WIDE, lambda: hound.append(self.path, wide))
+        self.fails(Cause.TOO_WIDE, lambda: hound.write(self.path, wide, 8000, channels=2, bits=16))
+        with hound.append_to(self.path) as writer, mock.patch("os.pwrite", side_effect=AssertionError):
+            self.fails(Cause.TOO_WIDE, lambda: writer.write(wide))
+        self.assert_file(before)
+        self.assertEqual(os.listdir(self.folder.name), ["a.wav"])
+
     def test_half_a_frame_is_no_end(self):
         cut_off = by_hand(bytes(range(6)), 12, channels=2)
         self.assertEqual(list(hound.read(cut_off)), [0x100, 0x302])
@@ -774,6 +945,9 @@ class Files(unittest.TestCase):
         frames = numpy.arange(12, dtype="int16").reshape(6, 2)
         hound.write(self.path, frames, 44100)
         self.assertEqual(hound.info(self.path).channels, 2)
+        back = numpy.empty((6, 2), "float32")
+        hound.read(self.path, out=back)
+        self.assertTrue((back == frames / 32768).all())
         back = numpy.empty((6, 2), "int32")
         self.assertEqual(hound.read_into(self.path, back), 6)
         self.assertTrue((back == frames).all())
