@@ -3,7 +3,7 @@ use Rattle.std.specs.Prelude.{◌≡◌, ◌⊎◌, ℕ, ◌+◌, ◌-◌, ◌*�
 use Rattle.std.specs.declared.io.Error.{Error as IoFault}
 use Rattle.std.specs.Borrow.{Bor}
 use Rattle.std.specs.List.{AllByRecursion, flat_map}
-use Rattle.hound.specs.{Action, AppendsRecorder, Counts, SurvivesLoss, accepted_samples, field, mix, FoundFile, HasData, Head, IsSoundSpec, LeavesWriter, Resumes, mark_of, resumed_file, writer_of, Asked, Begun, Directed, Error, Flushes, IsRejection, IsSaid, KeptWithin, Known, Log, MediumState, Performed, Performs, Places, PutsAt, ReadsAs, Readable, Repeats, Recorder, RecorderError, Rejection, Report, Unreadable, WavSpecEx, bytes_of, effects_of, found_in, greatest_u32, if_marked, length_with, log_kind, padded, publish, riff_size, seen, start_of, whole_containers, write}
+use Rattle.hound.specs.{Action, AppendsRecorder, Counts, Kept, accepted_by_all, SurvivesLoss, accepted_samples, field, mix, FoundFile, HasData, Head, IsSoundSpec, LeavesWriter, Resumes, mark_of, resumed_file, writer_of, Asked, Begun, Directed, Error, Flushes, IsRejection, IsSaid, KeptWithin, Known, Log, MediumState, Performed, Performs, Places, PutsAt, ReadsAs, Readable, Repeats, Recorder, RecorderError, Rejection, Report, Unreadable, WavSpecEx, bytes_of, effects_of, found_in, greatest_u32, if_marked, length_with, log_kind, padded, publish, riff_size, seen, start_of, whole_containers, write}
 use Rattle.hound.specs.declared.Action.TheVariants.{Cut, Perform, Read, WriteBlock}
 use Rattle.hound.specs.declared.Effect.TheVariants.{Pad, Size, Sync}
 use Rattle.hound.specs.declared.RecorderError.TheVariants.{Truncated, HasChunksAfterData}
@@ -195,3 +195,8 @@ abbrev pub Continues : FoundFile → MediumState → List (Bor (List ℕ)) → �
 Continues f old blocks n new = (r : Recorder) × (end : Log) × (samples : ℕ) × Mends f r true old end
     × (r.data_length ≡ samples * f.spec_ex.bytes_per_sample)
     × Saves f.spec_ex (resumed_file f.spec_ex samples f.data_start end.state) blocks n new
+
+-- these contents count the samples of calls that led to such a file
+abbrev pub CountsDirected : WavSpecEx → Begun → List Known → MediumState → List ℕ → Type 0
+CountsDirected s file known m contents = (log : Log) × (log.state ≡ m) × (kept : Kept log_kind s file known log)
+    × Counts s (start_of s file) (found_in file ++ accepted_by_all kept.left.recorded.calls) contents

@@ -1,7 +1,9 @@
 // Functions of a user of the library, whose contracts follow from its public ones.
-ghost use Rattle.std.specs.Prelude.{◌≡◌, ℕ, ◌/◌, ◌<◌, ◌≤◌, ◌++◌, Bool, ◌⊎◌, false, true, ⊤, List, length, map, ◌∷◌, None, Some, Ok, Err, Result, IfErr, IfOk, IfSome, MatchResult, OnOk};
+ghost use Rattle.std.specs.Prelude.{◌≡◌, ℕ, ◌/◌, ◌<◌, ◌≤◌, ◌++◌, Bool, ◌⊎◌, false, true, ⊤, List, length, map, ◌∷◌, None, Some, Ok, Err, Result, IfErr, IfOk, IfSome, IsTrue, MatchResult, OnOk};
 ghost use Rattle.std.specs.List.{AllByRecursion, concat};
 ghost use Rattle.hound.specs.{AreKnown, accepted_samples, Begun, Call, Checkpoints, Finishes, Known, ReadsAs, Recorded, found_in, start_of, IsSameFile, ReaderState, RepairsMedium, Seeks, Repair, Repairs, IsFoundAt, Head, IsSoundSpec, IsStored, IsNoPad, shown_length, held, frame_length, containers, AreContainers, canonical, HasPublished, IsLeftAfter, Keeps, accepted_by_all, begins_at, one_more, samples_left, OpensAs, ReadsFrames, IsIoError, IsNext, IsSixteen, MediumState, WhereKeeps, WhereTells, Error, IsWritable, sample_count, WavSpecEx, container_at, meaning_at, rejection_at, samples_before, unread};
+ghost use Rattle.hound.specs.{Damage, IsLookedAt, Log, Performed, mending, repair_of};
+ghost use Rattle.std.specs.declared.io.Error.{Error as IoFault};
 ghost use Rattle.hound.specs.declared.Error.TheVariants.{OutOfMemory};
 ghost use Rattle.hound.specs.declared.RepairState.TheVariants.{HasChunksAfterData, Whole};
 ghost use Rattle.hound_callers.specs.Recording.{IsDoneAgain, IsDoneAgainAfterLoss, IsNoBatch, as_item};
@@ -10,8 +12,8 @@ use hound::{
     Error, Medium, Repair, Sample, Source, WavReader, WavWriter, a_look_finds_what_a_repair_does,
     a_repair_keeps_stored_samples, a_repair_loses_no_published_sample,
     a_second_repair_writes_nothing, a_seek_leads_to_its_frame, a_stopped_repair_is_done_again,
-    a_writer_holds_its_calls, an_iterator_gives_what_it_hints, an_ok_flush_is_kept, find_damage,
-    items_are_of_the_file, one_answer, repair, repair_to_end, written_is_read,
+    a_writer_holds_its_calls, an_iterator_gives_what_it_hints, an_ok_flush_is_kept, effects_mend,
+    find_damage, items_are_of_the_file, one_answer, repair, repair_to_end, written_is_read,
 };
 use std::alloc::Global;
 use std::{io, result};
@@ -174,4 +176,18 @@ pub fn give_up_batch<M: Medium>(
     let mut batch = writer.get_i16_writer(alloc, 1)?;
     batch.write_sample(value);
     Ok(())
+}
+
+/// A program may perform the effects of a repair itself, and may be stopped at any of them: another repair of what it
+/// left finds the frames that were found at first.
+pub fn a_repair_by_hand_is_done_again()
+    ensures { (looks again : Bool) (d : Damage) (old mid : Log) (result : Result Unit IoFault)
+        (next new : MediumState) (other : Repair) → IsLookedAt looks old.state.contents d
+        → Performed (mending d) result old mid → 1 ≤ frame_length d.head.spec_ex
+        → next.contents ≡ mid.state.contents → Repairs again next other new
+        → (IsTrue again → other.state ≡ HasChunksAfterData → ⊥) →
+        (other.spec_ex ≡ d.head.spec_ex) × (other.frames ≡ (repair_of d).frames) }
+{
+    effects_mend();
+    a_stopped_repair_is_done_again();
 }

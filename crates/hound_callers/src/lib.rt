@@ -11,13 +11,15 @@ mod recording;
 mod twelve;
 
 pub use callers::{
-    finish, give_up_batch, look_and_repair, open_written, publish, repair_recording, sample_at,
-    samples_of,
+    a_repair_by_hand_is_done_again, finish, give_up_batch, look_and_repair, open_written, publish,
+    repair_recording, sample_at, samples_of,
 };
 pub use editing::append_blocks;
 pub use example::record_and_read;
 pub use reading::{opened_meanwhile, read_block, read_from, reopen, written_and_read};
-pub use recorder::{append_by_effects, continue_by_effects, record_by_effects};
+pub use recorder::{
+    a_cut_recording_counts, append_by_effects, continue_by_effects, record_by_effects,
+};
 pub use recording::{
     finish_durable, pack_one, publish_and_continue, publish_durably, record, record_at_once,
     record_batch, record_checkpoints, record_steps, write_if_short,

@@ -3,13 +3,14 @@ ghost use Rattle.std.specs.Prelude.{◌≡◌, ◌⊎◌, ◌≤◌, ◌+◌, �
 ghost use Rattle.std.specs.declared.io.Error.{Error as IoFault};
 ghost use Rattle.hound.specs.{Asked, Begun, Flushes, IsIoError, IsNotBegun, IsSaid, HasData, IsSynced, Known, Log, Repeats, Readable, Recorder, WavSpecEx, one_more, WhereKeeps, WhereTells, new_file, resumed_file, seen};
 ghost use Rattle.hound.specs.declared.Report.TheVariants.{Pending};
-ghost use Rattle.hound_callers.specs.Recorder.{Continues, IsFound, IsNotContinued, IsNotMended, IsResumed, once_mended, IsAsked, IsDirected, IsErrorOf, IsNotResumed, IsReady, PerformsAll, Saves, Stops, StopsAt, TriesAction, asked_as, once_done, report_for, samples_of};
+ghost use Rattle.hound.specs.{Directed, MediumState, PutsAt, end_of, overlay, placed};
+ghost use Rattle.hound_callers.specs.Recorder.{CountsDirected, Continues, IsFound, IsNotContinued, IsNotMended, IsResumed, once_mended, IsAsked, IsDirected, IsErrorOf, IsNotResumed, IsReady, PerformsAll, Saves, Stops, StopsAt, TriesAction, asked_as, once_done, report_for, samples_of};
 ghost use Rattle.hound_callers.specs.Recording.{published_calls};
 
 use hound::{
     Action, Effect, Error, FoundFile, Medium, Recorder, RecorderError, RepairState, Report,
-    WavReader, WavSpecEx, a_recorder_directs, a_recording_is_kept, a_request_ends,
-    an_effect_may_be_repeated, header_of, put_all, put_all_at,
+    WavReader, WavSpecEx, a_cut_is_ignored, a_recorder_directs, a_recording_is_kept,
+    a_request_ends, an_effect_may_be_repeated, header_of, put_all, put_all_at,
 };
 use std::{io, result};
 
@@ -307,4 +308,20 @@ pub fn append_by_effects<M: Medium>(
     };
     medium.go(data_start + resumed.data_length as u64)?;
     Ok(save_blocks(medium, &mut resumed, blocks, lost))
+}
+
+/// A recorder's file that its caller cuts off where the data end counts the same samples as before (`cut`), and so it
+/// does once the next block is written there (`continued`).
+pub fn a_cut_recording_counts()
+    ensures cut { (s : WavSpecEx) (file : Begun) (known : List Known) (r : Recorder) (m : MediumState)
+        → Directed s file known r m → r.number ≡ 0 → end_of r ≤ length m.contents
+        → CountsDirected s file known m (take (end_of r) m.contents) }
+    ensures continued { (s : WavSpecEx) (file : Begun) (known : List Known) (old r : Recorder) (m new : MediumState)
+        (bytes : List ℕ) (result : Result Unit IoFault) → end_of old ≤ length m.contents
+        → (puts : PutsAt true (end_of old) bytes result m new) → Directed s file known r new → r.number ≡ 0
+        → end_of r ≡ end_of old + puts.count → CountsDirected s file known new
+        (overlay (take (end_of old) m.contents) (placed (end_of old) (take puts.count bytes))) }
+{
+    a_recording_is_kept();
+    a_cut_is_ignored();
 }
