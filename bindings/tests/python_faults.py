@@ -155,7 +155,8 @@ LATER = []
 def late(perform, effect, *words):
     """It writes a block after the sizes that count it, and reports it before that."""
     if effect.kind == hound.disk.WRITE_BLOCK:
-        LATER.append((perform, type(effect).from_buffer_copy(effect), *words))
+        pieces = list(map(bytes, words[2]))
+        LATER.append((perform, type(effect).from_buffer_copy(effect), *words[:2], pieces))
         effect.report = hound.disk.DONE
         return
     perform(effect, *words)
@@ -223,6 +224,14 @@ def nobody_waits():
     streams._OneAtATime.__init__ = unlocked
 
 
+def at_one_place(perform, effect, *words):
+    """It writes each piece of a block where the block begins."""
+    if effect.kind != hound.disk.WRITE_BLOCK:
+        return perform(effect, *words)
+    for piece in words[2]:
+        perform(effect, *words[:2], [piece])
+
+
 def all_held_is_returned():
     """A reader of 16 bits that returns whatever it holds, and forgets the rest."""
 
@@ -247,6 +256,7 @@ CONTROLS = {
     "effects forgotten": effects_forgotten,
     "blocks forgotten": blocks_forgotten,
     "kept after a failure": kept_after_a_failure,
+    "pieces at one place": lambda: performed(at_one_place),
     "nobody waits": nobody_waits,
     "all held is returned": all_held_is_returned,
 }
@@ -711,6 +721,7 @@ def find_controls(folder):
     find_control("a block isn't cut off", limit, folder, CASES[:1])
     find_control("effects forgotten", interrupt, folder, 7)
     find_control("blocks forgotten", interrupt, folder, 7)
+    find_control("pieces at one place", interrupt, folder, 7)
     find_control("nobody waits", share, folder, 400)  # until a run is wrong
     find_control("all held is returned", feed, 20)
 
