@@ -356,11 +356,11 @@ int64_t hound_from_f32(const float *samples, size_t count, uint16_t bits, int32_
    most eleven. A block that failed is cut off, and the next request begins with a checkpoint. */
 typedef struct {
     hound_effect effect;
-    uint64_t data_start;  /* how many bytes are before the first sample */
-    uint32_t data_length; /* how many bytes of samples are written */
-    uint32_t number;      /* the rest is for the calls */
-    uint32_t samples;
-    uint16_t bytes_per_sample, channels, condition, task, has_rest, unused;
+    uint64_t data_start;                    /* how many bytes are before the first sample */
+    uint32_t data_length;                   /* how many bytes of samples are written */
+    uint32_t number, block;                 /* for the calls */
+    uint16_t bytes_per_sample, channels;    /* of the file */
+    uint16_t health, phase, has_rest, unused; /* for the calls */
 } hound_recorder;
 
 /* Begins a recorder of a new file, whose header the caller has written: hound_header gives it for 0 samples. Returns 0
@@ -387,6 +387,10 @@ int32_t hound_recorder_write(hound_recorder *recorder, uint64_t samples) HOUND_N
 
 /* Requests a checkpoint of all that is written. */
 void hound_recorder_checkpoint(hound_recorder *recorder) HOUND_NONNULL;
+
+/* Returns how many frames have room after those that are written, so that a program can continue in another file before
+   a block is too long. It is 0 where no more has room, or where no file has such data. */
+uint64_t hound_recorder_frames_left(const hound_recorder *recorder) HOUND_NONNULL;
 
 /* Returns 1 for the next effect of what was requested, and 0 if all of it is done: after a checkpoint the header counts
    all samples. After a block or an effect that failed it returns HOUND_NEEDS_CHECKPOINT, and that ends the request:
@@ -505,9 +509,9 @@ HOUND_ASSERT(sizeof(hound_repairer) == 120 && offsetof(hound_repairer, length) =
              && offsetof(hound_repairer, mode) == 112 && offsetof(hound_repairer, unused) == 116);
 HOUND_ASSERT(sizeof(hound_recorder) == 88 && offsetof(hound_recorder, data_start) == 56
              && offsetof(hound_recorder, data_length) == 64 && offsetof(hound_recorder, number) == 68
-             && offsetof(hound_recorder, samples) == 72 && offsetof(hound_recorder, bytes_per_sample) == 76
-             && offsetof(hound_recorder, channels) == 78 && offsetof(hound_recorder, condition) == 80
-             && offsetof(hound_recorder, task) == 82 && offsetof(hound_recorder, has_rest) == 84
+             && offsetof(hound_recorder, block) == 72 && offsetof(hound_recorder, bytes_per_sample) == 76
+             && offsetof(hound_recorder, channels) == 78 && offsetof(hound_recorder, health) == 80
+             && offsetof(hound_recorder, phase) == 82 && offsetof(hound_recorder, has_rest) == 84
              && offsetof(hound_recorder, unused) == 86);
 /* The end of what is made from hound.h. */
 #undef HOUND_ASSERT

@@ -119,8 +119,8 @@ const LAYOUT = {
   walk: { effect: 0, spec: 56, taken: 68, part: 72, fmtLength: 76, size: 80 },
   repairer: { effect: 0, length: 56, place: 64, dataStart: 72, spec: 80, dataLength: 92, taken: 96, part: 100,
     fmtLength: 104, number: 108, mode: 112, unused: 116, size: 120 },
-  recorder: { effect: 0, dataStart: 56, dataLength: 64, number: 68, samples: 72, bytesPerSample: 76, channels: 78,
-    condition: 80, task: 82, hasRest: 84, unused: 86, size: 88 },
+  recorder: { effect: 0, dataStart: 56, dataLength: 64, number: 68, block: 72, bytesPerSample: 76, channels: 78,
+    health: 80, phase: 82, hasRest: 84, unused: 86, size: 88 },
 };
 // The end of what is made from hound.h.
 

@@ -641,10 +641,20 @@ static void no_recorders(void) {
     must(recorder.effect.place == 44 && recorder.effect.length == 4294967256, "the block of them");
     must(hound_recorder_begin(&spec, &recorder) == 0 && hound_recorder_write(&recorder, 2147483630) == HOUND_TOO_LONG
              && hound_recorder_write(&recorder, UINT64_MAX - 1) == HOUND_TOO_LONG, "samples past 32 bits");
+    /* The RIFF size of 2^32 - 1 counts all but 8 bytes, so 4294967259 of them are data and a pad byte. */
+    must(hound_recorder_frames_left(&recorder) == 4294967259 / 4, "the frames that have room");
+    recorder.data_length = 4294967252;
+    must(hound_recorder_frames_left(&recorder) == 1 && hound_recorder_write(&recorder, 2) == 0
+             && hound_recorder_write(&recorder, 4) == HOUND_TOO_LONG,
+         "the last frame that has room");
+    recorder.data_length = 4294967256;
+    must(hound_recorder_frames_left(&recorder) == 0, "no room");
+    recorder.data_length = 0;
     must(hound_recorder_write(&recorder, 3) == HOUND_UNFINISHED_FRAME, "a torn frame");
     ends(&recorder, 0, "an error requests nothing");
     recorder.data_start = 19, hound_recorder_checkpoint(&recorder);
-    must(hound_recorder_write(&recorder, 0) == HOUND_NOT_WRITABLE, "a recorder that no call made");
+    must(hound_recorder_write(&recorder, 0) == HOUND_NOT_WRITABLE && hound_recorder_frames_left(&recorder) == 0,
+         "a recorder that no call made");
     hound_recorder_checkpoint(&recorder),
         ends(&recorder, HOUND_NOT_WRITABLE, "a checkpoint of a recorder that no call made");
 }

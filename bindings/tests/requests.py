@@ -131,6 +131,7 @@ def requests(file, some):
             yield f"recorder_begin @{SPEC} @{FOUND}"
             yield f"recorder_resume @{INFO} #{some.randrange(5)} @{FOUND}"
             yield f"recorder_write @{FOUND} {some.choice((few, few, 2**31, 2**64 - 1))}"
+            yield f"recorder_frames_left @{FOUND}"
             yield f"recorder_checkpoint @{FOUND}"
             yield f"recorder_next @{FOUND}"
             yield f"repairer_next @{FOUND} @{OUT}"

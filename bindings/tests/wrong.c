@@ -147,10 +147,10 @@ REAL(int32_t, recorder_next, (hound_recorder *recorder)) {
         *report = HOUND_DONE;
     if (recorder->effect.kind == HOUND_WRITE_BLOCK && *report == HOUND_FAILED && has("a failed write counts"))
         *report = HOUND_DONE;
-    if (recorder->condition == 2 && has("a failed sync is forgotten")) recorder->condition = 0;
-    if (recorder->number == 0 && recorder->condition == 1 && has("no sync after a failed write"))
-        recorder->condition = 0;
-    int is_said = recorder->condition == 2 && recorder->effect.kind == HOUND_NOTHING && recorder->task == 0;
+    if (recorder->health == 2 && has("a failed sync is forgotten")) recorder->health = 0;
+    if (recorder->number == 0 && recorder->health == 1 && has("no sync after a failed write"))
+        recorder->health = 0;
+    int is_said = recorder->health == 2 && recorder->effect.kind == HOUND_NOTHING && recorder->phase == 0;
     if (is_said && has("a failed sync is reported once")) return 0;
     int32_t code = __real_hound_recorder_next(recorder);
     int is_left_out = (recorder->effect.kind == HOUND_CUT && has("no cut"))

@@ -332,6 +332,7 @@ _recorder_begin = _function("recorder_begin", _POINTER, _POINTER, result=_INT)
 _recorder_resume = _function("recorder_resume", _POINTER, ctypes.c_uint32, _POINTER, result=_INT)
 _recorder_write = _function("recorder_write", _POINTER, _U64, result=_INT)
 _recorder_checkpoint = _function("recorder_checkpoint", _POINTER, result=None)
+_recorder_frames_left = _function("recorder_frames_left", _POINTER, result=_U64)
 _recorder_next = _function("recorder_next", _POINTER, result=_INT)
 
 
@@ -426,6 +427,11 @@ class Writer(_OneAtATime):
         """The number of the next frame."""
         recorder = self._state.recorder
         return int(recorder.data_length // (recorder.bytes_per_sample * recorder.channels))
+
+    @property
+    def frames_left(self) -> int:
+        """How many frames have room after those that are written, so that a program can continue in another file."""
+        return int(_recorder_frames_left(ctypes.byref(self._state.recorder)))
 
     @_one_at_a_time
     def write(self, block: Any) -> None:

@@ -273,11 +273,11 @@ mod c {
         pub data_start: u64,
         pub data_length: u32,
         pub number: u32,
-        pub samples: u32,
+        pub block: u32,
         pub bytes_per_sample: u16,
         pub channels: u16,
-        pub condition: u16,
-        pub task: u16,
+        pub health: u16,
+        pub phase: u16,
         pub has_rest: u16,
         pub unused: u16,
     }
@@ -318,6 +318,7 @@ mod c {
         pub fn hound_recorder_resume(found: *const Repair, allowed: u32, recorder: *mut Recorder) -> i32;
         pub fn hound_recorder_write(recorder: *mut Recorder, samples: u64) -> i32;
         pub fn hound_recorder_checkpoint(recorder: *mut Recorder);
+        pub fn hound_recorder_frames_left(recorder: *const Recorder) -> u64;
         pub fn hound_recorder_next(recorder: *mut Recorder) -> i32;
         pub fn hound_value_8(container: u32) -> i32;
         pub fn hound_value_16(container: u32) -> i32;

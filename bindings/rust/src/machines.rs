@@ -542,6 +542,12 @@ impl Recorder {
         u64::from(self.0.data_length) / u64::from(self.0.bytes_per_sample)
     }
 
+    /// How many frames have room after those that are written, so that a program can continue in another file before
+    /// the error is [`TooLong`](crate::Error::TooLong).
+    pub fn frames_left(&self) -> u64 {
+        unsafe { c::hound_recorder_frames_left(&self.0) }
+    }
+
     /// Requests that a block of so many samples is written, as [`encode`](crate::encode) gives them: whole frames, else
     /// the error is [`UnfinishedFrame`](crate::Error::UnfinishedFrame), and [`TooLong`](crate::Error::TooLong) where
     /// the sizes wouldn't count them. A block that is under way is given up, and cut off where a part of it may be in

@@ -2,7 +2,7 @@
 use Rattle.std.proofs.lemmas.List.{length-take-le, take-take}
 use Rattle.std.proofs.Common.{◌≡◌, ℕ, zero, suc, ◌+◌, ◌-◌, ◌*◌, ◌/◌, ◌%◌, ◌≤◌, Bool, true, false, List, [], ◌∷◌, ◌++◌, length, take, drop, inl, inr, Result, Ok, refl, sym, ◌∙◌, ap, subst, arith, append-nil, length-drop, length-take}
 use Rattle.std.proofs.Math.Nat.{mul-mod_left}
-use Rattle.std.specs.Prelude.{◌==◌, if◌then◌else◌}
+use Rattle.std.specs.Prelude.{if◌then◌else◌}
 use Rattle.std.specs.declared.io.Error.{Error as IoFault}
 use Rattle.std.specs.List.{concat}
 use Rattle.hound_number.specs.{AreBytes, bytes_of, mix, number}
@@ -15,7 +15,7 @@ use Rattle.hound_medium.specs.{Span, moment, overlay, placed}
 use Rattle.hound_medium.proofs.Overlays.{front_part, length_overlay_le, small_overlay, take_overlay_before}
 use Rattle.hound_medium.proofs.Torn.{number_at_mix, number_at_small}
 use Rattle.hound_durable.specs.{SurvivesLoss}
-use Rattle.hound_writer.specs.{ChangesSizesOnly, Counts, IsCutOff, IsSynced, Log, Performed, Resumes, SameButSizes, accepted_samples, checkpoint, effects_of, field, log_kind, pad_effects, size_effects, writer_of}
+use Rattle.hound_writer.specs.{ChangesSizesOnly, Counts, IsCutOff, IsSynced, Log, Performed, Resumes, SameButSizes, accepted_samples, checkpoint, effects_of, is_sound, field, log_kind, pad_effects, size_effects, writer_of}
 use Rattle.hound_writer.specs.declared.effects.Effect.{Effect}
 use Rattle.hound_writer.specs.declared.effects.Effect.TheVariants.{Sync}
 use Rattle.hound_writer.specs.declared.recorder.Recorder.{Recorder}
@@ -226,9 +226,9 @@ mended_survives f mends overwrites old end r result resumes cut synced did secto
     let width = f.spec_ex.bytes_per_sample in
     let (frames, is) = whole_frames n f.spec_ex.spec.channels width takes.2 in
     let whole : n % width ≡ 0 = ap (λ k. k % width) is ∙ mul-mod_left (frames * f.spec_ex.spec.channels) width in
-    let performed : Performed (if r.condition == 0 then checkpoint f.data_start n else Sync ∷ checkpoint f.data_start n) result old end =
+    let performed : Performed (if is_sound r.health then checkpoint f.data_start n else Sync ∷ checkpoint f.data_start n) result old end =
     rw at at did in
-    let (counts, says) = counted_then f n old end result (r.condition == 0) cut synced whole cut.sound.1 performed sector left wide one lost in
+    let (counts, says) = counted_then f n old end result (is_sound r.health) cut synced whole cut.sound.1 performed sector left wide one lost in
     let size : n + 0 ≡ n = omega arith in
     let bytes = take n (drop f.data_start old.state.contents) in
     rw at (

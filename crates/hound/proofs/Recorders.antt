@@ -16,7 +16,7 @@ use Rattle.hound_writer.specs.{AgreeTo, Begun, Call, Counts, Directed, IsIdle, I
 use Rattle.hound_writer.specs.declared.recorder.Recorder.{Recorder}
 use Rattle.hound_writer.specs.declared.effects.Effect.TheVariants.{Size, Sync}
 use Rattle.hound_writer.proofs.Directing.{at_none}
-pub use Rattle.hound_writer.proofs.Acting.{one_place, same_next}
+pub use Rattle.hound_writer.proofs.Acting.{same_next}
 pub use Rattle.hound_writer.proofs.Directing.{performed_all, performed_more, readable_frames}
 use Rattle.hound_writer.proofs.Samples.{length_written}
 use Rattle.hound_writer.proofs.Sizes.{riff_length}

@@ -1,17 +1,23 @@
 -- How many actions a recorder still requests.
-use Rattle.std.specs.Prelude.{ℕ, ◌+◌, ◌-◌, ◌==◌, if◌then◌else◌}
+use Rattle.std.specs.Prelude.{ℕ, ◌+◌, ◌-◌, Bool, true, false}
+use Rattle.hound_writer.specs.declared.recorder.Phase.{Phase}
+use Rattle.hound_writer.specs.declared.recorder.Phase.TheVariants.{Idle, Saving, Requested, Writing, Cleaning}
 use Rattle.hound_writer.specs.declared.recorder.Recorder.{Recorder}
 
 -- a cut, where bytes that aren't counted follow the data
-abbrev pub cuts_left : Recorder → ℕ
-cuts_left r = if r.has_rest == 0 then 0 else 1
+abbrev pub cuts_left : Bool → ℕ
+cuts_left true = 1
+cuts_left false = 0
 
--- So many actions a recorder requests at most until its request has ended: of a checkpoint its effects that are
--- left; of a block those of the checkpoint before it, the block, and the cut of a block that failed.
+-- In each phase: of a checkpoint those effects that are left; of a block those of the checkpoint before it, the block,
+-- and the cut of a block that failed.
+abbrev pub left_in : Phase → ℕ → ℕ → ℕ
+left_in Idle cuts number = 0
+left_in Saving cuts number = cuts + (7 - number)
+left_in (Requested n) cuts number = cuts + (7 - number) + 3
+left_in (Writing n) cuts number = cuts + 2
+left_in Cleaning cuts number = 1
+
+-- So many actions a recorder requests at most until its request has ended.
 abbrev pub actions_left : Recorder → ℕ
-actions_left r =
-    if r.task == 0 then 0
-    else if r.task == 1 then cuts_left r + (7 - r.number)
-    else if r.task == 2 then cuts_left r + (7 - r.number) + 3
-    else if r.task == 3 then cuts_left r + 2
-    else if r.has_rest == 0 then 3 else if r.task == 4 then 1 else 4
+actions_left r = left_in r.phase (cuts_left r.has_rest) r.number

@@ -94,8 +94,8 @@ pub use hound_sample::{
 pub use hound_spec::{Error, Result, SampleFormat, WavSpec, WavSpecEx, header_of};
 pub use hound_walk::{one_answer, read_wave_header, written_is_head};
 pub use hound_writer::{
-    Action, Effect, FoundFile, Recorder, RecorderError, RepairState, Report, SampleWriter16,
-    WavWriter, a_block_is_its_samples, a_cut_is_ignored, a_recorder_directs,
+    Action, Effect, FoundFile, Health, Phase, Recorder, RecorderError, RepairState, Report,
+    SampleWriter16, WavWriter, a_block_is_its_samples, a_cut_is_ignored, a_recorder_directs,
     an_effect_may_be_repeated, one_append_answer, put_all_at,
 };
 pub use laws::{

@@ -6,16 +6,16 @@
 //! they were proved.
 #![tactic(auto)]
 
-ghost use Rattle.std.specs.Prelude.{◌≡◌, ℕ, ◌*◌, None, false, length, pos, take, true};
-ghost use Rattle.std.specs.Option.{option_len, option_map_or};
-ghost use Rattle.std.specs.Result.{result_ok, result_unwrap_or};
+ghost use Rattle.std.specs.Prelude.{◌≡◌, ℕ, ◌*◌, ◌≤◌, None, false, length, pos, take, true};
+ghost use Rattle.std.specs.Option.{option_len};
+ghost use Rattle.std.specs.Result.{result_unwrap_or};
 ghost use Rattle.hound_number.specs.{bytes_of};
 ghost use Rattle.hound_walk.specs.{Readable, Unreadable};
 ghost use Rattle.hound_sample.specs.{int_container, pattern_container, float_rejection, int_meaning, int_rejection, pattern};
 ghost use Rattle.hound_spec.specs.declared.spec.SampleFormat.TheVariants.{Float, Int};
 ghost use Rattle.hound_walk.specs.declared.cause.Cause.{Cause};
-ghost use Rattle.hound_writer.specs.{Advances, AsksForBlock, AsksForCheckpoint, BeginsRecorder, Resumes};
-ghost use Rattle.hound_slices.specs.{AppendsInPlace, BeginsRepairer, CountsWhole, Decodes, Encodes, FindsInFile, GivesHeader, GivesSizes, GuessesData, IsDamageError, IsExplicit, IsKind, ReadsInto, Records, RepairsFile, Returns, ScalesToFloats, ScalesToIntegers, Sizes, StepsRepairer, TakesPart, WritesFile, effect_of, error_code, found_file, mends, overwrites, recorder_for_c, report_of, spec_from_c};
+ghost use Rattle.hound_writer.specs.{Advances, AsksForBlock, AsksForCheckpoint, BeginsRecorder, HasRoomFor, Resumes};
+ghost use Rattle.hound_slices.specs.{AppendsInPlace, BeginsForC, BeginsRepairer, CountsWhole, Decodes, Encodes, FindsInFile, GivesHeader, GivesSizes, GuessesData, IsDamageError, IsExplicit, IsKind, ReadsInto, Records, RepairsFile, Returns, ScalesToFloats, ScalesToIntegers, Sizes, StepsRepairer, TakesPart, WritesFile, effect_of, error_code, found_file, mends, overwrites, recorder_of, report_of, spec_from_c};
 ghost use Rattle.hound_slices.specs.declared.error.CallError.{CallError as AnyError};
 ghost use Rattle.hound_slices.specs.declared.error.CallError.TheVariants.{Head};
 
@@ -23,9 +23,9 @@ use hound_repair::Task;
 use hound_sample::FloatBits;
 use hound_slices::{
     CallError, HoundInfo, HoundRecorder, HoundRepair, HoundRepairer, HoundSpec, HoundWalk,
-    append_block, begin_repairer, code_of, code_of_error, decode_block, effect_for_c, encode_block,
-    file_kind, file_size, find_file_damage, find_samples, found_file, guess_data, info_for_c,
-    mends, overwrites, read_block, recorder_for_c, repair_file, report_of, scale_to_floats,
+    append_block, begin_repairer, code_of, code_of_error, decode_block, encode_block, file_kind,
+    file_size, find_file_damage, find_samples, found_file, guess_data, info_for_c, mends,
+    overwrites, read_block, recorder_for_c, recorder_of, repair_file, report_of, scale_to_floats,
     scale_to_integers, spec_from_c, step_repairer, step_walk, value_of_8, value_of_16, value_of_24,
     value_of_32, whole_frames, write_file, write_header, write_sizes,
 };
@@ -381,11 +381,11 @@ pub extern "C" fn hound_from_f32(
 #[unsafe(no_mangle)]
 pub extern "C" fn hound_recorder_begin(spec: &HoundSpec, recorder: &mut HoundRecorder) -> i32
     ensures { Records result (λ _. 0) (λ begun. BeginsRecorder (spec_from_c spec.now) begun
-        × (recorder.new ≡ option_map_or recorder_for_c (result_ok begun) recorder.old)) }
+        × BeginsForC begun recorder.old recorder.new) }
 {
     match Recorder::begin(spec_from_c(*spec)) {
         Ok(begun) => {
-            *recorder = recorder_for_c(begun);
+            *recorder = recorder_for_c(begun, None);
             0
         }
         Err(error) => code_of_error(CallError::Recorder(error)),
@@ -401,11 +401,11 @@ pub extern "C" fn hound_recorder_resume(
 ) -> i32
     ensures { Records result (λ _. 0)
         (λ begun. Resumes (found_file found.now) (mends allowed) (overwrites allowed) begun
-        × (recorder.new ≡ option_map_or recorder_for_c (result_ok begun) recorder.old)) }
+        × BeginsForC begun recorder.old recorder.new) }
 {
     match Recorder::resume(found_file(found), mends(allowed), overwrites(allowed)) {
         Ok(begun) => {
-            *recorder = recorder_for_c(begun);
+            *recorder = recorder_for_c(begun, None);
             0
         }
         Err(error) => code_of_error(CallError::Recorder(error)),
@@ -416,12 +416,14 @@ pub extern "C" fn hound_recorder_resume(
 #[unsafe(no_mangle)]
 pub extern "C" fn hound_recorder_write(recorder: &mut HoundRecorder, samples: u64) -> i32
     ensures asks { Records result (λ _. 0)
-        (AsksForBlock (report_of recorder.old.effect) samples recorder.old.recorder recorder.new.recorder) }
+        (AsksForBlock (report_of recorder.old.effect) samples
+        (recorder_of recorder.old) (recorder_of recorder.new)) }
     ensures none { recorder.new.effect ≡ effect_of None }
 {
-    let report = report_of(recorder.effect);
-    recorder.effect = effect_for_c(None);
-    match recorder.recorder.write(report, samples) {
+    let mut asked = recorder_of(recorder);
+    let result = asked.write(report_of(recorder.effect), samples);
+    *recorder = recorder_for_c(asked, None);
+    match result {
         Ok(()) => 0,
         Err(error) => code_of_error(CallError::Recorder(error)),
     }
@@ -430,30 +432,37 @@ pub extern "C" fn hound_recorder_write(recorder: &mut HoundRecorder, samples: u6
 /// Requests a checkpoint.
 #[unsafe(no_mangle)]
 pub extern "C" fn hound_recorder_checkpoint(recorder: &mut HoundRecorder)
-    ensures asks { AsksForCheckpoint (report_of recorder.old.effect) recorder.old.recorder recorder.new.recorder }
+    ensures asks { AsksForCheckpoint (report_of recorder.old.effect)
+        (recorder_of recorder.old) (recorder_of recorder.new) }
     ensures none { recorder.new.effect ≡ effect_of None }
 {
-    let report = report_of(recorder.effect);
-    recorder.effect = effect_for_c(None);
-    recorder.recorder.checkpoint(report);
+    let mut asked = recorder_of(recorder);
+    asked.checkpoint(report_of(recorder.effect));
+    *recorder = recorder_for_c(asked, None);
+}
+
+/// How many frames have room after those that are written.
+#[unsafe(no_mangle)]
+pub extern "C" fn hound_recorder_frames_left(recorder: &HoundRecorder) -> u64
+    ensures room { 1 ≤ result → HasRoomFor (recorder_of recorder.now) result }
+    ensures most { (frames : ℕ) → HasRoomFor (recorder_of recorder.now) frames → frames ≤ result }
+{
+    recorder_of(recorder).frames_left()
 }
 
 /// The next effect of what was requested: 1, or 0 if all of it is done.
 #[unsafe(no_mangle)]
 pub extern "C" fn hound_recorder_next(recorder: &mut HoundRecorder) -> i32
     ensures { Records result option_len (λ next.
-        Advances (report_of recorder.old.effect) recorder.old.recorder recorder.new.recorder next
+        Advances (report_of recorder.old.effect) (recorder_of recorder.old) (recorder_of recorder.new) next
         × (recorder.new.effect ≡ effect_of (result_unwrap_or next None))) }
 {
-    let report = report_of(recorder.effect);
-    match recorder.recorder.next(report) {
-        Ok(next) => {
-            recorder.effect = effect_for_c(next);
-            if next.is_some() { 1 } else { 0 }
-        }
-        Err(error) => {
-            recorder.effect = effect_for_c(None);
-            code_of_error(CallError::Recorder(error))
-        }
+    let mut asked = recorder_of(recorder);
+    let result = asked.next(report_of(recorder.effect));
+    *recorder = recorder_for_c(asked, result.unwrap_or(None));
+    match result {
+        Ok(Some(_)) => 1,
+        Ok(None) => 0,
+        Err(error) => code_of_error(CallError::Recorder(error)),
     }
 }

@@ -1,15 +1,18 @@
 -- What a loop does that performs one action after the other, as a recorder says.
+use Rattle.std.proofs.lemmas.Bool.{false≢true}
 use Rattle.std.proofs.lemmas.Grind.{common_steps}
 use Rattle.std.specs.declared.io.Error.{Error as IoFault}
 use Rattle.std.proofs.lemmas.List.{append-nil}
-use Rattle.std.proofs.Common.{List, [], ◌∷◌, ◌++◌, length, is_ok, ◌≡◌, ◌⊎◌, ◌<◌, ◌≤◌, ◌+◌, ◌*◌, ℕ, Bool, true, false, inl, inr, Option, None, Some, Result, Ok, Err, refl, sym, ◌∙◌, ap, subst, arith}
-use Rattle.std.specs.Prelude.{⊤, ◌==◌, if◌then◌else◌}
-use Rattle.hound.specs.{Action, Asked, Begun, Directed, Effect, Known, Log, MediumState, Performs, PutsAt, WavSpecEx, block_known, cut_known, marked, publish, whole_containers, write, EffectEnds, GoesOn, HasData, HasEnded, IsSaved, NextEffect, Places, Reports, Recorder, RecorderError, Report, Settles, Advances, ThenGoesOn, length_with}
+use Rattle.std.proofs.Common.{List, [], ◌∷◌, ◌++◌, length, is_ok, ◌≡◌, ◌⊎◌, ◌<◌, ◌≤◌, ◌+◌, ◌-◌, ℕ, Bool, true, false, inl, inr, Option, None, Some, Result, Ok, Err, refl, sym, ◌∙◌, ap, subst, arith}
+use Rattle.std.specs.Prelude.{⊤}
+use Rattle.hound.specs.{Action, Asked, Begun, Directed, Effect, Known, Log, MediumState, Performs, PutsAt, WavSpecEx, block_known, cut_known, marked, publish, whole_containers, write, EffectEnds, GoesOn, HandsOut, HasData, HasEnded, IsAlive, IsDue, MaySave, NextEffect, Phase, Recorder, RecorderError, Report, Settles, Advances, ThenGoesOn, after_block, cuts_next, doubted, end_place}
 use Rattle.hound.specs.declared.Action.TheVariants.{Cut, Perform, Read, WriteBlock}
+use Rattle.hound.specs.declared.Health.TheVariants.{Sound, Suspect}
+use Rattle.hound.specs.declared.Phase.TheVariants.{Idle, Saving, Requested, Writing, Cleaning}
 use Rattle.hound.specs.declared.Report.TheVariants.{Done, Failed, Pending}
 use Rattle.hound.specs.declared.RecorderError.TheVariants.{NotWritable, UnfinishedFrame, TooLong, Truncated, CutOff, HasChunksAfterData, NeedsCheckpoint, SyncFailed}
-use Rattle.hound.proofs.Recorders.{one_place, same_next}
-use Rattle.hound_callers.specs.Recorder.{DoesAction, IsAsked, asked_as, once_done, report_for}
+use Rattle.hound.proofs.Recorders.{same_next}
+use Rattle.hound_callers.specs.Recorder.{DoesAction, IsAsked, asked_as, length_after, once_done, report_for}
 
 -- what a call for what was requested is marked with, if it is over
 abbrev pub reported_as : Result (Unit {0}) RecorderError → Option Bool
@@ -19,10 +22,11 @@ reported_as (Err error) = Some false
 -- where the loop is: what was requested isn't over, or it has failed, and the rest is to be cut off
 abbrev pub IsWithin : Recorder → Report → Recorder → Option Bool → Type 0
 IsWithin asked report r over =
-    ((asked.task ≡ 1) × (r ≡ record asked { number = r.number }) × (over ≡ None))
-    ⊎ ((asked.task ≡ 2) × (report ≡ Pending) × (r ≡ asked) × (over ≡ None))
-    ⊎ ((asked.task ≡ 2) × (r ≡ record asked { task = 3 }) × (over ≡ None))
-    ⊎ ((asked.task ≡ 2) × (r ≡ record asked { condition = 1; task = 4; has_rest = 1 }) × (over ≡ Some false))
+    ((asked.phase ≡ Saving) × (r ≡ record asked { number = r.number }) × (over ≡ None))
+    ⊎ ((n : ℕ) × (asked.phase ≡ Requested n) × (report ≡ Pending) × (r ≡ asked) × (over ≡ None))
+    ⊎ ((n : ℕ) × (asked.phase ≡ Requested n) × (r ≡ record asked { phase = Writing n }) × (over ≡ None))
+    ⊎ ((n : ℕ) × (asked.phase ≡ Requested n) × (r ≡ record asked { health = Suspect; phase = Cleaning })
+    × (over ≡ Some false))
 
 -- an action was reported
 abbrev pub step_of : Report → ℕ
@@ -37,7 +41,7 @@ HasAction report does r = (report ≡ Pending)
 -- where it is once that is reported
 abbrev pub IsSettled : Recorder → Recorder → Option Bool → Type 0
 IsSettled asked mid over = IsWithin asked Pending mid over
-    ⊎ ((asked.task ≡ 2) × (mid ≡ once_done asked) × (over ≡ Some true))
+    ⊎ ((n : ℕ) × (asked.phase ≡ Requested n) × (mid ≡ once_done asked) × (over ≡ Some true))
 
 -- where the loop is doesn't hang on the report, once one is made
 pub settles_as : (b : Bool) (old new : Recorder) (outcome : Result (Unit {0}) RecorderError)
@@ -64,17 +68,17 @@ not_pending false is = cc
 pub record Laws (asked : Recorder) (report : Report) (before after : Option Bool → Recorder → Type 0)
     (does : Action → Type 0) : Type 0 where
   pub same : report ≡ Pending → (over : Option Bool) (r : Recorder) → before over r → after over r
-  pub performed : (r mid : Recorder) (effect : Effect) (outcome : Result (Unit {0}) RecorderError) → asked.task ≡ 1
+  pub performed : (r mid : Recorder) (effect : Effect) (outcome : Result (Unit {0}) RecorderError) → asked.phase ≡ Saving
       → before None r → GoesOn r r (Ok (Some (Perform effect))) → does (Perform effect)
       → Settles report r mid outcome → after (reported_as outcome) mid
-  pub wrote : (b : Bool) (r mid : Recorder) (at len : ℕ) (outcome : Result (Unit {0}) RecorderError)
-      → asked.task ≡ 2 → report ≡ report_for b → before None r → r ≡ record asked { task = 3 } → at ≡ r.data_start + r.data_length
-      → does (WriteBlock at len) → HasEnded b r mid outcome → after (Some b) mid
+  pub wrote : (b : Bool) (r mid : Recorder) (n at len : ℕ) (outcome : Result (Unit {0}) RecorderError)
+      → asked.phase ≡ Requested n → report ≡ report_for b → before None r → r ≡ record asked { phase = Writing n }
+      → GoesOn r r (Ok (Some (WriteBlock at len))) → does (WriteBlock at len) → HasEnded b r mid outcome → after (Some b) mid
   pub cut : (b : Bool) (r mid : Recorder) (at : ℕ) (outcome : Result (Unit {0}) RecorderError)
-      → before (Some false) r → 0 < r.has_rest → does (Cut at) → HasEnded b r mid outcome → after (Some false) mid
+      → before (Some false) r → cuts_next r.phase r.has_rest ≡ true → does (Cut at) → HasEnded b r mid outcome → after (Some false) mid
   pub handed : (mid r : Recorder) (at len : ℕ) → mid.number ≡ 0 → after None mid
       → GoesOn mid r (Ok (Some (WriteBlock at len))) → after None r
-  pub saved : (mid r : Recorder) → asked.task ≡ 1 → mid.task ≡ 1 → after None mid → GoesOn mid r (Ok None)
+  pub saved : (mid r : Recorder) → asked.phase ≡ Saving → mid.phase ≡ Saving → after None mid → GoesOn mid r (Ok None)
       → after (Some true) r
 
 -- what a failed effect leaves
@@ -102,20 +106,20 @@ shape_by false r after mid effect outcome next (last, error, failed, err, is) =
     rw err (ap (λ (x : Recorder). x.number) is ∙ fails after last error 0 has failed)
 
 pub shape : (b : Bool) (r mid : Recorder) (effect : Effect) (outcome : Result (Unit {0}) RecorderError)
-    → r.task ≡ 1 → r.has_rest ≡ 0 → GoesOn r r (Ok (Some (Perform effect))) → HasEnded b r mid outcome → Shape outcome r mid
-shape b r mid effect outcome one rest goes (inl (idle, _, _)) = absurd (omega (arith, one, idle))
-shape b r mid effect outcome one rest goes (inr (inl (_, cuts, _, _, _))) = absurd (omega (arith, rest, cuts))
-shape b r mid effect outcome one rest goes (inr (inr (inl (_, cuts, _, _)))) = absurd (omega (arith, rest, cuts))
-shape b r mid effect outcome one rest goes (inr (inr (inr (inl (three, _, _, _, _))))) = absurd (omega (arith, one, three))
-shape b r mid effect outcome one rest (some, few, _, _, _, after, next) (inr (inr (inr (inr (_, _, _, (a, step, stepped, ends)))))) =
+    → r.phase ≡ Saving → r.has_rest ≡ false → GoesOn r r (Ok (Some (Perform effect))) → HasEnded b r mid outcome → Shape outcome r mid
+shape b r mid effect outcome saving rest goes (inl (none, _, _)) = cc (saving, none)
+shape b r mid effect outcome saving rest goes (inr (inl (cleaning, _, _))) = cc (saving, cleaning)
+shape b r mid effect outcome saving rest goes (inr (inr (inl (_, _, cuts, _, _)))) = absurd (false≢true (sym rest ∙ cuts))
+shape b r mid effect outcome saving rest goes (inr (inr (inr (inl (n, writing, _, _, _))))) = cc (saving, writing)
+shape b r mid effect outcome saving rest (_, _, after, next) (inr (inr (inr (inr (_, _, (a, step, stepped, ends)))))) =
     let (is, same) = same_next r after a (Some effect) step next stepped in
     shape_by b r after mid effect outcome next
     (subst (λ (x : Recorder × Result (Option Effect) RecorderError). EffectEnds b r x.0 x.1 mid outcome)
     (λ i. (same i, is i)) ends)
 
 pub begins : (asked : Recorder) (n : ℕ) → IsAsked asked n → IsWithin asked Pending asked None
-begins asked n (_, _, _, inl one) = inl (one, refl, refl)
-begins asked n (_, _, _, inr (two, _, _)) = inr (inl (two, refl, refl, refl))
+begins asked n (_, _, _, inl saving) = inl (saving, refl, refl)
+begins asked n (_, _, _, inr (waiting, _)) = inr (inl (asked.data_length + n, waiting, refl, refl, refl))
 
 pub is_made : (report : Report) → (report ≡ Pending → ⊥) → (b : Bool) × (report ≡ report_for b)
 is_made Pending other = absurd (other refl)
@@ -132,73 +136,104 @@ one_at_most Pending = omega arith
 one_at_most Done = omega arith
 one_at_most Failed = omega arith
 
+-- a block is written only in its phase, and an effect of a checkpoint performed only in one of its phases
+abbrev IsBlockPhase : Phase → Type 0
+IsBlockPhase (Requested n) = Unit
+IsBlockPhase (Writing n) = Unit
+IsBlockPhase _ = ⊥
+
+pub block_phase : (mid r : Recorder) (at len : ℕ) (phase : Phase) → mid.phase ≡ phase → GoesOn mid r (Ok (Some (WriteBlock at len)))
+    → IsBlockPhase phase
+block_phase mid r at len phase is (n, saved, (rest, inl (writing, same)), handed) =
+    let this : phase ≡ Writing n = sym is ∙ writing in rw this tt
+block_phase mid r at len phase is (n, saved, (rest, inr (inl (waiting, clear, same))), handed) =
+    let this : phase ≡ Requested n = sym is ∙ waiting in rw this tt
+block_phase mid r at len phase is (n, saved, (rest, inr (inr (waiting, next))), handed) =
+    let this : phase ≡ Requested n = sym is ∙ waiting in rw this tt
+
+pub effect_phase : (mid r : Recorder) (effect : Effect) (phase : Phase) → mid.phase ≡ phase → GoesOn mid r (Ok (Some (Perform effect)))
+    → MaySave phase
+effect_phase mid r effect phase is ((rest, inl saving), same, after, next) =
+    let this : phase ≡ Saving = sym is ∙ saving in rw this tt
+effect_phase mid r effect phase is ((rest, inr (n, waiting, first)), same, after, next) =
+    let this : phase ≡ Requested n = sym is ∙ waiting in rw this tt
+
+-- something is cut off only in its phase
+pub cut_phase : (mid r : Recorder) (at : ℕ) (phase : Phase) (rest : Bool) → mid.phase ≡ phase → mid.has_rest ≡ rest
+    → GoesOn mid r (Ok (Some (Cut at))) → cuts_next phase rest ≡ true
+cut_phase mid r at phase rest is follows (cuts, same, there) =
+    subst (λ (x : Phase × Bool). cuts_next x.0 x.1 ≡ true) (λ i. (is i, follows i)) cuts
+
+phase_of : (a b : Recorder) → a ≡ b → a.phase ≡ b.phase
+phase_of a b is = ap (λ (x : Recorder). x.phase) is
+
+rest_of : (a b : Recorder) → a ≡ b → a.has_rest ≡ b.has_rest
+rest_of a b is = ap (λ (x : Recorder). x.has_rest) is
+
+same_written : (a b : ℕ) → Writing a ≡ Writing b → a ≡ b
+same_written a b is = cc is
+
+same_waiting : (a b : ℕ) → Requested a ≡ Requested b → a ≡ b
+same_waiting a b is = cc is
+
 module _ (asked : Recorder) (n : ℕ) (is_asked : IsAsked asked n) where
-  -- a block that is requested has a place
-  is_clean : asked.task ≡ 2 → asked.condition ≡ 0
-  is_clean two = by is_asked.3
+  -- nothing failed before a block that is requested
+  is_clean : (k : ℕ) → asked.phase ≡ Requested k → asked.health ≡ Sound
+  is_clean k waiting = by is_asked.3
     where
-      by : (asked.task ≡ 1) ⊎ ((asked.task ≡ 2) × (n ≡ asked.samples * asked.bytes_per_sample)
-          × ((place : ℕ) × Places asked asked.samples (Ok place))) → asked.condition ≡ 0
-      by (inl one) = absurd (omega (arith, one, two))
-      by (inr (_, _, (place, places))) = places.0
+      by : (asked.phase ≡ Saving) ⊎ ((asked.phase ≡ Requested (asked.data_length + n)) × (asked.health ≡ Sound)) → asked.health ≡ Sound
+      by (inl saving) = cc (saving, waiting)
+      by (inr (_, clean)) = clean
 
   -- once a block is written, or has failed
   abbrev Wrote : Bool → Recorder → Type 0
   Wrote true mid = mid ≡ once_done asked
-  Wrote false mid = mid ≡ record asked { condition = 1; task = 4; has_rest = 1 }
+  Wrote false mid = mid ≡ record asked { health = Suspect; phase = Cleaning }
 
-  wrote_shape : (b : Bool) (r x mid : Recorder) → asked.task ≡ 2 → r ≡ record asked { task = 3 }
-      → x ≡ (if b then record r { data_length = length_with r r.samples } else record r { condition = 1 })
-      → mid ≡ record x { task = (if b then 0 else 4); has_rest = (if b then 0 else 1) } → Wrote b mid
-  wrote_shape true r x mid two is counts ended =
-      let (none, low, rest, what) = is_asked in
-      let clean = is_clean two in
-      rw (ended, counts, is) (λ i. record asked {
-        data_length = if sym two i == 1 then asked.data_length else length_with asked asked.samples;
+  wrote_shape : (b : Bool) (r mid : Recorder) (k : ℕ) → asked.phase ≡ Requested k
+      → r ≡ record asked { phase = Writing k } → mid ≡ after_block b k r → Wrote b mid
+  wrote_shape true r mid k waiting is ended =
+      let none = is_asked.0 in
+      let clean = is_clean k waiting in
+      rw (ended, is) (λ i. record asked {
+        data_length = length_after (sym waiting i) asked;
         number = none i;
-        condition = clean i;
-        task = 0;
-        has_rest = sym rest i;
+        health = clean i;
+        phase = Idle;
       })
-  wrote_shape false r x mid two is counts ended = rw (ended, counts, is) refl
+  wrote_shape false r mid k waiting is ended =
+      let doubt : doubted asked.health ≡ Suspect = rw (is_clean k waiting) refl in
+      ended ∙ ap (after_block false k) is ∙ (λ i. record asked { health = doubt i; phase = Cleaning })
 
-  block_ended : (b : Bool) (r mid : Recorder) (at len : ℕ) (outcome : Result (Unit {0}) RecorderError)
-      → asked.task ≡ 2 → r ≡ record asked { task = 3 } → GoesOn r r (Ok (Some (WriteBlock at len)))
-      → HasEnded b r mid outcome → (outcome ≡ Ok tt) × Wrote b mid × (at ≡ r.data_start + r.data_length)
-  block_ended b r mid at len outcome two is (some, rest, saved, how, places, long, same) ended = by how ended
+  block_ended : (b : Bool) (r mid : Recorder) (k at len : ℕ) (outcome : Result (Unit {0}) RecorderError)
+      → asked.phase ≡ Requested k → r ≡ record asked { phase = Writing k } → HasEnded b r mid outcome
+      → (outcome ≡ Ok tt) × Wrote b mid
+  block_ended b r mid k at len outcome waiting is ended = by ended
     where
-      three : r.task ≡ 3
-      three = ap (λ (x : Recorder). x.task) is
+      writing : r.phase ≡ Writing k
+      writing = ap (λ (x : Recorder). x.phase) is
 
-      reported_ok : (x : Recorder) (outcome : Result (Unit {0}) RecorderError) → Places r r.samples (Ok at)
-          → Reports r.samples b r x outcome → (outcome ≡ Ok tt)
-          × (x ≡ (if b then record r { data_length = length_with r r.samples } else record r { condition = 1 }))
-      reported_ok x (Ok y) there (_, counts) = (refl, counts)
-      reported_ok x (Err error) there (rejected, _) = absurd (one_place r r.samples at error there rejected)
+      by : HasEnded b r mid outcome → (outcome ≡ Ok tt) × Wrote b mid
+      by (inl (none, _, _)) = cc (writing, none)
+      by (inr (inl (cleaning, _, _))) = cc (writing, cleaning)
+      by (inr (inr (inl (_, _, cuts, _, _)))) =
+          let rest : r.has_rest ≡ false = ap (λ (x : Recorder). x.has_rest) is ∙ is_asked.2 in absurd (false≢true (sym rest ∙ cuts))
+      by (inr (inr (inr (inr (may, _, _))))) = absurd (rw writing at may)
+      by (inr (inr (inr (inl (m, written, _, ends, ok))))) =
+          let m_is = same_written m k (sym written ∙ writing) in
+          (ok, wrote_shape b r mid k waiting is (subst (λ m. mid ≡ after_block b m r) m_is ends))
 
-      by : IsSaved r saved → HasEnded b r mid outcome
-          → (outcome ≡ Ok tt) × Wrote b mid × (at ≡ r.data_start + r.data_length)
-      by how (inl (idle, _, _)) = absurd (omega (arith, three, idle))
-      by how (inr (inl (_, cuts, _, _, _))) = absurd (omega (arith, rest, cuts))
-      by how (inr (inr (inl (_, cuts, _, _)))) = absurd (omega (arith, rest, cuts))
-      by how (inr (inr (inr (inr (_, other, _, _))))) = absurd (other three)
-      by (inr (two, _)) (inr (inr (inr (inl _)))) = absurd (omega (arith, three, two))
-      by (inl (clear, one)) (inr (inr (inr (inl (_, _, x, reports, ends))))) =
-          let there : Places r r.samples (Ok at) = subst (λ x. Places x r.samples (Ok at)) one places in
-          let (ok, counts) = reported_ok x outcome there reports in
-          (ok, wrote_shape b r x mid two is counts ends, there.3)
+  alive_as : (mid : Recorder) → mid.health ≡ asked.health → IsAlive mid
+  alive_as mid is dead = is_asked.1 (sym is ∙ dead)
 
-  pub settled_low : (mid : Recorder) (over : Option Bool) → IsSettled asked mid over → mid.condition ≤ 1
-  settled_low mid over (inl (inl (one, is, none))) =
-      let c = ap (λ (x : Recorder). x.condition) is in omega (arith, c, is_asked.1)
-  settled_low mid over (inl (inr (inl (two, _, is, none)))) =
-      let c = ap (λ (x : Recorder). x.condition) is in omega (arith, c, is_asked.1)
-  settled_low mid over (inl (inr (inr (inl (two, is, none))))) =
-      let c = ap (λ (x : Recorder). x.condition) is in omega (arith, c, is_asked.1)
-  settled_low mid over (inl (inr (inr (inr (two, is, lost))))) =
-      let c = ap (λ (x : Recorder). x.condition) is in omega (arith, c)
-  settled_low mid over (inr (two, is, ok)) =
-      let c = ap (λ (x : Recorder). x.condition) is in omega (arith, c)
+  pub settled_low : (mid : Recorder) (over : Option Bool) → IsSettled asked mid over → IsAlive mid
+  settled_low mid over (inl (inl (saving, is, none))) = alive_as mid (ap (λ (x : Recorder). x.health) is)
+  settled_low mid over (inl (inr (inl (k, waiting, _, is, none)))) = alive_as mid (ap (λ (x : Recorder). x.health) is)
+  settled_low mid over (inl (inr (inr (inl (k, waiting, is, none))))) = alive_as mid (ap (λ (x : Recorder). x.health) is)
+  settled_low mid over (inl (inr (inr (inr (k, waiting, is, lost))))) = λ dead.
+      let suspect : mid.health ≡ Suspect = ap (λ (x : Recorder). x.health) is in cc (suspect, dead)
+  settled_low mid over (inr (k, waiting, is, ok)) = λ dead.
+      let sound : mid.health ≡ Sound = ap (λ (x : Recorder). x.health) is in cc (sound, dead)
 
   module _ (report : Report) (before after : Option Bool → Recorder → Type 0) (does : Action → Type 0)
       (laws : Laws asked report before after does) where
@@ -207,63 +242,61 @@ module _ (asked : Recorder) (n : ℕ) (is_asked : IsAsked asked n) where
     After r (Ok x) mid = (over : Option Bool) × IsSettled asked mid over × after over mid
     After r (Err error) mid = (mid.number ≡ 0) × after (Some false) mid
 
-    effect_over : (outcome : Result (Unit {0}) RecorderError) (r mid : Recorder) → asked.task ≡ 1
+    effect_over : (outcome : Result (Unit {0}) RecorderError) (r mid : Recorder) → asked.phase ≡ Saving
         → r ≡ record asked { number = r.number } → Shape outcome r mid → after (reported_as outcome) mid → After r outcome mid
-    effect_over (Ok x) r mid one is shaped known =
+    effect_over (Ok x) r mid saving is shaped known =
         let number : mid.number ≡ r.number + 1 = ap (λ (x : Recorder). x.number) shaped in (
           None,
-          inl (inl (one, shaped ∙ (λ i. record (is i) { number = sym number i }), refl)),
+          inl (inl (saving, shaped ∙ (λ i. record (is i) { number = sym number i }), refl)),
           known,
         )
-    effect_over (Err error) r mid one is shaped known = (shaped, known)
+    effect_over (Err error) r mid saving is shaped known = (shaped, known)
 
-    block_over : (b : Bool) (outcome : Result (Unit {0}) RecorderError) (r mid : Recorder)
-        → asked.task ≡ 2 → r ≡ record asked { task = 3 }
-        → outcome ≡ Ok tt → Wrote b mid → after (Some b) mid → After r outcome mid
-    block_over true outcome r mid two at ok is known = rw ok (Some true, inr (two, is, refl), known)
-    block_over false outcome r mid two at ok is known =
-        rw ok (Some false, inl (inr (inr (inr (two, is, refl)))), known)
+    block_over : (b : Bool) (outcome : Result (Unit {0}) RecorderError) (r mid : Recorder) (k : ℕ)
+        → asked.phase ≡ Requested k → outcome ≡ Ok tt → Wrote b mid → after (Some b) mid → After r outcome mid
+    block_over true outcome r mid k waiting ok is known = rw ok (Some true, inr (k, waiting, is, refl), known)
+    block_over false outcome r mid k waiting ok is known =
+        rw ok (Some false, inl (inr (inr (inr (k, waiting, is, refl)))), known)
 
-    cut_over : (b : Bool) (r mid : Recorder) (outcome : Result (Unit {0}) RecorderError) → r.task ≡ 4
-        → 0 < r.has_rest → r.number ≡ 0 → HasEnded b r mid outcome → after (Some false) mid → After r outcome mid
-    cut_over b r mid outcome four rest none (inl (idle, _, _)) known = absurd (omega (arith, four, idle))
-    cut_over b r mid outcome four rest none (inr (inl (_, _, other, _, _))) known = absurd (other four)
-    cut_over b r mid outcome four rest none (inr (inr (inl (_, _, is, err)))) known =
-        rw err (ap (λ (x : Recorder). x.number) is ∙ none, known)
-    cut_over b r mid outcome four rest none (inr (inr (inr (inl (three, _, _, _, _))))) known = absurd (omega (arith, four, three))
-    cut_over b r mid outcome four rest none (inr (inr (inr (inr (_, _, clear, _))))) known = absurd (omega (arith, rest, clear))
+    cut_over : (b : Bool) (r mid : Recorder) (outcome : Result (Unit {0}) RecorderError) → r.phase ≡ Cleaning
+        → r.number ≡ 0 → HasEnded b r mid outcome → after (Some false) mid → After r outcome mid
+    cut_over b r mid outcome cleaning zero (inl (none, _, _)) known = cc (cleaning, none)
+    cut_over b r mid outcome cleaning zero (inr (inl (_, is, err))) known =
+        rw err (ap (λ (x : Recorder). x.number) is ∙ zero, known)
+    cut_over b r mid outcome cleaning zero (inr (inr (inl (_, other, _, _, _)))) known = absurd (other cleaning)
+    cut_over b r mid outcome cleaning zero (inr (inr (inr (inl (k, writing, _, _, _))))) known = cc (cleaning, writing)
+    cut_over b r mid outcome cleaning zero (inr (inr (inr (inr (may, _, _))))) known = absurd (rw cleaning at may)
 
     -- an action was reported
     over_by : (b : Bool) → report ≡ report_for b → (r mid : Recorder) (over : Option Bool)
         (outcome : Result (Unit {0}) RecorderError) (action : Action) → IsWithin asked report r over → before over r
         → GoesOn r r (Ok (Some action)) → does action → HasEnded b r mid outcome → Settles report r mid outcome → After r outcome mid
-    over_by b reported r mid over outcome (Perform effect) (inl (one, is, none)) known goes did ended settles =
-        effect_over outcome r mid one is
-        (shape b r mid effect outcome (rw is one) (rw is is_asked.2) goes ended)
-        (laws.performed r mid effect outcome one (subst (λ o. before o r) none known) goes did settles)
-    over_by b reported r mid over outcome (WriteBlock at len) (inl (one, is, none)) known goes did ended settles =
-        absurd (let task = ap (λ (x : Recorder). x.task) is in omega (arith, goes.0, task, one))
-    over_by b reported r mid over outcome (Cut at) (inl (one, is, none)) known goes did ended settles =
-        absurd (let rest = ap (λ (x : Recorder). x.has_rest) is in omega (arith, goes.1, rest, is_asked.2))
+    over_by b reported r mid over outcome (Perform effect) (inl (saving, is, none)) known goes did ended settles =
+        effect_over outcome r mid saving is
+        (shape b r mid effect outcome (phase_of r _ is ∙ saving) (rest_of r _ is ∙ is_asked.2) goes ended)
+        (laws.performed r mid effect outcome saving (subst (λ o. before o r) none known) goes did settles)
+    over_by b reported r mid over outcome (WriteBlock at len) (inl (saving, is, none)) known goes did ended settles =
+        absurd (block_phase r r at len Saving (phase_of r _ is ∙ saving) goes)
+    over_by b reported r mid over outcome (Cut at) (inl (saving, is, none)) known goes did ended settles =
+        absurd (false≢true (cut_phase r r at Saving false (phase_of r _ is ∙ saving) (rest_of r _ is ∙ is_asked.2) goes))
     over_by b reported r mid over outcome (Read at len) within known goes did ended settles = absurd goes
-    over_by b reported r mid over outcome action (inr (inl (two, pending, is, none))) known goes did ended settles =
+    over_by b reported r mid over outcome action (inr (inl (k, waiting, pending, is, none))) known goes did ended settles =
         absurd (not_pending b (sym reported ∙ pending))
-    over_by b reported r mid over outcome (WriteBlock at len) (inr (inr (inl (two, is, none)))) known goes did ended settles =
-        let (ok, wrote, place) = block_ended b r mid at len outcome two is goes ended in
-        block_over b outcome r mid two is ok wrote
-        (laws.wrote b r mid at len outcome two reported (subst (λ o. before o r) none known) is place did ended)
-    over_by b reported r mid over outcome (Perform effect) (inr (inr (inl (two, is, none)))) known goes did ended settles =
-        absurd (let task = ap (λ (x : Recorder). x.task) is in omega (arith, goes.1, task))
-    over_by b reported r mid over outcome (Cut at) (inr (inr (inl (two, is, none)))) known goes did ended settles =
-        absurd (let rest = ap (λ (x : Recorder). x.has_rest) is in omega (arith, goes.1, rest, is_asked.2))
-    over_by b reported r mid over outcome (Cut at) (inr (inr (inr (two, is, lost)))) known goes did ended settles =
-        cut_over b r mid outcome (ap (λ (x : Recorder). x.task) is) goes.1
-        (ap (λ (x : Recorder). x.number) is ∙ is_asked.0) ended
-        (laws.cut b r mid at outcome (subst (λ o. before o r) lost known) goes.1 did ended)
-    over_by b reported r mid over outcome (Perform effect) (inr (inr (inr (two, is, lost)))) known goes did ended settles =
-        absurd (let rest = ap (λ (x : Recorder). x.has_rest) is in omega (arith, goes.2, rest))
-    over_by b reported r mid over outcome (WriteBlock at len) (inr (inr (inr (two, is, lost)))) known goes did ended settles =
-        absurd (let rest = ap (λ (x : Recorder). x.has_rest) is in omega (arith, goes.1, rest))
+    over_by b reported r mid over outcome (WriteBlock at len) (inr (inr (inl (k, waiting, is, none)))) known goes did ended settles =
+        let (ok, wrote) = block_ended b r mid k at len outcome waiting is ended in
+        block_over b outcome r mid k waiting ok wrote
+        (laws.wrote b r mid k at len outcome waiting reported (subst (λ o. before o r) none known) is goes did ended)
+    over_by b reported r mid over outcome (Perform effect) (inr (inr (inl (k, waiting, is, none)))) known goes did ended settles =
+        absurd (effect_phase r r effect (Writing k) (phase_of r _ is) goes)
+    over_by b reported r mid over outcome (Cut at) (inr (inr (inl (k, waiting, is, none)))) known goes did ended settles =
+        absurd (false≢true (cut_phase r r at (Writing k) false (phase_of r _ is) (rest_of r _ is ∙ is_asked.2) goes))
+    over_by b reported r mid over outcome (Cut at) (inr (inr (inr (k, waiting, is, lost)))) known goes did ended settles =
+        cut_over b r mid outcome (phase_of r _ is) (ap (λ (x : Recorder). x.number) is ∙ is_asked.0) ended
+        (laws.cut b r mid at outcome (subst (λ o. before o r) lost known) goes.0 did ended)
+    over_by b reported r mid over outcome (Perform effect) (inr (inr (inr (k, waiting, is, lost)))) known goes did ended settles =
+        absurd (effect_phase r r effect Cleaning (phase_of r _ is) goes)
+    over_by b reported r mid over outcome (WriteBlock at len) (inr (inr (inr (k, waiting, is, lost)))) known goes did ended settles =
+        absurd (block_phase r r at len Cleaning (phase_of r _ is) goes)
 
     -- what was reported is taken in
     pub settled : (r mid : Recorder) (over : Option Bool) (outcome : Result (Unit {0}) RecorderError)
@@ -284,119 +317,120 @@ module _ (asked : Recorder) (n : ℕ) (is_asked : IsAsked asked n) where
     OnWith mid r action = (over : Option Bool) × ((next : Report) → IsWithin asked next r over) × after over r
         × GoesOn r r (Ok (Some action))
 
-    handed_on : (mid r saved : Recorder) (at len : ℕ) → asked.task ≡ 2
-        → record saved { task = 3 } ≡ record asked { task = 3 } → Places saved mid.samples (Ok at)
-        → mid.samples ≡ asked.samples
-        → len ≡ mid.samples * saved.bytes_per_sample
-        → r ≡ record saved { task = 3 } → after None r → OnWith mid r (WriteBlock at len)
-    handed_on mid r saved at len two same there samples long is known =
-        let x : Recorder = record asked { task = 3 } in
+    handed_on : (mid r saved : Recorder) (k at len : ℕ) → asked.phase ≡ Requested k
+        → record saved { phase = Writing k } ≡ record asked { phase = Writing k }
+        → HandsOut k saved r (WriteBlock at len) → after None r → OnWith mid r (WriteBlock at len)
+    handed_on mid r saved k at len waiting same (there, long, is) known =
+        let x : Recorder = record asked { phase = Writing k } in
         let this : r ≡ x = is ∙ same in
-        let place : at ≡ asked.data_start + asked.data_length =
-        there.3 ∙ ap (λ (x : Recorder). x.data_start + x.data_length) same in
-        let all : len ≡ asked.samples * asked.bytes_per_sample =
-        long ∙ (λ i. samples i * (same i).bytes_per_sample) in
-        let has : HasData asked (length_with asked asked.samples) =
-        subst (λ (x : Recorder × ℕ). HasData x.0 (length_with x.0 x.1)) (λ i. (same i, samples i)) there.2 in (
+        let place : at ≡ end_place x = there ∙ ap end_place same in
+        let all : len ≡ k - x.data_length = long ∙ ap (λ (x : Recorder). k - x.data_length) same in (
           None,
-          (λ _. inr (inr (inl (two, this, refl)))),
+          (λ _. inr (inr (inl (k, waiting, this, refl)))),
           known,
-          subst (λ r. GoesOn r r (Ok (Some (WriteBlock at len)))) (sym this)
-              (omega arith, is_asked.2, x, inl (inl (omega arith), refl), (is_clean two, is_asked.0, has, place), all, refl),
+          subst (λ r. GoesOn r r (Ok (Some (WriteBlock at len)))) (sym this) (k, x, (is_asked.2, inl (refl, refl)), (place, all, refl)),
         )
+
+    -- a block that is due is handed out, once a checkpoint is done or at once
+    as_asked : (mid saved : Recorder) (n k : ℕ) → asked.phase ≡ Requested n → mid ≡ asked → IsDue k mid saved
+        → (k ≡ n) × (record saved { phase = Writing n } ≡ record asked { phase = Writing n })
+    as_asked mid saved n k waiting is (rest, inl (writing, one)) =
+        let this = phase_of mid asked is ∙ waiting in cc (writing, this)
+    as_asked mid saved n k waiting is (rest, inr (inl (here, clear, one))) = (
+      same_waiting k n (sym here ∙ phase_of mid asked is ∙ waiting),
+      ap (λ (x : Recorder). record x { phase = Writing n }) (one ∙ is),
+    )
+    as_asked mid saved n k waiting is (rest, inr (inr (here, next))) = (
+      same_waiting k n (sym here ∙ phase_of mid asked is ∙ waiting),
+      ap (λ (x : Recorder). record x { phase = Writing n }) next.4
+          ∙ (λ i. record (is i) { number = 0; health = Sound; phase = Writing n })
+          ∙ (λ i. record asked { number = sym is_asked.0 i; health = sym (is_clean n waiting) i; phase = Writing n }),
+    )
+
+    -- a block that was handed out is so again
+    as_handed : (mid saved : Recorder) (n k : ℕ) → mid ≡ record asked { phase = Writing n } → IsDue k mid saved
+        → (k ≡ n) × (record saved { phase = Writing n } ≡ record asked { phase = Writing n })
+    as_handed mid saved n k is (rest, inl (writing, one)) = (
+      same_written k n (sym writing ∙ phase_of mid _ is),
+      ap (λ (x : Recorder). record x { phase = Writing n }) (one ∙ is),
+    )
+    as_handed mid saved n k is (rest, inr (inl (waiting, clear, one))) = let this = phase_of mid _ is in cc (waiting, this)
+    as_handed mid saved n k is (rest, inr (inr (waiting, next))) = let this = phase_of mid _ is in cc (waiting, this)
 
     pub goes_on : (mid r : Recorder) (over : Option Bool) (action : Action) → IsSettled asked mid over → after over mid
         → GoesOn mid r (Ok (Some action)) → OnWith mid r action
     goes_on mid r over (Read at len) settled known goes = absurd goes
-    goes_on mid r over (Perform effect) (inl (inl (one, is, none))) known (some, few, rest, same, saves, x, next) =
-        rw same (over, (λ _. inl (one, is, none)), known, (some, few, rest, refl, saves, x, next))
-    goes_on mid r over (WriteBlock at len) (inl (inl (one, is, none))) known goes =
-        absurd (let task = ap (λ (x : Recorder). x.task) is in omega (arith, goes.0, task, one))
-    goes_on mid r over (Cut at) (inl (inl (one, is, none))) known goes =
-        absurd (let rest = ap (λ (x : Recorder). x.has_rest) is in omega (arith, goes.1, rest, is_asked.2))
-    goes_on mid r over (Perform effect) (inl (inr (inl (two, _, is, none)))) known goes =
-        absurd (let more = goes.4 (ap (λ (x : Recorder). x.task) is ∙ two) in
-        let number = ap (λ (x : Recorder). x.number) is in
-        let condition = ap (λ (x : Recorder). x.condition) is in
-        omega (arith, more, number, condition, is_asked.0, is_clean two))
-    goes_on mid r over (WriteBlock at len) (inl (inr (inl (two, p, is, none)))) known (some, rest, saved, how, places, long, same) =
-        let number : mid.number ≡ asked.number = ap (λ (x : Recorder). x.number) is in
-        handed_on mid r saved at len two (as_asked how) places (ap (λ (x : Recorder). x.samples) is) long same
-        (laws.handed mid r at len (number ∙ is_asked.0) (subst (λ o. after o mid) none known)
-        (some, rest, saved, how, places, long, same))
+    goes_on mid r over (Perform effect) (inl (inl (saving, is, none))) known (phase, same, x, next) =
+        rw same (over, (λ _. inl (saving, is, none)), known, (phase, refl, x, next))
+    goes_on mid r over (WriteBlock at len) (inl (inl (saving, is, none))) known goes =
+        absurd (block_phase mid r at len Saving (phase_of mid _ is ∙ saving) goes)
+    goes_on mid r over (Cut at) (inl (inl (saving, is, none))) known goes =
+        absurd (false≢true (cut_phase mid r at Saving false (phase_of mid _ is ∙ saving) (rest_of mid _ is ∙ is_asked.2) goes))
+    goes_on mid r over (Perform effect) (inl (inr (inl (k, waiting, _, is, none)))) known goes =
+        absurd (clear goes)
       where
-        as_asked : IsSaved mid saved → record saved { task = 3 } ≡ record asked { task = 3 }
-        as_asked (inl (clear, one)) = ap (λ (x : Recorder). record x { task = 3 }) (one ∙ is)
-        as_asked (inr (_, next)) = ap (λ (x : Recorder). record x { task = 3 }) next.4
-            ∙ (λ i. record (is i) { number = 0; condition = 0; task = 3 })
-            ∙ (λ i. record asked { number = sym is_asked.0 i; condition = sym (is_clean two) i; task = 3 })
-    goes_on mid r over (Cut at) (inl (inr (inl (two, _, is, none)))) known goes =
-        absurd (let rest = ap (λ (x : Recorder). x.has_rest) is in omega (arith, goes.1, rest, is_asked.2))
-    goes_on mid r over (Perform effect) (inl (inr (inr (inl (two, is, none))))) known goes =
-        absurd (let task = ap (λ (x : Recorder). x.task) is in omega (arith, goes.1, task))
-    goes_on mid r over (WriteBlock at len) (inl (inr (inr (inl (two, is, none))))) known (some, rest, saved, how, places, long, same) =
+        clear : GoesOn mid r (Ok (Some (Perform effect))) → ⊥
+        clear ((rest, inl saving), _, _, _) = let this = phase_of mid asked is ∙ waiting in cc (saving, this)
+        clear ((rest, inr (samples, _, inl doubtful)), _, _, _) =
+            doubtful (ap (λ (x : Recorder). x.health) is ∙ is_clean k waiting)
+        clear ((rest, inr (samples, _, inr some)), _, _, _) =
+            omega (arith, some, ap (λ (x : Recorder). x.number) is, is_asked.0)
+    goes_on mid r over (WriteBlock at len) (inl (inr (inl (k, waiting, p, is, none)))) known (samples, saved, due, handed) =
         let number : mid.number ≡ asked.number = ap (λ (x : Recorder). x.number) is in
-        let task : mid.task ≡ 3 = ap (λ (x : Recorder). x.task) is in
-        handed_on mid r saved at len two (as_asked task how) places (ap (λ (x : Recorder). x.samples) is) long same
-        (laws.handed mid r at len (number ∙ is_asked.0) (subst (λ o. after o mid) none known)
-        (some, rest, saved, how, places, long, same))
-      where
-        as_asked : mid.task ≡ 3 → IsSaved mid saved → record saved { task = 3 } ≡ record asked { task = 3 }
-        as_asked three (inl (clear, one)) = ap (λ (x : Recorder). record x { task = 3 }) (one ∙ is)
-        as_asked three (inr (two, next)) = absurd (omega (arith, three, two))
-    goes_on mid r over (Cut at) (inl (inr (inr (inl (two, is, none))))) known goes =
-        absurd (let rest = ap (λ (x : Recorder). x.has_rest) is in omega (arith, goes.1, rest, is_asked.2))
-    goes_on mid r over (Cut at) (inl (inr (inr (inr (two, is, lost))))) known (some, rest, same, place) =
-        rw same (over, (λ _. inr (inr (inr (two, is, lost)))), known, (some, rest, refl, place))
-    goes_on mid r over (Perform effect) (inl (inr (inr (inr (two, is, lost))))) known goes =
-        absurd (let rest = ap (λ (x : Recorder). x.has_rest) is in omega (arith, goes.2, rest))
-    goes_on mid r over (WriteBlock at len) (inl (inr (inr (inr (two, is, lost))))) known goes =
-        absurd (let rest = ap (λ (x : Recorder). x.has_rest) is in omega (arith, goes.1, rest))
-    goes_on mid r over (Perform effect) (inr (two, is, ok)) known goes =
-        absurd (let task = ap (λ (x : Recorder). x.task) is in omega (arith, goes.0, task))
-    goes_on mid r over (WriteBlock at len) (inr (two, is, ok)) known goes =
-        absurd (let task = ap (λ (x : Recorder). x.task) is in omega (arith, goes.0, task))
-    goes_on mid r over (Cut at) (inr (two, is, ok)) known goes =
-        absurd (let task = ap (λ (x : Recorder). x.task) is in omega (arith, goes.0, task))
+        let (one, same) = as_asked mid saved k samples waiting is due in
+        handed_on mid r saved k at len waiting same (subst (λ n. HandsOut n saved r (WriteBlock at len)) one handed)
+        (laws.handed mid r at len (number ∙ is_asked.0) (subst (λ o. after o mid) none known) (samples, saved, due, handed))
+    goes_on mid r over (Cut at) (inl (inr (inl (k, waiting, _, is, none)))) known goes =
+        absurd (false≢true (cut_phase mid r at (Requested k) false (phase_of mid asked is ∙ waiting) (rest_of mid asked is ∙ is_asked.2) goes))
+    goes_on mid r over (Perform effect) (inl (inr (inr (inl (k, waiting, is, none))))) known goes =
+        absurd (effect_phase mid r effect (Writing k) (phase_of mid _ is) goes)
+    goes_on mid r over (WriteBlock at len) (inl (inr (inr (inl (k, waiting, is, none))))) known (samples, saved, due, handed) =
+        let number : mid.number ≡ asked.number = ap (λ (x : Recorder). x.number) is in
+        let (one, same) = as_handed mid saved k samples is due in
+        handed_on mid r saved k at len waiting same (subst (λ n. HandsOut n saved r (WriteBlock at len)) one handed)
+        (laws.handed mid r at len (number ∙ is_asked.0) (subst (λ o. after o mid) none known) (samples, saved, due, handed))
+    goes_on mid r over (Cut at) (inl (inr (inr (inl (k, waiting, is, none))))) known goes =
+        absurd (false≢true (cut_phase mid r at (Writing k) false (phase_of mid _ is) (rest_of mid _ is ∙ is_asked.2) goes))
+    goes_on mid r over (Cut at) (inl (inr (inr (inr (k, waiting, is, lost))))) known (cuts, same, place) =
+        rw same (over, (λ _. inr (inr (inr (k, waiting, is, lost)))), known, (cuts, refl, place))
+    goes_on mid r over (Perform effect) (inl (inr (inr (inr (k, waiting, is, lost))))) known goes =
+        absurd (effect_phase mid r effect Cleaning (phase_of mid _ is) goes)
+    goes_on mid r over (WriteBlock at len) (inl (inr (inr (inr (k, waiting, is, lost))))) known goes =
+        absurd (block_phase mid r at len Cleaning (phase_of mid _ is) goes)
+    goes_on mid r over (Perform effect) (inr (k, waiting, is, ok)) known goes =
+        absurd (effect_phase mid r effect Idle (phase_of mid _ is) goes)
+    goes_on mid r over (WriteBlock at len) (inr (k, waiting, is, ok)) known goes =
+        absurd (block_phase mid r at len Idle (phase_of mid _ is) goes)
+    goes_on mid r over (Cut at) (inr (k, waiting, is, ok)) known goes =
+        absurd (false≢true (cut_phase mid r at Idle mid.has_rest (phase_of mid _ is) refl goes))
 
     -- all of it is done
     pub finished : (mid r : Recorder) (over : Option Bool) → IsSettled asked mid over → after over mid
         → GoesOn mid r (Ok None) → (r ≡ once_done asked) × after (Some true) r
-    finished mid r over (inl (inl (one, is, none))) known (inl (idle, same)) =
-        absurd (let task = ap (λ (x : Recorder). x.task) is in omega (arith, task, one, idle))
-    finished mid r over (inl (inl (one, is, none))) known (inr (busy, rest, x, next, same)) = (
-      same ∙ ap (λ (x : Recorder). record x { task = 0 }) next.4
-          ∙ (λ i. record (is i) { number = 0; condition = 0; task = 0 })
-          ∙ (λ i. record asked {
-            data_length = if sym one i == 1 then asked.data_length else length_with asked asked.samples;
-            number = 0;
-            condition = 0;
-            task = 0;
-          }),
-      laws.saved mid r one busy (subst (λ o. after o mid) none known) (inr (busy, rest, x, next, same)),
+    finished mid r over (inl (inl (saving, is, none))) known (inl (rests, same)) =
+        let this = phase_of mid _ is ∙ saving in cc (this, rests)
+    finished mid r over (inl (inl (saving, is, none))) known (inr (busy, rest, x, next, same)) = (
+      same ∙ ap (λ (x : Recorder). record x { phase = Idle }) next.4
+          ∙ (λ i. record (is i) { number = 0; health = Sound; phase = Idle })
+          ∙ (λ i. record asked { data_length = length_after (sym saving i) asked; number = 0; health = Sound; phase = Idle }),
+      laws.saved mid r saving busy (subst (λ o. after o mid) none known) (inr (busy, rest, x, next, same)),
     )
-    finished mid r over (inl (inr (inl (two, _, is, none)))) known (inl (idle, same)) =
-        absurd (let task = ap (λ (x : Recorder). x.task) is in omega (arith, task, two, idle))
-    finished mid r over (inl (inr (inl (two, _, is, none)))) known (inr (busy, _, _, _, _)) =
-        absurd (let task = ap (λ (x : Recorder). x.task) is in omega (arith, task, two, busy))
-    finished mid r over (inl (inr (inr (inl (two, is, none))))) known (inl (idle, same)) =
-        absurd (let task = ap (λ (x : Recorder). x.task) is in omega (arith, task, idle))
-    finished mid r over (inl (inr (inr (inl (two, is, none))))) known (inr (busy, _, _, _, _)) =
-        absurd (let task = ap (λ (x : Recorder). x.task) is in omega (arith, task, busy))
-    finished mid r over (inl (inr (inr (inr (two, is, lost))))) known (inl (idle, same)) =
-        absurd (let task = ap (λ (x : Recorder). x.task) is in omega (arith, task, idle))
-    finished mid r over (inl (inr (inr (inr (two, is, lost))))) known (inr (busy, _, _, _, _)) =
-        absurd (let task = ap (λ (x : Recorder). x.task) is in omega (arith, task, busy))
-    finished mid r over (inr (two, is, ok)) known (inl (idle, same)) =
+    finished mid r over (inl (inr (inl (k, waiting, _, is, none)))) known (inl (rests, same)) =
+        let this = phase_of mid asked is ∙ waiting in cc (this, rests)
+    finished mid r over (inl (inr (inl (k, waiting, _, is, none)))) known (inr (busy, _, _, _, _)) =
+        let this = phase_of mid asked is ∙ waiting in cc (this, busy)
+    finished mid r over (inl (inr (inr (inl (k, waiting, is, none))))) known (inl (rests, same)) =
+        let this = phase_of mid _ is in cc (this, rests)
+    finished mid r over (inl (inr (inr (inl (k, waiting, is, none))))) known (inr (busy, _, _, _, _)) =
+        let this = phase_of mid _ is in cc (this, busy)
+    finished mid r over (inl (inr (inr (inr (k, waiting, is, lost))))) known (inl (rests, same)) =
+        let this = phase_of mid _ is in cc (this, rests)
+    finished mid r over (inl (inr (inr (inr (k, waiting, is, lost))))) known (inr (busy, _, _, _, _)) =
+        let this = phase_of mid _ is in cc (this, busy)
+    finished mid r over (inr (k, waiting, is, ok)) known (inl (rests, same)) =
         (same ∙ is, subst (λ (x : Option Bool × Recorder). after x.0 x.1) (λ i. (ok i, sym same i)) known)
-    finished mid r over (inr (two, is, ok)) known (inr (busy, _, _, _, _)) =
-        absurd (let task = ap (λ (x : Recorder). x.task) is in omega (arith, task, busy))
-
-    busy : (mid r : Recorder) (action : Action) → GoesOn mid r (Ok (Some action)) → 0 < mid.task
-    busy mid r (Perform effect) goes = goes.0
-    busy mid r (Cut at) goes = goes.0
-    busy mid r (WriteBlock at len) goes = omega (arith, goes.0)
-    busy mid r (Read at len) goes = absurd goes
+    finished mid r over (inr (k, waiting, is, ok)) known (inr (busy, _, _, _, _)) =
+        let this = phase_of mid _ is in cc (this, busy)
 
     -- what the call for the next action makes of it
     pub next_some : (r new : Recorder) (over : Option Bool) (action : Action) → IsWithin asked report r over
@@ -426,7 +460,7 @@ module _ (asked : Recorder) (n : ℕ) (is_asked : IsAsked asked n) where
         by (Err error) k (never, _) = cc
 
     pub next_err : (r new : Recorder) (over : Option Bool) (error : RecorderError)
-        → ((over : Option Bool) (mid : Recorder) → after over mid → mid.condition ≤ 1 → GoesOn mid new (Err error) → ⊥)
+        → ((over : Option Bool) (mid : Recorder) → after over mid → IsAlive mid → GoesOn mid new (Err error) → ⊥)
         → IsWithin asked report r over → before over r → HasAction report does r → Advances report r new (Err error)
         → (new.number ≡ 0) × after (Some false) new
     next_err r new over error failed within known has (mid, outcome, settles, on) =
@@ -435,8 +469,7 @@ module _ (asked : Recorder) (n : ℕ) (is_asked : IsAsked asked n) where
         by : (outcome : Result (Unit {0}) RecorderError) → After r outcome mid → ThenGoesOn outcome mid new (Err error)
             → (new.number ≡ 0) × after (Some false) new
         by (Ok x) (o, where_is, known) (inl (low, on)) = absurd (failed o mid known low on)
-        by (Ok x) (o, where_is, known) (inr (high, _, _)) =
-            absurd (let low = settled_low mid o where_is in omega (arith, low, high))
+        by (Ok x) (o, where_is, known) (inr (dead, _, _)) = absurd (settled_low mid o where_is dead)
         by (Err other) (none, known) (is, same) = rw same (none, known)
 
 -- what is known where nothing is said of the medium
@@ -444,7 +477,7 @@ pub no_laws : (asked : Recorder) (report : Report) → Laws asked report (λ _ _
 no_laws asked report = record {
   same = λ _ _ _ _. tt;
   performed = λ _ _ _ _ _ _ _ _ _. tt;
-  wrote = λ _ _ _ _ _ _ _ _ _ _ _ _ _. tt;
+  wrote = λ _ _ _ _ _ _ _ _ _ _ _ _ _ _. tt;
   cut = λ _ _ _ _ _ _ _ _ _. tt;
   handed = λ _ _ _ _ _ _ _. tt;
   saved = λ _ _ _ _ _ _. tt;
@@ -467,33 +500,32 @@ module _ (s : WavSpecEx) (file : Begun) (known : List Known) (asked : Recorder) 
   abbrev pub Did : Action → Type 0
   Did action = DoesAction action block report before end.state
 
-  long : asked.task ≡ 2 → length block ≡ asked.samples * asked.bytes_per_sample
-  long two = by is_asked.3
+  long : (k : ℕ) → asked.phase ≡ Requested k → length block ≡ k - asked.data_length
+  long k waiting = by is_asked.3
     where
-      by : (asked.task ≡ 1) ⊎ ((asked.task ≡ 2) × (length block ≡ asked.samples * asked.bytes_per_sample)
-          × ((place : ℕ) × Places asked asked.samples (Ok place))) → length block ≡ asked.samples * asked.bytes_per_sample
-      by (inl one) = absurd (omega (arith, one, two))
-      by (inr (_, is, _)) = is
+      by : (asked.phase ≡ Saving) ⊎ ((asked.phase ≡ Requested (asked.data_length + length block)) × (asked.health ≡ Sound))
+          → length block ≡ k - asked.data_length
+      by (inl saving) = cc (saving, waiting)
+      by (inr (here, _)) = let same = same_waiting (asked.data_length + length block) k (sym here ∙ waiting) in omega (arith, same)
 
   -- the clauses of the law, for what was requested
   pub laws_of : ((old mid new : Recorder) (effect : Effect) (result : Result (Unit {0}) IoFault)
       (outcome : Result (Unit {0}) RecorderError) → Directed s file known old before
       → GoesOn old mid (Ok (Some (Perform effect))) → Performs effect result before end.state
       → HasEnded (is_ok result) mid new outcome → Directed s file (known ++ cut_known outcome) new end.state)
-      → ((old new : Recorder) (result : Result (Unit {0}) IoFault) (outcome : Result (Unit {0}) RecorderError)
-      → Directed s file known old before → old.task ≡ 3 → old.has_rest ≡ 0
-      → length block ≡ old.samples * old.bytes_per_sample
+      → ((old new : Recorder) (n : ℕ) (result : Result (Unit {0}) IoFault) (outcome : Result (Unit {0}) RecorderError)
+      → Directed s file known old before → old.phase ≡ Writing n → old.has_rest ≡ false
+      → length block ≡ n - old.data_length
       → PutsAt true (old.data_start + old.data_length) block result before end.state
       → HasEnded (is_ok result) old new outcome
       → Directed s file (known ++ block_known block (is_ok result) s ∷ []) new end.state)
       → ((known : List Known) (old new : Recorder) (ok : Bool) (outcome : Result (Unit {0}) RecorderError)
-      → Directed s file known old before → 0 < old.has_rest → HasEnded ok old new outcome
+      → Directed s file known old before → cuts_next old.phase old.has_rest ≡ true → HasEnded ok old new outcome
       → Directed s file known new before)
-      → ((old new : Recorder) (place len : ℕ) → Directed s file known old end.state
+      → ((m : MediumState) (old new : Recorder) (place len : ℕ) → Directed s file known old m
       → GoesOn old new (Ok (Some (WriteBlock place len))) → (place ≡ new.data_start + new.data_length)
-      × (Directed s file known new end.state
-      ⊎ ((0 < old.number) × Directed s file (known ++ marked publish true ∷ []) new end.state)))
-      → ((old new : Recorder) → Directed s file known old end.state → old.task ≡ 1 → GoesOn old new (Ok None)
+      × (Directed s file known new m ⊎ ((0 < old.number) × Directed s file (known ++ marked publish true ∷ []) new m)))
+      → ((old new : Recorder) → Directed s file known old end.state → old.phase ≡ Saving → GoesOn old new (Ok None)
       → Directed s file (known ++ marked publish true ∷ []) new end.state)
       → (report ≡ Pending → end.state ≡ before)
       → Laws asked report Before Now Did
@@ -502,27 +534,26 @@ module _ (s : WavSpecEx) (file : Begun) (known : List Known) (asked : Recorder) 
     performed = λ r mid effect outcome one d goes (result, is, did) settles.
         effect_known outcome mid one (performed r r mid effect result outcome d goes did
         (settles_as (is_ok result) r mid outcome (subst (λ x. Settles x r mid outcome) is settles)));
-    wrote = λ b r mid at len outcome two reported d is place (result, reported_is, did) ended.
+    wrote = λ b r mid n at len outcome waiting reported d is goes (result, reported_is, did) ended.
         let same : is_ok result ≡ b = one_report (is_ok result) b (sym reported_is ∙ reported) in
         let as_block : Asked = write (whole_containers s block) in
-        let asks : as_block ≡ asked_as s asked block = rw two refl in
+        let asks : as_block ≡ asked_as s asked block = rw waiting refl in
         subst (λ (x : Asked × Bool). Directed s file (known ++ marked x.0 x.1 ∷ []) mid end.state)
         (λ i. (asks i, same i))
-        (wrote r mid result outcome d (ap (λ (x : Recorder). x.task) is)
-        (ap (λ (x : Recorder). x.has_rest) is ∙ is_asked.2)
-        (rw is (long two)) (rw place at did) (subst (λ b. HasEnded b r mid outcome) (sym same) ended));
+        (wrote r mid n result outcome d (phase_of r _ is) (rest_of r _ is ∙ is_asked.2)
+        (rw is (long n waiting)) (rw (handed before r r at len d goes).0 at did) (subst (λ b. HasEnded b r mid outcome) (sym same) ended));
     cut = λ b r mid at outcome d rest same ended.
         subst (λ m. Directed s file (known ++ marked (asked_as s asked block) false ∷ []) mid m) (sym same)
         (cut (known ++ marked (asked_as s asked block) false ∷ []) r mid b outcome d rest ended);
-    handed = λ mid r at len none d goes. only mid r none (handed mid r at len d goes).1;
+    handed = λ mid r at len none d goes. only mid r none (handed end.state mid r at len d goes).1;
     saved = λ mid r one task d goes. subst (λ x. Directed s file (known ++ marked x true ∷ []) r end.state)
         (publishes one) (saved mid r d task goes);
   }
     where
-      publishes : asked.task ≡ 1 → publish ≡ asked_as s asked block
+      publishes : asked.phase ≡ Saving → publish ≡ asked_as s asked block
       publishes one = rw one refl
 
-      effect_known : (outcome : Result (Unit {0}) RecorderError) (mid : Recorder) → asked.task ≡ 1
+      effect_known : (outcome : Result (Unit {0}) RecorderError) (mid : Recorder) → asked.phase ≡ Saving
           → Directed s file (known ++ cut_known outcome) mid end.state → Now (reported_as outcome) mid
       effect_known (Ok x) mid one d = rw append-nil at d
       effect_known (Err error) mid one d =
@@ -542,9 +573,9 @@ module _ (s : WavSpecEx) (file : Begun) (known : List Known) (asked : Recorder) 
 
   -- no error comes of what is to do
   pub not_failed : ((known : List Known) (old new : Recorder) (error : RecorderError) → Directed s file known old end.state
-      → old.condition ≤ 1 → GoesOn old new (Err error) → ⊥)
+      → IsAlive old → GoesOn old new (Err error) → ⊥)
       → (new : Recorder) (error : RecorderError) (over : Option Bool) (mid : Recorder) → Now over mid
-      → mid.condition ≤ 1 → GoesOn mid new (Err error) → ⊥
+      → IsAlive mid → GoesOn mid new (Err error) → ⊥
   not_failed failed new error None mid d low goes = failed known mid new error d low goes
   not_failed failed new error (Some b) mid d low goes =
       failed (known ++ marked (asked_as s asked block) b ∷ []) mid new error d low goes

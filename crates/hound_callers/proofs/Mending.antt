@@ -3,82 +3,71 @@ use Rattle.std.proofs.lemmas.Grind.{common_steps}
 use Rattle.std.proofs.lemmas.Bool.{false≢true}
 use Rattle.std.specs.declared.io.Error.{Error as IoFault}
 use Rattle.std.proofs.Common.{List, [], ◌∷◌, ◌++◌, is_ok, take, ◌≡◌, ◌≤◌, ◌+◌, ◌-◌, ◌%◌, ℕ, zero, suc, Bool, true, false, inl, inr, Option, None, Some, Result, Ok, Err, refl, sym, ◌∙◌, ap, subst, arith}
-use Rattle.std.specs.Prelude.{◌==◌, if◌then◌else◌, IfErr}
-use Rattle.hound.specs.{Begun, Directed, Effect, EffectEnds, FoundFile, Goes, IsCutOff, IsSynced, Resumes, ResumesAfter, kept_length, pad_effects, recorder_of, resumed_recorder, riff_size, size_effects, GoesOn, HasData, HasEnded, Log, MediumState, NextEffect, Performed, Performs, Recorder, RecorderError, Repeats, Report, Settles, effects_of, nth}
+use Rattle.std.specs.Prelude.{if◌then◌else◌, IfErr}
+use Rattle.hound.specs.{Begun, Directed, Effect, EffectEnds, FoundFile, IsAlive, is_sound, Goes, IsCutOff, IsSynced, Resumes, ResumesAfter, kept_length, pad_effects, recorder_of, resumed_recorder, riff_size, size_effects, GoesOn, HasData, HasEnded, Log, MediumState, NextEffect, Performed, Performs, Recorder, RecorderError, Repeats, Report, Settles, effects_of, nth}
 use Rattle.hound.specs.declared.Action.TheVariants.{Perform}
 use Rattle.hound.specs.declared.RecorderError.TheVariants.{NotWritable, UnfinishedFrame, TooLong, Truncated, CutOff, HasChunksAfterData, NeedsCheckpoint, SyncFailed}
 use Rattle.hound.specs.declared.Effect.TheVariants.{Pad, Size, Sync}
+use Rattle.hound.specs.declared.Phase.TheVariants.{Idle, Saving}
 use Rattle.hound.specs.declared.Report.TheVariants.{Pending}
 use Rattle.hound.proofs.Recorders.{performed_all, performed_more, same_next}
 use Rattle.hound_callers.specs.Recorder.{DoesAction, IsFound, once_mended}
-use Rattle.hound_callers.proofs.Driving.{IsWithin, Laws, settles_as, shape, reported_as}
+use Rattle.hound_callers.proofs.Driving.{IsWithin, Laws, block_phase, settles_as, shape, reported_as}
 use Rattle.hound_callers.proofs.Repeating.{IsUnderWayBy}
 
 -- the effects of a checkpoint that were performed, by whether it is over
 abbrev pub PerformedAt : Recorder → Log → MediumState → Option Bool → Recorder → Type 0
-PerformedAt asked start m None r = (r.task ≡ 1) × HasData r r.data_length × (effects_of r ≡ effects_of asked)
+PerformedAt asked start m None r = (r.phase ≡ Saving) × HasData r r.data_length × (effects_of r ≡ effects_of asked)
     × ((log : Log) × (log.state ≡ m) × Performed (take r.number (effects_of asked)) (Ok tt) start log)
-PerformedAt asked start m (Some ok) r = (r.task ≡ 0) × (log : Log) × (log.state ≡ m)
+PerformedAt asked start m (Some ok) r = (r.phase ≡ Idle) × (log : Log) × (log.state ≡ m)
     × ((result : Result (Unit {0}) IoFault) × (is_ok result ≡ ok) × Performed (effects_of asked) result start log)
 
 -- its end is an error exactly where the effect failed
-ended_as : (b : Bool) (r mid : Recorder) (effect : Effect) (outcome : Result (Unit {0}) RecorderError) → r.task ≡ 1
-    → r.has_rest ≡ 0 → GoesOn r r (Ok (Some (Perform effect))) → HasEnded b r mid outcome → is_ok outcome ≡ b
-ended_as b r mid effect outcome one rest goes (inl (idle, _, _)) = absurd (omega (arith, one, idle))
-ended_as b r mid effect outcome one rest goes (inr (inl (_, cuts, _, _, _))) = absurd (omega (arith, rest, cuts))
-ended_as b r mid effect outcome one rest goes (inr (inr (inl (_, cuts, _, _)))) = absurd (omega (arith, rest, cuts))
-ended_as b r mid effect outcome one rest goes (inr (inr (inr (inl (three, _, _, _, _))))) = absurd (omega (arith, one, three))
-ended_as b r mid effect outcome one rest (some, few, _, _, _, after, next) (inr (inr (inr (inr (_, _, _, (a, step, stepped, ends)))))) =
+ended_as : (b : Bool) (r mid : Recorder) (effect : Effect) (outcome : Result (Unit {0}) RecorderError) → r.phase ≡ Saving
+    → r.has_rest ≡ false → GoesOn r r (Ok (Some (Perform effect))) → HasEnded b r mid outcome
+    → (is_ok outcome ≡ b) × (is_ok outcome ≡ false → mid.phase ≡ Idle)
+ended_as b r mid effect outcome saving rest goes (inl (none, _, _)) = cc (saving, none)
+ended_as b r mid effect outcome saving rest goes (inr (inl (cleaning, _, _))) = cc (saving, cleaning)
+ended_as b r mid effect outcome saving rest goes (inr (inr (inl (_, _, cuts, _, _)))) = absurd (false≢true (sym rest ∙ cuts))
+ended_as b r mid effect outcome saving rest goes (inr (inr (inr (inl (n, writing, _, _, _))))) = cc (saving, writing)
+ended_as b r mid effect outcome saving rest (_, _, after, next) (inr (inr (inr (inr (_, _, (a, step, stepped, ends)))))) =
     let (is, same) = same_next r after a (Some effect) step next stepped in
     by b (subst (λ (x : Recorder × Result (Option Effect) RecorderError). EffectEnds b r x.0 x.1 mid outcome)
     (λ i. (same i, is i)) ends)
   where
-    by : (b : Bool) → EffectEnds b r after (Ok (Some effect)) mid outcome → is_ok outcome ≡ b
-    by true (ok, is) = ap is_ok ok
-    by false (last, error, failed, err, is) = ap is_ok err
-
--- after an error nothing is under way
-ended_task : (b : Bool) (r mid : Recorder) (effect : Effect) (error : RecorderError) → r.task ≡ 1
-    → r.has_rest ≡ 0 → GoesOn r r (Ok (Some (Perform effect))) → HasEnded b r mid (Err error) → mid.task ≡ 0
-ended_task b r mid effect error one rest goes (inl (idle, _, _)) = absurd (omega (arith, one, idle))
-ended_task b r mid effect error one rest goes (inr (inl (_, cuts, _, _, _))) = absurd (omega (arith, rest, cuts))
-ended_task b r mid effect error one rest goes (inr (inr (inl (_, cuts, _, _)))) = absurd (omega (arith, rest, cuts))
-ended_task b r mid effect error one rest goes (inr (inr (inr (inl (three, _, _, _, _))))) = absurd (omega (arith, one, three))
-ended_task b r mid effect error one rest (some, few, _, _, _, after, next) (inr (inr (inr (inr (_, _, _, (a, step, stepped, ends)))))) =
-    let (is, same) = same_next r after a (Some effect) step next stepped in
-    by b (subst (λ (x : Recorder × Result (Option Effect) RecorderError). EffectEnds b r x.0 x.1 mid (Err error))
-    (λ i. (same i, is i)) ends)
-  where
-    by : (b : Bool) → EffectEnds b r after (Ok (Some effect)) mid (Err error) → mid.task ≡ 0
-    by true (ok, is) = absurd (false≢true (ap is_ok ok))
-    by false (last, other, failed, err, is) = ap (λ (x : Recorder). x.task) is
+    by : (b : Bool) → EffectEnds b r after (Ok (Some effect)) mid outcome
+        → (is_ok outcome ≡ b) × (is_ok outcome ≡ false → mid.phase ≡ Idle)
+    by true (ok, is) = (ap is_ok ok, λ bad. absurd (false≢true (sym bad ∙ ap is_ok ok)))
+    by false (last, error, failed, err, is) = (ap is_ok err, λ bad. ap (λ (x : Recorder). x.phase) is)
 
 -- a report of nothing changes nothing
-stays_idle : (b : Bool) (r mid : Recorder) (outcome : Result (Unit {0}) RecorderError) → r.task ≡ 0 → HasEnded b r mid outcome → mid ≡ r
+stays_idle : (b : Bool) (r mid : Recorder) (outcome : Result (Unit {0}) RecorderError) → r.phase ≡ Idle → HasEnded b r mid outcome
+    → mid ≡ r
 stays_idle b r mid outcome idle (inl (_, same, _)) = same
-stays_idle b r mid outcome idle (inr (inl (busy, _, _, _, _))) = absurd (omega (arith, idle, busy))
-stays_idle b r mid outcome idle (inr (inr (inl (four, _, _, _)))) = absurd (omega (arith, idle, four))
-stays_idle b r mid outcome idle (inr (inr (inr (inl (three, _, _, _, _))))) = absurd (omega (arith, idle, three))
-stays_idle b r mid outcome idle (inr (inr (inr (inr (busy, _, _, _))))) = absurd (omega (arith, idle, busy))
+stays_idle b r mid outcome idle (inr (inl (cleaning, _, _))) = cc (idle, cleaning)
+stays_idle b r mid outcome idle (inr (inr (inl (busy, _, _, _, _)))) = absurd (busy idle)
+stays_idle b r mid outcome idle (inr (inr (inr (inl (n, writing, _, _, _))))) = cc (idle, writing)
+stays_idle b r mid outcome idle (inr (inr (inr (inr (may, _, _))))) = absurd (rw idle at may)
 
 ok_is : (result : Result (Unit {0}) IoFault) → is_ok result ≡ true → result ≡ Ok tt
 ok_is (Ok x) is = refl
 ok_is (Err e) is = absurd (false≢true is)
 
-module _ (asked : Recorder) (start : Log) (one : asked.task ≡ 1) (block : List ℕ) (report : Report) (before : MediumState)
+module _ (asked : Recorder) (start : Log) (one : asked.phase ≡ Saving) (block : List ℕ) (report : Report) (before : MediumState)
     (end : Log) where
   -- an effect more
   more : (outcome : Result (Unit {0}) RecorderError) (r mid : Recorder) (effect : Effect) (result : Result (Unit {0}) IoFault)
       → PerformedAt asked start before None r → GoesOn r r (Ok (Some (Perform effect))) → Performs effect result before end.state
       → HasEnded (is_ok result) r mid outcome → PerformedAt asked start end.state (reported_as outcome) mid
-  more (Ok x) r mid effect result (task, has, same, (log, here, done)) (some, few, rest, is, saves, after, next) did ended =
-      let goes : GoesOn r r (Ok (Some (Perform effect))) = (some, few, rest, is, saves, after, next) in
-      let fine : is_ok result ≡ true = sym (ended_as (is_ok result) r mid effect (Ok x) task rest goes ended) in
+  more (Ok x) r mid effect result (task, has, same, (log, here, done)) (saving, is, after, next) did ended =
+      let goes : GoesOn r r (Ok (Some (Perform effect))) = (saving, is, after, next) in
+      let rest = saving.0 in
+      let fine : is_ok result ≡ true = sym (ended_as (is_ok result) r mid effect (Ok x) task rest goes ended).0 in
       let is_mid : mid ≡ record r { number = r.number + 1 } = shape (is_ok result) r mid effect (Ok x) task rest goes ended in
       let number : suc r.number ≡ mid.number = omega (arith, ap (λ (x : Recorder). x.number) is_mid) in
       let all = performed_more (effects_of asked) r.number effect result start log end
       (next.3 ∙ ap (λ l. nth l r.number) same) done (subst (λ m. Performs effect result m end.state) (sym here) did) in (
-        ap (λ (x : Recorder). x.task) is_mid ∙ task,
+        ap (λ (x : Recorder). x.phase) is_mid ∙ task,
         subst (λ (r : Recorder). HasData r r.data_length) (sym is_mid) has,
         ap effects_of is_mid ∙ same,
         (
@@ -88,12 +77,13 @@ module _ (asked : Recorder) (start : Log) (one : asked.task ≡ 1) (block : List
               (λ i. (number i, ok_is result fine i)) all,
         ),
       )
-  more (Err error) r mid effect result (task, has, same, (log, here, done)) (some, few, rest, is, saves, after, next) did ended =
-      let goes : GoesOn r r (Ok (Some (Perform effect))) = (some, few, rest, is, saves, after, next) in
-      let failed : is_ok result ≡ false = sym (ended_as (is_ok result) r mid effect (Err error) task rest goes ended) in
+  more (Err error) r mid effect result (task, has, same, (log, here, done)) (saving, is, after, next) did ended =
+      let goes : GoesOn r r (Ok (Some (Perform effect))) = (saving, is, after, next) in
+      let rest = saving.0 in
+      let failed : is_ok result ≡ false = sym (ended_as (is_ok result) r mid effect (Err error) task rest goes ended).0 in
       let all = performed_more (effects_of asked) r.number effect result start log end
       (next.3 ∙ ap (λ l. nth l r.number) same) done (subst (λ m. Performs effect result m end.state) (sym here) did) in (
-        ended_task (is_ok result) r mid effect error task rest goes ended,
+        (ended_as (is_ok result) r mid effect (Err error) task rest goes ended).1 refl,
         end,
         refl,
         (
@@ -112,19 +102,19 @@ module _ (asked : Recorder) (start : Log) (one : asked.task ≡ 1) (block : List
     performed = λ r mid effect outcome one known goes (result, is, did) settles.
         more outcome r mid effect result known goes did
         (settles_as (is_ok result) r mid outcome (subst (λ x. Settles x r mid outcome) is settles));
-    wrote = λ b r mid at len outcome two reported known is place did ended. absurd (omega (arith, one, two));
+    wrote = λ b r mid samples at len outcome waiting reported known is place did ended. cc (one, waiting);
     cut = λ b r mid at outcome known rest same ended.
         let (idle, log, here, done) = known in
-        (ap (λ (x : Recorder). x.task) (stays_idle b r mid outcome idle ended) ∙ idle, log, here ∙ sym same, done);
-    handed = λ mid r at len none known goes. absurd (let task = known.0 in omega (arith, goes.0, task));
+        (ap (λ (x : Recorder). x.phase) (stays_idle b r mid outcome idle ended) ∙ idle, log, here ∙ sym same, done);
+    handed = λ mid r at len none known goes. absurd (block_phase mid r at len Saving known.0 goes);
     saved = λ mid r one task known goes. all_saved mid r known goes;
   }
     where
       all_saved : (mid r : Recorder) → PerformedAt asked start end.state None mid → GoesOn mid r (Ok None)
           → PerformedAt asked start end.state (Some true) r
-      all_saved mid r (task, has, same, (log, here, done)) (inl (idle, _)) = absurd (omega (arith, task, idle))
+      all_saved mid r (task, has, same, (log, here, done)) (inl (idle, _)) = cc (task, idle)
       all_saved mid r (task, has, same, (log, here, done)) (inr (busy, rest, x, next, is)) = (
-        ap (λ (x : Recorder). x.task) is,
+        ap (λ (x : Recorder). x.phase) is,
         log,
         here,
         (
@@ -136,9 +126,9 @@ module _ (asked : Recorder) (start : Log) (one : asked.task ≡ 1) (block : List
       )
 
 -- no error comes of what is to do
-no_error : (r new : Recorder) (error : RecorderError) → HasData r r.data_length → r.condition ≤ 1
+no_error : (r new : Recorder) (error : RecorderError) → HasData r r.data_length → IsAlive r
     → NextEffect true r new (Err error) → ⊥
-no_error r new SyncFailed has low (is, inl high) = omega (arith, low, high)
+no_error r new SyncFailed has low (is, inl dead) = low dead
 no_error r new SyncFailed has low (is, inr ((_, _, bad), _)) = false≢true (sym bad)
 no_error r new NeedsCheckpoint has low (is, (_, _, bad), _) = false≢true (sym bad)
 no_error r new NotWritable has low (is, _, never) = grind (arith, common_steps)
@@ -149,20 +139,15 @@ no_error r new CutOff has low (is, _, never) = never
 no_error r new HasChunksAfterData has low (is, _, never) = never
 
 pub effects_not_failed : (asked : Recorder) (start : Log) (m : MediumState) (new : Recorder) (error : RecorderError)
-    (over : Option Bool) (mid : Recorder) → PerformedAt asked start m over mid → mid.condition ≤ 1
+    (over : Option Bool) (mid : Recorder) → PerformedAt asked start m over mid → IsAlive mid
     → GoesOn mid new (Err error) → ⊥
-effects_not_failed asked start m new error (Some b) mid (idle, _, _, _) low (busy, _, _, _) = omega (arith, idle, busy)
-effects_not_failed asked start m new error None mid (one, has, _, _) low (busy, rest, r, inl (failed, _)) =
+effects_not_failed asked start m new error (Some b) mid (idle, _, _, _) low ((rest, inl saving), _, _, _) = cc (idle, saving)
+effects_not_failed asked start m new error (Some b) mid (idle, _, _, _) low ((rest, inr (k, waiting, _)), _, _, _) = cc (idle, waiting)
+effects_not_failed asked start m new error None mid (one, has, _, _) low (saving, r, failed, _) =
     no_error mid r error has low failed
-effects_not_failed asked start m new error None mid (one, has, _, _) low (busy, rest, r, inr (inl (inl high, _), _, _)) =
-    omega (arith, one, high)
-effects_not_failed asked start m new error None mid (one, has, _, _) low (busy, rest, r, inr (inl (inr (two, _, _), _), _, _)) =
-    omega (arith, one, two)
-effects_not_failed asked start m new error None mid (one, has, _, _) low (busy, rest, r, inr (inr (two, _), _, _)) =
-    omega (arith, one, two)
 
 -- where the loop begins
-pub begins_effects : (asked : Recorder) (start : Log) (block : List ℕ) (now : MediumState) → asked.task ≡ 1 → asked.number ≡ 0
+pub begins_effects : (asked : Recorder) (start : Log) (block : List ℕ) (now : MediumState) → asked.phase ≡ Saving → asked.number ≡ 0
     → HasData asked asked.data_length
     → IsWithin asked Pending asked None → Repeats start.state now
     → IsUnderWayBy (λ m over r. PerformedAt asked start m over r) asked block Pending asked now
@@ -234,7 +219,7 @@ sizes_of r = Sync ∷ Size 4 (riff_size r.data_start r.data_length) ∷ Size (r.
 
 pub effects_synced : (r : Recorder) (start end : Log) (result : Result (Unit {0}) IoFault) → is_ok result ≡ true
     → Performed (effects_of r) result start end → IsSynced end.state
-effects_synced r start end result ok done = by (r.condition == 0) (r.data_length % 2) done
+effects_synced r start end result ok done = by (is_sound r.health) (r.data_length % 2) done
   where
     by : (clean : Bool) (odd : ℕ) → Performed (if clean then pad_effects (r.data_start + r.data_length) odd
         ++ size_effects r.data_start r.data_length else Sync ∷ pad_effects (r.data_start + r.data_length) odd

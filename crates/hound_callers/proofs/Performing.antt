@@ -4,11 +4,11 @@ use Rattle.std.proofs.lemmas.Grind.{flat_map-append, common_steps}
 use Rattle.std.proofs.lemmas.List.{append-nil, map-append}
 use Rattle.std.proofs.Common.{◌≡◌, ◌<◌, ◌≤◌, ◌+◌, ◌-◌, ◌*◌, ◌/◌, ◌%◌, ℕ, Bool, true, false, List, [], ◌∷◌, ◌++◌, drop, drop-cons, get_or, length, length-append, length-take, take, inl, inr, OnErr, OnOk, Result, Ok, Err, IsErr, is_ok, refl, sym, ◌∙◌, ap, subst, append_assoc, arith}
 use Rattle.std.proofs.Math.Nat.{div-add-mod', mul-div_cancel, mul-mod_left}
-use Rattle.std.specs.Prelude.{◌==◌, if◌then◌else◌}
 use Rattle.std.specs.Borrow.{Bor}
 use Rattle.std.specs.List.{AllByRecursion, flat_map}
 use Rattle.hound.proofs.Knowing.{accepted as accepted_of_known, lasts, length-concat, reads_all}
-use Rattle.hound.specs.{Abandons, AreBytes, AsksForBlock, Asked, Begun, Directed, KeptWithin, Known, Log, MediumState, PutsAll, placed, GivesUp, TakesBlock, Recorder, RecorderError, WavSpecEx, accepted_as_seen, accepted_by_all, field, found_in, if_marked, Repeats, length_with, log_kind, marked, overlay, publish, seen, start_of}
+use Rattle.hound.specs.{Abandons, AreBytes, AsksForBlock, Asked, Begun, Directed, KeptWithin, Known, Log, MediumState, PutsAll, placed, GivesUp, TakesBlock, given_up as given_back, Recorder, RecorderError, WavSpecEx, accepted_as_seen, accepted_by_all, field, found_in, if_marked, Repeats, length_with, log_kind, marked, overlay, publish, seen, start_of}
+use Rattle.hound.specs.declared.Phase.TheVariants.{Idle}
 use Rattle.hound.specs.declared.Report.TheVariants.{Pending}
 use Rattle.hound.specs.declared.RecorderError.TheVariants.{NotWritable, UnfinishedFrame, TooLong, Truncated, CutOff, HasChunksAfterData, NeedsCheckpoint, SyncFailed}
 use Rattle.hound_callers.specs.Recorder.{IsDirected, IsReady, IsRejected, ReadsBlocks, Saves, Stops, StopsAt, StopsIn, samples_of}
@@ -31,13 +31,10 @@ whole_samples n width whole = omega (arith, div-add-mod' n width, whole)
 pub given_up : (old end : Recorder) → Abandons Pending old end → GivesUp old end
 given_up old end (mid, modelled, (same, ok), gives) = subst (λ m. GivesUp m end) same gives
 
-nothing_given : (old end : Recorder) → old.task ≡ 0 → Abandons Pending old end → end ≡ old
+nothing_given : (old end : Recorder) → old.phase ≡ Idle → Abandons Pending old end → end ≡ old
 nothing_given old end idle gives =
-    only old.task idle (given_up old end gives) ∙ (λ i. record old { task = sym idle i })
-  where
-    only : (n : ℕ) → n ≡ 0 → end ≡ (if n == 3 then record old { condition = 1; task = 0; has_rest = 1 }
-        else record old { task = 0 }) → end ≡ record old { task = 0 }
-    only n none is = rw none at is
+    let only : given_back old.phase old ≡ record old { phase = Idle } = rw idle refl in
+    given_up old end gives ∙ only ∙ (λ i. record old { phase = sym idle i })
 
 -- a recorder that met no failure doesn't take a block
 pub not_taken : (r new : Recorder) (block : Bor (List ℕ)) (error : RecorderError)
@@ -50,19 +47,19 @@ not_taken r new block error whole ready (end, gives, takes) =
   where
     by : (error : RecorderError) → TakesBlock (length block.now / r.bytes_per_sample) r new (Err error)
         → (new ≡ r) × IsRejected r block
-    by SyncFailed (same, high) = absurd (omega (arith, high, ready.1))
+    by SyncFailed (same, dead) = let sound = ready.1 in cc (sound, dead)
     by UnfinishedFrame (same, alive, inl none) = absurd (let some = ready.5 in omega (arith, some, none))
     by UnfinishedFrame (same, alive, inr torn) = (same, inr (inl torn))
-    by TooLong (same, alive, (clean, none, long)) =
+    by TooLong (same, alive, long) =
         let size : length_with r (length block.now / r.bytes_per_sample) ≡ r.data_length + length block.now =
         omega (arith, whole_samples (length block.now) r.bytes_per_sample whole) in
         (same, inr (inr (rw size at long)))
-    by NotWritable (same, alive, (clean, none, inl low)) = absurd (let start = ready.4 in omega (arith, start, low))
-    by NotWritable (same, alive, (clean, none, inr thin)) = absurd (let wide = ready.6 in omega (arith, wide, thin))
-    by NeedsCheckpoint (same, alive, (low, some)) = absurd (omega (arith, some))
-    by Truncated (same, alive, (clean, none, never)) = absurd never
-    by CutOff (same, alive, (clean, none, never)) = absurd never
-    by HasChunksAfterData (same, alive, (clean, none, never)) = absurd never
+    by NotWritable (same, alive, inl low) = absurd (let start = ready.4 in omega (arith, start, low))
+    by NotWritable (same, alive, inr thin) = absurd (let wide = ready.6 in omega (arith, wide, thin))
+    by NeedsCheckpoint (same, alive, never) = absurd never
+    by Truncated (same, alive, never) = absurd never
+    by CutOff (same, alive, never) = absurd never
+    by HasChunksAfterData (same, alive, never) = absurd never
 
 -- what holds at an Ok, or at an Err
 pub on_ok : {T E P : Type 0} (r : Result T E) → (is_ok r ≡ true → P) → OnOk r P

@@ -1,15 +1,18 @@
 -- Actions that are performed again until their end is reported.
+use Rattle.std.proofs.lemmas.Bool.{false≢true}
 use Rattle.std.proofs.Common.{List, [], ◌∷◌, length, is_ok, ◌≡◌, ◌⊎◌, ◌<◌, ◌≤◌, ◌+◌, ◌-◌, ◌*◌, ℕ, Bool, true, false, inl, inr, Option, None, Some, Result, Ok, Err, refl, sym, ◌∙◌, ap, subst, arith, zero, suc}
 use Rattle.std.specs.Prelude.{⊤}
 use Rattle.std.specs.declared.io.Error.{Error as IoFault}
-use Rattle.hound.specs.{Action, Advances, AreBytes, Begun, Directed, Effect, Flushes, Known, WavSpecEx, GoesOn, IsSaid, IsSaved, Log, MediumState, NextEffect, PutsAt, Recorder, RecorderError, Repeats, Report, Settles, bytes_of, ThenGoesOn, written_first}
+use Rattle.hound.specs.{Action, Advances, AreBytes, Begun, Directed, Effect, Flushes, Known, WavSpecEx, GoesOn, IsAlive, IsClear, IsDue, IsSaid, Log, MediumState, NextEffect, PutsAt, Recorder, RecorderError, Repeats, Report, SavesFirst, Settles, bytes_of, end_place, ThenGoesOn, written_first}
 use Rattle.hound.specs.declared.Action.TheVariants.{Cut, Perform, Read, WriteBlock}
 use Rattle.hound.specs.declared.Effect.TheVariants.{Pad, Size, Sync}
+use Rattle.hound.specs.declared.Health.TheVariants.{Dead}
+use Rattle.hound.specs.declared.Phase.TheVariants.{Idle, Saving, Requested, Writing}
 use Rattle.hound.specs.declared.RecorderError.TheVariants.{SyncFailed}
 use Rattle.hound.specs.declared.Report.TheVariants.{Done, Failed, Pending}
 use Rattle.hound.proofs.Recorders.{same_next}
 use Rattle.hound_callers.specs.Recorder.{DoesAction, IsReportOf, TriesAction, bytes_for, place_for, report_for}
-use Rattle.hound_callers.proofs.Driving.{HasAction, IsWithin, KnownAt, not_pending, pending_or_made}
+use Rattle.hound_callers.proofs.Driving.{HasAction, IsWithin, KnownAt, block_phase, cut_phase, effect_phase, not_pending, pending_or_made}
 
 -- a write was begun, once or more often, and a beginning of its bytes is there
 abbrev pub Tried : Action → List ℕ → MediumState → MediumState → Type 0
@@ -93,65 +96,89 @@ module _ (laws : Again) (block : List ℕ) where
   comes (Read at len) report m old new small was same = rests report m old new was same
 
   -- a recorder that returned an action returns no other, and doesn't end
-  saved_none : (r saved : Recorder) → r.task ≡ 3 → IsSaved r saved → saved ≡ r
-  saved_none r saved three (inl (clear, same)) = same
-  saved_none r saved three (inr (two, next)) = absurd (omega (arith, two, three))
+  due_same : (k n : ℕ) (r saved : Recorder) → r.phase ≡ Writing k → IsDue n r saved → saved ≡ r
+  due_same k n r saved writing (rest, inl (_, same)) = same
+  due_same k n r saved writing (rest, inr (inl (waiting, _, _))) = cc (writing, waiting)
+  due_same k n r saved writing (rest, inr (inr (waiting, _))) = cc (writing, waiting)
 
   not_done : (r after other : Recorder) (effect : Effect) → NextEffect true r after (Ok (Some effect))
       → NextEffect true r other (Ok None) → ⊥
   not_done r after other effect next none =
       let (is, same) = same_next r after other (Some effect) (Ok None) next none in cc
 
+  -- what is cut off, and what is done else, exclude each other
+  cuts_alone : (r x y : Recorder) (at : ℕ) (other : Action) → GoesOn r x (Ok (Some (Cut at))) → GoesOn r y (Ok (Some other))
+      → ((to : ℕ) → other ≡ Cut to → ⊥) → ⊥
+  cuts_alone r x y at (Cut to) goes again never = never to refl
+  cuts_alone r x y at (Read to size) goes again never = again
+  cuts_alone r x y at (Perform e) goes ((rest, inl saving), _, _, _) never =
+      false≢true (cut_phase r x at Saving false saving rest goes)
+  cuts_alone r x y at (Perform e) goes ((rest, inr (k, waiting, _)), _, _, _) never =
+      false≢true (cut_phase r x at (Requested k) false waiting rest goes)
+  cuts_alone r x y at (WriteBlock to size) goes (k, _, (rest, inl (writing, _)), _) never =
+      false≢true (cut_phase r x at (Writing k) false writing rest goes)
+  cuts_alone r x y at (WriteBlock to size) goes (k, _, (rest, inr (inl (waiting, _, _))), _) never =
+      false≢true (cut_phase r x at (Requested k) false waiting rest goes)
+  cuts_alone r x y at (WriteBlock to size) goes (k, _, (rest, inr (inr (waiting, _))), _) never =
+      false≢true (cut_phase r x at (Requested k) false waiting rest goes)
+
   pub goes_same : (r new : Recorder) (a b : Action) (m now : MediumState) → GoesOn r r (Ok (Some a))
       → GoesOn r new (Ok (Some b)) → Tried a block m now → Tried b block m now
-  goes_same r new (Perform e) (Perform f) m now (some, few, rest, same, saves, after, next) (_, _, _, _, _, other, step) was =
+  goes_same r new (Perform e) (Perform f) m now (saving, same, after, next) (_, _, other, step) was =
       let (is, one) = same_next r after other (Some e) (Ok (Some f)) next step in
       let e_is : e ≡ f = cc in subst (λ e. Tried (Perform e) block m now) e_is was
-  goes_same r new (Perform e) (WriteBlock at len) m now (some, few, rest, same, saves, after, next) (_, _, saved, how, _, _, _) was =
-      absurd (by how)
+  goes_same r new (Perform e) (WriteBlock at len) m now ((rest, how), same, after, next) (k, saved, (_, due), _) was =
+      absurd (by how due)
     where
-      by : IsSaved r saved → ⊥
-      by (inl (inl high, _)) = omega (arith, high, few)
-      by (inl (inr (two, clean, none), _)) = let more = saves two in omega (arith, more, clean, none)
-      by (inr (two, none)) = not_done r after saved e next none
-  goes_same r new (Perform e) (Cut at) m now (some, few, rest, _, _, _, _) (_, cuts, _, _) was = absurd (omega (arith, rest, cuts))
+      by : (r.phase ≡ Saving) ⊎ ((n : ℕ) × (r.phase ≡ Requested n) × SavesFirst true r)
+          → ((r.phase ≡ Writing k) × (saved ≡ r)) ⊎ ((r.phase ≡ Requested k) × IsClear r × (saved ≡ r))
+          ⊎ ((r.phase ≡ Requested k) × NextEffect true r saved (Ok None)) → ⊥
+      by how (inr (inr (waiting, none))) = not_done r after saved e next none
+      by (inl here) (inl (writing, _)) = cc (here, writing)
+      by (inl here) (inr (inl (waiting, _, _))) = cc (here, waiting)
+      by (inr (n, waiting, first)) (inl (writing, _)) = cc (waiting, writing)
+      by (inr (n, waiting, inl doubtful)) (inr (inl (_, clear, _))) = doubtful clear.0
+      by (inr (n, waiting, inr some)) (inr (inl (_, clear, _))) = omega (arith, some, clear.1)
+  goes_same r new (Perform e) (Cut at) m now goes cuts was = absurd (cuts_alone r new r at (Perform e) cuts goes (λ to is. cc is))
   goes_same r new (Perform e) (Read at len) m now goes never was = absurd never
-  goes_same r new (WriteBlock at len) (Perform f) m now (some, rest, saved, how, there, long, is) (_, few, _, _, _, _, _) was =
-      absurd (let three = ap (λ (x : Recorder). x.task) is in omega (arith, few, three))
-  goes_same r new (WriteBlock at len) (WriteBlock to size) m now (some, rest, saved, how, there, long, is) (_, _, saved2, how2, there2, _, _) was =
-      let three = ap (λ (x : Recorder). x.task) is in
-      let one = saved_none r saved three how in
-      let two = saved_none r saved2 three how2 in
-      let place : at ≡ to = there.3 ∙ ap (λ (x : Recorder). x.data_start + x.data_length) (one ∙ sym two) ∙ sym there2.3 in
+  goes_same r new (WriteBlock at len) (Perform f) m now (k, saved, due, (there, long, is)) effect was =
+      absurd (effect_phase r new f (Writing k) (ap (λ (x : Recorder). x.phase) is) effect)
+  goes_same r new (WriteBlock at len) (WriteBlock to size) m now (k, saved, due, (there, long, is)) (n, saved2, due2, (there2, _, _)) was =
+      let writing : r.phase ≡ Writing k = ap (λ (x : Recorder). x.phase) is in
+      let one = due_same k k r saved writing due in
+      let two = due_same k n r saved2 writing due2 in
+      let place : at ≡ to = there ∙ ap end_place (one ∙ sym two) ∙ sym there2 in
       subst (λ at. Tried (WriteBlock at len) block m now) place was
-  goes_same r new (WriteBlock at len) (Cut to) m now (some, rest, _, _, _, _, _) (_, cuts, _, _) was = absurd (omega (arith, rest, cuts))
+  goes_same r new (WriteBlock at len) (Cut to) m now goes cuts was =
+      absurd (cuts_alone r new r to (WriteBlock at len) cuts goes (λ to is. cc is))
   goes_same r new (WriteBlock at len) (Read to size) m now goes never was = absurd never
-  goes_same r new (Cut at) (Perform f) m now (_, cuts, _, _) (_, _, rest, _, _, _, _) was = absurd (omega (arith, rest, cuts))
-  goes_same r new (Cut at) (WriteBlock to size) m now (_, cuts, _, _) (_, rest, _, _, _, _, _) was = absurd (omega (arith, rest, cuts))
+  goes_same r new (Cut at) (Perform f) m now cuts goes was = absurd (cuts_alone r r new at (Perform f) cuts goes (λ to is. cc is))
+  goes_same r new (Cut at) (WriteBlock to size) m now cuts goes was =
+      absurd (cuts_alone r r new at (WriteBlock to size) cuts goes (λ to is. cc is))
   goes_same r new (Cut at) (Cut to) m now goes again was = was
   goes_same r new (Cut at) (Read to size) m now goes never was = absurd never
   goes_same r new (Read at len) b m now never again was = absurd never
 
   goes_none : (r new : Recorder) (a : Action) → GoesOn r r (Ok (Some a)) → GoesOn r new (Ok None) → ⊥
-  goes_none r new (Perform e) (some, few, rest, same, saves, after, next) (inl (idle, _)) = omega (arith, some, idle)
-  goes_none r new (Perform e) (some, few, rest, same, saves, after, next) (inr (one, _, x, none, _)) = not_done r after x e next none
-  goes_none r new (WriteBlock at len) (some, rest, _, _, _, _, _) (inl (idle, _)) = omega (arith, some, idle)
-  goes_none r new (WriteBlock at len) (some, rest, _, _, _, _, _) (inr (one, _, _, _, _)) = omega (arith, some, one)
-  goes_none r new (Cut at) (some, cuts, _, _) (inl (idle, _)) = omega (arith, some, idle)
-  goes_none r new (Cut at) (some, cuts, _, _) (inr (one, rest, _, _, _)) = omega (arith, cuts, rest)
+  goes_none r new (Perform e) goes (inl (idle, _)) = effect_phase r r e Idle idle goes
+  goes_none r new (Perform e) (saving, same, after, next) (inr (one, _, x, none, _)) = not_done r after x e next none
+  goes_none r new (WriteBlock at len) goes (inl (idle, _)) = block_phase r r at len Idle idle goes
+  goes_none r new (WriteBlock at len) goes (inr (saving, _, _, _, _)) = block_phase r r at len Saving saving goes
+  goes_none r new (Cut at) goes (inl (idle, _)) = false≢true (cut_phase r r at Idle r.has_rest idle refl goes)
+  goes_none r new (Cut at) goes (inr (saving, rest, _, _, _)) = false≢true (cut_phase r r at Saving false saving rest goes)
   goes_none r new (Read at len) never none = absurd never
 
   -- without a report it continues from where it was, unless a sync has failed
   unreported : (report : Report) (r new : Recorder) (next : Result (Option Action) RecorderError) → report ≡ Pending
-      → Advances report r new next → GoesOn r new next ⊎ ((1 < r.condition) × (next ≡ Err SyncFailed))
+      → Advances report r new next → GoesOn r new next ⊎ ((r.health ≡ Dead) × (next ≡ Err SyncFailed))
   unreported report r new next pending (mid, outcome, settles, on) =
       let (same, ok) = subst (λ x. Settles x r mid outcome) pending settles in
       by mid same (subst (λ x. ThenGoesOn x mid new next) ok on)
     where
       by : (mid : Recorder) → mid ≡ r → ThenGoesOn (Ok tt) mid new next
-          → GoesOn r new next ⊎ ((1 < r.condition) × (next ≡ Err SyncFailed))
+          → GoesOn r new next ⊎ ((r.health ≡ Dead) × (next ≡ Err SyncFailed))
       by mid same (inl (low, goes)) = inl (subst (λ x. GoesOn x new next) same goes)
-      by mid same (inr (high, is, _)) = inr (subst (λ (x : Recorder). 1 < x.condition) same high, is)
+      by mid same (inr (high, is, _)) = inr (sym (ap (λ (x : Recorder). x.health) same) ∙ high, is)
 
   pub is_tried : (report : Report) (r new : Recorder) (action : Action) (m now : MediumState)
       → IsOnTheWay report r block m now → Advances report r new (Ok (Some action)) → Tried action block m now
@@ -159,7 +186,7 @@ module _ (laws : Again) (block : List ℕ) where
   is_tried report r new action m now (inr (pending, a, goes, was)) next =
       by (unreported report r new (Ok (Some action)) pending next)
     where
-      by : GoesOn r new (Ok (Some action)) ⊎ ((1 < r.condition) × (Ok (Some action) ≡ Err SyncFailed))
+      by : GoesOn r new (Ok (Some action)) ⊎ ((r.health ≡ Dead) × (Ok (Some action) ≡ Err SyncFailed))
           → Tried action block m now
       by (inl on) = goes_same r new a action m now goes on was
       by (inr (_, never)) = cc
@@ -170,30 +197,19 @@ module _ (laws : Again) (block : List ℕ) where
   all_done report r new m now (inr (pending, a, goes, was)) next =
       by (unreported report r new (Ok None) pending next)
     where
-      by : GoesOn r new (Ok None) ⊎ ((1 < r.condition) × (◌≡◌ {A = Result (Option Action) RecorderError} (Ok None) (Err SyncFailed))) → Repeats m now
+      by : GoesOn r new (Ok None) ⊎ ((r.health ≡ Dead) × (◌≡◌ {A = Result (Option Action) RecorderError} (Ok None) (Err SyncFailed))) → Repeats m now
       by (inl on) = absurd (goes_none r new a goes on)
       by (inr (_, never)) = cc
 
-  -- no effect and no block is requested once a sync has failed, and a cut writes nothing
-  nothing_tried : (r : Recorder) (a : Action) (m now : MediumState) → 1 < r.condition → GoesOn r r (Ok (Some a))
-      → Tried a block m now → Repeats m now
-  nothing_tried r (Perform e) m now high (_, _, _, _, _, after, next) was = absurd (let low = next.0 in omega (arith, low, high))
-  nothing_tried r (WriteBlock at len) m now high (some, rest, saved, inl (clear, same), there, _, _) was =
-      absurd (let none = there.0 in let is = ap (λ (x : Recorder). x.condition) same in omega (arith, none, is, high))
-  nothing_tried r (WriteBlock at len) m now high (some, rest, saved, inr (two, next), there, _, _) was =
-      absurd (let low = next.0 in omega (arith, low, high))
-  nothing_tried r (Cut at) m now high goes was = was
-  nothing_tried r (Read at len) m now high never was = absurd never
-
   pub has_failed : (report : Report) (r new : Recorder) (error : RecorderError) (m now : MediumState)
-      → (report ≡ Pending → GoesOn r new (Err error) → ⊥) → IsOnTheWay report r block m now → Advances report r new (Err error) → Repeats m now
+      → (report ≡ Pending → IsAlive r × (GoesOn r new (Err error) → ⊥)) → IsOnTheWay report r block m now → Advances report r new (Err error) → Repeats m now
   has_failed report r new error m now never (inl repeats) next = repeats
   has_failed report r new error m now never (inr (pending, a, goes, was)) next =
       by (unreported report r new (Err error) pending next)
     where
-      by : GoesOn r new (Err error) ⊎ ((1 < r.condition) × (◌≡◌ {A = Result (Option Action) RecorderError} (Err error) (Err SyncFailed))) → Repeats m now
-      by (inl on) = absurd (never pending on)
-      by (inr (high, _)) = nothing_tried r a m now high goes was
+      by : GoesOn r new (Err error) ⊎ ((r.health ≡ Dead) × (◌≡◌ {A = Result (Option Action) RecorderError} (Err error) (Err SyncFailed))) → Repeats m now
+      by (inl on) = absurd ((never pending).1 on)
+      by (inr (dead, _)) = absurd ((never pending).0 dead)
 
 -- What is known while actions are performed: what came of the last one that is reported, and whether another was
 -- begun.

@@ -1,11 +1,13 @@
 -- What callers do that perform a recorder's effects themselves.
-use Rattle.std.specs.Prelude.{◌≡◌, ◌⊎◌, ℕ, ◌+◌, ◌-◌, ◌*◌, ◌/◌, ◌%◌, ◌<◌, ◌≤◌, ◌==◌, if◌then◌else◌, Bool, true, false, List, [], ◌∷◌, ◌++◌, length, take, drop, codes, Result, Ok, Err, is_ok}
+use Rattle.std.specs.Prelude.{◌≡◌, ◌⊎◌, ℕ, ◌+◌, ◌-◌, ◌*◌, ◌/◌, ◌%◌, ◌<◌, ◌≤◌, Bool, true, false, List, [], ◌∷◌, ◌++◌, length, take, drop, codes, Result, Ok, Err, is_ok}
 use Rattle.std.specs.declared.io.Error.{Error as IoFault}
 use Rattle.std.specs.Borrow.{Bor}
 use Rattle.std.specs.List.{AllByRecursion, flat_map}
-use Rattle.hound.specs.{Action, AppendsRecorder, Counts, Kept, accepted_by_all, SurvivesLoss, accepted_samples, field, mix, FoundFile, HasData, Head, IsSoundSpec, LeavesWriter, Resumes, mark_of, resumed_file, writer_of, Asked, Begun, Directed, Error, Flushes, IsRejection, IsSaid, KeptWithin, Known, Log, MediumState, Performed, Performs, Places, PutsAt, ReadsAs, Readable, Repeats, Recorder, RecorderError, Rejection, Report, Unreadable, WavSpecEx, bytes_of, effects_of, found_in, greatest_u32, if_marked, length_with, log_kind, padded, publish, riff_size, seen, start_of, whole_containers, write}
+use Rattle.hound.specs.{Action, AppendsRecorder, Counts, Kept, accepted_by_all, SurvivesLoss, accepted_samples, field, mix, FoundFile, HasData, Head, IsAlive, IsSoundSpec, LeavesWriter, Resumes, mark_of, resumed_file, writer_of, Asked, Begun, Directed, Error, Flushes, IsRejection, IsSaid, KeptWithin, Known, Log, MediumState, Performed, Performs, Phase, PutsAt, ReadsAs, Readable, Repeats, Recorder, RecorderError, Rejection, Report, Unreadable, WavSpecEx, bytes_of, effects_of, found_in, greatest_u32, if_marked, log_kind, padded, publish, riff_size, seen, start_of, whole_containers, write}
 use Rattle.hound.specs.declared.Action.TheVariants.{Cut, Perform, Read, WriteBlock}
 use Rattle.hound.specs.declared.Effect.TheVariants.{Pad, Size, Sync}
+use Rattle.hound.specs.declared.Health.TheVariants.{Sound}
+use Rattle.hound.specs.declared.Phase.TheVariants.{Idle, Saving, Requested}
 use Rattle.hound.specs.declared.RecorderError.TheVariants.{Truncated, HasChunksAfterData}
 use Rattle.hound.specs.declared.Report.TheVariants.{Done, Failed, Pending}
 use Rattle.hound.specs.declared.Error.TheVariants.{FormatError, Unsupported}
@@ -57,23 +59,22 @@ IsDirected s file known r m = (once : MediumState) × Directed s file known r on
 
 -- a recorder of which nothing failed, with nothing under way
 abbrev pub IsReady : Recorder → Type 0
-IsReady r = (r.number ≡ 0) × (r.condition ≡ 0) × (r.task ≡ 0) × (r.has_rest ≡ 0)
+IsReady r = (r.number ≡ 0) × (r.health ≡ Sound) × (r.phase ≡ Idle) × (r.has_rest ≡ false)
     × (20 ≤ r.data_start) × (1 ≤ r.channels) × (1 ≤ r.bytes_per_sample)
 
--- a recorder was requested a checkpoint, or, where nothing failed, a block of so many bytes, which has a place
+-- a recorder was requested a checkpoint, or, where nothing failed, a block of so many bytes
 abbrev pub IsAsked : Recorder → ℕ → Type 0
-IsAsked r n = (r.number ≡ 0) × (r.condition ≤ 1) × (r.has_rest ≡ 0)
-    × ((r.task ≡ 1) ⊎ ((r.task ≡ 2) × (n ≡ r.samples * r.bytes_per_sample)
-    × ((place : ℕ) × Places r r.samples (Ok place))))
+IsAsked r n = (r.number ≡ 0) × IsAlive r × (r.has_rest ≡ false)
+    × ((r.phase ≡ Saving) ⊎ ((r.phase ≡ Requested (r.data_length + n)) × (r.health ≡ Sound)))
 
--- the recorder once that is done
+-- how many bytes the data have once that is done
+abbrev pub length_after : Phase → Recorder → ℕ
+length_after (Requested length) r = length
+length_after _ r = r.data_length
+
+-- the recorder then
 abbrev pub once_done : Recorder → Recorder
-once_done r = record r {
-  data_length = if r.task == 1 then r.data_length else length_with r r.samples;
-  number = 0;
-  condition = 0;
-  task = 0;
-}
+once_done r = record r { data_length = length_after r.phase r; number = 0; health = Sound; phase = Idle }
 
 -- the effects of a checkpoint were performed, up to the first that failed, where this is an error
 abbrev pub PerformsAll : {T E : Type 0} → Recorder → Log → Result T E → MediumState → Type 0
@@ -85,8 +86,12 @@ abbrev pub samples_of : WavSpecEx → Bor (List ℕ) → Result (List (List ℕ)
 samples_of s block = whole_containers s block.now
 
 -- what was requested, with a block of these bytes
+abbrev pub asked_in : Phase → WavSpecEx → List ℕ → Asked
+asked_in Saving s bytes = publish
+asked_in _ s bytes = write (whole_containers s bytes)
+
 abbrev pub asked_as : WavSpecEx → Recorder → List ℕ → Asked
-asked_as s r bytes = if r.task == 1 then publish else write (whole_containers s bytes)
+asked_as s r bytes = asked_in r.phase s bytes
 
 -- a recorder can't take this block: it is no whole frames, or the sizes would pass 32 bits
 abbrev pub IsRejected : Recorder → Bor (List ℕ) → Type 0
@@ -152,11 +157,11 @@ Saves s file blocks n m = (more : List (Asked × Bool)) × (r : Recorder) × (lo
 
 -- a recorder that continues a file, with nothing under way
 abbrev pub IsResumed : Recorder → Type 0
-IsResumed r = (r.number ≡ 0) × (r.condition ≤ 1) × (r.task ≡ 0) × (r.has_rest ≤ 1) × HasData r r.data_length
+IsResumed r = (r.number ≡ 0) × IsAlive r × (r.phase ≡ Idle) × HasData r r.data_length
 
 -- the same once its file is mended
 abbrev pub once_mended : Recorder → Recorder
-once_mended r = record r { number = 0; condition = 0; task = 0; has_rest = 0 }
+once_mended r = record r { number = 0; health = Sound; phase = Idle; has_rest = false }
 
 -- a file was found as this says: it has such a head, and so many bytes
 pub record IsFound (f : FoundFile) (m : MediumState) : Type 0 where

@@ -2,6 +2,7 @@
 ghost use Rattle.std.specs.Prelude.{◌≡◌, ◌⊎◌, ◌≤◌, ◌+◌, ℕ, List, [], ◌++◌, ◌∷◌, Bool, true, false, if◌then◌else◌, IfErr, IfOk, OnErr, OnOk, Result, drop, is_ok, length, slice_index_or, take};
 ghost use Rattle.std.specs.declared.io.Error.{Error as IoFault};
 ghost use Rattle.hound.specs.{Asked, Begun, Flushes, IsIoError, IsNotBegun, IsSaid, HasData, IsSynced, Known, Log, Repeats, Readable, Recorder, WavSpecEx, one_more, WhereKeeps, WhereTells, new_file, resumed_file, seen};
+ghost use Rattle.hound.specs.declared.Phase.TheVariants.{Saving};
 ghost use Rattle.hound.specs.declared.Report.TheVariants.{Pending};
 ghost use Rattle.hound.specs.{Directed, MediumState, PutsAt, end_of, overlay, placed};
 ghost use Rattle.hound_callers.specs.Recorder.{CountsDirected, Continues, IsFound, IsNotContinued, IsNotMended, IsResumed, once_mended, IsAsked, IsDirected, IsErrorOf, IsNotResumed, IsReady, PerformsAll, Saves, Stops, StopsAt, TriesAction, asked_as, once_done, report_for, samples_of};
@@ -95,7 +96,7 @@ fn perform_all<M: Medium>(
         × IsDirected s file (known ++ seen ((asked_as s recorder.old block.now, is_ok result) ∷ []))
         recorder.new (M.state medium.new)) }
     ensures performed { WhereKeeps M.tells M.keeps ((start : Log) → Repeats start.state (M.state medium.old)
-        → recorder.old.task ≡ 1 → HasData recorder.old recorder.old.data_length
+        → recorder.old.phase ≡ Saving → HasData recorder.old recorder.old.data_length
         → PerformsAll recorder.old start result (M.state medium.new)) }
 {
     a_recorder_directs();
@@ -197,10 +198,10 @@ pub fn record_by_effects<M: Medium>(
 // what follows the data is cut off, which isn't done to a medium.
 fn begin_mending(continued: &mut Recorder)
     requires { IsResumed continued.old }
-    ensures { continued.new ≡ record continued.old { task = 1; has_rest = 0 } }
+    ensures { continued.new ≡ record continued.old { phase = Saving; has_rest = false } }
 {
     continued.checkpoint(Report::Pending);
-    if continued.has_rest > 0 {
+    if continued.has_rest {
         let _ = continued.next(Report::Pending);
         let _ = continued.next(Report::Failed);
     }

@@ -24,7 +24,7 @@ pub use effect::{HoundEffect, effect_for_c, report_of};
 pub use error::{CallError, code_of, code_of_error};
 pub use head::find_samples;
 pub use reading::{decode_block, read_block};
-pub use recording::{HoundRecorder, found_file, mends, overwrites, recorder_for_c};
+pub use recording::{HoundRecorder, found_file, mends, overwrites, recorder_for_c, recorder_of};
 pub use repairer::{HoundRepairer, begin_repairer, step_repairer};
 pub use repairing::{find_file_damage, repair_file};
 pub use scaling::{scale_to_floats, scale_to_integers};

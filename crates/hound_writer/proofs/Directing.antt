@@ -1,9 +1,9 @@
 -- What a caller does as its recorder directs are calls of a writer.
 use Rattle.std.proofs.lemmas.Grind.{common_steps}
-use Rattle.std.proofs.lemmas.Bool.{eqb-true, false≢true}
+use Rattle.std.proofs.lemmas.Bool.{false≢true}
 use Rattle.std.proofs.Common.{◌≡◌, ℕ, zero, suc, ◌+◌, ◌*◌, ◌/◌, ◌%◌, ◌<◌, ◌≤◌, Bool, true, false, IsTrue, List, [], ◌∷◌, ◌++◌, length, drop, take, inl, inr, Some, None, Result, Ok, Err, is_ok, refl, rules, sym, ◌∙◌, ap, subst, arith}
 use Rattle.std.proofs.Math.Nat.{mul-div_cancel, mul-mod_left}
-use Rattle.std.specs.Prelude.{◌==◌, if◌then◌else◌}
+use Rattle.std.specs.Prelude.{if◌then◌else◌}
 use Rattle.std.specs.declared.io.Error.{Error as IoFault}
 use Rattle.hound_sample.specs.{containers}
 use Rattle.hound_spec.specs.{IsPair, data_start, greatest_u32, header, riff_size}
@@ -20,11 +20,13 @@ use Rattle.hound_writer.specs.Beginning.{Begins}
 use Rattle.hound_writer.specs.Calls.{Asked, Begun, Does, Known, Opens, Recorded, handed_in, marked, new_file, publish, write}
 use Rattle.hound_writer.specs.Effects.{Log, Performed, Performs, checkpoint, log_kind, nth}
 use Rattle.hound_writer.specs.Parts.{IsPublishResult, PutsAt, of_fields}
-use Rattle.hound_writer.specs.Recorder.{AppendsRecorder, BeginsRecorder, HasData, HasFailed, NextEffect, Places, Reports, effects_of, length_with, recorder_of}
+use Rattle.hound_writer.specs.Recorder.{AppendsRecorder, BeginsRecorder, HasData, HasFailed, IsAlive, IsClear, NextEffect, effects_of, is_sound, recorder_of}
 use Rattle.hound_writer.specs.Recording.{InStep, IsIdle, IsOrdered, IsRecorderOf, IsSynced, Opened, Resumed, block_known, resumed_file}
 use Rattle.hound_writer.specs.Writer.{WriterState, HasRoom, IsSound, accepted_samples, sample_count}
 use Rattle.hound_writer.specs.declared.effects.Effect.{Effect}
 use Rattle.hound_writer.specs.declared.effects.Effect.TheVariants.{Sync}
+use Rattle.hound_writer.specs.declared.recorder.Health.{Health}
+use Rattle.hound_writer.specs.declared.recorder.Health.TheVariants.{Sound, Suspect, Dead}
 use Rattle.hound_writer.specs.declared.recorder.Recorder.{Recorder}
 use Rattle.hound_writer.specs.declared.recorder.RecorderError.{RecorderError}
 use Rattle.hound_writer.specs.declared.recorder.RecorderError.TheVariants.{NotWritable, UnfinishedFrame, TooLong, Truncated, CutOff, HasChunksAfterData, NeedsCheckpoint, SyncFailed}
@@ -119,7 +121,7 @@ block_call bytes (Err e) w m idle room whole puts =
 at_rest : (s : WavSpecEx) (file : Begun) (known : List Known) (r : Recorder) (w : WriterState Log)
     → Recorded log_kind s file known w → IsIdle w → IsRecorderOf r w → r.number ≡ 0
     → (IsSynced (handed_in file) → (high : ℕ) × IsOrdered high w.medium.state
-    × (r.condition ≡ 0 → high ≤ r.data_start + r.data_length))
+    × (r.health ≡ Sound → high ≤ r.data_start + r.data_length))
     → InStep s file known r true w.medium.state
 at_rest s file known r w recorded idle is none order = record {
   writer = w;
@@ -134,11 +136,11 @@ at_rest s file known r w recorded idle is none order = record {
   performed = rw none (refl, refl);
 }
 
--- a block that has a place has room
-has_room : (r : Recorder) (w : WriterState Log) (samples more : ℕ) → IsRecorderOf r w → w.buffered ≡ []
-    → more ≡ samples * r.bytes_per_sample → HasData r (length_with r samples) → HasRoom w more
-has_room r w samples more is none long (far, wide, fits) =
-    let sum : r.data_length + samples * r.bytes_per_sample ≡ w.bytes_written + 0 + more = omega (arith, is.1, long) in
+-- a block that the data have room for has it in the writer
+has_room : (r : Recorder) (w : WriterState Log) (n more : ℕ) → IsRecorderOf r w → w.buffered ≡ []
+    → n ≡ r.data_length + more → HasData r n → HasRoom w more
+has_room r w n more is none long (far, wide, fits) =
+    let sum : n ≡ w.bytes_written + 0 + more = omega (arith, is.1, long) in
     rw none (subst (λ (x : ℕ × ℕ). riff_size x.0 x.1 ≤ greatest_u32) (λ i. (is.0 i, sum i)) fits)
 
 -- a new file whose header was written
@@ -226,34 +228,31 @@ pub at_none : (r : Recorder) (result : Result (Unit {0}) IoFault) (first last : 
 at_none r result first last none did = rw none at did
 
 -- the recorder after the report of a block
-reported : (old new : Recorder) (w : WriterState Log) (end : Log) (samples more : ℕ)
-    (result : Result (Unit {0}) IoFault) → IsRecorderOf old w → old.number ≡ 0
-    → more ≡ samples * old.bytes_per_sample
-    → new ≡ (if is_ok result then record old { data_length = length_with old samples } else record old { condition = 1 })
+reported : (old new : Recorder) (w : WriterState Log) (end : Log) (n more : ℕ)
+    (result : Result (Unit {0}) IoFault) → IsRecorderOf old w → old.number ≡ 0 → n ≡ old.data_length + more
+    → new ≡ (if is_ok result then record old { data_length = n } else record old { health = Suspect })
     → IsRecorderOf new (record w { medium = end; bytes_written = out_after result more w.bytes_written }) × (new.number ≡ 0)
-    × (new.condition ≡ 0 → w.data_start + w.bytes_written + more ≤ new.data_start + new.data_length)
-reported old new w end samples more (Ok x) is none long same =
+    × (new.health ≡ Sound → w.data_start + w.bytes_written + more ≤ new.data_start + new.data_length)
+reported old new w end n more (Ok x) is none long same =
     rw same ((is.0, omega (arith, is.1, long), is.2), none, λ _. omega (arith, is.0, is.1, long))
-reported old new w end samples more (Err e) is none long same =
-    rw same ((is.0, is.1, is.2), none, λ clean. absurd (omega (arith, clean)))
+reported old new w end n more (Err e) is none long same =
+    rw same ((is.0, is.1, is.2), none, λ clean. cc clean)
 
 -- a block that was written where the recorder said, or a beginning of it
 pub step_block : (s : WavSpecEx) (file : Begun) (known : List Known) (old new : Recorder)
-    (m : MediumState) (end : Log) (samples place : ℕ) (bytes : List ℕ) (result : Result (Unit {0}) IoFault)
-    → InStep s file known old true m → Places old samples (Ok place)
-    → length bytes ≡ samples * old.bytes_per_sample → PutsAt true place bytes result m end.state
-    → Reports samples (is_ok result) old new (Ok tt)
+    (m : MediumState) (end : Log) (n : ℕ) (bytes : List ℕ) (result : Result (Unit {0}) IoFault)
+    → InStep s file known old true m → IsClear old → HasData old n → n ≡ old.data_length + length bytes
+    → length bytes % old.bytes_per_sample ≡ 0 → PutsAt true (old.data_start + old.data_length) bytes result m end.state
+    → new ≡ (if is_ok result then record old { data_length = n } else record old { health = Suspect })
     → InStep s file (known ++ block_known bytes (is_ok result) s ∷ []) new true end.state
-step_block s file known old new m end samples place bytes result d (clean, none, has, there) long puts (places, is) =
+step_block s file known old new m end n bytes result d (clean, none) has long containers puts is =
     let w = d.writer in
     let (done, same) = at_none old d.result w.medium d.log none d.performed in
     let here : m ≡ w.medium.state = sym d.state ∙ ap log_kind.state same in
-    let at : place ≡ w.data_start + w.bytes_written = there ∙ omega (arith, d.is.0, d.is.1) in
-    let more : length bytes ≡ samples * w.spec_ex.bytes_per_sample = rw d.is.2 at long in
-    let whole : length bytes % w.spec_ex.bytes_per_sample ≡ 0 =
-    rw more (mul-mod_left samples w.spec_ex.bytes_per_sample) in
+    let at : old.data_start + old.data_length ≡ w.data_start + w.bytes_written = omega (arith, d.is.0, d.is.1) in
+    let whole : length bytes % w.spec_ex.bytes_per_sample ≡ 0 = rw d.is.2 at containers in
     let written : PutsAt true (w.data_start + w.bytes_written) bytes result w.medium.state end.state = rw (here, at) at puts in
-    let call = block_call bytes result w end d.idle (has_room old w samples (length bytes) d.is d.idle.none long has)
+    let call = block_call bytes result w end d.idle (has_room old w n (length bytes) d.is d.idle.none long has)
     whole written in
     let known_more = known ++ block_known bytes (is_ok result) s ∷ [] in
     let next = record w { medium = end; bytes_written = out_after result (length bytes) w.bytes_written } in
@@ -262,7 +261,7 @@ step_block s file known old new m end samples place bytes result d (clean, none,
     (recorded_spec log_kind s file known w d.recorded)
     (recorded_more log_kind (block_known bytes (is_ok result) w.spec_ex)
     (write (whole_containers w.spec_ex bytes)) call.answer s file known w next (refl, call.mark) d.recorded call.does) in
-    let (fields, number, below) = reported old new w end samples (length bytes) result d.is none long is in
+    let (fields, number, below) = reported old new w end n (length bytes) result d.is none long is in
     at_rest s file known_more new next recorded call.idle fields number
     (λ synced. let (high, order, low) = d.order synced in (
       w.data_start + w.bytes_written + length bytes,
@@ -331,30 +330,35 @@ step_effect s file known old new ok m end effect result d (low, so, has, at, is)
           (rw (sym d.state) at did));
     })
 
+pub sound_is : (health : Health) → is_sound health ≡ true → health ≡ Sound
+sound_is Sound is = refl
+sound_is Suspect is = absurd (false≢true is)
+sound_is Dead is = absurd (false≢true is)
+
 -- a checkpoint that has ended
 ended : (s : WavSpecEx) (file : Begun) (known : List Known) (old : Recorder) (ok : Bool) (m : MediumState)
-    (condition : ℕ) (d : InStep s file known old ok m)
+    (health : Health) (d : InStep s file known old ok m)
     → (is_ok d.result ≡ true → None ≡ nth (effects_of old) old.number)
-    → (condition ≡ 0 → is_ok d.result ≡ true)
+    → (health ≡ Sound → is_ok d.result ≡ true)
     → InStep s file (known ++ marked publish (is_ok d.result) ∷ [])
-    (record old { number = 0; condition = condition }) true m
-ended s file known old ok m condition d all clean =
+    (record old { number = 0; health = health }) true m
+ended s file known old ok m health d all clean =
     let w = d.writer in
     let whole = performed_all (effects_of old) old.number d.result w.medium d.log all d.performed in
-    let did : Performed (if old.condition == 0 then checkpoint w.data_start w.bytes_written
+    let did : Performed (if is_sound old.health then checkpoint w.data_start w.bytes_written
     else Sync ∷ checkpoint w.data_start w.bytes_written) d.result w.medium d.log = rw (d.is.0, d.is.1) at whole in
-    let call = save_call (old.condition == 0) d.result w d.log d.idle did in
+    let call = save_call (is_sound old.health) d.result w d.log d.idle did in
     let next = record w { medium = d.log } in
     let recorded = recorded_more log_kind (marked publish (is_ok d.result)) publish call.answer s file known w
     next (refl, call.mark) d.recorded call.does in
-    subst (InStep s file (known ++ marked publish (is_ok d.result) ∷ []) (record old { number = 0; condition = condition }) true)
+    subst (InStep s file (known ++ marked publish (is_ok d.result) ∷ []) (record old { number = 0; health = health }) true)
     d.state
-    (at_rest s file (known ++ marked publish (is_ok d.result) ∷ []) (record old { number = 0; condition = condition }) next
+    (at_rest s file (known ++ marked publish (is_ok d.result) ∷ []) (record old { number = 0; health = health }) next
     recorded call.idle d.is refl (λ synced.
     let (high, order, low) = d.order synced in
     let (top, now, small) = all_ordered (effects_of old) high (old.data_start + old.data_length) d.result w.medium d.log
-    (effects_ordered (old.condition == 0) old.data_start old.data_length high (omega (arith, d.idle.sound.after_head, d.is.0))
-    (λ clean. low (eqb-true old.condition 0 clean)))
+    (effects_ordered (is_sound old.health) old.data_start old.data_length high (omega (arith, d.idle.sound.after_head, d.is.0))
+    (λ clean. low (sound_is old.health clean)))
     order whole in
     (top, now, λ is. small (clean is))))
 
@@ -365,31 +369,31 @@ step_save s file known old new ok m d (low, so, has, at, is) =
     let done = all_ok d.result (effects_of old) old.number ok d.writer.medium d.log d.last so d.performed in
     subst (λ (x : Bool × Recorder). InStep s file (known ++ marked publish x.0 ∷ []) x.1 true m)
     (λ i. (is_ok (done i), sym is i))
-    (ended s file known old ok m 0 d (λ _. at) (λ _. ap is_ok done))
+    (ended s file known old ok m Sound d (λ _. at) (λ _. ap is_ok done))
 
 -- it has ended in an error: an effect has failed
 cut_off : (s : WavSpecEx) (file : Begun) (known : List Known) (old new : Recorder) (ok : Bool)
-    (m : MediumState) (condition : ℕ) → 0 < condition → InStep s file known old ok m → HasFailed ok old
-    → new ≡ record old { number = 0; condition = condition }
+    (m : MediumState) (health : Health) → (health ≡ Sound → ⊥) → InStep s file known old ok m → HasFailed ok old
+    → new ≡ record old { number = 0; health = health }
     → (new.number ≡ 0) × InStep s file (known ++ marked publish false ∷ []) new true m
-cut_off s file known old new ok m condition some d (low, begun, failed) is =
+cut_off s file known old new ok m health some d (low, begun, failed) is =
     let result_is : is_ok d.result ≡ false = d.last begun ∙ failed in (
       ap (λ (x : Recorder). x.number) is,
       subst (λ (x : Bool × Recorder). InStep s file (known ++ marked publish x.0 ∷ []) x.1 true m)
           (λ i. (result_is i, sym is i))
-          (ended s file known old ok m condition d (λ fine. absurd (false≢true (sym result_is ∙ fine)))
-          (λ none. absurd (omega (arith, some, none)))),
+          (ended s file known old ok m health d (λ fine. absurd (false≢true (sym result_is ∙ fine)))
+          (λ none. absurd (some none))),
     )
 
 pub step_cut : (s : WavSpecEx) (file : Begun) (known : List Known) (old new : Recorder) (ok : Bool)
-    (m : MediumState) (error : RecorderError) → InStep s file known old ok m → old.condition ≤ 1
+    (m : MediumState) (error : RecorderError) → InStep s file known old ok m → IsAlive old
     → NextEffect ok old new (Err error)
     → (new.number ≡ 0) × InStep s file (known ++ marked publish false ∷ []) new true m
-step_cut s file known old new ok m SyncFailed d low (is, inl high) = absurd (omega (arith, low, high))
+step_cut s file known old new ok m SyncFailed d low (is, inl dead) = absurd (low dead)
 step_cut s file known old new ok m SyncFailed d low (is, inr (has, sync)) =
-    cut_off s file known old new ok m 2 (omega arith) d has is
+    cut_off s file known old new ok m Dead (λ sound. cc sound) d has is
 step_cut s file known old new ok m NeedsCheckpoint d low (is, has, other) =
-    cut_off s file known old new ok m 1 (omega arith) d has is
+    cut_off s file known old new ok m Suspect (λ sound. cc sound) d has is
 step_cut s file known old new ok m NotWritable d low (is, _, never) =
     let sound = d.idle.sound in let fields = d.is in grind (arith, common_steps)
 step_cut s file known old new ok m TooLong d low (is, _, never) =
@@ -406,8 +410,8 @@ pub step_ascends : (s : WavSpecEx) (file : Begun) (known : List Known) (r : Reco
 step_ascends s file known r ok m d synced =
     let (high, order, low) = d.order synced in
     let (last, ordered) = taken_ordered (effects_of r) r.number high (r.data_start + r.data_length)
-    (effects_ordered (r.condition == 0) r.data_start r.data_length high (omega (arith, d.idle.sound.after_head, d.is.0))
-    (λ clean. low (eqb-true r.condition 0 clean))) in
+    (effects_ordered (is_sound r.health) r.data_start r.data_length high (omega (arith, d.idle.sound.after_head, d.is.0))
+    (λ clean. low (sound_is r.health clean))) in
     let (top, now, small) =
     all_ordered (take r.number (effects_of r)) high last d.result d.writer.medium d.log ordered order d.performed in
     subst (λ (m : MediumState). Ascends m.past m.flushed (length m.past)) d.state now.ascends

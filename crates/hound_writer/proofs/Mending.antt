@@ -2,7 +2,7 @@
 use Rattle.std.proofs.lemmas.Bool.{false≢true}
 use Rattle.std.proofs.Common.{◌≡◌, ℕ, ◌+◌, ◌*◌, ◌/◌, ◌%◌, Bool, true, [], ◌∷◌, length, OnOk, None, Result, Ok, Err, is_ok, refl, sym, ◌∙◌, ap, subst, arith}
 use Rattle.std.proofs.Math.Nat.{div-add-mod', mul-div_cancel, mul-mod_left}
-use Rattle.std.specs.Prelude.{◌==◌, if◌then◌else◌}
+use Rattle.std.specs.Prelude.{if◌then◌else◌}
 use Rattle.std.specs.declared.io.Error.{Error as IoFault}
 use Rattle.hound_sample.proofs.Containers.{length-containers}
 use Rattle.hound_spec.specs.declared.error.Error.{Error}
@@ -14,7 +14,7 @@ use Rattle.hound_writer.specs.Accepting.{mark_of}
 use Rattle.hound_writer.specs.Appending.{head_fault}
 use Rattle.hound_writer.specs.Effects.{Log, Performed, checkpoint, log_kind}
 use Rattle.hound_writer.specs.Publishing.{LeavesWriter, ReadsAs}
-use Rattle.hound_writer.specs.Recorder.{AppendsRecorder, effects_of, recorder_of}
+use Rattle.hound_writer.specs.Recorder.{AppendsRecorder, effects_of, is_sound, recorder_of}
 use Rattle.hound_writer.specs.Recording.{Directed, IsCutOff, IsIdle, resumed_file, writer_of}
 use Rattle.hound_writer.specs.Machine.{end_of}
 use Rattle.hound_writer.specs.Resuming.{Resumes, ResumesAfter, kept_length}
@@ -108,7 +108,7 @@ module _ (f : FoundFile) (r : Recorder) (old : Log) (cut : IsCutOff f r.data_len
                 counted = counted;
                 all = refl;
                 goes = goes;
-              }) (omega (arith, cut.held, published.grows)) appends) refl counted refl refl,
+              }) (omega (arith, cut.held, published.grows)) appends) refl counted refl,
         )
       where
         by : (answer : Result (Unit {0}) Error) → answer ≡ Ok tt
@@ -132,7 +132,7 @@ mended_at : (f : FoundFile) (old end : Log) (r : Recorder) (result : Result (Uni
     → AppendsRecorder f.spec_ex f.data_start r.data_length (Ok (recorder_of f.spec_ex f.data_start r.data_length))
     → Mends f r old end result
 mended_at f old end r result cut did start takes =
-    let clean = r.condition == 0 in
+    let clean = is_sound r.health in
     let performed : Performed (if clean then checkpoint f.data_start r.data_length else Sync ∷ checkpoint f.data_start r.data_length)
     result old end = rw start at did in
     rw start (mends f r old cut takes clean end result performed, continues f r old cut takes clean end result performed)

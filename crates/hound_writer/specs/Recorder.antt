@@ -1,10 +1,13 @@
 -- A recorder, whose caller writes the file.
-use Rattle.std.specs.Prelude.{◌≡◌, ◌⊎◌, ℕ, ◌+◌, ◌-◌, ◌*◌, ◌%◌, ◌<◌, ◌≤◌, ◌==◌, if◌then◌else◌, Bool, true, false, List, ◌∷◌, Option, None, Some, Result, Ok, Err}
+use Rattle.std.specs.Prelude.{◌≡◌, ◌⊎◌, ℕ, ◌+◌, ◌-◌, ◌*◌, ◌%◌, ◌<◌, ◌≤◌, if◌then◌else◌, Bool, true, false, List, ◌∷◌, Option, None, Some, Result, Ok, Err}
 use Rattle.hound_spec.specs.{IsPair, IsWritable, data_start, greatest_u32, riff_size}
 use Rattle.hound_spec.specs.declared.spec.WavSpecEx.{WavSpecEx}
 use Rattle.hound_writer.specs.Effects.{checkpoint, nth}
 use Rattle.hound_writer.specs.declared.effects.Effect.{Effect}
 use Rattle.hound_writer.specs.declared.effects.Effect.TheVariants.{Sync}
+use Rattle.hound_writer.specs.declared.recorder.Health.{Health}
+use Rattle.hound_writer.specs.declared.recorder.Health.TheVariants.{Sound, Suspect, Dead}
+use Rattle.hound_writer.specs.declared.recorder.Phase.TheVariants.{Idle}
 use Rattle.hound_writer.specs.declared.recorder.Recorder.{Recorder}
 use Rattle.hound_writer.specs.declared.recorder.RecorderError.{RecorderError}
 use Rattle.hound_writer.specs.declared.recorder.RecorderError.TheVariants.{NotWritable, UnfinishedFrame, TooLong, NeedsCheckpoint, SyncFailed}
@@ -15,12 +18,11 @@ recorder_of s start len = record {
   data_start = start;
   data_length = len;
   number = 0;
-  samples = 0;
   bytes_per_sample = s.bytes_per_sample;
   channels = s.spec.channels;
-  condition = 0;
-  task = 0;
-  has_rest = 0;
+  health = Sound;
+  phase = Idle;
+  has_rest = false;
 }
 
 -- what the call for a new file does
@@ -55,41 +57,44 @@ AppendsRecorder s start len (Err error) = (error ≡ NotWritable) × ((s.spec.ch
 abbrev pub length_with : Recorder → ℕ → ℕ
 length_with r samples = r.data_length + samples * r.bytes_per_sample
 
--- what the call for the place of the next samples returns
-abbrev pub Places : Recorder → ℕ → Result ℕ RecorderError → Type 0
-Places r samples (Ok place) = (r.condition ≡ 0) × (r.number ≡ 0) × HasData r (length_with r samples)
-    × (place ≡ r.data_start + r.data_length)
-Places r samples (Err SyncFailed) = 1 < r.condition
-Places r samples (Err NeedsCheckpoint) = (r.condition ≤ 1) × (0 < r.condition + r.number)
-Places r samples (Err error) = (r.condition ≡ 0) × (r.number ≡ 0) × HasNoData r (length_with r samples) error
+-- no checkpoint comes before the next block: nothing has failed, and none is under way
+abbrev pub IsClear : Recorder → Type 0
+IsClear r = (r.health ≡ Sound) × (r.number ≡ 0)
 
--- what a report of how their write ended does: one that succeeded is counted
-abbrev pub Reports : ℕ → Bool → Recorder → Recorder → Result (Unit {0}) RecorderError → Type 0
-Reports samples ok old new (Ok x) = Places old samples (Ok (old.data_start + old.data_length))
-    × (new ≡ (if ok then record old { data_length = length_with old samples } else record old { condition = 1 }))
-Reports samples ok old new (Err error) = Places old samples (Err error) × (new ≡ old)
+-- so many frames have room after the data that are written
+abbrev pub HasRoomFor : Recorder → ℕ → Type 0
+HasRoomFor r frames = (1 ≤ r.channels) × HasData r (length_with r (frames * r.channels))
+
+-- whether nothing has failed
+abbrev pub is_sound : Health → Bool
+is_sound Sound = true
+is_sound _ = false
 
 -- the effects of a recorder's checkpoint: after a write that failed a sync comes first
 abbrev pub effects_of : Recorder → List Effect
 effects_of r =
-    if r.condition == 0 then checkpoint r.data_start r.data_length
+    if is_sound r.health then checkpoint r.data_start r.data_length
     else Sync ∷ checkpoint r.data_start r.data_length
 
 -- the recorder after it returned an effect, or that there is none
 abbrev pub advanced : Recorder → Option Effect → Recorder
 advanced r (Some effect) = record r { number = r.number + 1 }
-advanced r None = record r { number = 0; condition = 0 }
+advanced r None = record r { number = 0; health = Sound }
+
+-- no sync has failed
+abbrev pub IsAlive : Recorder → Type 0
+IsAlive r = r.health ≡ Dead → ⊥
 
 -- the last effect of a checkpoint has failed
 abbrev pub HasFailed : Bool → Recorder → Type 0
-HasFailed ok r = (r.condition ≤ 1) × (0 < r.number) × (ok ≡ false)
+HasFailed ok r = IsAlive r × (0 < r.number) × (ok ≡ false)
 
 -- what a call for the next effect does, where `ok` is whether the last one succeeded
 abbrev pub NextEffect : Bool → Recorder → Recorder → Result (Option Effect) RecorderError → Type 0
-NextEffect ok old new (Ok next) = (old.condition ≤ 1) × (0 < old.number → ok ≡ true)
+NextEffect ok old new (Ok next) = IsAlive old × (0 < old.number → ok ≡ true)
     × HasData old old.data_length × (next ≡ nth (effects_of old) old.number) × (new ≡ advanced old next)
-NextEffect ok old new (Err SyncFailed) = (new ≡ record old { number = 0; condition = 2 })
-    × ((1 < old.condition) ⊎ (HasFailed ok old × (nth (effects_of old) (old.number - 1) ≡ Some Sync)))
-NextEffect ok old new (Err NeedsCheckpoint) = (new ≡ record old { number = 0; condition = 1 })
+NextEffect ok old new (Err SyncFailed) = (new ≡ record old { number = 0; health = Dead })
+    × ((old.health ≡ Dead) ⊎ (HasFailed ok old × (nth (effects_of old) (old.number - 1) ≡ Some Sync)))
+NextEffect ok old new (Err NeedsCheckpoint) = (new ≡ record old { number = 0; health = Suspect })
     × HasFailed ok old × (nth (effects_of old) (old.number - 1) ≡ Some Sync → ⊥)
-NextEffect ok old new (Err error) = (new ≡ old) × (old.condition ≤ 1) × HasNoData old old.data_length error
+NextEffect ok old new (Err error) = (new ≡ old) × IsAlive old × HasNoData old old.data_length error

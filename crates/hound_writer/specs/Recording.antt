@@ -11,9 +11,11 @@ use Rattle.hound_writer.specs.Accepting.{whole_containers}
 use Rattle.hound_writer.specs.Calls.{Begun, Known, Recorded, appended, handed_in, marked, publish, write}
 use Rattle.hound_writer.specs.Effects.{Log, Performed, log_kind}
 use Rattle.hound_writer.specs.Parts.{CountsAtMost, of_fields}
-use Rattle.hound_writer.specs.Machine.{saved_of}
-use Rattle.hound_writer.specs.Recorder.{Places, effects_of}
+use Rattle.hound_writer.specs.Recorder.{HasData, IsClear, effects_of}
 use Rattle.hound_writer.specs.Writer.{WriterState, IsSound}
+use Rattle.hound_writer.specs.declared.recorder.Health.TheVariants.{Sound}
+use Rattle.hound_writer.specs.declared.recorder.Phase.{Phase}
+use Rattle.hound_writer.specs.declared.recorder.Phase.TheVariants.{Requested, Writing}
 use Rattle.hound_writer.specs.declared.recorder.Recorder.{Recorder}
 use Rattle.hound_writer.specs.declared.recorder.RecorderError.{RecorderError}
 use Rattle.hound_writer.specs.declared.resuming.FoundFile.{FoundFile}
@@ -83,7 +85,7 @@ pub record InStep (s : WavSpecEx) (file : Begun) (known : List Known) (r : Recor
   pub idle : IsIdle writer
   pub is : IsRecorderOf r writer
   pub order : IsSynced (handed_in file) → (high : ℕ) × IsOrdered high writer.medium.state
-      × (r.condition ≡ 0 → high ≤ r.data_start + r.data_length)
+      × (r.health ≡ Sound → high ≤ r.data_start + r.data_length)
   pub log : Log
   pub state : log.state ≡ m
   pub result : Result (Unit {0}) IoFault
@@ -94,17 +96,23 @@ pub record InStep (s : WavSpecEx) (file : Begun) (known : List Known) (r : Recor
 abbrev pub block_known : List ℕ → Bool → WavSpecEx → Known
 block_known bytes ok s = marked (write (whole_containers s bytes)) ok
 
+-- a block of whole frames has room: with it the data have n bytes
+abbrev pub HasRoomTo : ℕ → Recorder → Type 0
+HasRoomTo n r = (frames : ℕ) × (n ≡ r.data_length + frames * r.channels * r.bytes_per_sample) × HasData r n
+
+-- so has a block that is requested; and once it is handed out, no checkpoint comes before it
+abbrev pub HasPlace : Phase → Recorder → Type 0
+HasPlace (Requested n) r = HasRoomTo n r
+HasPlace (Writing n) r = HasRoomTo n r × IsClear r
+HasPlace _ r = Unit
+
 -- What a caller has that did as its recorder said, and has reported it: the file is in step with the
--- recorder, and all that is written are whole frames. So is the block that is requested, and it has a
--- place; once it is handed out, no checkpoint comes before; and after one that failed the rest is cut off.
+-- recorder, and all that is written are whole frames. So is the block that is requested, and it has room.
 pub record Directed (s : WavSpecEx) (file : Begun) (known : List Known) (r : Recorder) (m : MediumState) : Type 0 where
   pub in_step : InStep s file known r true m
   pub channels : r.channels ≡ s.spec.channels
   pub whole : (frames : ℕ) × (r.data_length ≡ frames * r.channels * r.bytes_per_sample)
-  pub block : (frames : ℕ) × (r.samples ≡ frames * r.channels)
-  pub placed : 1 < r.task → r.task < 4 → (place : ℕ) × Places (saved_of r) r.samples (Ok place)
-  pub ready : r.task ≡ 3 → (r.number ≡ 0) × (r.condition ≡ 0)
-  pub rest : 3 < r.task → (r.task ≡ 4) × (0 < r.has_rest)
+  pub block : HasPlace r.phase r
 
 -- what is known of a checkpoint, where it ended in an error
 abbrev pub cut_known : Result (Unit {0}) RecorderError → List Known

@@ -1,6 +1,7 @@
 -- A file that was found, and is recorded further.
 use Rattle.std.specs.Prelude.{◌≡◌, ℕ, ◌+◌, ◌*◌, ◌%◌, ◌<◌, ◌≤◌, ◌==◌, ◌&&◌, ◌||◌, not, nat_le, nat_lt, if◌then◌else◌, Bool, Result, Ok, Err}
 use Rattle.hound_writer.specs.Recorder.{AppendsRecorder, recorder_of}
+use Rattle.hound_writer.specs.declared.recorder.Health.TheVariants.{Sound, Suspect}
 use Rattle.hound_writer.specs.declared.recorder.Recorder.{Recorder}
 use Rattle.hound_writer.specs.declared.recorder.RecorderError.{RecorderError}
 use Rattle.hound_writer.specs.declared.recorder.RecorderError.TheVariants.{CutOff, HasChunksAfterData, Truncated, UnfinishedFrame}
@@ -19,7 +20,13 @@ ends_whole f = nat_lt 0 (found_frame f) && ((f.data_length % found_frame f == 0)
     && (nat_le (f.frames * found_frame f) f.data_length
     && nat_le f.length (f.data_start + f.data_length + f.data_length % 2)))
 
--- how many bytes of data are kept of a file that continues after those that its header counts
+-- Table: how a recorder continues a file, by what it was found as (File, Allowed, the recorder then).
+-- | `Whole` or `AllCounted` | nothing | continues after the samples that are counted, and cuts the rest off |
+-- | `CutOff`, whose header counts whole frames | to mend | continues after all whole frames, by a checkpoint |
+-- | `CutOff`, whose header counts a part of a frame | to mend | none: `UnfinishedFrame`, to be repaired first |
+-- | `CutOff` | nothing | none: `CutOff` |
+-- | `HasChunksAfterData` | to overwrite | continues after the samples that are counted, and cuts the chunks off |
+-- | `HasChunksAfterData` | nothing | none: `HasChunksAfterData` |
 abbrev pub kept_as : RepairState → FoundFile → Bool → Bool → Result ℕ RecorderError
 kept_as Whole f mends overwrites = Ok f.data_length
 kept_as WasCutOff f mends overwrites =
@@ -28,8 +35,9 @@ kept_as WasCutOff f mends overwrites =
 kept_as AllCounted f mends overwrites = Ok f.data_length
 kept_as HasChunks f mends overwrites = if overwrites then Ok f.data_length else Err HasChunksAfterData
 
--- how many bytes of data are kept: those that the header counts, or of a recording that is mended all
--- whole frames that the file holds, if the header counts no more
+-- how many bytes of data are kept, where samples lack or nothing follows those that the header counts; else as above
+-- | any that lacks samples which are counted | nothing | none: `Truncated` |
+-- | any that ends with the samples that are counted, or with their pad byte | nothing | continues after them |
 abbrev pub kept_length : FoundFile → Bool → Bool → Result ℕ RecorderError
 kept_length f mends overwrites =
     if nat_lt f.length (f.data_start + f.data_length) then Err Truncated
@@ -43,8 +51,8 @@ rest_follows f n = nat_lt (f.data_start + n + n % 2) f.length
 -- header counts others or something is cut off
 abbrev pub resumed_recorder : FoundFile → ℕ → Recorder
 resumed_recorder f n = record (recorder_of f.spec_ex f.data_start n) {
-  has_rest = if rest_follows f n then 1 else 0;
-  condition = if rest_follows f n || not (n == f.data_length) then 1 else 0;
+  has_rest = rest_follows f n;
+  health = if rest_follows f n || not (n == f.data_length) then Suspect else Sound;
 }
 
 -- what it is to append after n bytes of data, which the file holds

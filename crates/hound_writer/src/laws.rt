@@ -1,5 +1,5 @@
 // What holds for all bytes that are to be appended to, and for all samples that are written.
-ghost use Rattle.std.specs.Prelude.{◌≡◌, ◌⊎◌, ◌<◌, ◌≤◌, ◌*◌, ℕ, Bool, true, List, [], ◌∷◌, ◌++◌, None, Some, Ok, Err, Result, is_ok, length, max, take, ◌+◌};
+ghost use Rattle.std.specs.Prelude.{◌≡◌, ◌⊎◌, ◌<◌, ◌≤◌, ◌*◌, ◌-◌, ℕ, Bool, true, false, List, [], ◌∷◌, ◌++◌, None, Some, Ok, Err, Result, is_ok, length, max, take, ◌+◌};
 ghost use Rattle.std.specs.declared.io.Error.{Error as IoFault};
 ghost use Rattle.hound_durable.specs.{SurvivesLoss};
 ghost use Rattle.hound_medium.specs.{Flushes, Goes, MediumState, WhereTells, overlay, placed};
@@ -12,14 +12,15 @@ ghost use Rattle.hound_writer.specs.Calls.{Begun, Known, marked, new_file, publi
 ghost use Rattle.hound_writer.specs.Effects.{Log, Performed, Performs, log_kind};
 ghost use Rattle.hound_writer.specs.Parts.{PutsAt};
 ghost use Rattle.hound_writer.specs.Publishing.{LeavesWriter};
-ghost use Rattle.hound_writer.specs.Machine.{GivesUp, GoesOn, HasEnded, TakesBlock, end_of};
-ghost use Rattle.hound_writer.specs.Recorder.{BeginsRecorder, effects_of, recorder_of};
+ghost use Rattle.hound_writer.specs.Machine.{GivesUp, GoesOn, HasEnded, TakesBlock, cuts_next, end_of};
+ghost use Rattle.hound_writer.specs.Recorder.{BeginsRecorder, IsAlive, effects_of, recorder_of};
 ghost use Rattle.hound_writer.specs.Recording.{AgreeTo, Directed, IsCutOff, Opened, Resumed, block_known, cut_known, resumed_file, writer_of};
 ghost use Rattle.hound_writer.specs.Repeating.{IsSaid, Repeats, written_first};
 ghost use Rattle.hound_writer.specs.Resuming.{Resumes};
 ghost use Rattle.hound_writer.specs.Writer.{WriterState, IsWhole, accepted_samples, data_length};
 ghost use Rattle.hound_writer.specs.declared.effects.Action.TheVariants.{Perform, WriteBlock};
 ghost use Rattle.hound_writer.specs.declared.effects.Effect.{Effect};
+ghost use Rattle.hound_writer.specs.declared.recorder.Phase.TheVariants.{Saving, Writing};
 ghost use Rattle.hound_writer.specs.declared.recorder.Recorder.{Recorder};
 ghost use Rattle.hound_writer.specs.declared.recorder.RecorderError.{RecorderError};
 ghost use Rattle.hound_writer.specs.declared.resuming.FoundFile.{FoundFile};
@@ -77,32 +78,32 @@ pub fn a_recorder_directs()
         (recorder_of f.spec_ex f.data_start r.data_length) m.state) }
     ensures asked { (s : WavSpecEx) (file : Begun) (known : List Known) (old end new : Recorder)
         (m : MediumState) (samples : ℕ) → Directed s file known old m → GivesUp old end
-        → Directed s file known (record end { task = 1 }) m
+        → Directed s file known (record end { phase = Saving }) m
         × (TakesBlock samples end new (Ok tt) → Directed s file known new m) }
     ensures performed { (s : WavSpecEx) (file : Begun) (known : List Known) (old mid new : Recorder)
         (m : MediumState) (end : Log) (effect : Effect) (result : Result Unit IoFault)
         (outcome : Result Unit RecorderError) → Directed s file known old m
         → GoesOn old mid (Ok (Some (Perform effect))) → Performs effect result m end.state
         → HasEnded (is_ok result) mid new outcome → Directed s file (known ++ cut_known outcome) new end.state }
-    ensures wrote { (s : WavSpecEx) (file : Begun) (known : List Known) (old new : Recorder)
+    ensures wrote { (s : WavSpecEx) (file : Begun) (known : List Known) (old new : Recorder) (n : ℕ)
         (m : MediumState) (end : Log) (bytes : List ℕ) (result : Result Unit IoFault)
-        (outcome : Result Unit RecorderError) → Directed s file known old m → old.task ≡ 3 → old.has_rest ≡ 0
-        → length bytes ≡ old.samples * old.bytes_per_sample → PutsAt true (end_of old) bytes result m end.state
+        (outcome : Result Unit RecorderError) → Directed s file known old m → old.phase ≡ Writing n
+        → old.has_rest ≡ false → length bytes ≡ n - old.data_length → PutsAt true (end_of old) bytes result m end.state
         → HasEnded (is_ok result) old new outcome
         → Directed s file (known ++ block_known bytes (is_ok result) s ∷ []) new end.state }
     ensures cut { (s : WavSpecEx) (file : Begun) (known : List Known) (old new : Recorder) (m : MediumState)
-        (ok : Bool) (outcome : Result Unit RecorderError) → Directed s file known old m → 0 < old.has_rest
-        → HasEnded ok old new outcome → Directed s file known new m }
+        (ok : Bool) (outcome : Result Unit RecorderError) → Directed s file known old m
+        → cuts_next old.phase old.has_rest ≡ true → HasEnded ok old new outcome → Directed s file known new m }
     ensures handed { (s : WavSpecEx) (file : Begun) (known : List Known) (old new : Recorder)
         (m : MediumState) (place len : ℕ) → Directed s file known old m
         → GoesOn old new (Ok (Some (WriteBlock place len))) → (place ≡ end_of new)
         × (Directed s file known new m
         ⊎ ((0 < old.number) × Directed s file (known ++ marked publish true ∷ []) new m)) }
     ensures saved { (s : WavSpecEx) (file : Begun) (known : List Known) (old new : Recorder)
-        (m : MediumState) → Directed s file known old m → old.task ≡ 1 → GoesOn old new (Ok None)
+        (m : MediumState) → Directed s file known old m → old.phase ≡ Saving → GoesOn old new (Ok None)
         → Directed s file (known ++ marked publish true ∷ []) new m }
     ensures failed { (s : WavSpecEx) (file : Begun) (known : List Known) (old new : Recorder)
-        (m : MediumState) (error : RecorderError) → Directed s file known old m → old.condition ≤ 1
+        (m : MediumState) (error : RecorderError) → Directed s file known old m → IsAlive old
         → GoesOn old new (Err error) → ⊥ }
 {}
 

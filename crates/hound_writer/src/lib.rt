@@ -24,6 +24,6 @@ pub use laws::{
     one_append_answer,
 };
 pub use patch::{patch as patch_sizes, put_all_at};
-pub use recorder::{Recorder, RecorderError};
+pub use recorder::{Health, Phase, Recorder, RecorderError};
 pub use resuming::{FoundFile, RepairState};
 pub use write::WavWriter;

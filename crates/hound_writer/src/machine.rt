@@ -1,19 +1,33 @@
 // What a recorder's caller asks for, and is to do.
-ghost use Rattle.hound_writer.specs.Machine.{Advances, AsksForBlock, AsksForCheckpoint, EndsEffect, GivesUp, GoesOn, SavesFirst, Settles};
+ghost use Rattle.std.specs.Prelude.{◌≡◌};
+ghost use Rattle.hound_writer.specs.Machine.{after_block, doubted, Advances, AsksForBlock, AsksForCheckpoint, EndsEffect, GivesUp, GoesOn, HandsOut, Saves, SavesFirst, Settles, end_place};
 
 use crate::effects::{Action, Report};
-use crate::recorder::{Recorder, RecorderError};
+use crate::recorder::{Health, Phase, Recorder, RecorderError};
 
 impl Recorder {
+    // After a write that failed a checkpoint comes first, unless nothing comes any more.
+    fn doubt(&mut self)
+        ensures { self.new ≡ record self.old { health = doubted self.old.health } }
+    {
+        if self.health == Health::Sound {
+            self.health = Health::Suspect;
+        }
+    }
+
     // A block that was handed out and isn't reported counts as failed.
     fn give_up(&mut self)
         ensures { GivesUp self.old self.new }
     {
-        if self.task == 3 {
-            self.condition = 1;
-            self.has_rest = 1;
+        match self.phase {
+            Phase::Writing(_) => {
+                self.doubt();
+                self.has_rest = true;
+            }
+            Phase::Cleaning => self.has_rest = true,
+            Phase::Idle | Phase::Saving | Phase::Requested(_) => {}
         }
-        self.task = 0;
+        self.phase = Phase::Idle;
     }
 
     /// Asks for a block of so many samples after the others, and before that for the checkpoint that is
@@ -23,18 +37,13 @@ impl Recorder {
     {
         let _ = self.settle(report);
         self.give_up();
-        if self.condition > 1 {
+        if self.health == Health::Dead {
             return Err(RecorderError::SyncFailed);
         }
         if self.channels == 0 || samples % self.channels as u64 != 0 {
             return Err(RecorderError::UnfinishedFrame);
         }
-        let mut saved = *self;
-        saved.number = 0;
-        saved.condition = 0;
-        saved.place(samples)?;
-        self.samples = samples as u32;
-        self.task = 2;
+        self.phase = Phase::Requested(self.length_with(samples)?);
         Ok(())
     }
 
@@ -45,7 +54,7 @@ impl Recorder {
     {
         let _ = self.settle(report);
         self.give_up();
-        self.task = 1;
+        self.phase = Phase::Saving;
     }
 
     // Takes in how an effect of a checkpoint ended.
@@ -58,7 +67,7 @@ impl Recorder {
             Ok(None) => return Ok(()),
             Err(error) => {
                 *self = after;
-                self.task = 0;
+                self.phase = Phase::Idle;
                 return Err(error);
             }
         }
@@ -68,9 +77,22 @@ impl Recorder {
         }
         let result = after.next_effect(false);
         *self = after;
-        self.task = 0;
+        self.phase = Phase::Idle;
         result?;
         Ok(())
+    }
+
+    // Takes in how the write of a block ended, after which the data have so many bytes.
+    fn end_block(&mut self, ok: bool, length: u32)
+        ensures { self.new ≡ after_block ok length self.old }
+    {
+        if ok {
+            self.data_length = length;
+            self.phase = Phase::Idle;
+        } else {
+            self.doubt();
+            self.phase = Phase::Cleaning;
+        }
     }
 
     // Takes in how ended what was to do.
@@ -82,64 +104,93 @@ impl Recorder {
             Report::Done => true,
             Report::Failed => false,
         };
-        if self.task == 0 {
-            return Ok(());
-        }
-        if self.has_rest > 0 {
-            self.has_rest = 0;
-            if self.task == 4 {
-                self.task = 0;
-                return Err(RecorderError::NeedsCheckpoint);
+        match self.phase {
+            Phase::Idle => Ok(()),
+            Phase::Cleaning => {
+                self.phase = Phase::Idle;
+                Err(RecorderError::NeedsCheckpoint)
             }
-            return Ok(());
+            Phase::Saving | Phase::Requested(_) | Phase::Writing(_) if self.has_rest => {
+                self.has_rest = false;
+                Ok(())
+            }
+            Phase::Saving | Phase::Requested(_) => self.end_effect(ok),
+            Phase::Writing(length) => {
+                self.end_block(ok, length);
+                Ok(())
+            }
         }
-        if self.task == 3 {
-            let result = self.wrote(self.samples as u64, ok);
-            self.task = if ok { 0 } else { 4 };
-            self.has_rest = if ok { 0 } else { 1 };
-            return result;
-        }
-        self.end_effect(ok)
     }
 
-    // Whether the checkpoint is under way that a block needs, or one that was requested.
+    // Where the data end, as far as 64 bits count.
+    fn end(&self) -> u64
+        ensures { result ≡ end_place self.now }
+    {
+        self.data_start.saturating_add(self.data_length as u64)
+    }
+
+    // Whether a checkpoint comes before a block.
     fn saves_first(&self) -> bool
         ensures { SavesFirst result self.now }
     {
-        self.task != 2 || self.condition > 0 || self.number > 0
+        self.health != Health::Sound || self.number > 0
+    }
+
+    // Hands a block out, after which the data have so many bytes.
+    fn hand_out(&mut self, length: u32) -> Action
+        ensures { HandsOut length self.old self.new result }
+    {
+        self.phase = Phase::Writing(length);
+        Action::WriteBlock(self.end(), length.saturating_sub(self.data_length))
+    }
+
+    // The next effect of a checkpoint. Once all are done, the recorder is as after it.
+    fn save(&mut self) -> Result<Option<Action>, RecorderError>
+        ensures { Saves self.old self.new result }
+    {
+        let mut after = *self;
+        match after.next_effect(true) {
+            Ok(Some(effect)) => Ok(Some(Action::Perform(effect))),
+            Ok(None) => {
+                *self = after;
+                Ok(None)
+            }
+            Err(error) => {
+                *self = after;
+                self.phase = Phase::Idle;
+                Err(error)
+            }
+        }
     }
 
     // What there is to do; nothing if all is done.
     fn go_on(&mut self) -> Result<Option<Action>, RecorderError>
         ensures { GoesOn self.old self.new result }
     {
-        if self.task == 0 {
-            return Ok(None);
-        }
-        if self.has_rest > 0 {
-            let end = self.data_start.saturating_add(self.data_length as u64);
-            return Ok(Some(Action::Cut(end)));
-        }
-        if self.task < 3 && self.saves_first() {
-            let mut after = *self;
-            match after.next_effect(true) {
-                Ok(Some(effect)) => return Ok(Some(Action::Perform(effect))),
-                Ok(None) => *self = after,
-                Err(error) => {
-                    *self = after;
-                    self.task = 0;
-                    return Err(error);
+        match self.phase {
+            Phase::Idle => Ok(None),
+            Phase::Cleaning => Ok(Some(Action::Cut(self.end()))),
+            Phase::Saving | Phase::Requested(_) | Phase::Writing(_) if self.has_rest => {
+                Ok(Some(Action::Cut(self.end())))
+            }
+            Phase::Saving => {
+                let next = self.save()?;
+                if next.is_none() {
+                    self.phase = Phase::Idle;
                 }
+                Ok(next)
             }
-            if self.task == 1 {
-                self.task = 0;
-                return Ok(None);
+            Phase::Requested(length) => {
+                if self.saves_first() {
+                    let next = self.save()?;
+                    if next.is_some() {
+                        return Ok(next);
+                    }
+                }
+                Ok(Some(self.hand_out(length)))
             }
+            Phase::Writing(length) => Ok(Some(self.hand_out(length))),
         }
-        let place = self.place(self.samples as u64)?;
-        self.task = 3;
-        let length = self.samples as u64 * self.bytes_per_sample as u64;
-        Ok(Some(Action::WriteBlock(place, length as u32)))
     }
 
     /// What the caller does next; nothing if all is done. The report is of what the last call returned: if
@@ -148,7 +199,7 @@ impl Recorder {
         ensures { Advances report self.old self.new result }
     {
         self.settle(report)?;
-        if self.condition > 1 {
+        if self.health == Health::Dead {
             return Err(RecorderError::SyncFailed);
         }
         self.go_on()

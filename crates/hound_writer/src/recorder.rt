@@ -1,7 +1,7 @@
 // A recorder, whose caller writes the file: what it keeps, and the parts of its calls.
-ghost use Rattle.std.specs.Prelude.{◌≡◌, ◌+◌, ◌≤◌, Err, IfErr, IfOk, IfSome, Ok};
+ghost use Rattle.std.specs.Prelude.{◌≡◌, ℕ, ◌+◌, ◌≤◌, Err, IfErr, IfOk, IfSome, Ok};
 ghost use Rattle.hound_writer.specs.Effects.{nth};
-ghost use Rattle.hound_writer.specs.Recorder.{AppendsRecorder, BeginsRecorder, HasData, HasNoData, NextEffect, Places, Reports, effects_of, length_with, recorder_of};
+ghost use Rattle.hound_writer.specs.Recorder.{AppendsRecorder, BeginsRecorder, HasData, HasNoData, HasRoomFor, NextEffect, effects_of, length_with, recorder_of};
 
 use crate::effects::{Effect, checkpoint_effect};
 use hound_spec::{WavSpecEx, header_length, is_pair, riff_size_fits};
@@ -34,10 +34,42 @@ pub enum RecorderError {
     SyncFailed,
 }
 
+/// Whether a recorder's file is as the recorder counts it.
+#[derive(Clone, Copy, Debug, PartialEq, Eq)]
+pub enum Health {
+    /// Nothing has failed since the last checkpoint.
+    Sound,
+
+    /// A write has failed, or the header counts other samples than the recorder. A checkpoint has to be done
+    /// before a block is written.
+    Suspect,
+
+    /// A sync has failed, so nobody knows what is stored. Each call is an error from then on.
+    Dead,
+}
+
+/// What is under way.
+#[derive(Clone, Copy, Debug, PartialEq, Eq)]
+pub enum Phase {
+    /// Nothing is.
+    Idle,
+
+    /// A checkpoint is.
+    Saving,
+
+    /// A block was requested, and a checkpoint may come first. Once it is written, the data have so many bytes.
+    Requested(u32),
+
+    /// A block is being written, after which the data have so many bytes.
+    Writing(u32),
+
+    /// The write of a block has failed, and what it left is being cut off.
+    Cleaning,
+}
+
 /// What a recorder keeps of a file that its caller writes. The caller asks for blocks and checkpoints
 /// ([`write`](Recorder::write), [`checkpoint`](Recorder::checkpoint)), and performs one action after
 /// the other that [`next`](Recorder::next) returns, each time with a report of the last one.
-#[repr(C)]
 #[derive(Clone, Copy)]
 pub struct Recorder {
     /// The place of the first data byte.
@@ -49,24 +81,20 @@ pub struct Recorder {
     /// How many effects of a checkpoint are done; 0 if none is under way.
     pub number: u32,
 
-    /// How many samples the block has that is requested.
-    pub samples: u32,
-
     /// How many bytes a sample has.
     pub bytes_per_sample: u16,
 
     /// How many samples a frame has.
     pub channels: u16,
 
-    /// 1 since a write failed, until a checkpoint is done, and 2 since a sync failed.
-    pub condition: u16,
+    /// Whether the file is as this counts it.
+    pub health: Health,
 
-    /// What is under way: 0 nothing, 1 a checkpoint, 2 a block after the checkpoint that it needs, 3 the
-    /// write of a block, and 4 the end of one that failed.
-    pub task: u16,
+    /// What is under way.
+    pub phase: Phase,
 
-    /// 1 if bytes may follow the data that are to be cut off.
-    pub has_rest: u16,
+    /// Whether bytes may follow the data that are to be cut off.
+    pub has_rest: bool,
 }
 
 impl Recorder {
@@ -78,12 +106,11 @@ impl Recorder {
             data_start,
             data_length: 0,
             number: 0,
-            samples: 0,
             bytes_per_sample: spec_ex.bytes_per_sample,
             channels: spec_ex.spec.channels,
-            condition: 0,
-            task: 0,
-            has_rest: 0,
+            health: Health::Sound,
+            phase: Phase::Idle,
+            has_rest: false,
         }
     }
 
@@ -133,42 +160,30 @@ impl Recorder {
         Ok(length as u32)
     }
 
-    // The data length after so many samples more.
-    fn length_with(&self, samples: u64) -> Result<u32, RecorderError>
-        ensures is { IfOk result (λ n. (n ≡ length_with self.now samples)
-            × Places self.now samples (Ok (self.now.data_start + self.now.data_length))) }
-        ensures rejected { IfErr result (λ error. Places self.now samples (Err error)) }
+    /// How many frames have room after those that are written, for a program that continues in another file. It is 0
+    /// where no more has room, or none can be there.
+    pub fn frames_left(&self) -> u64
+        ensures room { 1 ≤ result → HasRoomFor self.now result }
+        ensures most { (frames : ℕ) → HasRoomFor self.now frames → frames ≤ result }
     {
-        if self.condition > 1 {
-            return Err(RecorderError::SyncFailed);
+        let frame = self.channels as u64 * self.bytes_per_sample as u64;
+        if self.data_start < 20 || self.data_start > u32::MAX as u64 + 8 || frame == 0 {
+            return 0;
         }
-        if self.condition > 0 || self.number > 0 {
-            return Err(RecorderError::NeedsCheckpoint);
-        }
+        let counted = u32::MAX as u64 + 8 - self.data_start;
+        // A pad byte follows data of an odd length.
+        let most = counted - counted % 2;
+        most.saturating_sub(self.data_length as u64) / frame
+    }
+
+    // The data length with so many samples more.
+    pub(crate) fn length_with(&self, samples: u64) -> Result<u32, RecorderError>
+        ensures is { IfOk result (λ n. (n ≡ length_with self.now samples) × HasData self.now n) }
+        ensures rejected { IfErr result (HasNoData self.now (length_with self.now samples)) }
+    {
         // More are too many in any width.
         let few = samples.min(1 << 32);
         self.check_length(self.data_length as u64 + few * self.bytes_per_sample as u64)
-    }
-
-    // The place where the next so many samples are written.
-    pub(crate) fn place(&self, samples: u64) -> Result<u64, RecorderError>
-        ensures { Places self.now samples result }
-    {
-        self.length_with(samples)?;
-        Ok(self.data_start + self.data_length as u64)
-    }
-
-    // Takes in whether the write of so many samples succeeded, at their place.
-    pub(crate) fn wrote(&mut self, samples: u64, ok: bool) -> Result<(), RecorderError>
-        ensures { Reports samples ok self.old self.new result }
-    {
-        let data_length = self.length_with(samples)?;
-        if ok {
-            self.data_length = data_length;
-        } else {
-            self.condition = 1;
-        }
-        Ok(())
     }
 
     // The effect with this number of a checkpoint.
@@ -177,7 +192,7 @@ impl Recorder {
         ensures is { result ≡ nth (effects_of self.now) number }
         ensures few { IfSome result (λ _. number ≤ 5) }
     {
-        if self.condition == 0 {
+        if self.health == Health::Sound {
             return checkpoint_effect(self.data_start, self.data_length, number);
         }
         if number == 0 {
@@ -191,9 +206,8 @@ impl Recorder {
     pub(crate) fn next_effect(&mut self, ok: bool) -> Result<Option<Effect>, RecorderError>
         ensures { NextEffect ok self.old self.new result }
     {
-        if self.condition > 1 {
+        if self.health == Health::Dead {
             self.number = 0;
-            self.condition = 2;
             return Err(RecorderError::SyncFailed);
         }
         self.check_length(self.data_length as u64)?;
@@ -201,10 +215,10 @@ impl Recorder {
             let failed = self.effect(self.number - 1);
             self.number = 0;
             if let Some(Effect::Sync) = failed {
-                self.condition = 2;
+                self.health = Health::Dead;
                 return Err(RecorderError::SyncFailed);
             }
-            self.condition = 1;
+            self.health = Health::Suspect;
             return Err(RecorderError::NeedsCheckpoint);
         }
         let next = self.effect(self.number);
@@ -212,7 +226,7 @@ impl Recorder {
             Some(_) => self.number += 1,
             None => {
                 self.number = 0;
-                self.condition = 0;
+                self.health = Health::Sound;
             }
         }
         Ok(next)

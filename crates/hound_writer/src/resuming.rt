@@ -2,7 +2,7 @@
 ghost use Rattle.std.specs.Prelude.{◌≡◌, ◌≤◌, ◌*◌, IfOk};
 ghost use Rattle.hound_writer.specs.Resuming.{ContinuesAfter, Resumes, ends_whole, kept_length};
 
-use crate::recorder::{Recorder, RecorderError};
+use crate::recorder::{Health, Recorder, RecorderError};
 use hound_spec::WavSpecEx;
 use std::fmt;
 
@@ -121,11 +121,11 @@ impl Recorder {
             return Err(RecorderError::Truncated);
         }
         if found.length > end + data_length % 2 {
-            recorder.has_rest = 1;
-            recorder.condition = 1;
+            recorder.has_rest = true;
+            recorder.health = Health::Suspect;
         }
         if data_length != found.data_length as u64 {
-            recorder.condition = 1;
+            recorder.health = Health::Suspect;
         }
         Ok(recorder)
     }

@@ -42,9 +42,9 @@ loop-action-preserved g c =
           let again : Again = record { begun = law.begun; again = law.again; written = law.written; synced = law.synced } in
           let laws = laws_of s file known asked c.args.block.now c.requires.asked c.loop-action.report before end
           (λ old mid new effect result modelled. says.performed s file known old mid new before end effect result modelled)
-          (λ old new result modelled d three rest long. says.wrote s file known old new before end c.args.block.now result modelled d three rest long)
+          (λ old new n result modelled d writing rest long. says.wrote s file known old new n before end c.args.block.now result modelled d writing rest long)
           (λ known old new ok modelled. says.cut s file known old new before ok modelled)
-          (λ old new place len. says.handed s file known old new end.state place len)
+          (λ m old new place len. says.handed s file known old new m place len)
           (λ old new. says.saved s file known old new end.state) still in
           let (o, w, k, goes) = next_some asked (length c.args.block.now) c.requires.asked c.loop-action.report
           (λ o r. KnownAt s file known asked c.args.block.now before o r)
@@ -109,9 +109,9 @@ returns-clause-directed g c tells keeps s file known d =
     let next = rw c.in_default.is at c.in_ok-action.ensures in
     let laws = laws_of s file known asked c.args.block.now c.requires.asked c.loop-action.report before end
     (λ old mid new effect result modelled. says.performed s file known old mid new before end effect result modelled)
-    (λ old new result modelled d three rest long. says.wrote s file known old new before end c.args.block.now result modelled d three rest long)
+    (λ old new n result modelled d writing rest long. says.wrote s file known old new n before end c.args.block.now result modelled d writing rest long)
     (λ known old new ok modelled. says.cut s file known old new before ok modelled)
-    (λ old new place len. says.handed s file known old new end.state place len)
+    (λ m old new place len. says.handed s file known old new m place len)
     (λ old new. says.saved s file known old new end.state) still in
     let (is, k) = next_none asked (length c.args.block.now) c.requires.asked c.loop-action.report
     (λ o r. KnownAt s file known asked c.args.block.now before o r)
@@ -132,9 +132,9 @@ returns-in_err-action-clause-directed g c tells keeps s file known d =
     let asked = c.args.recorder.now in
     let laws = laws_of s file known asked c.args.block.now c.requires.asked c.loop-action.report before end
     (λ old mid new effect result modelled. says.performed s file known old mid new before end effect result modelled)
-    (λ old new result modelled d three rest long. says.wrote s file known old new before end c.args.block.now result modelled d three rest long)
+    (λ old new n result modelled d writing rest long. says.wrote s file known old new n before end c.args.block.now result modelled d writing rest long)
     (λ known old new ok modelled. says.cut s file known old new before ok modelled)
-    (λ old new place len. says.handed s file known old new end.state place len)
+    (λ m old new place len. says.handed s file known old new m place len)
     (λ old new. says.saved s file known old new end.state) still in
     let failed = not_failed s file known asked c.args.block.now c.requires.asked c.loop-action.report before end
     (λ known old new error. says.failed s file known old new end.state error) c.next.new.self c.in_err-action.field-0.0 in
@@ -150,10 +150,14 @@ returns-in_err-action-clause-directed g c tells keeps s file known d =
         k2,
         has_failed again c.args.block.now c.loop-action.report c.loop-action.recorder
             c.next.new.self c.in_err-action.field-0.0 end.state _
-            (λ pending goes. failed over c.loop-action.recorder
-            (subst (λ m. KnownAt s file known asked c.args.block.now m over c.loop-action.recorder) (sym (still pending)) k)
-            (settled_low asked (length c.args.block.now) c.requires.asked c.loop-action.recorder over
-            (inl (subst (λ x. IsWithin asked x c.loop-action.recorder over) pending within))) goes)
+            (λ pending.
+            let alive = settled_low asked (length c.args.block.now) c.requires.asked c.loop-action.recorder over
+            (inl (subst (λ x. IsWithin asked x c.loop-action.recorder over) pending within)) in (
+              alive,
+              failed over c.loop-action.recorder
+                  (subst (λ m. KnownAt s file known asked c.args.block.now m over c.loop-action.recorder) (sym (still pending)) k)
+                  alive,
+            ))
             way c.in_err-action.ensures,
       ),
     )
@@ -197,9 +201,12 @@ returns-in_err-action-clause-performed g c tells keeps start repeats one has_dat
       done,
       subst (λ m. Repeats m (g.M.Placed.state c.loop-action.medium)) (sym here) (has_failed again c.args.block.now c.loop-action.report c.loop-action.recorder
           c.next.new.self c.in_err-action.field-0.0 end.state _
-          (λ pending goes. failed over c.loop-action.recorder
-          (subst (λ m. PerformedAt asked start m over c.loop-action.recorder) (sym (still pending)) k)
-          (settled_low asked (length c.args.block.now) c.requires.asked c.loop-action.recorder over
-          (inl (subst (λ x. IsWithin asked x c.loop-action.recorder over) pending within))) goes)
+          (λ pending.
+          let alive = settled_low asked (length c.args.block.now) c.requires.asked c.loop-action.recorder over
+          (inl (subst (λ x. IsWithin asked x c.loop-action.recorder over) pending within)) in (
+            alive,
+            failed over c.loop-action.recorder (subst (λ m. PerformedAt asked start m over c.loop-action.recorder) (sym (still pending)) k)
+                alive,
+          ))
           way c.in_err-action.ensures),
     )

@@ -1,6 +1,7 @@
 use Rattle.std.proofs.Common.{◌≡◌, ◌≤◌, ◌+◌, ◌*◌, ◌-◌, List, Option, Bool, length}
 use Rattle.std.specs.Prelude.{⊤}
 use Rattle.hound.specs.{Begun, HasData, Known, Log, Repeats, WavSpecEx, WhereKeeps, actions_left}
+use Rattle.hound.specs.declared.Phase.TheVariants.{Saving}
 use Rattle.hound_callers.specs.Recorder.{IsDirected}
 use Rattle.hound_callers.proofs.Driving.{HasAction, IsWithin, step_of}
 use Rattle.hound_callers.proofs.Repeating.{IsUnderWay, IsUnderWayBy}
@@ -18,7 +19,7 @@ invariant-loop-action g l =
           → IsDirected s file known l.fn.recorder (M.state l.fn.medium)
           → IsUnderWay s file known l.fn.recorder l.block l.report l.recorder (M.state l.medium));
       performed : WhereKeeps M.tells M.keeps ((start : Log) → Repeats start.state (M.state l.fn.medium)
-          → l.fn.recorder.task ≡ 1 → HasData l.fn.recorder l.fn.recorder.data_length
+          → l.fn.recorder.phase ≡ Saving → HasData l.fn.recorder l.fn.recorder.data_length
           → IsUnderWayBy (λ m over r. PerformedAt l.fn.recorder start m over r) l.fn.recorder l.block l.report l.recorder
           (M.state l.medium));
     }

@@ -1,5 +1,6 @@
 use Rattle.std.proofs.Common.{◌≡◌, ◌∷◌, ◌++◌, ◌/◌, [], ap, append_assoc, false, inl, inr, length, refl, subst, sym, true}
-use Rattle.hound.specs.{Directed, Recorder, publish, seen, write}
+use Rattle.hound.specs.{Directed, Recorder, length_with, publish, seen, write}
+use Rattle.hound.specs.declared.Phase.TheVariants.{Saving, Requested}
 use Rattle.hound_callers.specs.Recorder.{Stops, samples_of}
 use Rattle.hound_callers.proofs.Performing.{given_up, not_taken, on_err, on_ok, stopped_before}
 use Rattle.hound_callers.proofs.recorder.save_block.Goals as goal
@@ -23,7 +24,8 @@ returns-in_err-perform_all-clause-stopped g c = on_err c.from_residual-in_err-pe
     let (end, gives, takes) = c.in_ok-write.ensures in
     let first = (c.a_recorder_directs.ensures.asked s file known old end c.write.new.self once
     (length c.args.block.now / old.bytes_per_sample) d (given_up old end gives)).1 takes in
-    let two : c.write.new.self.task ≡ 2 = ap (λ (x : Recorder). x.task) takes.4 in
+    let two : c.write.new.self.phase ≡ Requested (length_with end (length c.args.block.now / old.bytes_per_sample)) =
+    ap (λ (x : Recorder). x.phase) takes.4 in
     let (none, stopped) = c.in_err-perform_all.ensures.directed tells keeps s file known (once, first, repeats) in
     ((write (samples_of s c.args.block), false) ∷ [], inr (inl refl), none, rw two at stopped))
 
@@ -34,7 +36,8 @@ returns-clause-saved g c = on_ok c.perform_all-2.result (λ ok tells keeps s fil
     let (end, gives, takes) = c.in_ok-write.ensures in
     let first = (c.a_recorder_directs.ensures.asked s file known old end c.write.new.self once
     (length c.args.block.now / old.bytes_per_sample) d (given_up old end gives)).1 takes in
-    let two : c.write.new.self.task ≡ 2 = ap (λ (x : Recorder). x.task) takes.4 in
+    let two : c.write.new.self.phase ≡ Requested (length_with end (length c.args.block.now / old.bytes_per_sample)) =
+    ap (λ (x : Recorder). x.phase) takes.4 in
     let (end_once, written, end_repeats) =
     rw two at (c.in_ok-perform_all.ensures.directed tells keeps s file known (once, first, repeats)).1 in
     let mid = c.perform_all.new.recorder in
@@ -43,7 +46,7 @@ returns-clause-saved g c = on_ok c.perform_all-2.result (λ ok tells keeps s fil
     (sym is)
     (c.a_recorder_directs.ensures.asked s file _ mid last c.checkpoint.new.self end_once 0 written
     (given_up mid last gave)).0 in
-    let one : c.checkpoint.new.self.task ≡ 1 = ap (λ (x : Recorder). x.task) is in
+    let one : c.checkpoint.new.self.phase ≡ Saving = ap (λ (x : Recorder). x.phase) is in
     let (none, saved) = c.perform_all-2.ensures.directed tells keeps s file _ (end_once, second, end_repeats) in
     rw (one, ok, append_assoc) at saved)
 
@@ -54,7 +57,8 @@ returns-clause-stopped g c = on_err c.perform_all-2.result (λ err tells keeps s
     let (end, gives, takes) = c.in_ok-write.ensures in
     let first = (c.a_recorder_directs.ensures.asked s file known old end c.write.new.self once
     (length c.args.block.now / old.bytes_per_sample) d (given_up old end gives)).1 takes in
-    let two : c.write.new.self.task ≡ 2 = ap (λ (x : Recorder). x.task) takes.4 in
+    let two : c.write.new.self.phase ≡ Requested (length_with end (length c.args.block.now / old.bytes_per_sample)) =
+    ap (λ (x : Recorder). x.phase) takes.4 in
     let (end_once, written, end_repeats) =
     rw two at (c.in_ok-perform_all.ensures.directed tells keeps s file known (once, first, repeats)).1 in
     let mid = c.perform_all.new.recorder in
@@ -63,7 +67,7 @@ returns-clause-stopped g c = on_err c.perform_all-2.result (λ err tells keeps s
     (sym is)
     (c.a_recorder_directs.ensures.asked s file _ mid last c.checkpoint.new.self end_once 0 written
     (given_up mid last gave)).0 in
-    let one : c.checkpoint.new.self.task ≡ 1 = ap (λ (x : Recorder). x.task) is in
+    let one : c.checkpoint.new.self.phase ≡ Saving = ap (λ (x : Recorder). x.phase) is in
     let (none, saved) = c.perform_all-2.ensures.directed tells keeps s file _ (end_once, second, end_repeats) in (
       (write (samples_of s c.args.block), true) ∷ (publish, false) ∷ [],
       inr (inr refl),
