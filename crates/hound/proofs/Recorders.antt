@@ -1,26 +1,21 @@
 -- What a recording keeps whose caller performs the effects.
 use Rattle.std.proofs.lemmas.Grind.{common_steps}
-use Rattle.std.proofs.Common.{◌≡◌, ℕ, ◌+◌, ◌-◌, ◌*◌, ◌/◌, ◌<◌, ◌≤◌, true, List, [], ◌∷◌, ◌++◌, length, take, drop, inr, Result, Ok, Err, refl, sym, ◌∙◌, ap, subst, arith, length-take}
+use Rattle.std.proofs.Common.{◌≡◌, ℕ, ◌+◌, ◌-◌, ◌*◌, ◌/◌, ◌≤◌, List, [], ◌++◌, length, take, drop, inr, refl, sym, ◌∙◌, ap, subst, arith}
 use Rattle.std.proofs.lemmas.List.{length-take-le, take-take, take_at}
 use Rattle.std.specs.List.{concat}
-use Rattle.hound_number.specs.{bytes_of, number}
+use Rattle.hound_number.specs.{number}
 use Rattle.hound_spec.specs.declared.spec.WavSpecEx.{WavSpecEx}
-use Rattle.hound_spec.specs.{riff_size}
-use Rattle.hound_medium.specs.{placed, MediumState}
+use Rattle.hound_medium.specs.{MediumState}
 use Rattle.hound_medium.proofs.Overlays.{front_part}
 use Rattle.hound_walk.specs.{Head}
 use Rattle.hound_sample.proofs.Joined.{length-concat}
-use Rattle.hound_durable.specs.{Ascends, SurvivesLoss, place_of}
-use Rattle.hound_durable.proofs.Ascending.{length_put, place_after, place_before}
-use Rattle.hound_writer.specs.{AgreeTo, Begun, Call, Counts, Directed, IsIdle, IsRecorderOf, accepted_samples, end_of, IsOrdered, IsSound, CountsAtMost, IsSynced, Known, LeavesWriter, Log, Performed, PutsAt, Recorded, WriterState, field, found_in, handed_in, log_kind, start_of}
+use Rattle.hound_durable.specs.{SurvivesLoss}
+use Rattle.hound_writer.specs.{AgreeTo, Begun, Call, Counts, Directed, IsIdle, IsRecorderOf, accepted_samples, end_of, IsOrdered, IsSynced, Known, Log, Recorded, WriterState, field, found_in, handed_in, log_kind, start_of}
 use Rattle.hound_writer.specs.declared.recorder.Recorder.{Recorder}
-use Rattle.hound_writer.specs.declared.effects.Effect.TheVariants.{Size, Sync}
 use Rattle.hound_writer.proofs.Directing.{at_none}
 pub use Rattle.hound_writer.proofs.Acting.{same_next}
 pub use Rattle.hound_writer.proofs.Directing.{performed_all, performed_more, readable_frames}
 use Rattle.hound_writer.proofs.Samples.{length_written}
-use Rattle.hound_writer.proofs.Sizes.{riff_length}
-use Rattle.hound_writer.proofs.AtMost.{inside}
 use Rattle.hound_writer.proofs.Heads.{head_front}
 use Rattle.hound_repair.proofs.Joining.{concat_front, wide_take}
 use Rattle.hound.specs.Headline.{Kept, KeptWithin, accepted_by_all, begins_at}
@@ -210,38 +205,3 @@ module _ (s : WavSpecEx) (file : Begun) (known : List Known) (r : Recorder) wher
             (subst (λ n. AgreeTo n cut contents) (end_same r w at d.is long) agree),
       ) in
       (w.medium, here, both.0, both.1)
-
--- without the RIFF size nothing is published
-pub riff_left_out : (w : WriterState Log) (end : Log) → w.buffered ≡ [] → IsSound w
-    → CountsAtMost w.spec_ex w.data_start w.bytes_written w.medium.state.contents
-    → (field 4 w.medium.state.contents ≡ riff_size w.data_start w.bytes_written → ⊥)
-    → Performed (Sync ∷ Size (w.data_start - 4) w.bytes_written ∷ Sync ∷ []) (Ok tt) w.medium end
-    → LeavesWriter log_kind (Ok tt) w (record w { medium = end }) → ⊥
-riff_left_out w end none sound at_most other (m, Ok x, first, (n, Ok y, second, (o, Ok z, third, (is, last)))) leaves =
-    let a = w.medium.state.contents in
-    let there = inside w.spec_ex w.data_start w.bytes_written a a at_most in
-    let few = length-take second.count (bytes_of 4 w.bytes_written) in
-    let same = riff_length (w.data_start - 4) m.state.contents (omega (arith, sound.after_head))
-    (omega (arith, there, sound.after_head, ap length first.stays.contents))
-    (take second.count (bytes_of 4 w.bytes_written)) (omega (arith, few)) in
-    let says = (leaves.publishes refl).riff_says in
-    let size = length_written log_kind.state w none in
-    grind (arith, common_steps)
-riff_left_out w end none sound at_most other (m, Ok x, first, (n, Ok y, second, (o, Err e, third, (is, last)))) leaves = cc
-riff_left_out w end none sound at_most other (m, Ok x, first, (n, Err e, second, (is, last))) leaves = cc
-riff_left_out w end none sound at_most other (m, Err e, first, (is, last)) leaves = cc
-
--- bytes that are written at or before a byte that isn't synced are a step back
-pub not_synced : {T E : Type 0} (at i : ℕ) (bytes : List ℕ) (result : Result T E) (old new : MediumState)
-    → old.flushed ≤ i → i < length old.past → at ≤ place_of old.past i
-    → PutsAt true at bytes result old new → length old.past < length new.past
-    → Ascends new.past new.flushed (length new.past) → ⊥
-not_synced at i bytes result old new from to beyond puts some ascends =
-    let bs = take puts.count bytes in
-    let past = puts.past refl in
-    let long = ap length past ∙ length_put old.past at bs in
-    let before = ap (λ l. place_of l i) past ∙ place_before old.past (placed at bs) i to in
-    let after = ap (λ l. place_of l (length old.past)) past
-    ∙ place_after old.past at bs (length old.past) (omega arith) (omega (arith, some, long)) in
-    let up = ascends i (length old.past) (omega (arith, from, puts.flushed)) to some in
-    absurd (omega (arith, up, before, after, beyond))

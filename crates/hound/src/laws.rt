@@ -262,21 +262,6 @@ pub fn a_recording_is_kept()
         × ((j : ℕ) × (j ≤ 4) × (field (f.data_start - 4) left ≡ mix j f.data_length r.data_length)) }
 {}
 
-/// Other orders of effects don't serve. Where the RIFF size is left out, and isn't right already, nothing is
-/// published. A write at or before a byte that isn't synced, as a size before the samples are, or a
-/// block again that was cut, is a step back, after which a loss of power may lose what was published.
-pub fn other_orders_lose()
-    ensures riff { (w : WriterState Log) (end : Log) → w.buffered ≡ [] → IsSound w
-        → CountsAtMost w.spec_ex w.data_start w.bytes_written w.medium.state.contents
-        → (field 4 w.medium.state.contents ≡ riff_size w.data_start w.bytes_written → ⊥)
-        → Performed (Sync ∷ Size (w.data_start - 4) w.bytes_written ∷ Sync ∷ []) (Ok tt) w.medium end
-        → LeavesWriter log_kind (Ok tt) w (record w { medium = end }) → ⊥ }
-    ensures synced { (at i : ℕ) (bytes : List ℕ) (old new : MediumState) (result : Result Unit IoFault)
-        → old.flushed ≤ i → i < length old.past → at ≤ place_of old.past i
-        → PutsAt true at bytes result old new → length old.past < length new.past
-        → Ascends new.past new.flushed (length new.past) → ⊥ }
-{}
-
 /// A recorder's request ends: after an action that was reported, as done or as failed, fewer are left, and there are
 /// at most eleven (`bounded`). So a loop over `next` that reports each action needs no other end. An action
 /// without a report is requested again.

@@ -12,7 +12,15 @@ use Rattle.hound.specs.declared.Phase.TheVariants.{Idle, Saving, Requested, Writ
 use Rattle.hound.specs.declared.Report.TheVariants.{Done, Failed, Pending}
 use Rattle.hound.specs.declared.RecorderError.TheVariants.{NotWritable, UnfinishedFrame, TooLong, Truncated, CutOff, HasChunksAfterData, NeedsCheckpoint, SyncFailed}
 use Rattle.hound.proofs.Recorders.{same_next}
-use Rattle.hound_callers.specs.Recorder.{DoesAction, IsAsked, asked_as, length_after, once_done, report_for}
+use Rattle.hound_callers.specs.Recorder.{IsAsked, asked_as, length_after, once_done, report_for}
+
+-- what an action does, whose end is reported: a medium is neither read nor cut off
+abbrev pub DoesAction : Action → List ℕ → Report → MediumState → MediumState → Type 0
+DoesAction (Perform effect) block report old new = (result : Result (Unit {0}) IoFault)
+    × (report ≡ report_for (is_ok result)) × Performs effect result old new
+DoesAction (WriteBlock at len) block report old new = (result : Result (Unit {0}) IoFault)
+    × (report ≡ report_for (is_ok result)) × PutsAt true at block result old new
+DoesAction _ block report old new = new ≡ old
 
 -- what a call for what was requested is marked with, if it is over
 abbrev pub reported_as : Result (Unit {0}) RecorderError → Option Bool

@@ -11,8 +11,8 @@ use Rattle.hound.specs.declared.Effect.TheVariants.{Pad, Size, Sync}
 use Rattle.hound.specs.declared.Phase.TheVariants.{Idle, Saving}
 use Rattle.hound.specs.declared.Report.TheVariants.{Pending}
 use Rattle.hound.proofs.Recorders.{performed_all, performed_more, same_next}
-use Rattle.hound_callers.specs.Recorder.{DoesAction, IsFound, once_mended}
-use Rattle.hound_callers.proofs.Driving.{IsWithin, Laws, block_phase, settles_as, shape, reported_as}
+use Rattle.hound_callers.specs.Recorder.{IsFound, once_mended}
+use Rattle.hound_callers.proofs.Driving.{DoesAction, IsWithin, Laws, block_phase, settles_as, shape, reported_as}
 use Rattle.hound_callers.proofs.Repeating.{IsUnderWayBy}
 
 -- the effects of a checkpoint that were performed, by whether it is over

@@ -11,8 +11,8 @@ use Rattle.hound.specs.declared.Phase.TheVariants.{Idle, Saving, Requested, Writ
 use Rattle.hound.specs.declared.RecorderError.TheVariants.{SyncFailed}
 use Rattle.hound.specs.declared.Report.TheVariants.{Done, Failed, Pending}
 use Rattle.hound.proofs.Recorders.{same_next}
-use Rattle.hound_callers.specs.Recorder.{DoesAction, IsReportOf, TriesAction, bytes_for, place_for, report_for}
-use Rattle.hound_callers.proofs.Driving.{HasAction, IsWithin, KnownAt, block_phase, cut_phase, effect_phase, not_pending, pending_or_made}
+use Rattle.hound_callers.specs.Recorder.{IsReportOf, TriesAction, bytes_for, place_for, report_for}
+use Rattle.hound_callers.proofs.Driving.{DoesAction, HasAction, IsWithin, KnownAt, block_phase, cut_phase, effect_phase, not_pending, pending_or_made}
 
 -- a write was begun, once or more often, and a beginning of its bytes is there
 abbrev pub Tried : Action → List ℕ → MediumState → MediumState → Type 0

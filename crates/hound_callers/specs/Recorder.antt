@@ -3,7 +3,7 @@ use Rattle.std.specs.Prelude.{◌≡◌, ◌⊎◌, ℕ, ◌+◌, ◌-◌, ◌*�
 use Rattle.std.specs.declared.io.Error.{Error as IoFault}
 use Rattle.std.specs.Borrow.{Bor}
 use Rattle.std.specs.List.{AllByRecursion, flat_map}
-use Rattle.hound.specs.{Action, AppendsRecorder, Counts, Kept, accepted_by_all, SurvivesLoss, accepted_samples, field, mix, FoundFile, HasData, Head, IsAlive, IsSoundSpec, LeavesWriter, Resumes, mark_of, resumed_file, writer_of, Asked, Begun, Directed, Error, Flushes, IsRejection, IsSaid, KeptWithin, Known, Log, MediumState, Performed, Performs, Phase, PutsAt, ReadsAs, Readable, Repeats, Recorder, RecorderError, Rejection, Report, Unreadable, WavSpecEx, bytes_of, effects_of, found_in, greatest_u32, if_marked, log_kind, padded, publish, riff_size, seen, start_of, whole_containers, write}
+use Rattle.hound.specs.{Action, AppendsRecorder, Counts, Kept, accepted_by_all, SurvivesLoss, accepted_samples, field, mix, FoundFile, HasData, Head, IsAlive, IsSoundSpec, LeavesWriter, Resumes, mark_of, resumed_file, writer_of, Asked, Begun, Directed, Error, Flushes, IsRejection, IsSaid, KeptWithin, Known, Log, MediumState, Performed, Phase, PutsAt, ReadsAs, Readable, Repeats, Recorder, RecorderError, Rejection, Report, Unreadable, WavSpecEx, bytes_of, effects_of, found_in, greatest_u32, if_marked, log_kind, padded, publish, riff_size, seen, start_of, whole_containers, write}
 use Rattle.hound.specs.declared.Action.TheVariants.{Cut, Perform, Read, WriteBlock}
 use Rattle.hound.specs.declared.Effect.TheVariants.{Pad, Size, Sync}
 use Rattle.hound.specs.declared.Health.TheVariants.{Sound}
@@ -17,14 +17,6 @@ use Rattle.hound_callers.specs.Recording.{published_calls}
 abbrev pub report_for : Bool → Report
 report_for true = Done
 report_for false = Failed
-
--- what an action does, whose end is reported: a medium is neither read nor cut off
-abbrev pub DoesAction : Action → List ℕ → Report → MediumState → MediumState → Type 0
-DoesAction (Perform effect) block report old new = (result : Result (Unit {0}) IoFault)
-    × (report ≡ report_for (is_ok result)) × Performs effect result old new
-DoesAction (WriteBlock at len) block report old new = (result : Result (Unit {0}) IoFault)
-    × (report ≡ report_for (is_ok result)) × PutsAt true at block result old new
-DoesAction _ block report old new = new ≡ old
 
 -- the bytes that an action writes, and their place
 abbrev pub bytes_for : Action → List ℕ → List ℕ

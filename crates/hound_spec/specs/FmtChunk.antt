@@ -1,5 +1,5 @@
 -- The content of a fmt chunk as fields, and their bytes (WAVEFORMAT, WAVEFORMATEXTENSIBLE).
-use Rattle.std.specs.Prelude.{ℕ, ◌<◌, ◌^◌, List, [], ◌∷◌, ◌++◌, slice_range}
+use Rattle.std.specs.Prelude.{ℕ, List, [], ◌∷◌, ◌++◌, slice_range}
 use Rattle.hound_number.specs.{number, bytes_of}
 use Rattle.hound_spec.specs.declared.spec.SampleFormat.{SampleFormat}
 use Rattle.hound_spec.specs.declared.spec.SampleFormat.TheVariants.{Int, Float}
@@ -44,15 +44,6 @@ fmt_fields bytes = record {
   align = number (slice_range bytes 12 14);
   bits = number (slice_range bytes 14 16);
 }
-
--- Numbers that fit in these bytes.
-pub record FieldsFit (f : FmtFields) : Type 0 where
-  pub tag : f.tag < 256 ^ 2
-  pub channels : f.channels < 256 ^ 2
-  pub rate : f.rate < 256 ^ 4
-  pub byte_rate : f.byte_rate < 256 ^ 4
-  pub align : f.align < 256 ^ 2
-  pub bits : f.bits < 256 ^ 2
 
 -- The size of what an extensible chunk has after those fields (WAVEFORMATEX, "cbSize").
 abbrev pub extension_size : ℕ

@@ -8,8 +8,8 @@ use Rattle.hound_number.specs.{number, bytes_of}
 use Rattle.hound_spec.specs.declared.spec.SampleFormat.{SampleFormat}
 use Rattle.hound_spec.specs.declared.spec.SampleFormat.TheVariants.{Int, Float}
 use Rattle.hound_spec.specs.declared.spec.WavSpecEx.{WavSpecEx}
-use Rattle.hound_spec.specs.{IsPair, IsWritable, riff_tag, wave_tag, fmt_tag, data_tag, is_short, mask, fields, short_fmt, long_fmt, sized_fmt, header, data_start, FieldsFit, fmt_bytes, fmt_fields, Extension, extension_bytes, subformat, pcm, extensible, greatest_u32}
-use Rattle.hound_spec.proofs.FmtLemmas.{number-bytes_of, fields_written}
+use Rattle.hound_spec.specs.{IsPair, IsWritable, riff_tag, wave_tag, fmt_tag, data_tag, is_short, mask, fields, short_fmt, long_fmt, sized_fmt, header, data_start, fmt_bytes, fmt_fields, Extension, extension_bytes, subformat, pcm, extensible, greatest_u32}
+use Rattle.hound_spec.proofs.FmtLemmas.{FieldsFit, number-bytes_of, fields_written}
 use Rattle.hound_spec.proofs.WritableLemmas.{PairFacts, pair_facts}
 use Rattle.hound_spec.proofs.HeaderLemmas.{sized_fmt-short, sized_fmt-long, length-long_fmt}
 use Rattle.hound_walk.specs.Fmt.{wave_format, by_tag, wave_format_pcm, wave_format_extensible, fmt_said, fmt_of}

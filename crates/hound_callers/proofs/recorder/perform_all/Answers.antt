@@ -1,8 +1,7 @@
 use Rattle.std.proofs.Common.{None, Ok, Some, ap, arith, inl, length, refl, subst, sym}
 use Rattle.std.specs.Prelude.{⊤}
 use Rattle.hound.specs.{Advances, Recorder, Repeats, actions_left}
-use Rattle.hound_callers.specs.Recorder.{DoesAction}
-use Rattle.hound_callers.proofs.Driving.{IsWithin, KnownAt, at_rest, begins, laws_of, next_err, next_none, next_some, no_laws, not_failed, not_at_rest, one_at_most, settled_low, step_of}
+use Rattle.hound_callers.proofs.Driving.{DoesAction, IsWithin, KnownAt, at_rest, begins, laws_of, next_err, next_none, next_some, no_laws, not_failed, not_at_rest, one_at_most, settled_low, step_of}
 use Rattle.hound_callers.proofs.Mending.{PerformedAt, begins_effects, effect_laws, effects_not_failed}
 use Rattle.hound_callers.proofs.Performing.{not_ok}
 use Rattle.hound_callers.proofs.Repeating.{Again, all_done, begins_directed, come_again, comes, has_action, has_failed, is_tried, smaller}
