@@ -376,8 +376,9 @@ enum {
 /* Begins a recorder of a file as a repairer of HOUND_FIND_DAMAGE found it; `allowed` is a sum of what it may do. A file
    that ends with the samples that its header counts, or with their pad byte, needs neither. Where samples are missing
    that the header counts it is HOUND_TRUNCATED; where the header counts a part of a frame, too, HOUND_MEND is rejected
-   as HOUND_UNFINISHED_FRAME, since a recorder never cuts off what is counted: repair the file first. Returns 0 or an
-   error. */
+   as HOUND_UNFINISHED_FRAME, since a recorder never cuts off what is counted: repair the file first. Where the
+   recording has to survive a loss of power, sync the file before the repairer looks at it, because what it finds may
+   not be stored yet. Returns 0 or an error. */
 int32_t hound_recorder_resume(const hound_repair_t *found, uint32_t allowed, hound_recorder *recorder) HOUND_NONNULL;
 
 /* Requests that a block of so many samples is written, as hound_encode_.. gives them: whole frames, which have
