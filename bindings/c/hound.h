@@ -304,7 +304,8 @@ void hound_repairer_begin(uint64_t length, uint32_t mode, hound_repairer *repair
    between two writes: of all that there is, the RIFF size, the data length, the pad byte. So there are at most seven
    effects that write or sync, and a look at a file reads few parts of it: after each effect that is reported as done
    fewer are left, whatever was read. After an error, or where it was stopped, the file can be repaired by another
-   repairer. */
+   repairer. Where nothing is to be written it syncs nothing: so after a repair that was stopped before its last sync,
+   a loss of power may leave the file as it was before that. */
 int32_t hound_repairer_next(hound_repairer *repairer, hound_repair_t *found) HOUND_NONNULL;
 
 /* Samples without a file around them: containers one after the other, as in the data of a file. They
@@ -376,8 +377,9 @@ enum {
 /* Begins a recorder of a file as a repairer of HOUND_FIND_DAMAGE found it; `allowed` is a sum of what it may do. A file
    that ends with the samples that its header counts, or with their pad byte, needs neither. Where samples are missing
    that the header counts it is HOUND_TRUNCATED; where the header counts a part of a frame, too, HOUND_MEND is rejected
-   as HOUND_UNFINISHED_FRAME, since a recorder never cuts off what is counted: repair the file first. Returns 0 or an
-   error. */
+   as HOUND_UNFINISHED_FRAME, since a recorder never cuts off what is counted: repair the file first. Where the
+   recording has to survive a loss of power, sync the file before the repairer looks at it, because what it finds may
+   not be stored yet. Returns 0 or an error. */
 int32_t hound_recorder_resume(const hound_repair_t *found, uint32_t allowed, hound_recorder *recorder) HOUND_NONNULL;
 
 /* Requests that a block of so many samples is written, as hound_encode_.. gives them: whole frames, which have

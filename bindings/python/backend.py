@@ -1,7 +1,7 @@
 """Builds the wheel of this folder with Python alone, so that `pip install` needs no network: it has the
 shared library that ../lib has for this processor. Where ../lib has none, as for an x86-64 that isn't x86-64-v2, or
-with HOUND_C_SOURCE in the environment, a C compiler makes one of ../rust/hound_c.c, and with HOUND_C_LIB of the static
-library in that folder. An sdist has lib, c and rust in this folder."""
+with HOUND_C_SOURCE in the environment, a C compiler makes one of ../c/hound_c.c, and with HOUND_C_LIB of the static
+library in that folder. An sdist has lib and c in this folder."""
 import base64
 import hashlib
 import os
@@ -21,7 +21,7 @@ NAME, VERSION = "hound_bindings", "0.2.0"
 IS_SDIST = os.path.exists(os.path.join(HERE, "PKG-INFO"))
 BINDINGS = HERE if IS_SDIST else os.path.dirname(HERE)
 LICENSE = os.path.join(HERE if IS_SDIST else os.path.dirname(BINDINGS), "LICENSE")
-HEADER, SOURCE = os.path.join(BINDINGS, "c", "hound.h"), os.path.join(BINDINGS, "rust", "hound_c.c")
+HEADER, SOURCE = os.path.join(BINDINGS, "c", "hound.h"), os.path.join(BINDINGS, "c", "hound_c.c")
 PROCESSOR = runpy.run_path(os.path.join(HERE, NAME, "processor.py"))
 # What the libraries of ../lib need that not each such processor has.
 NEEDS = {"x86_64": PROCESSOR["X86_64_V2"]}
@@ -59,7 +59,7 @@ def is_msvc(words):
 
 
 def compiling(words, library):
-    """The command that compiles ../rust/hound_c.c."""
+    """The command that compiles ../c/hound_c.c."""
     name, machine, has_32_bits = system()
     if is_msvc(words):
         with open(HEADER) as file:

@@ -1,7 +1,7 @@
 /* The functions of hound.h in C99, for computers that bindings/lib has no library for.
    scripts/portable/convert.py makes this file from the proved module hound_c.wasm, whose sha256 is
    68f6f92ae0223b63cbbac3bc5513a230362a2382aa51e053d76a73d3a4a3bb94: don't edit it.
-     cc -O3 -c bindings/rust/hound_c.c
+     cc -O3 -c bindings/c/hound_c.c
 
    Numbers are the module's: an i32 is a uint32_t, an i64 or an address a uint64_t, and an address is
    one of this process. No call allocates or keeps a state, and a call takes at most 2032 bytes of
