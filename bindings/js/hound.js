@@ -3,6 +3,7 @@
 // A file is a Uint8Array, an ArrayBuffer, or a Blob, of which only what is needed is read. Samples are an interleaved
 // typed array, or an array of one for each channel. No call changes its arguments. A file must not change before the
 // promise of a call over it is settled; samples may.
+import { BLOCK_LENGTH, USUAL_START, blocksOf, formOf } from "./guess.js";
 import { module, nodeFiles } from "./module.js";
 
 // Each error, its code in hound.h without the sign, and its sentence there.
@@ -542,6 +543,30 @@ export async function guessStart(file) {
   const given = fileOf(file);
   await ready();
   return Math.max(await callOverFront("guess_data", readerOf(given)), 0);
+}
+
+/**
+ * Guesses what the samples of a file are whose header is lost, and where they begin: the `like` of `repair` but for the
+ * rate, which can't be guessed, and its `skip`. It is null where nothing is predictable, as silence and noise. Without
+ * `skip` they begin where `guessStart` finds it, or near the end of a header of the usual length.
+ */
+export async function guess(file, { skip } = {}) {
+  const given = fileOf(file), size = sizeOf(given);
+  const known = skip === undefined ? await guessStart(given) : integer("skip", skip, 0, size);
+  await ready();
+  const isKnown = skip !== undefined || known > 0, start = isKnown ? known : USUAL_START;
+  const zeros = isKnown ? null : (await bytesOf(given, 0, Math.min(FRONT, size))).findIndex((byte) => byte !== 0);
+  const parts = blocksOf(size, start).map((place) => bytesOf(given, place, Math.min(place + BLOCK_LENGTH, size)));
+  return formOf(await Promise.all(parts), start, zeros < 0 ? FRONT : zeros, decodedAs);
+}
+
+/** All whole samples of these bytes, of one channel. */
+function decodedAs(form, bytes) {
+  const type = form.isFloat ? TYPES.float32 : TYPES.int32;
+  const samples = new type.array(Math.floor(bytes.length / form.bytesPerSample));
+  const spec = { ...form, sampleRate: 1, channels: 1 };
+  decode(type, spec, bytes.subarray(0, samples.length * form.bytesPerSample), samples);
+  return samples;
 }
 
 /** What a file becomes by effects: its own parts and those that were written, one after the other. The file stays. */

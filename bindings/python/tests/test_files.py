@@ -651,7 +651,7 @@ class Files(unittest.TestCase):
             lambda: hound.append(self.path, one, True),
             lambda: hound.append_to(self.path, True),
             lambda: hound.repair(self.path, True),
-            lambda: hound.guess(self.path, 44),
+            lambda: hound.guess(self.path, 44, rate=8000),
             lambda: hound.read(self.path, 0, -1, "int16", True),
             lambda: hound.read(self.path, 0, -1, "int16", array.array("h", [1])),
             lambda: hound.read_with_info(self.path, 0, -1, "int16", True),
@@ -666,8 +666,8 @@ class Files(unittest.TestCase):
     def test_a_pipe_that_nobody_opens(self):
         """A call doesn't wait for another program where a pipe is no file for it."""
         os.mkfifo(self.path)
-        calls = (hound.find_damage, hound.repair, hound.append_to, hound.guess, lambda path: hound.append(path, [1]),
-                 lambda path: hound.create(path, 8000, 1, 16))  # fmt: skip
+        calls = (hound.find_damage, hound.repair, hound.append_to, lambda path: hound.append(path, [1]),
+                 lambda path: hound.guess(path, rate=8000), lambda path: hound.create(path, 8000, 1, 16))  # fmt: skip
         signal.signal(signal.SIGALRM, signal.SIG_DFL)
         signal.alarm(60)
         self.addCleanup(signal.alarm, 0)
