@@ -539,10 +539,11 @@ def read(
 ) -> Any:
     """Reads frames from number `start` on, at most so many (all where it is -1), and returns their samples.
 
-    They are an `array.array` of interleaved samples; with `always_2d` a memoryview of frames by
-    channels, which `numpy.asarray` takes. `dtype` is "int8", "int16", "int32", "float32" or "float64", or one of numpy;
-    without it, it is the narrowest from 16 bits on that reads the file. Integers of up to 24 bits are exact as float32,
-    all of them as float64. Of a file that holds fewer frames than its header counts these are read, and a read that
+    They are an `array.array` of interleaved samples; with `always_2d` a memoryview of frames by channels. `dtype` is
+    "int8", "int16", "int32", "float32" or "float64"; without it, it is the narrowest from 16 bits on that reads the
+    file. With a type or dtype of numpy, as `numpy.float32`, they are an array of numpy: frames by channels, or of one
+    dimension where there is one channel, unless `always_2d` is set. Integers of up to 24 bits are exact as float32, all
+    of them as float64. Of a file that holds fewer frames than its header counts these are read, and a read that
     starts after them is an error.
 
     With `out` they are stored in that buffer, as a numpy array, as far as it has room for whole frames, and the result
