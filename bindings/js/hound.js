@@ -54,6 +54,16 @@ const ERRORS = {
   NOT_PERFORMED: [31, "the file could not be read or written"],
   // The end of what is made from hound.h.
 };
+// What can be done about an error, by the names of this package.
+const ADVICE = {
+  OTHER_FORMAT: '{ type: "float32" } reads them',
+  TOO_WIDE: '{ type: "int32" } reads them, and a larger bitsPerSample holds them',
+  TRUNCATED: "repair(file), { toEnd: true }",
+  DATA_LENGTH: "repair(file), { toEnd: true }",
+  FRAME_LENGTH: "repair(file), { toEnd: true }",
+  IS_CUT_OFF: "repair(file), repairFile(path)",
+  CHUNKS_FOLLOW: "{ overwrite: true }",
+};
 const NAMES = new Map(Object.entries(ERRORS).map(([name, [code]]) => [code, name]));
 
 // What a file is that isn't read, by the number of its kind.
@@ -91,7 +101,7 @@ function sentenceOn(kind) {
     known. */
 export class HoundError extends Error {
   constructor(code, kind) {
-    super(KINDS.has(kind) ? sentenceOn(kind) : ERRORS[code][1]);
+    super(KINDS.has(kind) ? sentenceOn(kind) : [ERRORS[code][1], ADVICE[code]].filter(Boolean).join(": "));
     this.name = "HoundError";
     this.code = code;
     this.kind = KINDS.get(kind);

@@ -39,6 +39,16 @@ _HINTS = {
 }
 # The rate of a guess that isn't given.
 _USUAL_RATE = 48000
+# What can be done about a cause, by the names of this command.
+_ADVICE = {
+    hound.Cause.OTHER_FORMAT: "--type float32, or float64",
+    hound.Cause.TOO_WIDE: "a wider --type reads it, as int32, and more --bits hold it",
+    hound.Cause.TRUNCATED: "hound-wav repair, or --to-end",
+    hound.Cause.DATA_LENGTH: "hound-wav repair, or --to-end",
+    hound.Cause.FRAME_LENGTH: "hound-wav repair, or --to-end",
+    hound.Cause.IS_CUT_OFF: "hound-wav repair",
+    hound.Cause.TOO_LONG: "a WAV file has less than 4 GiB, so the rest needs another one",
+}
 _USUAL_HINT = "where a header is lost or damaged, --guess or --like makes a copy with a new one"
 
 
@@ -58,10 +68,12 @@ def _complain(sentence: str) -> None:
 
 
 def _sentence(error: Exception) -> str:
+    if isinstance(error, FileExistsError):
+        return f"{error.filename}: {error.strerror}: rename or remove it first"
     if isinstance(error, OSError) and error.strerror:
         return f"{error.filename}: {error.strerror}" if error.filename else error.strerror
-    if isinstance(error, hound.HoundError) and error.cause == hound.Cause.TOO_LONG:
-        return f"{error}: a WAV file has less than 4 GiB, so the rest needs another one"
+    if isinstance(error, hound.HoundError):
+        return error._said(_ADVICE)
     return str(error)
 
 
