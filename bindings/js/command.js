@@ -1,13 +1,21 @@
 #!/usr/bin/env node
 // Looks at files, or repairs them in place.
-import { stat } from "node:fs/promises";
-import { findDamageInFile, repairFile } from "./hound.js";
+import { createWriteStream, openAsBlob } from "node:fs";
+import { open, stat, unlink } from "node:fs/promises";
+import { Readable } from "node:stream";
+import { pipeline } from "node:stream/promises";
+import { chunksAtEnd } from "./guess.js";
+import { findDamageInFile, guess, repair as repaired, repairFile } from "./hound.js";
 
+// The rate of a guess that isn't given, and in how many bytes at the end of a file chunks are looked for.
+const USUAL_RATE = 48000, END_LENGTH = 4096;
 const USAGE = `usage: hound_bindings info [--details] FILE..                     says what each file is
        hound_bindings repair [--to-end | --canonical] FILE..  repairs each in place: copy what you have only once
+       hound_bindings guess [--rate HZ] FILE..                for a lost header: makes a copy NAME.repaired.wav
 
 With --to-end all that follows the header of the data is taken for samples.
 Where a whole file has another RIFF size or pad byte than the format asks for --details says so, --canonical writes it.
+A guess finds channels and bits, and may be wrong: listen. It finds no rate: ${USUAL_RATE} is assumed without --rate.
 The status is 0 if all files could be read or repaired, 1 if one couldn't, and 2 if the arguments are wrong.`;
 
 const number = (n) => n.toLocaleString("en");
@@ -16,36 +24,87 @@ const STATES = {
   whole: "whole", cutOff: "cut off", hasChunksAfterData: "chunks or a tag follow the sound", allCounted: "whole",
 };
 
+function specText({ sampleRate, channels, bitsPerSample, isFloat }) {
+  const type = `${isFloat ? "floats" : "integers"} of ${bitsPerSample} bits`;
+  return `${sampleRate} Hz, ${counted(channels, "channel")}, ${type}`;
+}
+
 function text(found, counts, details) {
-  const { state, frames, leftOver, sampleRate, channels, bitsPerSample, isFloat } = found;
+  const { state, frames, leftOver, sampleRate } = found;
   const seconds = sampleRate ? ` (${(frames / sampleRate).toFixed(3)} s)` : "";
   const of = found.counted > frames ? "and" : "of which";
   const before = state === "cutOff" ? `, ${of} the header ${counts} ${number(found.counted)}` : "";
   const left = leftOver ? `, ${counted(leftOver, "byte")} left over` : "";
-  const type = `${isFloat ? "floats" : "integers"} of ${bitsPerSample} bits`;
-  const spec = `${sampleRate} Hz, ${counted(channels, "channel")}, ${type}`;
   const other = details && state === "allCounted" ? "; its RIFF size or pad byte isn't as the format asks" : "";
-  return `${STATES[state]}, ${counted(frames, "frame")}${seconds}${before}${left}, ${spec}${other}`;
+  return `${STATES[state]}, ${counted(frames, "frame")}${seconds}${before}${left}, ${specText(found)}${other}`;
+}
+
+/** Says where a file seems to end in chunks, which a repair of what it found takes for sound. */
+async function sayWhatIsCounted(path, { state, dataStart }) {
+  if (state !== "cutOff") return;
+  const { size } = await stat(path), start = Math.max(dataStart, size - END_LENGTH), handle = await open(path);
+  const { buffer, bytesRead } = await handle.read(Buffer.alloc(size - start), 0, size - start, start);
+  await handle.close();
+  const chunks = chunksAtEnd(buffer.subarray(0, bytesRead));
+  if (chunks) {
+    const bytes = `its last ${number(chunks.length)} bytes look like a ${chunks.name} chunk (a title, markers)`;
+    console.error(`${path}: ${bytes}, and count as sound: leave them out of a copy to repair that`);
+  }
 }
 
 async function look(path, { details }) {
   if ((await stat(path)).isDirectory()) throw new Error("it is a folder, and files are named here");
-  return text(await findDamageInFile(path), "counts", details);
+  const found = await findDamageInFile(path);
+  await sayWhatIsCounted(path, found);
+  return text(found, "counts", details);
 }
 
 async function repair(path, { toEnd, canonical }) {
+  if (!toEnd) await sayWhatIsCounted(path, await findDamageInFile(path));
   return `found ${text(await repairFile(path, { toEnd, canonical }), "counted", canonical)}`;
 }
 
-// What each command does, and which option it may have.
-const COMMANDS = { info: [look, "--details"], repair: [repair, "--to-end", "--canonical"] };
+/** Whether the header of a file can be read. */
+const isRead = (path) => findDamageInFile(path).then(() => true, () => false);
+
+async function recover(path, { rate }) {
+  if (await isRead(path)) throw new Error("its header isn't lost, so nothing is guessed");
+  const file = await openAsBlob(path), found = await guess(file);
+  const copy = path.replace(/\.[^./\\]*$/, "") + ".repaired.wav";
+  if (!found) throw new Error("there is nothing to guess by, since nothing in it is predictable, as silence and noise");
+  const made = await repaired(file, { ...found, like: { ...found.like, sampleRate: rate ?? USUAL_RATE } });
+  const stream = createWriteStream(copy, { flags: "wx" });
+  await pipeline(Readable.fromWeb(made.file.stream()), stream).catch(async (error) => {
+    if (error.code === "EEXIST") throw new Error(`${copy} exists: rename or remove it`);
+    await unlink(copy);
+    throw error;
+  });
+  const assumed = `${USUAL_RATE} Hz is assumed, since no guess finds a rate: --rate HZ is that of your recorder`;
+  if (!rate) console.error(`${path}: ${assumed}`);
+  return `a guess: ${specText(made)}, from byte ${number(found.skip)} on: ${counted(made.frames, "frame")} in ${copy}`;
+}
+
+// What each command does, and which option it may have; one with a value ends in =.
+const COMMANDS = {
+  info: [look, "--details"], repair: [repair, "--to-end", "--canonical"], guess: [recover, "--rate="],
+};
+
+/** The options at the front of words, which are taken off; nothing where a value is wrong. */
+function optionsOf(words, options) {
+  const how = {}, [word, value] = words;
+  const name = options.find((option) => option.replace("=", "") === word);
+  if (!name) return how;
+  words.splice(0, name.endsWith("=") ? 2 : 1);
+  if (name.endsWith("=") && !/^[1-9]\d{0,8}$/.test(value)) return null;
+  return { [name.slice(2).replace("=", "").replace("-e", "E")]: name.endsWith("=") ? Number(value) : true };
+}
 
 async function main([command, ...words]) {
   if (command === "--help") return console.log(USAGE), 0;
   const [work, ...options] = Object.hasOwn(COMMANDS, command) ? COMMANDS[command] : [];
-  const option = options.includes(words[0]) ? words.shift() : "";
-  if (!work || words.length === 0 || words.some((word) => word.startsWith("--"))) return console.error(USAGE), 2;
-  const how = { details: option === "--details", toEnd: option === "--to-end", canonical: option === "--canonical" };
+  const how = optionsOf(words, options);
+  const isUsed = work && how && words.length > 0 && !words.some((word) => word.startsWith("--"));
+  if (!isUsed) return console.error(USAGE), 2;
   let status = 0;
   for (const path of words) {
     try {

@@ -12,7 +12,7 @@ async function after(name, given) {
 }
 
 const FUNCTIONS = [
-  "append", "appendTo", "findDamage", "findDamageInFile", "guessStart", "info", "read", "record", "repair",
+  "append", "appendTo", "findDamage", "findDamageInFile", "guess", "guessStart", "info", "read", "record", "repair",
   "repairFile", "write",
 ];
 for (const name of FUNCTIONS) {

@@ -166,6 +166,20 @@ export interface RepairOptions extends Repairing {
 /** Where samples may begin in a file whose header is damaged: after what looks like the header of its data, or at 0. */
 export function guessStart(file: WavFile): Promise<number>;
 
+export interface Guess {
+  /** What the samples are: the `like` of `repair`, once it has a `sampleRate`, too. */
+  like: { channels: number; bitsPerSample: number; bytesPerSample: number; isFloat: boolean };
+  /** Where they begin. */
+  skip: number;
+}
+
+/**
+ * Guesses what the samples of a file are whose header is lost, by which form makes them most predictable; the rate
+ * can't be guessed. It may be wrong: listen to what `repair` makes of it. It is null where nothing is predictable, as
+ * silence and noise. Without `skip` the samples begin at `guessStart`, or else near the end of a usual header.
+ */
+export function guess(file: WavFile, options?: { skip?: number }): Promise<Guess | null>;
+
 /** Reports what `repair` would find, or fails as it would. */
 export function findDamage(file: WavFile): Promise<Damage>;
 

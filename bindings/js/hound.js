@@ -3,6 +3,7 @@
 // A file is a Uint8Array, an ArrayBuffer, or a Blob, of which only what is needed is read. Samples are an interleaved
 // typed array, or an array of one for each channel. No call changes its arguments. A file must not change before the
 // promise of a call over it is settled; samples may.
+import { BLOCK_LENGTH, USUAL_START, blocksOf, formOf } from "./guess.js";
 import { module, nodeFiles } from "./module.js";
 
 // Each error, its code in hound.h without the sign, and its sentence there.
@@ -53,6 +54,16 @@ const ERRORS = {
   NOT_PERFORMED: [31, "the file could not be read or written"],
   // The end of what is made from hound.h.
 };
+// What can be done about an error, by the names of this package.
+const ADVICE = {
+  OTHER_FORMAT: '{ type: "float32" } reads them',
+  TOO_WIDE: '{ type: "int32" } reads them, and a larger bitsPerSample holds them',
+  TRUNCATED: "repair(file), { toEnd: true }",
+  DATA_LENGTH: "repair(file), { toEnd: true }",
+  FRAME_LENGTH: "repair(file), { toEnd: true }",
+  IS_CUT_OFF: "repair(file), repairFile(path)",
+  CHUNKS_FOLLOW: "{ overwrite: true }",
+};
 const NAMES = new Map(Object.entries(ERRORS).map(([name, [code]]) => [code, name]));
 
 // What a file is that isn't read, by the number of its kind.
@@ -90,7 +101,7 @@ function sentenceOn(kind) {
     known. */
 export class HoundError extends Error {
   constructor(code, kind) {
-    super(KINDS.has(kind) ? sentenceOn(kind) : ERRORS[code][1]);
+    super(KINDS.has(kind) ? sentenceOn(kind) : [ERRORS[code][1], ADVICE[code]].filter(Boolean).join(": "));
     this.name = "HoundError";
     this.code = code;
     this.kind = KINDS.get(kind);
@@ -542,6 +553,30 @@ export async function guessStart(file) {
   const given = fileOf(file);
   await ready();
   return Math.max(await callOverFront("guess_data", readerOf(given)), 0);
+}
+
+/**
+ * Guesses what the samples of a file are whose header is lost, and where they begin: the `like` of `repair` but for the
+ * rate, which can't be guessed, and its `skip`. It is null where nothing is predictable, as silence and noise. Without
+ * `skip` they begin where `guessStart` finds it, or near the end of a header of the usual length.
+ */
+export async function guess(file, { skip } = {}) {
+  const given = fileOf(file), size = sizeOf(given);
+  const known = skip === undefined ? await guessStart(given) : integer("skip", skip, 0, size);
+  await ready();
+  const isKnown = skip !== undefined || known > 0, start = isKnown ? known : USUAL_START;
+  const zeros = isKnown ? null : (await bytesOf(given, 0, Math.min(FRONT, size))).findIndex((byte) => byte !== 0);
+  const parts = blocksOf(size, start).map((place) => bytesOf(given, place, Math.min(place + BLOCK_LENGTH, size)));
+  return formOf(await Promise.all(parts), start, zeros < 0 ? FRONT : zeros, decodedAs);
+}
+
+/** All whole samples of these bytes, of one channel. */
+function decodedAs(form, bytes) {
+  const type = form.isFloat ? TYPES.float32 : TYPES.int32;
+  const samples = new type.array(Math.floor(bytes.length / form.bytesPerSample));
+  const spec = { ...form, sampleRate: 1, channels: 1 };
+  decode(type, spec, bytes.subarray(0, samples.length * form.bytesPerSample), samples);
+  return samples;
 }
 
 /** What a file becomes by effects: its own parts and those that were written, one after the other. The file stays. */

@@ -1,10 +1,13 @@
 // The page: it looks at files that are dropped or chosen, draws one, plays it, and saves the repaired ones.
-import { HoundError, guessStart, info, read, repair, write } from "../hound.js";
+import { chunksAtEnd } from "../guess.js";
+import { HoundError, guess, guessStart, info, read, repair, write } from "../hound.js";
 
 const element = (id) => document.getElementById(id);
-const [drop, list, all, lost, said, busy, stop, result, save, choice, end, wave, place, axis, zoom, player, facts] = [
-  "drop", "list", "all", "lost", "said", "busy", "stop", "result", "save", "choice", "end", "wave", "place", "axis",
-  "zoom", "player", "facts",
+const [
+  drop, list, all, lost, said, busy, stop, result, save, shorter, choice, end, wave, place, axis, zoom, player, facts,
+] = [
+  "drop", "list", "all", "lost", "said", "busy", "stop", "result", "save", "shorter", "choice", "end", "wave", "place",
+  "axis", "zoom", "player", "facts",
 ].map(element);
 const [input, audio, canvas, progress, table] =
   ["input", "audio", "canvas", "progress", "tbody"].map((name) => document.querySelector(name));
@@ -25,18 +28,19 @@ const HINTS = {
   NOT_WRITABLE: READS,
   BITS_NOT_32: READS,
 };
+// The errors of a file whose beginning is lost, where something in it is predictable as sound is.
+const WITHOUT_BEGINNING = ["ENDED", "NO_RIFF_TAG", "NO_WAVE_TAG", "NO_FMT_CHUNK", "NO_DATA_CHUNK"];
 const NAMED = `An audio editor converts it, too. Or its header is damaged: ${CHOOSE}`;
+const AFTER_IT = "silence, noise, a click or older sound";
 const CARD = "Record nothing more on the card it came from: a recovery program may find the sound there.";
-// What samples may be, the usual ones first, the rates of most recorders, and the channels that are guessed.
+// What samples may be, the usual ones first, the rates of most recorders, and the one that is assumed.
 const FORMS = [[16, 2], [24, 3], [32, 4, true], [8, 1], [32, 4], [24, 4]]
   .map(([bitsPerSample, bytesPerSample, isFloat = false]) => ({ bitsPerSample, bytesPerSample, isFloat }));
-const RATES = [8000, 11025, 16000, 22050, 32000, 44100, 48000, 88200, 96000, 192000], CHANNELS = [1, 2, 4, 6, 8];
-// From how many places of a file a guess is made, of how many bytes each, what number of bytes all pairs of samples are
-// a part of, and from where on they are too rough to be sound.
-const PLACES = 16, PART = 6144, COMMON = 24, NOISE = 0.8;
+const RATES = [8000, 11025, 16000, 22050, 32000, 44100, 48000, 88200, 96000, 192000];
+const USUAL_RATE = 48000;
 // How many samples are read at once to be drawn, how many channels are drawn at most, how many frames are shown at
-// least, and how many samples a copy has at most.
-const AT_ONCE = 1 << 20, LANES = 32, LEAST = 64, COPIED = 1 << 28;
+// least, how many samples a copy has at most, and in how many bytes at the end of a file chunks are looked for.
+const AT_ONCE = 1 << 20, LANES = 32, LEAST = 64, COPIED = 1 << 28, END_LENGTH = 4096;
 
 const number = (n) => n.toLocaleString("en");
 const counted = (n, what) => `${number(n)} ${what}${n === 1 ? "" : "s"}`;
@@ -83,7 +87,7 @@ function claims(file, { dataStart, dataLength }) {
 }
 
 /** What is said of a file that was looked at, and repaired to its end if that was requested. */
-function verdict(found, { rest, mayBeSound }, toEnd) {
+function verdict(found, { rest, mayBeSound }, toEnd, chunks) {
   const { state, frames, leftOver, counted: before } = found;
   if (state === "hasChunksAfterData") {
     const counts = frames ? `only ${framesOf(found)}` : "no sound";
@@ -105,8 +109,9 @@ function verdict(found, { rest, mayBeSound }, toEnd) {
   const ofThese = before > frames ? `; its header counted ${number(before)}` :
     `, of which its header counted ${before ? number(before) : "none"}`;
   const back = `${framesOf(found)} come${frames === 1 ? "s" : ""} back${ofThese}.${left}`;
-  return [`${cause} ${back}\nListen to its end: if silence, noise, a click or older sound is there, ` +
-    "cut it off in an audio editor.", "cut"];
+  const says = chunks ? ` ${chunksText(chunks)}` : "";
+  return [`${cause} ${back}${says}\n` +
+    `Listen to its end: if ${AFTER_IT} is there, stop the player before that, and end it where the player is.`, "cut"];
 }
 
 /** The second choice where chunks or a tag follow the sound: what it is, and its button. */
@@ -301,7 +306,7 @@ function urlOf(blob) {
 }
 
 function clear() {
-  for (const part of [result, save, choice, place, busy, player]) part.hidden = true;
+  for (const part of [result, save, shorter, choice, place, busy, player]) part.hidden = true;
   drawings++;
   audio.removeAttribute("src");
   audio.load();
@@ -337,78 +342,28 @@ async function judged(file, toEnd) {
   // repaired.
   const isTorn = !head && left.state === "hasChunksAfterData";
   const found = isTorn ? await repair(file, { toEnd: true }) : left;
-  const says = claims(file, found);
-  return { head, found, begins: found.dataStart, says, words: verdict(found, says, toEnd || isTorn) };
+  const says = claims(file, found), chunks = found.state === "cutOff" && !toEnd ? await chunksOf(file, found) : null;
+  const words = verdict(found, says, toEnd || isTorn, chunks);
+  return { head, found, begins: found.dataStart, says, chunks, words };
 }
+
+/** The chunks in which a file seems to end that counts them as sound. */
+async function chunksOf(file, { dataStart }) {
+  const end = file.slice(Math.max(dataStart, file.size - END_LENGTH));
+  return chunksAtEnd(new Uint8Array(await end.arrayBuffer()));
+}
+
+/** What such chunks are said to be. */
+const chunksText = ({ name, length }) =>
+  `Its last ${number(length)} bytes look like a ${name} chunk (a title, markers), which becomes a click.`;
 
 /** The same of a file whose header is lost: all after so many bytes is sound like that. */
 async function judgedAs(file, { like, skip }) {
   const found = await repair(file, { like, skip });
   const areThere = found.frames === 1 ? "is there" : "are there";
   const text = `${framesOf(found)} of that ${areThere}. ` +
-    "Listen: if it is noise, or too fast or slow, choose otherwise.";
+    "Listen: if it is noise, or too fast or too slow, choose otherwise.";
   return { found, begins: skip, words: [text, "cut"] };
-}
-
-/** How little samples are like those of the frame before: near 0 if they are smooth, 1 if they are noise or none. */
-function roughness(blocks, channels) {
-  let like = 0, later = 0, earlier = 0;
-  for (const block of blocks) {
-    const middles = new Float64Array(channels);
-    for (let i = 0; i < block.length; i++) middles[i % channels] += block[i];
-    middles.forEach((sum, channel) => { middles[channel] = sum / Math.ceil((block.length - channel) / channels); });
-    for (let i = channels; i < block.length; i++) {
-      const middle = middles[i % channels], a = block[i] - middle, b = block[i - channels] - middle;
-      like += a * b;
-      later += a * a;
-      earlier += b * b;
-    }
-  }
-  return like > 0 ? 1 - like / later * (like / earlier) : 1;
-}
-
-/** Whether samples come in pairs: the steps within them are far from as large as those between them. */
-function isPaired(blocks) {
-  const steps = [0, 0];
-  for (const block of blocks) for (let i = 1; i < block.length; i++) steps[i % 2] += (block[i] - block[i - 1]) ** 2;
-  return Math.max(...steps) > 2 * Math.min(...steps);
-}
-
-/** The number of channels of samples, by what makes them smooth, and how rough they are then. */
-function channelsOf(blocks) {
-  const some = CHANNELS.map((channels) => ({ channels, rough: roughness(blocks, channels) }));
-  const [best] = some.sort((a, b) => a.rough - b.rough);
-  return best.channels === 1 && isPaired(blocks) ? { ...best, channels: 2 } : best;
-}
-
-/** What was recorded in a file whose header is lost, by what makes its samples smooth; nothing if nothing does. */
-async function guessed(file) {
-  if (file.size < PLACES * LEAST) return null; // A few samples may be smooth by chance.
-  const place = (_, i) => COMMON * Math.floor(file.size * (i + 0.5) / PLACES / COMMON);
-  const places = Array.from({ length: PLACES }, place), all = [];
-  const parts = await Promise.all(places.map((from) => file.slice(from, from + PART).arrayBuffer()));
-  // The last form is as smooth as integers of 32 bits, which have the same sound.
-  for (const form of FORMS.slice(0, -1)) {
-    for (let skip = 0; skip < form.bytesPerSample; skip++) {
-      const mono = { ...form, sampleRate: 1, channels: 1 }, blocks = [];
-      for (const part of parts) {
-        const mended = await repair(part, { like: mono, skip: Math.min(skip, part.byteLength) });
-        blocks.push(await read(mended.file, { type: "float32" }));
-      }
-      const { channels, rough } = channelsOf(blocks);
-      all.push({ like: { ...form, channels, sampleRate: 48000 }, skip, rough });
-    }
-  }
-  const best = Math.min(...all.map(({ rough }) => rough));
-  const guess = all.find(({ rough }) => rough < NOISE && rough <= 2 * best);
-  return guess && inStep(file, guess);
-}
-
-/** Where the lost header was as long as a new one, channels begin after it. */
-async function inStep(file, { like, skip }) {
-  const { dataStart } = await repair(file.slice(0, 0), { like });
-  const first = dataStart % (like.channels * like.bytesPerSample);
-  return { like, skip: first % like.bytesPerSample === skip ? first : skip };
 }
 
 /** Offers a choice of what was recorded, which begins as this. */
@@ -427,36 +382,57 @@ function offer(file, { like, skip }, text) {
   };
 }
 
+/** What of a file is lost in which sound is found all the same; nothing where it may be of another kind. */
+function lossOf({ name }, { code, kind }) {
+  if (WITHOUT_BEGINNING.includes(code) && !kind) return `The beginning of ${name} is lost.`;
+  return kind || code in HINTS ? null : `The header of ${name} is damaged.`;
+}
+
 /** Guesses what was recorded where a header can't be read, and offers other choices; or says that there are none. */
 async function withoutHeader(file, error, isCurrent) {
   if (!(error instanceof HoundError) || error.code === "TOO_LONG" || file.size < LEAST) throw error;
-  const guess = await guessed(file), start = await guessStart(file);
-  const usual = { like: { ...FORMS[0], channels: 2, sampleRate: 48000 }, skip: 0 };
-  const given = { ...(guess ?? usual), ...(start > 0 && { skip: start }) };
-  const text = guess ?
-    "This is a guess, by which samples are smooth; the rate can't be guessed. " +
-      "What was before the sound may be a click." :
-    "No guess: nothing in it is smooth, as sound is, or it is too short.";
-  const seen = await judgedAs(file, given);
+  const found = await guess(file), { like, skip } = found ?? { like: { ...FORMS[0], channels: 2 } };
+  const given = { like: { ...like, sampleRate: USUAL_RATE }, skip: skip ?? await guessStart(file) };
+  const text = found ?
+    `This is a guess, except the rate: no guess finds it, and ${number(USUAL_RATE)} Hz is assumed. ` +
+      "If the sound is too fast or too slow, choose the rate that your recorder was set to." :
+    "No guess: nothing in it is predictable, as sound is, or it is too short.";
+  const seen = await judgedAs(file, given), loss = found && lossOf(file, error);
   if (isCurrent()) offer(file, given, text);
-  return { ...seen, words: [failure(file, error), "bad"] };
+  const words = loss ? [`${loss} Choose what was recorded, listen, save.`, "cut"] : [failure(file, error), "bad"];
+  return { ...seen, words };
 }
 
-/** Shows what is found of a file. */
-function show(file, { found, says, words }, toEnd, isCurrent) {
+/** Offers a choice beside what is shown. */
+function offerToOpen(text, button, file, how) {
+  [choice.firstChild.textContent, end.textContent] = [text, button];
+  end.onclick = () => open(file, how);
+  choice.hidden = false;
+}
+
+/** Shows what is found of a file that was opened so; `whole` is all of it, where an end is left out. */
+function show(file, { found, begins, says, chunks, words }, { whole, ...how }, isCurrent) {
+  const { toEnd } = how, isLost = !says;
   result.hidden = false;
   for (const part of [wave, axis]) part.hidden = found.frames === 0;
   audio.hidden = lengthOfTime(found) === 0;
   if (!audio.hidden) play(found, isCurrent);
   if (found.state === "cutOff" && found.frames) {
     const name = repairedName(file.name);
-    const textContent = `Save the repaired file as ${name}`;
+    const rate = isLost ? ` with ${number(found.sampleRate)} Hz` : "";
+    const textContent = `Save the repaired file${rate} as ${name}`;
     Object.assign(save, { href: urlOf(found.file), hidden: false, download: name, textContent });
+    shorter.hidden = audio.hidden;
+    shorter.onclick = () => {
+      const frames = Math.round(audio.currentTime * found.sampleRate);
+      if (frames < 1 || frames >= found.frames) return say("Play it first, and stop where the sound ends.", "cut");
+      open(whole ?? file, { ...how, keep: begins + frames * found.channels * found.bytesPerSample });
+    };
   }
-  if (says && (toEnd || found.state === "hasChunksAfterData")) {
-    [choice.firstChild.textContent, end.textContent] = otherChoice(says, toEnd);
-    end.onclick = () => open(file, { toEnd: !toEnd });
-    choice.hidden = false;
+  if (whole) offerToOpen("Its end is left out.", "Take all of it", whole, how);
+  else if (chunks) offerToOpen("", `Leave out the ${chunks.name} chunk`, file, { keep: file.size - chunks.length });
+  else if (!isLost && (toEnd || found.state === "hasChunksAfterData")) {
+    offerToOpen(...otherChoice(says, toEnd), file, { toEnd: !toEnd });
   }
   say(...words);
   zoom.hidden = found.frames <= LEAST;
@@ -464,8 +440,10 @@ function show(file, { found, says, words }, toEnd, isCurrent) {
   return look(0, found.frames);
 }
 
-/** Looks at a file; with `toEnd` all of it is taken for sound, with `like` all after the first `skip` bytes. */
-async function open(file, { toEnd = false, like, skip } = {}) {
+/** Looks at a file; with `toEnd` all of it is taken for sound, with `like` all after the first `skip` bytes. With
+    `keep` only so many bytes are taken, and the others are left out. */
+async function open(whole, { toEnd = false, like, skip, keep } = {}) {
+  const file = keep === undefined ? whole : Object.assign(whole.slice(0, keep), { name: whole.name });
   const mine = ++turn, isCurrent = () => mine === turn;
   clear();
   if (!like) lost.hidden = true;
@@ -478,7 +456,7 @@ async function open(file, { toEnd = false, like, skip } = {}) {
     if (!like && seen.says && seen.found.sampleRate === 0) {
       offer(file, { like: { ...seen.found, sampleRate: 48000 }, skip: seen.begins }, "Its rate is lost: choose one.");
     }
-    await show(file, seen, toEnd, isCurrent);
+    await show(file, seen, { toEnd, like, skip, ...(file !== whole && { whole }) }, isCurrent);
   } catch (error) {
     if (!isCurrent()) return;
     say(failure(file, error), "bad");
@@ -487,12 +465,13 @@ async function open(file, { toEnd = false, like, skip } = {}) {
 }
 
 /** What a table says of a file, and whether it is repaired. */
-function summary({ found, says }) {
+function summary({ found, says, chunks }) {
   if (found.state === "hasChunksAfterData") {
     return says.mayBeSound ? "may be cut off: look at it" : "other data follow the sound";
   }
   if (found.frames === 0) return "no sound";
-  return found.state === "cutOff" ? "was cut off" : "whole";
+  if (found.state !== "cutOff") return "whole";
+  return `was cut off${chunks ? `, and seems to end in a ${chunks.name} chunk: look at it` : ""}`;
 }
 
 /** Adds a file to the table, and returns its repaired form, if there is one. */
@@ -537,7 +516,9 @@ async function openAll(files) {
   const were = repaired.length === 1 ? "was" : "were";
   const cutOff = repaired.length ?
     `${number(repaired.length)} ${were} cut off and can be saved repaired` : "none can be repaired";
-  say(files.length ? `${counted(files.length, "file")}, of which ${cutOff}.` : "There are no WAV files in it.");
+  const listen = repaired.length ? `\nChoose each in the list, and listen to its end: ${AFTER_IT} may be there.` : "";
+  const found = `${counted(files.length, "file")}, of which ${cutOff}.${listen}`;
+  say(files.length ? found : "There are no WAV files in it.");
   all.hidden = repaired.length === 0;
   all.textContent = `Save ${counted(repaired.length, "repaired file")}`;
   all.onclick = () => saveAll(repaired);

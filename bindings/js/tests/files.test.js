@@ -6,7 +6,7 @@ import fs from "node:fs/promises";
 import os from "node:os";
 import path from "node:path";
 import {
-  HoundError, append, findDamage, findDamageInFile, guessStart, info, read, repair, repairFile, write,
+  HoundError, append, findDamage, findDamageInFile, guess, guessStart, info, read, repair, repairFile, write,
 } from "../hound.js";
 
 const text = (characters) => [...Buffer.from(characters, "latin1")];
@@ -83,6 +83,30 @@ test("where samples may begin after a damaged header is guessed", async () => {
   }
   assert.equal(await guessStart(new Uint8Array(43)), 0);
   assert.equal((await repair(new Uint8Array(4), { like: form })).frames, 2);
+});
+
+test("the form of samples whose header is lost is guessed", async () => {
+  const swell = (i, channel) => Math.sin(i / (20 + 3 * channel)) + 0.1 * Math.sin(i * i / 40000);
+  const swells = (channel) => Float32Array.from({ length: 9000 }, (_, i) => swell(i, channel) / 3);
+  for (const [bitsPerSample, isFloat, channels, head] of [
+    [8, false, 1, 44], [16, false, 2, 44], [24, false, 2, 80], [32, false, 1, 44], [32, true, 2, 58],
+    [16, false, 4, 68],
+  ]) {
+    const samples = Array.from({ length: channels }, (_, channel) => swells(channel));
+    const form = { sampleRate: 8000, bitsPerSample, isFloat }, whole = await write(samples, form);
+    const { dataStart, bytesPerSample } = await info(whole), data = whole.subarray(dataStart);
+    const like = { bitsPerSample, bytesPerSample, isFloat, channels };
+    for (const given of kinds(Uint8Array.from([...Array(head).fill(0), ...data]))) {
+      assert.deepEqual(await guess(given), { like, skip: head });
+      assert.deepEqual(await guess(given, { skip: head }), { like, skip: head });
+      const { file } = await repair(given, { like: { ...like, sampleRate: 8000 }, skip: head });
+      assert.deepEqual(await bytes(file), whole);
+    }
+    const named = Uint8Array.from([...Array(100).fill(1), ...whole.subarray(dataStart - 8)]);
+    assert.deepEqual(await guess(named), { like, skip: 108 }); // The header of the data is found.
+  }
+  for (const length of [0, 44, 60000]) assert.equal(await guess(new Uint8Array(length)), null);
+  await assert.rejects(guess(new Uint8Array(9), { skip: 10 }), /^RangeError: skip is 10/);
 });
 
 test("24 bits take three bytes or four, and floats keep their bits", async () => {

@@ -268,3 +268,40 @@ test("the command worries nobody about a file whose frames are all counted", asy
   assert.ok((await fs.readFile(file)).equals(Buffer.concat([mono, Buffer.alloc(1)])));
   assert.equal(run("info", "--details", file), `${file}: ${says}\n`);
 });
+
+test("the command makes copies of files whose header is lost, and names chunks that count as sound", async () => {
+  const file = path.join(folder, "lost.wav"), copy = path.join(folder, "lost.repaired.wav");
+  const run = (...words) => {
+    const { status, stdout, stderr } = spawnSync(process.execPath, [COMMAND, ...words], { encoding: "utf8" });
+    return [status, stdout, stderr];
+  };
+  const tone = (_, i) => 9000 * Math.sin(Math.floor(i / 2) / (20 + i % 2));
+  const whole = fileOf([Int16Array.from({ length: 8000 }, tone)]);
+  await fs.writeFile(file, Buffer.from(whole).fill(0, 0, 44));
+  const form = "8000 Hz, 2 channels, integers of 16 bits, from byte 44 on";
+  const guess = `${file}: a guess: ${form}: 4,000 frames in ${copy}\n`;
+  assert.deepEqual(run("guess", "--rate", "8000", file), [0, guess, ""]);
+  assert.ok((await fs.readFile(copy)).equals(whole));
+  assert.deepEqual(run("guess", "--rate", "8000", file), [1, "", `${file}: ${copy} exists: rename or remove it\n`]);
+  assert.deepEqual(run("guess", copy), [1, "", `${copy}: its header isn't lost, so nothing is guessed\n`]);
+  await fs.unlink(copy);
+  const assumed = "48000 Hz is assumed, since no guess finds a rate: --rate HZ is that of your recorder\n";
+  assert.deepEqual(run("guess", file), [0, guess.replace("8000 Hz", "48000 Hz"), `${file}: ${assumed}`]);
+  await fs.unlink(copy);
+  await fs.writeFile(file, Buffer.alloc(5000));
+  const nothing = "there is nothing to guess by, since nothing in it is predictable, as silence and noise\n";
+  assert.deepEqual(run("guess", file), [1, "", `${file}: ${nothing}`]);
+  await assert.rejects(fs.stat(copy), /ENOENT/);
+  const uses = [["--rate", file], ["--rate", "0", file], ["--rate", "1e3", file], ["--rate"], ["--to-end", file]];
+  for (const words of uses) {
+    assert.deepEqual(run("guess", ...words).slice(0, 2), [2, ""]);
+  }
+  const cut = Buffer.concat([fileOf([block(1)]), Buffer.from("LIST\x04\0\0\0INFO", "latin1")]).fill(0, 40, 44);
+  await fs.writeFile(file, cut);
+  const named = `${file}: its last 12 bytes look like a LIST chunk (a title, markers), and count as sound: ` +
+    "leave them out of a copy to repair that\n";
+  for (const [word, says] of [["info", named], ["repair", named], ["info", ""], ["repair", ""]]) {
+    const [status, , said] = run(word, file);
+    assert.deepEqual([status, said], [0, says]);
+  }
+});

@@ -146,6 +146,18 @@ _KINDS: Dict[int, str] = {
 }
 
 
+# What can be done about a cause, by the names of this package.
+_ADVICE = {
+    Cause.OTHER_FORMAT: 'dtype="float32" reads all that float32 holds, and "float64" everything',
+    Cause.TOO_WIDE: 'a wider dtype reads it, as "int32", and more bits hold it',
+    Cause.TRUNCATED: "repair(path); open(file, to_end=True)",
+    Cause.DATA_LENGTH: "repair(path); open(file, to_end=True)",
+    Cause.FRAME_LENGTH: "repair(path); open(file, to_end=True)",
+    Cause.IS_CUT_OFF: "repair(path)",
+    Cause.CHUNKS_FOLLOW: "append(.., overwrite=True)",
+}
+
+
 class HoundError(ValueError):
     """A call failed, for this cause; `filename` is the name of the file, if it has one. Where its header was rejected,
     `kind` is the number of what it is, as `hound_kind` of hound.h has it, and the text names it."""
@@ -162,8 +174,13 @@ class HoundError(ValueError):
         return None if self.kind is None else _KINDS.get(self.kind)
 
     def __str__(self) -> str:
+        return self._said(_ADVICE)
+
+    def _said(self, advice: Dict[Cause, str]) -> str:
+        """The text, with what can be done about some causes."""
         if self.held is None:
-            return self.cause.sentence if self.filename is None else f"{self.filename}: {self.cause.sentence}"
+            what = ": ".join(filter(None, (self.cause.sentence, advice.get(self.cause))))
+            return what if self.filename is None else f"{self.filename}: {what}"
         name = self.filename or "FILE"
         name = "FILE" if name.startswith("<") else name  # It is that of a stream.
         command = self._converting(shlex.quote(name), shlex.quote(os.path.splitext(name)[0] + ".pcm.wav"))
@@ -539,10 +556,11 @@ def read(
 ) -> Any:
     """Reads frames from number `start` on, at most so many (all where it is -1), and returns their samples.
 
-    They are an `array.array` of interleaved samples; with `always_2d` a memoryview of frames by
-    channels, which `numpy.asarray` takes. `dtype` is "int8", "int16", "int32", "float32" or "float64", or one of numpy;
-    without it, it is the narrowest from 16 bits on that reads the file. Integers of up to 24 bits are exact as float32,
-    all of them as float64. Of a file that holds fewer frames than its header counts these are read, and a read that
+    They are an `array.array` of interleaved samples; with `always_2d` a memoryview of frames by channels. `dtype` is
+    "int8", "int16", "int32", "float32" or "float64"; without it, it is the narrowest from 16 bits on that reads the
+    file. With a type or dtype of numpy, as `numpy.float32`, they are an array of numpy: frames by channels, or of one
+    dimension where there is one channel, unless `always_2d` is set. Integers of up to 24 bits are exact as float32, all
+    of them as float64. Of a file that holds fewer frames than its header counts these are read, and a read that
     starts after them is an error.
 
     With `out` they are stored in that buffer, as a numpy array, as far as it has room for whole frames, and the result

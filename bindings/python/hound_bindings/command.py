@@ -7,6 +7,7 @@ import io
 import json
 import os
 import select
+import shlex
 import signal
 import sys
 import time
@@ -36,6 +37,18 @@ _HINTS = {
     hound.Cause.TOO_LONG: f"repair a copy of the first part of a file that is too long (head -c {_FIRST_PART} FILE > "
     f"PART.wav); record takes the rest as raw samples (tail -c +{_FIRST_PART + 1} FILE)",
 }
+# The rate of a guess that isn't given.
+_USUAL_RATE = 48000
+# What can be done about a cause, by the names of this command.
+_ADVICE = {
+    hound.Cause.OTHER_FORMAT: "--type float32, or float64",
+    hound.Cause.TOO_WIDE: "a wider --type reads it, as int32, and more --bits hold it",
+    hound.Cause.TRUNCATED: "hound-wav repair, or --to-end",
+    hound.Cause.DATA_LENGTH: "hound-wav repair, or --to-end",
+    hound.Cause.FRAME_LENGTH: "hound-wav repair, or --to-end",
+    hound.Cause.IS_CUT_OFF: "hound-wav repair",
+    hound.Cause.TOO_LONG: "a WAV file has less than 4 GiB, so the rest needs another one",
+}
 _USUAL_HINT = "where a header is lost or damaged, --guess or --like makes a copy with a new one"
 
 
@@ -55,10 +68,12 @@ def _complain(sentence: str) -> None:
 
 
 def _sentence(error: Exception) -> str:
+    if isinstance(error, FileExistsError):
+        return f"{error.filename}: {error.strerror}: rename or remove it first"
     if isinstance(error, OSError) and error.strerror:
         return f"{error.filename}: {error.strerror}" if error.filename else error.strerror
-    if isinstance(error, hound.HoundError) and error.cause == hound.Cause.TOO_LONG:
-        return f"{error}: a WAV file has less than 4 GiB, so the rest needs another one"
+    if isinstance(error, hound.HoundError):
+        return error._said(_ADVICE)
     return str(error)
 
 
@@ -168,16 +183,34 @@ def _said_of(info: hound.Info, found: Optional[hound.Repair]) -> str:
     return f"{found.info.duration:.3f} s, cut off: {held}"
 
 
+def _chunks_counted(name: str, found: Optional[hound.Repair]) -> Optional[lost.Chunks]:
+    """The chunks that seem to end a file, and that a repair takes for sound since the header counts none or too few."""
+    if found is None or found.state != hound.State.CUT_OFF:
+        return None
+    return lost.chunks_at_end(name, found.info.data_start)
+
+
+def _say_what_is_counted(name: str, chunks: Optional[lost.Chunks]) -> None:
+    if chunks:
+        sentence = f"its last {chunks.length} bytes look like a {chunks.name} chunk (a title, markers)"
+        part = shlex.quote(os.path.splitext(name)[0] + ".part.wav")
+        leave_out = f"head -c -{chunks.length} {shlex.quote(name)} > {part}"
+        _complain(f"{name}: {sentence}, and count as sound: {leave_out} leaves them out")
+
+
 def _info(options: argparse.Namespace) -> int:
     def show(name: str) -> bool:
         info, found = _found(name)
+        chunks = _chunks_counted(name, found)
         if options.json:
             more = {} if found is None else {"state": _STATES[found.state], "frames_held": found.frames}
             if found is not None:
                 more.update(frames_counted=found.counted, bytes_left_over=found.left_over)
+                more.update(chunk_at_end=chunks and chunks.name)
             _print_json(file=name, **info._asdict(), seconds=info.duration, **more)
         else:
             _say(f"{name}: {_form(info)}, {_said_of(info, found)}")
+            _say_what_is_counted(name, chunks)
         return found is None or found.state != hound.State.CUT_OFF
 
     return _each(_files_of(options.files), show, _failure(options))
@@ -202,11 +235,13 @@ def _has_header(name: str) -> bool:
 def _recover(options: argparse.Namespace) -> int:
     """Makes copies of files whose header is lost."""
 
+    assumed: List[str] = []
+
     def recover(name: str) -> bool:
         disk.opened(name).close()  # A pipe is an error.
         if options.guess and _has_header(name):
             raise ValueError(f"{name}: its header isn't lost, so nothing is guessed")
-        guessed = hound.guess(name, skip=options.skip, rate=options.rate or 44100) if options.guess else None
+        guessed = hound.guess(name, skip=options.skip, rate=options.rate or _USUAL_RATE) if options.guess else None
         form, copy = guessed or options.like, hound._copy_name(name)
         skip = lost.start_of(name, form.data_start) if options.skip is None else options.skip
         found = None
@@ -214,17 +249,23 @@ def _recover(options: argparse.Namespace) -> int:
             with hound._replaced(copy, options.durable) as part, _Bar(name, os.path.getsize(name)) as bar:
                 for found in lost.recovered(name, part, form, skip, options.durable):
                     bar.show(found.place)
-        frames = found.frames if found else 0
+        frames, is_rate_assumed = found.frames if found else 0, bool(guessed) and not options.rate
         if options.json:
             said = {"sample_rate": form.sample_rate, "channels": form.channels, "bits_per_sample": form.bits_per_sample}
-            _print_json(file=name, **said, is_float=form.is_float, skip=skip, is_guess=bool(guessed), frames=frames,
+            _print_json(file=name, **said, is_float=form.is_float, skip=skip, is_guess=bool(guessed),
+                        is_rate_assumed=is_rate_assumed, frames=frames,
                         copy=None if options.dry_run else copy)  # fmt: skip
         else:
             done = "" if options.dry_run else f": {frames} frames in {copy}"
             _say(f"{name}: {'a guess: ' if guessed else ''}{_form(form)}, from byte {skip} on{done}")
+        if is_rate_assumed:
+            assumed.append(name)
         return True
 
-    return _each(options.files, recover, _failure(options))
+    status = _each(options.files, recover, _failure(options))
+    if assumed:
+        _complain(f"{_USUAL_RATE} Hz is assumed, since no guess finds a rate: --rate HZ is that of your recorder")
+    return status
 
 
 def _repair(options: argparse.Namespace) -> int:
@@ -245,13 +286,17 @@ def _repair(options: argparse.Namespace) -> int:
             raise
         is_mended = hound._mends(found.state, options.to_end, options.canonical)
         copy = hound._copy_name(name) if options.copy and is_mended else None
+        chunks = None if options.to_end else _chunks_counted(name, found)
+        if not options.json:
+            _say_what_is_counted(name, chunks)
         if is_mended and not options.dry_run:
             more = {"to_end": options.to_end, "canonical": options.canonical}
             found = hound.repair(name, durable=options.durable, copy=copy, **more)
         is_done, seconds = is_mended and not options.dry_run, found.info.duration
         if options.json:
             _print_json(file=name, state=_STATES[found.state], frames=found.frames, frames_counted=found.counted,
-                        seconds=seconds, bytes_left_over=found.left_over, repaired=is_done, copy=copy)  # fmt: skip
+                        seconds=seconds, bytes_left_over=found.left_over, chunk_at_end=chunks and chunks.name,
+                        repaired=is_done, copy=copy)  # fmt: skip
         else:
             is_whole = found.state == hound.State.ALL_COUNTED
             state, note = ("whole", _NOT_CANONICAL) if is_whole else (_STATES[found.state], "")
@@ -470,7 +515,7 @@ def _form_of(text: str) -> hound.Info:
     if len(parts) != 3:
         raise argparse.ArgumentTypeError(f"{text} isn't RATE,CHANNELS,BITS or RATE,CHANNELS,BITSf")
     rate, channels, bits = map(_positive, parts)
-    return hound.Info(rate, channels, bits, is_float, data_start=lost.usual_start())
+    return hound.Info(rate, channels, bits, is_float, data_start=lost.USUAL_START)
 
 
 def _seconds(text: str) -> float:
@@ -508,8 +553,8 @@ def _parser() -> argparse.ArgumentParser:
     add("--json", help="print a JSON object in a line for each file", **flag)
     words = "for a lost header: copy such samples (f: floats) to NAME.repaired.wav"
     add("--like", type=_form_of, metavar="RATE,CHANNELS,BITS[f]", help=words)
-    add("--guess", help="for a lost header: guess channels and bits by what would be smooth", **flag)
-    add("--rate", type=_positive, help="the rate with --guess, since no guess finds it (44100)")
+    add("--guess", help="for a lost header: guess channels and bits by what is predictable then", **flag)
+    add("--rate", type=_positive, metavar="HZ", help=f"that of --guess, which can't find it ({_USUAL_RATE} is assumed)")
     words = (
         "with --like and --guess: how many come before the samples "
         "(without it: those before what looks like their header, or of a usual one)"

@@ -98,6 +98,11 @@ def _name_of(dtype: Any) -> Any:
     return _SPELLINGS.get(name.lstrip("<=|"), name)
 
 
+def _is_of_numpy(dtype: Any) -> bool:
+    """Whether a type is one of numpy's, so that an array of numpy is wanted; not whether it is a name of one."""
+    return (dtype if isinstance(dtype, type) else type(dtype)).__module__.partition(".")[0] == "numpy"
+
+
 def type_of(dtype: Any, spec: _Spec) -> str:
     """The name of a type that is requested, or of the narrowest from 16 bits on that reads a file."""
     if dtype is None:
@@ -159,6 +164,13 @@ def filled(out: Any, count: int, dtype: str, spec: _Spec, kind: str, take: Take)
     return done
 
 
+def _as_numpy(samples: "array.array[Any]", channels: int, always_2d: bool) -> Any:
+    """An array of numpy over the same memory: frames by channels, or of one dimension where there is one channel."""
+    numpy: Any = sys.modules["numpy"]  # It is there, since the type is one of its own.
+    flat = numpy.asarray(samples)
+    return flat if channels == 1 and not always_2d else flat.reshape(-1, channels)
+
+
 def _shaped(samples: "array.array[Any]", channels: int, always_2d: bool) -> Any:
     """Samples as they are, or as frames by channels."""
     if not always_2d:
@@ -193,7 +205,7 @@ class Room:
             self._view.release()
 
     def bound(self, spec: _Spec, dtype: Any) -> "Room":
-        self._channels = spec.channels
+        self._channels, self._is_of_numpy = spec.channels, _is_of_numpy(dtype)
         self.dtype = type_of(dtype, spec) if self._view is None or dtype is not None else self._own_dtype
         self.kind = kind_of(self.dtype, spec)
         if self._view is not None:
@@ -215,7 +227,7 @@ class Room:
         if self._view is not None:
             return self._view[: count // self._channels if self._columns else count]
         del self._array[count:]
-        return _shaped(self._array, self._channels, always_2d)
+        return (_as_numpy if self._is_of_numpy else _shaped)(self._array, self._channels, always_2d)
 
 
 def spec_like(info: Info) -> _Spec:

@@ -19,7 +19,7 @@ import unittest.mock
 import wave
 
 import hound_bindings as hound
-from hound_bindings import Info, State, command
+from hound_bindings import Info, State, command, lost
 from test_files import CHUNK, by_hand
 from test_floats import WIDE, Folder, as_float32, nearest, silently, wave_of
 from test_streams import SAMPLES, content_of, forked, made_by_wave
@@ -59,7 +59,38 @@ class Lost(Folder):
             self.assertEqual(found, (8000, channels, bits, is_float, 0, head, 0), turn)
         for content in bytes(44), bytes(60000), b"":
             self.leave(content)
-            self.assertRaisesRegex(ValueError, "a.wav: there is nothing to guess by", lambda: hound.guess(self.path))
+            nothing = "a.wav: there is nothing to guess by"
+            self.assertRaisesRegex(ValueError, nothing, lambda: hound.guess(self.path, rate=8000))
+        self.assertRaises(TypeError, lambda: hound.guess(self.path))
+
+    def test_where_a_guess_finds_the_first_frame(self):
+        for bits, is_float, head, front, start in (
+            (16, False, 44, b"", 44), (24, False, 80, b"", 80), (32, True, 58, b"", 58), (32, True, 68, b"", 68),
+            (32, False, 44, b"", 44), (32, False, 504, b"", 80), (32, True, 0, b"\1" * 23, 47),
+            (16, False, 0, b"\1RIFF" * 20 + b"data\x20\x4e\0\0", 108),
+        ):  # fmt: skip
+            data = b"".join(stored(0.5 * sample, bits, is_float) for sample in tones(2, 9000, random.Random(7)))
+            self.leave(bytes(head) + front + data)
+            found = hound.guess(self.path, rate=8000)
+            self.assertEqual(found, (8000, 2, bits, is_float, 0, start, 0), (bits, head, front))
+            copy = self.path[:-4] + ".repaired.wav"
+            hound.repair(self.path, like=found)
+            self.assertTrue(content_of(copy).endswith(data[64 * 8 :]), (bits, head, front))
+            os.unlink(copy)
+
+    def test_chunks_at_the_end(self):
+        whole = made_by_wave(SAMPLES)
+        for chunks, found in (
+            (b"LIST\4\0\0\0INFO", ("LIST", 12)), (b"id3 \3\0\0\0abc\0", ("id3", 12)), (b"id3 \3\0\0\0abc", ("id3", 11)),
+            (b"cue \0\0\0\0LIST\1\0\0\0a\0", ("cue", 18)), (b"abcdLIST\0\0\0\0", ("LIST", 8)), (b"", None),
+            (b"LIST\5\0\0\0INFO", None), (b"LIST\3\0\0\0INFO1", None), (b"abcd\4\0\0\0INFO", None), (b"LIST", None),
+            (b"LIST\1\0\0\0a\0cue ", None),
+        ):  # fmt: skip
+            self.leave(whole + chunks)
+            self.assertEqual(lost.chunks_at_end(self.path, 44), found, chunks)
+            self.assertIsNone(lost.chunks_at_end(self.path, 44 + len(whole) + len(chunks)))
+        self.leave(whole + b"LIST" + struct.pack("<I", 4089) + bytes(4089))  # Its name is a byte too far from the end.
+        self.assertIsNone(lost.chunks_at_end(self.path, 44))
 
     def test_a_header_that_is_lost(self):
         for bits, values in WIDE.items():
@@ -387,6 +418,24 @@ class Command(Folder):
             self.assertEqual((self.said, self.content("a.wav")), (b"", cut_off if words else by_hand(bytes(8))))
         self.assertEqual(self.content("a.repaired.wav"), by_hand(bytes(8)))
 
+    def test_a_chunk_that_counts_as_sound(self):
+        content = bytearray(made_by_wave(SAMPLES)) + b"LIST\4\0\0\0INFO"
+        content[40:44] = bytes(4)
+        said = b"hound-wav: a.wav: its last 12 bytes look like a LIST chunk (a title, markers), and count as sound: "
+        said += b"head -c -12 a.wav > a.part.wav leaves them out\n"
+        self.leave_as("a.wav", content)
+        for words in ["info"], ["repair", "--dry-run"], ["repair", "--copy"], ["repair"]:
+            self.run_command(*words, "a.wav", status=0 if words[-1] in ("--copy", "repair") else 1)
+            self.assertEqual(self.said, said, words)
+        self.leave_as("a.wav", content)
+        for words in ["info"], ["repair", "--dry-run"]:
+            found = json.loads(self.run_command(*words, "--json", "a.wav", status=1))
+            self.assertEqual(found["chunk_at_end"], "LIST")
+        self.run_command("repair", "--to-end", "a.wav")
+        self.assertEqual(self.said, b"")
+        self.run_command("info", "a.wav")
+        self.assertEqual(self.said, b"")
+
     def test_repair_of_a_lost_header(self):
         data = b"".join(stored(sample, 16, False) for sample in tones(2, 5000, random.Random(1)))
         self.leave_as("a.wav", bytes(44) + data)
@@ -397,6 +446,15 @@ class Command(Folder):
         self.assertEqual(self.content("a.repaired.wav"), made_by_wave(array.array("h", data)))
         self.assertEqual(self.content("a.wav"), bytes(44) + data)
         self.run_command("repair", "--guess", "a.wav", status=1)
+        self.assertIn(b"a.repaired.wav", self.said)
+        self.run_command("repair", "--guess", "--dry-run", "a.wav", status=1)
+        os.unlink(os.path.join(self.folder, "a.repaired.wav"))
+        out = self.run_command("repair", "--guess", "--dry-run", "a.wav")
+        self.assertEqual(out, b"a.wav: a guess: 48000 Hz, 2 channels, 16 bits, from byte 44 on\n")
+        assumed = b"48000 Hz is assumed, since no guess finds a rate: --rate HZ is that of your recorder\n"
+        self.assertEqual(self.said, b"hound-wav: " + assumed)
+        said = json.loads(self.run_command("repair", "--guess", "--json", "a.wav"))
+        self.assertEqual((said["sample_rate"], said["is_rate_assumed"]), (48000, True))
         os.unlink(os.path.join(self.folder, "a.repaired.wav"))
         said = json.loads(self.run_command("repair", "--like", "8000,1,32f", "--skip", "0", "--json", "a.wav"))
         self.assertEqual((said["copy"], said["frames"]), ("a.repaired.wav", (44 + len(data)) // 4))

@@ -155,6 +155,24 @@ class Files(unittest.TestCase):
         with self.assertRaises(FileNotFoundError):
             hound.info(os.path.join(self.folder.name, "none.wav"))
 
+    def test_errors_say_what_to_do(self):
+        """The call that an error names is the right one."""
+        wide = hound.to_bytes(array.array("i", [1 << 20]), 8000, bits=24)
+        with self.assertRaisesRegex(HoundError, ': a wider dtype reads it, as "int32", and more bits hold it$'):
+            hound.read(wide, dtype="int16")
+        self.assertEqual(hound.read(wide, dtype="int32"), array.array("i", [1 << 20]))
+        floats = hound.to_bytes([0.5], 8000, bits=32)
+        with self.assertRaisesRegex(HoundError, 'vice versa: dtype="float32" reads all that float32 holds, '):
+            hound.read(floats, dtype="int16")
+        self.assertEqual(hound.read(floats, dtype="float32"), array.array("f", [0.5]))
+        stream = by_hand(b"\1\0\2\0", 0xFFFFFFFF)
+        with self.assertRaisesRegex(HoundError, r"to its end\): repair\(path\); open\(file, to_end=True\)$"):
+            hound.info(stream)
+        self.assertEqual(hound.open(io.BytesIO(stream), to_end=True).read(), array.array("h", [1, 2]))
+        self.leave(by_hand(b"\1\0", after=CHUNK))
+        with self.assertRaisesRegex(HoundError, r"would be overwritten: append\(\.\., overwrite=True\)$"):
+            hound.append(self.path, [3])
+
     def test_what_an_append_would_overwrite(self):
         one, followed = array.array("h", [7]), by_hand(b"\1\2\3\4", after=CHUNK)
         for samples in one, array.array("h"):
@@ -371,7 +389,7 @@ class Files(unittest.TestCase):
             self.assertEqual((str(caught.exception), caught.exception.held), (caught.exception.cause.sentence, None))
         with self.assertRaises(HoundError) as caught:
             hound.read(by_hand(b"\1\2"), dtype="int8")  # It is another error than one of the header.
-        self.assertEqual(str(caught.exception), Cause.TOO_WIDE.sentence)
+        self.assertTrue(str(caught.exception).startswith(Cause.TOO_WIDE.sentence))
 
     def test_what_other_programs_write_is_named(self):
         if not shutil.which("sox") or not shutil.which("ffmpeg"):
@@ -651,7 +669,7 @@ class Files(unittest.TestCase):
             lambda: hound.append(self.path, one, True),
             lambda: hound.append_to(self.path, True),
             lambda: hound.repair(self.path, True),
-            lambda: hound.guess(self.path, 44),
+            lambda: hound.guess(self.path, 44, rate=8000),
             lambda: hound.read(self.path, 0, -1, "int16", True),
             lambda: hound.read(self.path, 0, -1, "int16", array.array("h", [1])),
             lambda: hound.read_with_info(self.path, 0, -1, "int16", True),
@@ -666,8 +684,8 @@ class Files(unittest.TestCase):
     def test_a_pipe_that_nobody_opens(self):
         """A call doesn't wait for another program where a pipe is no file for it."""
         os.mkfifo(self.path)
-        calls = (hound.find_damage, hound.repair, hound.append_to, hound.guess, lambda path: hound.append(path, [1]),
-                 lambda path: hound.create(path, 8000, 1, 16))  # fmt: skip
+        calls = (hound.find_damage, hound.repair, hound.append_to, lambda path: hound.append(path, [1]),
+                 lambda path: hound.guess(path, rate=8000), lambda path: hound.create(path, 8000, 1, 16))  # fmt: skip
         signal.signal(signal.SIGALRM, signal.SIG_DFL)
         signal.alarm(60)
         self.addCleanup(signal.alarm, 0)

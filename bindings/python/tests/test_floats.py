@@ -240,6 +240,31 @@ class Floats(Folder):
             self.assertEqual((back.dtype, back.shape), (numpy.dtype(dtype), (5, 2)))
             self.assertEqual(hound.to_bytes(back, 8000, bits=16), content)
             self.assertEqual(hound.to_bytes(back[::-1][::-1], 8000, bits=16), content)
+        for dtype in numpy.float32, numpy.dtype("float64"), numpy.int32, numpy.dtype("<i2"), numpy.int16:
+            words = numpy.dtype(dtype).name
+            for channels in 1, 2:
+                some = hound.to_bytes(array.array("h", range(-6, 6)), 8000, channels)
+                flat = list(hound.read(some, dtype=words))
+                for source in some, io.BytesIO(some):
+                    back = hound.read(source, dtype=dtype)
+                    self.assertEqual((type(back), back.dtype), (numpy.ndarray, numpy.dtype(dtype)))
+                    self.assertEqual(back.shape, (12,) if channels == 1 else (6, 2))
+                    self.assertEqual(back.reshape(-1).tolist(), flat)
+                    self.assertEqual(back.mean(), numpy.mean(flat))
+                    back += 1  # It is writable, and its own.
+                    self.assertEqual(hound.read(some, dtype=dtype, always_2d=True).shape, (12 // channels, channels))
+                    empty = hound.read(some, 12 // channels, dtype=dtype)
+                    self.assertEqual(empty.shape, (0,) if channels == 1 else (0, 2))
+                    self.assertEqual(hound.read(some, dtype=words).__class__, array.array)
+                with hound.open(io.BytesIO(some)) as reader:
+                    blocks = list(reader.blocks(4, dtype))
+                self.assertEqual([type(block) for block in blocks], [numpy.ndarray] * len(blocks))
+                self.assertEqual(numpy.concatenate(blocks).reshape(-1).tolist(), flat)
+                copy = hound.to_bytes(numpy.concatenate(blocks), like=hound.info(some))
+                self.assertEqual(copy, some)
+        self.assertIsInstance(hound.read(content, dtype=float), array.array)
+        out = numpy.zeros(10, "float32")
+        self.assertIsInstance(hound.read(content, dtype=numpy.float32, out=out), memoryview)
         for dtype in numpy.dtype(">f4"), numpy.dtype(">i2"), numpy.uint8, numpy.int64:
             self.assertRaisesRegex(TypeError, "^dtype is ", lambda: hound.read(content, dtype=dtype))
         flat = hound.to_bytes(array.array("h", [2, -3]), 8000, 2)
@@ -329,7 +354,8 @@ class Specs(Folder):
             with self.assertRaises(hound.HoundError) as caught:
                 call()
             error = caught.exception
-            self.assertEqual((error.filename, str(error)), (name, f"{name}: {error.cause.sentence}"))
+            self.assertEqual(error.filename, name)
+            self.assertTrue(str(error).startswith(f"{name}: {error.cause.sentence}"), error)
         with hound.create(self.path, 8000, 1, 8) as writer, self.assertRaises(hound.HoundError) as caught:
             writer.write([300])
         self.assertEqual(caught.exception.filename, self.path)
