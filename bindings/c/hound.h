@@ -392,7 +392,7 @@ void hound_recorder_checkpoint(hound_recorder *recorder) HOUND_NONNULL;
 
 /* Returns how many frames have room after those that are written, so that a program can continue in another file before
    a block is too long. It is 0 where no more has room, or where no file has such data. */
-uint64_t hound_recorder_frames_left(const hound_recorder *recorder) HOUND_NONNULL;
+int64_t hound_recorder_frames_left(const hound_recorder *recorder) HOUND_NONNULL;
 
 /* Returns 1 for the next effect of what was requested, and 0 if all of it is done: after a checkpoint the header counts
    all samples. After a block or an effect that failed it returns HOUND_NEEDS_CHECKPOINT, and that ends the request:

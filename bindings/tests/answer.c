@@ -40,7 +40,7 @@ static int64_t call(const char *name, const uint64_t *a) {
         return hound_recorder_resume(AT(hound_repair_t, 0), (uint32_t)a[1], AT(hound_recorder, 2));
     if (!strcmp(name, "recorder_write")) return hound_recorder_write(AT(hound_recorder, 0), a[1]);
     if (!strcmp(name, "recorder_checkpoint")) return hound_recorder_checkpoint(AT(hound_recorder, 0)), 0;
-    if (!strcmp(name, "recorder_frames_left")) return (int64_t)hound_recorder_frames_left(AT(hound_recorder, 0));
+    if (!strcmp(name, "recorder_frames_left")) return hound_recorder_frames_left(AT(hound_recorder, 0));
     if (!strcmp(name, "recorder_next")) return hound_recorder_next(AT(hound_recorder, 0));
     if (!strcmp(name, "repairer")) return repaired(AT(uint8_t, 0), a[1], (uint32_t)a[2], AT(hound_repair_t, 3));
     if (!strcmp(name, "repairer_next")) return hound_repairer_next(AT(hound_repairer, 0), AT(hound_repair_t, 1));

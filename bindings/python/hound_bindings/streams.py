@@ -332,7 +332,7 @@ _recorder_begin = _function("recorder_begin", _POINTER, _POINTER, result=_INT)
 _recorder_resume = _function("recorder_resume", _POINTER, ctypes.c_uint32, _POINTER, result=_INT)
 _recorder_write = _function("recorder_write", _POINTER, _U64, result=_INT)
 _recorder_checkpoint = _function("recorder_checkpoint", _POINTER, result=None)
-_recorder_frames_left = _function("recorder_frames_left", _POINTER, result=_U64)
+_recorder_frames_left = _function("recorder_frames_left", _POINTER)
 _recorder_next = _function("recorder_next", _POINTER, result=_INT)
 
 

@@ -318,7 +318,7 @@ mod c {
         pub fn hound_recorder_resume(found: *const Repair, allowed: u32, recorder: *mut Recorder) -> i32;
         pub fn hound_recorder_write(recorder: *mut Recorder, samples: u64) -> i32;
         pub fn hound_recorder_checkpoint(recorder: *mut Recorder);
-        pub fn hound_recorder_frames_left(recorder: *const Recorder) -> u64;
+        pub fn hound_recorder_frames_left(recorder: *const Recorder) -> i64;
         pub fn hound_recorder_next(recorder: *mut Recorder) -> i32;
         pub fn hound_value_8(container: u32) -> i32;
         pub fn hound_value_16(container: u32) -> i32;

@@ -545,7 +545,7 @@ impl Recorder {
     /// How many frames have room after those that are written, so that a program can continue in another file before
     /// the error is [`TooLong`](crate::Error::TooLong).
     pub fn frames_left(&self) -> u64 {
-        unsafe { c::hound_recorder_frames_left(&self.0) }
+        unsafe { c::hound_recorder_frames_left(&self.0) }.try_into().unwrap_or(0)
     }
 
     /// Requests that a block of so many samples is written, as [`encode`](crate::encode) gives them: whole frames, else

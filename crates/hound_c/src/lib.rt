@@ -6,7 +6,7 @@
 //! they were proved.
 #![tactic(auto)]
 
-ghost use Rattle.std.specs.Prelude.{◌≡◌, ℕ, ◌*◌, ◌≤◌, None, false, length, pos, take, true};
+ghost use Rattle.std.specs.Prelude.{◌≡◌, ℕ, ◌*◌, None, false, length, pos, take, true};
 ghost use Rattle.std.specs.Option.{option_len};
 ghost use Rattle.std.specs.Result.{result_unwrap_or};
 ghost use Rattle.hound_number.specs.{bytes_of};
@@ -14,7 +14,7 @@ ghost use Rattle.hound_walk.specs.{Readable, Unreadable};
 ghost use Rattle.hound_sample.specs.{int_container, pattern_container, float_rejection, int_meaning, int_rejection, pattern};
 ghost use Rattle.hound_spec.specs.declared.spec.SampleFormat.TheVariants.{Float, Int};
 ghost use Rattle.hound_walk.specs.declared.cause.Cause.{Cause};
-ghost use Rattle.hound_writer.specs.{Advances, AsksForBlock, AsksForCheckpoint, BeginsRecorder, HasRoomFor, Resumes};
+ghost use Rattle.hound_writer.specs.{Advances, AsksForBlock, AsksForCheckpoint, BeginsRecorder, LeavesRoom, Resumes};
 ghost use Rattle.hound_slices.specs.{AppendsInPlace, BeginsForC, BeginsRepairer, CountsWhole, Decodes, Encodes, FindsInFile, GivesHeader, GivesSizes, GuessesData, IsDamageError, IsExplicit, IsKind, ReadsInto, Records, RepairsFile, Returns, ScalesToFloats, ScalesToIntegers, Sizes, StepsRepairer, TakesPart, WritesFile, effect_of, error_code, found_file, mends, overwrites, recorder_of, report_of, spec_from_c};
 ghost use Rattle.hound_slices.specs.declared.error.CallError.{CallError as AnyError};
 ghost use Rattle.hound_slices.specs.declared.error.CallError.TheVariants.{Head};
@@ -443,11 +443,10 @@ pub extern "C" fn hound_recorder_checkpoint(recorder: &mut HoundRecorder)
 
 /// How many frames have room after those that are written.
 #[unsafe(no_mangle)]
-pub extern "C" fn hound_recorder_frames_left(recorder: &HoundRecorder) -> u64
-    ensures room { 1 ≤ result → HasRoomFor (recorder_of recorder.now) result }
-    ensures most { (frames : ℕ) → HasRoomFor (recorder_of recorder.now) frames → frames ≤ result }
+pub extern "C" fn hound_recorder_frames_left(recorder: &HoundRecorder) -> i64
+    ensures { (n : ℕ) × (result ≡ pos n) × LeavesRoom (recorder_of recorder.now) n }
 {
-    recorder_of(recorder).frames_left()
+    recorder_of(recorder).frames_left() as i64
 }
 
 /// The next effect of what was requested: 1, or 0 if all of it is done.

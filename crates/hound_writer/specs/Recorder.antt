@@ -65,6 +65,10 @@ IsClear r = (r.health ≡ Sound) × (r.number ≡ 0)
 abbrev pub HasRoomFor : Recorder → ℕ → Type 0
 HasRoomFor r frames = (1 ≤ r.channels) × HasData r (length_with r (frames * r.channels))
 
+-- n frames have room, and no more; or none has
+abbrev pub LeavesRoom : Recorder → ℕ → Type 0
+LeavesRoom r n = (1 ≤ n → HasRoomFor r n) × ((frames : ℕ) → HasRoomFor r frames → frames ≤ n)
+
 -- whether nothing has failed
 abbrev pub is_sound : Health → Bool
 is_sound Sound = true

@@ -1,7 +1,7 @@
 // A recorder, whose caller writes the file: what it keeps, and the parts of its calls.
-ghost use Rattle.std.specs.Prelude.{◌≡◌, ℕ, ◌+◌, ◌≤◌, Err, IfErr, IfOk, IfSome, Ok};
+ghost use Rattle.std.specs.Prelude.{◌≡◌, ◌+◌, ◌≤◌, Err, IfErr, IfOk, IfSome, Ok};
 ghost use Rattle.hound_writer.specs.Effects.{nth};
-ghost use Rattle.hound_writer.specs.Recorder.{AppendsRecorder, BeginsRecorder, HasData, HasNoData, HasRoomFor, NextEffect, effects_of, length_with, recorder_of};
+ghost use Rattle.hound_writer.specs.Recorder.{AppendsRecorder, BeginsRecorder, HasData, HasNoData, LeavesRoom, NextEffect, effects_of, length_with, recorder_of};
 
 use crate::effects::{Effect, checkpoint_effect};
 use hound_spec::{WavSpecEx, header_length, is_pair, riff_size_fits};
@@ -162,9 +162,8 @@ impl Recorder {
 
     /// How many frames have room after those that are written, for a program that continues in another file. It is 0
     /// where no more has room, or none can be there.
-    pub fn frames_left(&self) -> u64
-        ensures room { 1 ≤ result → HasRoomFor self.now result }
-        ensures most { (frames : ℕ) → HasRoomFor self.now frames → frames ≤ result }
+    pub fn frames_left(&self) -> u32
+        ensures { LeavesRoom self.now result }
     {
         let frame = self.channels as u64 * self.bytes_per_sample as u64;
         if self.data_start < 20 || self.data_start > u32::MAX as u64 + 8 || frame == 0 {
@@ -173,7 +172,7 @@ impl Recorder {
         let counted = u32::MAX as u64 + 8 - self.data_start;
         // A pad byte follows data of an odd length.
         let most = counted - counted % 2;
-        most.saturating_sub(self.data_length as u64) / frame
+        (most.saturating_sub(self.data_length as u64) / frame) as u32
     }
 
     // The data length with so many samples more.
