@@ -1,6 +1,6 @@
 /* The functions of hound.h in C99, for computers that bindings/lib has no library for.
    scripts/portable/convert.py makes this file from the proved module hound_c.wasm, whose sha256 is
-   68f6f92ae0223b63cbbac3bc5513a230362a2382aa51e053d76a73d3a4a3bb94: don't edit it.
+   6ae791f53a757d4bee84010c7f9f9eab36d7a1e316c62e915dd75e6528bdf818: don't edit it.
      cc -O3 -c bindings/c/hound_c.c
 
    Numbers are the module's: an i32 is a uint32_t, an i64 or an address a uint64_t, and an address is
@@ -178,9 +178,9 @@ typedef struct {
     hound_effect effect;
     uint64_t data_start;
     uint32_t data_length;
-    uint32_t number;
-    uint32_t samples;
-    uint16_t bytes_per_sample, channels, condition, task, has_rest, unused;
+    uint32_t number, block;
+    uint16_t bytes_per_sample, channels;
+    uint16_t health, phase, has_rest, unused;
 } hound_recorder;
 int32_t hound_recorder_begin(const hound_spec *spec, hound_recorder *recorder) HOUND_NONNULL;
 enum {
@@ -190,6 +190,7 @@ enum {
 int32_t hound_recorder_resume(const hound_repair_t *found, uint32_t allowed, hound_recorder *recorder) HOUND_NONNULL;
 int32_t hound_recorder_write(hound_recorder *recorder, uint64_t samples) HOUND_NONNULL;
 void hound_recorder_checkpoint(hound_recorder *recorder) HOUND_NONNULL;
+int64_t hound_recorder_frames_left(const hound_recorder *recorder) HOUND_NONNULL;
 int32_t hound_recorder_next(hound_recorder *recorder) HOUND_NONNULL;
 #ifdef __cplusplus
 }
@@ -226,9 +227,9 @@ HOUND_ASSERT(sizeof(hound_repairer) == 120 && offsetof(hound_repairer, length) =
              && offsetof(hound_repairer, mode) == 112 && offsetof(hound_repairer, unused) == 116);
 HOUND_ASSERT(sizeof(hound_recorder) == 88 && offsetof(hound_recorder, data_start) == 56
              && offsetof(hound_recorder, data_length) == 64 && offsetof(hound_recorder, number) == 68
-             && offsetof(hound_recorder, samples) == 72 && offsetof(hound_recorder, bytes_per_sample) == 76
-             && offsetof(hound_recorder, channels) == 78 && offsetof(hound_recorder, condition) == 80
-             && offsetof(hound_recorder, task) == 82 && offsetof(hound_recorder, has_rest) == 84
+             && offsetof(hound_recorder, block) == 72 && offsetof(hound_recorder, bytes_per_sample) == 76
+             && offsetof(hound_recorder, channels) == 78 && offsetof(hound_recorder, health) == 80
+             && offsetof(hound_recorder, phase) == 82 && offsetof(hound_recorder, has_rest) == 84
              && offsetof(hound_recorder, unused) == 86);
 #undef HOUND_ASSERT
 #undef HOUND_ASSERT_AT
@@ -268,13 +269,14 @@ HOUND_ASSERT(sizeof(hound_recorder) == 88 && offsetof(hound_recorder, data_start
 #endif
 
 /* The module's constants. */
-static const uint8_t data[240] = {
+static const uint8_t data[272] = {
     82, 73, 70, 70, 87, 65, 86, 69, 100, 97, 116, 97, 102, 109, 116, 32, 1, 0, 0, 0, 0, 0, 16, 0, 128, 0, 0, 170, 0, 56, 155, 113,
     3, 0, 0, 0, 0, 0, 16, 0, 128, 0, 0, 170, 0, 56, 155, 113, 76, 73, 83, 84, 73, 78, 70, 79, 102, 97, 99, 116, 99, 117, 101, 32,
     112, 108, 115, 116, 74, 85, 78, 75, 80, 65, 68, 32, 68, 73, 83, 80, 105, 110, 115, 116, 115, 109, 112, 108, 98, 101, 120, 116, 108, 101, 118, 108,
     99, 97, 114, 116, 97, 120, 109, 108, 99, 104, 110, 97, 105, 88, 77, 76, 95, 80, 77, 88, 105, 100, 51, 32, 73, 68, 51, 32, 97, 99, 105, 100,
     115, 116, 114, 99, 97, 102, 115, 112, 80, 69, 65, 75, 70, 76, 76, 82, 251, 255, 255, 255, 248, 255, 255, 255, 249, 255, 255, 255, 250, 255, 255, 255,
-    227, 255, 255, 255, 226, 255, 255, 255, 229, 255, 255, 255, 228, 255, 255, 255, 251, 255, 255, 255, 255, 255, 255, 255, 248, 255, 255, 255, 255, 255, 255, 255,
+    227, 255, 255, 255, 226, 255, 255, 255, 229, 255, 255, 255, 228, 255, 255, 255, 251, 255, 255, 255, 248, 255, 255, 255, 249, 255, 255, 255, 0, 0, 0, 0,
+    0, 0, 0, 0, 0, 0, 0, 0, 0, 0, 0, 0, 228, 255, 255, 255, 251, 255, 255, 255, 255, 255, 255, 255, 248, 255, 255, 255, 255, 255, 255, 255,
     249, 255, 255, 255, 255, 255, 255, 255, 250, 255, 255, 255, 255, 255, 255, 255, 227, 255, 255, 255, 255, 255, 255, 255, 226, 255, 255, 255, 255, 255, 255, 255,
     229, 255, 255, 255, 255, 255, 255, 255, 228, 255, 255, 255, 255, 255, 255, 255};
 #define DATA(place) ((uint64_t)(uintptr_t)(data + (place)))
@@ -365,25 +367,26 @@ static uint64_t f64_hound_read_i16(uint64_t sp, uint64_t l0, uint64_t l1, uint64
 static uint64_t f66_hound_read_i32(uint64_t sp, uint64_t l0, uint64_t l1, uint64_t l2, uint64_t l3, uint64_t l4);
 static uint32_t f68_hound_recorder_begin(uint64_t l0, uint64_t l1);
 static void f70_hound_recorder_checkpoint(uint64_t sp, uint64_t l0);
-static uint32_t f72_hound_recorder_next(uint64_t sp, uint64_t l0);
-static uint32_t f74_hound_recorder_resume(uint64_t l0, uint32_t l1, uint64_t l2);
-static uint32_t f76_hound_recorder_write(uint64_t sp, uint64_t l0, uint64_t l1);
-static uint64_t f78_hound_repair(uint64_t sp, uint64_t l0, uint64_t l1, uint64_t l2, uint64_t l3);
-static uint64_t f80_hound_repair_to_end(uint64_t sp, uint64_t l0, uint64_t l1, uint64_t l2, uint64_t l3);
-static void f82_hound_repairer_begin(uint64_t l0, uint32_t l1, uint64_t l2);
-static uint32_t f84_hound_repairer_next(uint64_t sp, uint64_t l0, uint64_t l1);
-static uint64_t f86_hound_size(uint64_t l0, uint64_t l1);
-static uint64_t f88_hound_sizes(uint64_t l0, uint64_t l1, uint64_t l2, uint64_t l3, uint64_t l4);
-static uint64_t f90_hound_to_f32(uint64_t l0, uint64_t l1, uint32_t l2, uint64_t l3, uint64_t l4);
-static uint32_t f92_hound_value_16(uint32_t l0);
-static uint32_t f94_hound_value_24(uint32_t l0);
-static uint32_t f98_hound_value_8(uint32_t l0);
-static uint32_t f102_hound_walk_next(uint64_t sp, uint64_t l0, uint64_t l1);
-static uint32_t f104_hound_walk_to_end(uint64_t sp, uint64_t l0, uint64_t l1);
-static uint64_t f106_hound_whole_frames(uint64_t l0, uint64_t l1);
-static uint64_t f108_hound_write_f32(uint64_t sp, uint64_t l0, uint64_t l1, uint64_t l2, uint64_t l3, uint64_t l4);
-static uint64_t f110_hound_write_i16(uint64_t sp, uint64_t l0, uint64_t l1, uint64_t l2, uint64_t l3, uint64_t l4);
-static uint64_t f112_hound_write_i32(uint64_t sp, uint64_t l0, uint64_t l1, uint64_t l2, uint64_t l3, uint64_t l4);
+static uint64_t f72_hound_recorder_frames_left(uint64_t l0);
+static uint32_t f74_hound_recorder_next(uint64_t sp, uint64_t l0);
+static uint32_t f76_hound_recorder_resume(uint64_t l0, uint32_t l1, uint64_t l2);
+static uint32_t f78_hound_recorder_write(uint64_t sp, uint64_t l0, uint64_t l1);
+static uint64_t f80_hound_repair(uint64_t sp, uint64_t l0, uint64_t l1, uint64_t l2, uint64_t l3);
+static uint64_t f82_hound_repair_to_end(uint64_t sp, uint64_t l0, uint64_t l1, uint64_t l2, uint64_t l3);
+static void f84_hound_repairer_begin(uint64_t l0, uint32_t l1, uint64_t l2);
+static uint32_t f86_hound_repairer_next(uint64_t sp, uint64_t l0, uint64_t l1);
+static uint64_t f88_hound_size(uint64_t l0, uint64_t l1);
+static uint64_t f90_hound_sizes(uint64_t l0, uint64_t l1, uint64_t l2, uint64_t l3, uint64_t l4);
+static uint64_t f92_hound_to_f32(uint64_t l0, uint64_t l1, uint32_t l2, uint64_t l3, uint64_t l4);
+static uint32_t f94_hound_value_16(uint32_t l0);
+static uint32_t f96_hound_value_24(uint32_t l0);
+static uint32_t f100_hound_value_8(uint32_t l0);
+static uint32_t f104_hound_walk_next(uint64_t sp, uint64_t l0, uint64_t l1);
+static uint32_t f106_hound_walk_to_end(uint64_t sp, uint64_t l0, uint64_t l1);
+static uint64_t f108_hound_whole_frames(uint64_t l0, uint64_t l1);
+static uint64_t f110_hound_write_f32(uint64_t sp, uint64_t l0, uint64_t l1, uint64_t l2, uint64_t l3, uint64_t l4);
+static uint64_t f112_hound_write_i16(uint64_t sp, uint64_t l0, uint64_t l1, uint64_t l2, uint64_t l3, uint64_t l4);
+static uint64_t f114_hound_write_i32(uint64_t sp, uint64_t l0, uint64_t l1, uint64_t l2, uint64_t l3, uint64_t l4);
 
 /* hound_slices::head::find_samples */
 static void f3_find_samples(uint64_t sp, uint64_t l0, uint64_t l1, uint64_t l2) {
@@ -4099,8 +4102,8 @@ L8:;
 
 /* hound_writer::recorder::Recorder::settle */
 static void f22_settle(uint64_t sp, uint64_t l0, uint64_t l1, uint32_t l2) {
-    uint32_t l4 = 0, l5 = 0, l6 = 0;
-    uint64_t l3 = 0, l7 = 0, l8 = 0;
+    uint32_t l4 = 0, l5 = 0;
+    uint64_t l3 = 0, l6 = 0, l7 = 0;
     l3 = sp - 112ull;
     sp = l3;
     l4 = 1u;
@@ -4113,113 +4116,104 @@ static void f22_settle(uint64_t sp, uint64_t l0, uint64_t l1, uint32_t l2) {
 L6:;
     l4 = 0u;
 L5:;
-    l6 = load16(l1 + 26ull);
-    if (l6 == 0) goto L2;
-    l7 = l1 + 28ull;
-    if (load16(l7) == 0) goto L7;
-    l2 = 0u;
-    store16(l7, 0u);
-    l5 = 0u;
-    if (l6 != 4u) goto L1;
-    store16(l1 + 26ull, 0u);
-    l5 = 1u;
-    l2 = 6u;
-    goto L1;
-L7:;
-    if (l6 != 3u) goto L8;
-    l2 = 7u;
-    l5 = 1u;
-    l6 = load16(l1 + 24ull);
-    if (l6 > 1u) goto L9;
-    l5 = 1u;
-    l2 = 6u;
-    if (l6 == 1u) goto L9;
-    if (load32(l1 + 12ull) != 0) goto L9;
-    l2 = 0u;
-    l8 = (uint64_t)load16(l1 + 20ull);
-    if (l8 == 0) goto L9;
-    l7 = load64(l1);
-    if (l7 < 20ull) goto L9;
-    l2 = 2u;
-    if (l7 > 0x100000007ull) goto L9;
-    l8 = (l8 * ((uint64_t)load32(l1 + 16ull))) + ((uint64_t)load32(l1 + 8ull));
-    if (l8 > 0xffffffffull) goto L9;
-    if ((((l7 + l8) + (l8 & 1ull)) - 8ull) > 0xffffffffull) goto L9;
-    if (l4 == 0) goto L11;
-    store32(l1 + 8ull, (uint32_t)(l8));
-    goto L10;
-L11:;
-    store16(l1 + 24ull, 1u);
-L10:;
-    l5 = 0u;
-    l2 = 0u;
-L9:;
-    store16(l1 + 28ull, l4 ^ 1u);
-    store16(l1 + 26ull, l4 != 0 ? 0u : 4u);
-    goto L1;
+    l6 = l1 + 24ull;
+    l2 = load8(l6);
+    l5 = l2;
+    switch ((uint32_t)(((uint64_t)l2) & 255ull)) {
+    case 1: case 2: case 3: goto L8;
+    case 4: goto L7;
+    default: goto L1;
+    }
 L8:;
-    store64(l3 + 40, 0ull);
+    l6 = l1 + 32ull;
+    if (load8(l6) != 1u) goto L9;
+    l2 = 0u;
+    store8(l6, 0u);
+    l5 = 0u;
+    goto L1;
+L9:;
+    if ((l2 & 255u) == 3u) goto L10;
     store64(l3 + 32, 0ull);
     store64(l3 + 24, 0ull);
     store64(l3 + 16, 0ull);
     store64(l3 + 8, 0ull);
-    store64(l3 + 48, load64(l1));
-    store64(l3 + 56, load64(l1 + 8));
-    store64(l3 + 64, load64(l1 + 16));
-    store64(l3 + 72, load64(l1 + 24));
+    store64(l3, 0ull);
+    store64(l3 + 40, load64(l1));
+    store64(l3 + 48, load64(l1 + 8));
+    store64(l3 + 56, load64(l1 + 16));
+    store64(l3 + 64, load64(l1 + 24));
+    store64(l3 + 72, load64(l1 + 32));
     store64(l3 + 104, 0ull);
     store64(l3 + 96, 0ull);
     store64(l3 + 88, 0ull);
     store64(l3 + 80, 0ull);
-    if (load16(l3 + 72) < 2u) goto L12;
-    store16(l3 + 72, 2u);
-    store32(l3 + 60, 0u);
+    if (load8(l3 + 60) != 2u) goto L11;
+    store32(l3 + 52, 0u);
     l2 = 7u;
+    goto L2;
+L11:;
+    l2 = 0u;
+    l6 = load64(l3 + 40);
+    if (l6 < 20ull) goto L2;
+    if ((load16(l3 + 56) & 65535u) == 0) goto L2;
+    l2 = 2u;
+    if (l6 > 0x100000007ull) goto L2;
+    l7 = (uint64_t)load32(l3 + 48);
+    if ((((l7 + l6) + (l7 & 1ull)) - 8ull) > 0xffffffffull) goto L2;
+    l2 = load32(l3 + 52);
+    f23_effect(l3 + 80ull, l3 + 40ull, l2);
+    if (load8(l3 + 80) != 1u) goto L3;
+    store32(l3 + 52, l2 + 1u);
+    if (l4 == 0) goto L12;
+    store64(l1 + 32, load64(l3 + 72));
+    store64(l1 + 24, load64(l3 + 64));
+    store64(l1 + 16, load64(l3 + 56));
+    store64(l1 + 8, load64(l3 + 48));
+    store64(l1, load64(l3 + 40));
     goto L3;
 L12:;
     l2 = 0u;
-    l7 = load64(l3 + 48);
-    if (l7 < 20ull) goto L3;
-    if ((load16(l3 + 68) & 65535u) == 0) goto L3;
-    l2 = 2u;
-    if (l7 > 0x100000007ull) goto L3;
-    l8 = (uint64_t)load32(l3 + 56);
-    if ((((l8 + l7) + (l8 & 1ull)) - 8ull) > 0xffffffffull) goto L3;
-    l2 = load32(l3 + 60);
-    f23_effect(l3 + 80ull, l3 + 48ull, l2);
-    if (load8(l3 + 80) != 1u) goto L2;
-    store32(l3 + 60, l2 + 1u);
-    if (l4 == 0) goto L13;
-    store64(l1 + 24, load64(l3 + 72));
-    store64(l1 + 16, load64(l3 + 64));
-    store64(l1 + 8, load64(l3 + 56));
-    store64(l1, load64(l3 + 48));
-    goto L2;
-L13:;
-    l2 = 0u;
-    f24_next_effect(sp, l3 + 8ull, l3 + 48ull, 0u);
-    store64(l1 + 24, load64(l3 + 72));
-    store64(l1 + 16, load64(l3 + 64));
-    store64(l1 + 8, load64(l3 + 56));
-    store64(l1, load64(l3 + 48));
-    store16(l1 + 26ull, 0u);
+    f24_next_effect(sp, l3, l3 + 40ull, 0u);
+    store64(l1 + 24ull, 0ull);
+    store64(l1 + 32, load64(l3 + 72));
+    store64(l1 + 16, load64(l3 + 56));
+    store64(l1 + 8, load64(l3 + 48));
+    store64(l1, load64(l3 + 40));
     l5 = 0u;
-    if (load8(l3 + 8) == 0) goto L1;
+    if (load8(l3) == 0) goto L1;
     l5 = 1u;
-    l2 = load8(l3 + 9);
+    l2 = load8(l3 + 1);
+    goto L1;
+L10:;
+    if (l4 == 0) goto L13;
+    l2 = load32(l1 + 28ull);
+    store64(l1 + 24ull, 0ull);
+    store32(l1 + 8ull, l2);
+    goto L3;
+L13:;
+    l6 = l1 + 20ull;
+    if (load8(l6) != 0) goto L14;
+    store8(l6, 1u);
+L14:;
+    store64(l1 + 24ull, 4ull);
+    goto L3;
+L7:;
+    store64(l6, 0ull);
+    l5 = 1u;
+    l2 = 6u;
     goto L1;
     TRAP();
 L3:;
-    store64(l1 + 24, load64(l3 + 72));
-    store64(l1 + 16, load64(l3 + 64));
-    store64(l1 + 8, load64(l3 + 56));
-    store64(l1, load64(l3 + 48));
-    store16(l1 + 26ull, 0u);
-    l5 = 1u;
-    goto L1;
-L2:;
     l2 = 0u;
     l5 = 0u;
+    goto L1;
+L2:;
+    store64(l1 + 32, load64(l3 + 72));
+    store64(l1 + 16, load64(l3 + 56));
+    store64(l1 + 8, load64(l3 + 48));
+    store64(l1, load64(l3 + 40));
+    store64(l1 + 24ull, 0ull);
+    l5 = 1u;
 L1:;
     store8(l0 + 1, l2);
     store8(l0, l5);
@@ -4229,7 +4223,7 @@ L1:;
 static void f23_effect(uint64_t l0, uint64_t l1, uint32_t l2) {
     uint32_t l4 = 0, l6 = 0;
     uint64_t l3 = 0, l5 = 0, l7 = 0;
-    if (load16(l1 + 24ull) != 0) goto L8;
+    if (load8(l1 + 20ull) != 0) goto L8;
     l3 = load64(l1);
     l4 = load32(l1 + 8ull);
     if ((l4 & 1u) != 0) goto L10;
@@ -4362,8 +4356,8 @@ L1:;
 
 /* hound_writer::recorder::Recorder::next_effect */
 static void f24_next_effect(uint64_t sp, uint64_t l0, uint64_t l1, uint32_t l2) {
-    uint32_t l5 = 0;
-    uint64_t l3 = 0, l4 = 0, l6 = 0;
+    uint32_t l4 = 0;
+    uint64_t l3 = 0, l5 = 0, l6 = 0;
     l3 = sp - 64ull;
     sp = l3;
     store64(l3 + 56, 0ull);
@@ -4374,9 +4368,7 @@ static void f24_next_effect(uint64_t sp, uint64_t l0, uint64_t l1, uint32_t l2) 
     store64(l3 + 8, 0ull);
     store64(l3 + 16, 0ull);
     store64(l3 + 24, 0ull);
-    l4 = l1 + 24ull;
-    if (load16(l4) <= 1u) goto L4;
-    store16(l4, 2u);
+    if (load8(l1 + 20ull) != 2u) goto L4;
     store32(l1 + 12ull, 0u);
     store64(l0 + 8ull, 0ull);
     store16(l0, 1793u);
@@ -4385,60 +4377,60 @@ static void f24_next_effect(uint64_t sp, uint64_t l0, uint64_t l1, uint32_t l2) 
     store32(l0 + 32ull, 0u);
     goto L1;
 L4:;
-    l5 = 0u;
-    l4 = load64(l1);
-    if (l4 < 20ull) goto L2;
-    l5 = 0u;
-    if (load16(l1 + 20ull) == 0) goto L2;
-    l5 = 2u;
-    if (l4 > 0x100000007ull) goto L2;
+    l4 = 0u;
+    l5 = load64(l1);
+    if (l5 < 20ull) goto L2;
+    l4 = 0u;
+    if (load16(l1 + 16ull) == 0) goto L2;
+    l4 = 2u;
+    if (l5 > 0x100000007ull) goto L2;
     l6 = (uint64_t)load32(l1 + 8ull);
-    if ((((l6 + l4) + (l6 & 1ull)) - 8ull) > 0xffffffffull) goto L2;
-    l5 = load32(l1 + 12ull);
+    if ((((l6 + l5) + (l6 & 1ull)) - 8ull) > 0xffffffffull) goto L2;
+    l4 = load32(l1 + 12ull);
     if (l2 != 0) goto L5;
-    if (l5 == 0) goto L5;
-    f23_effect(l3 + 32ull, l1, l5 - 1u);
+    if (l4 == 0) goto L5;
+    f23_effect(l3 + 32ull, l1, l4 - 1u);
     store32(l1 + 12ull, 0u);
-    l4 = l0 + 8ull;
+    l5 = l0 + 8ull;
     if (load8(l3 + 32) != 1u) goto L6;
     if ((load8(l3 + 40) & 255u) != 0) goto L6;
-    store16(l1 + 24ull, 2u);
-    store64(l4, 0ull);
+    store8(l1 + 20ull, 2u);
+    store64(l5, 0ull);
     store16(l0, 1793u);
-    store64(l4 + 8, 0ull);
-    store64(l4 + 16, 0ull);
-    store32(l4 + 24, 0u);
+    store64(l5 + 8, 0ull);
+    store64(l5 + 16, 0ull);
+    store32(l5 + 24, 0u);
     goto L1;
 L6:;
-    store16(l1 + 24ull, 1u);
-    store64(l4, 0ull);
+    store8(l1 + 20ull, 1u);
+    store64(l5, 0ull);
     store16(l0, 1537u);
-    store64(l4 + 8, 0ull);
-    store64(l4 + 16, 0ull);
-    store32(l4 + 24, 0u);
+    store64(l5 + 8, 0ull);
+    store64(l5 + 16, 0ull);
+    store32(l5 + 24, 0u);
     goto L1;
 L5:;
-    f23_effect(l3, l1, l5);
-    l4 = (uint64_t)load8(l3);
-    if (l4 != 1ull) goto L8;
-    l5 = l5 + 1u;
+    f23_effect(l3, l1, l4);
+    l5 = (uint64_t)load8(l3);
+    if (l5 != 1ull) goto L8;
+    l4 = l4 + 1u;
     goto L7;
 L8:;
-    l5 = 0u;
-    store16(l1 + 24ull, 0u);
+    l4 = 0u;
+    store8(l1 + 20ull, 0u);
 L7:;
-    store32(l1 + 12ull, l5);
+    store32(l1 + 12ull, l4);
     store32(l0 + 32ull, load32(l3 + 24));
     store64(l0 + 24ull, load64(l3 + 16));
     store64(l0 + 16ull, (uint64_t)load8(l3 + 8));
-    store64(l0 + 8ull, l4);
+    store64(l0 + 8ull, l5);
     store16(l0, 0u);
     goto L1;
     TRAP();
 L2:;
     store8(l0, 1u);
     store64(l0 + 8ull, 0ull);
-    store8(l0 + 1ull, l5);
+    store8(l0 + 1ull, l4);
     store64(l0 + 16ull, 0ull);
     store64(l0 + 24ull, 0ull);
     store32(l0 + 32ull, 0u);
@@ -4979,7 +4971,7 @@ L3:;
     l2 = 0xffffffffffffffe1ull;
     goto L1;
 L2:;
-    l2 = load64(DATA(176) + ((((uint64_t)l20) & 255ull) << 3));
+    l2 = load64(DATA(208) + ((((uint64_t)l20) & 255ull) << 3));
 L1:;
     return l2;
 }
@@ -5088,7 +5080,7 @@ L3:;
     l2 = 0xffffffffffffffe1ull;
     goto L1;
 L2:;
-    l2 = load64(DATA(176) + ((((uint64_t)l7) & 255ull) << 3));
+    l2 = load64(DATA(208) + ((((uint64_t)l7) & 255ull) << 3));
 L1:;
     return l2;
 }
@@ -5197,7 +5189,7 @@ L3:;
     l2 = 0xffffffffffffffe1ull;
     goto L1;
 L2:;
-    l2 = load64(DATA(176) + ((((uint64_t)l7) & 255ull) << 3));
+    l2 = load64(DATA(208) + ((((uint64_t)l7) & 255ull) << 3));
 L1:;
     return l2;
 }
@@ -5744,7 +5736,7 @@ L3:;
     l0 = 0xffffffffffffffe1ull;
     goto L1;
 L2:;
-    l0 = load64(DATA(176) + (((uint64_t)l8) << 3));
+    l0 = load64(DATA(208) + (((uint64_t)l8) << 3));
 L1:;
     return l0;
 }
@@ -6039,7 +6031,7 @@ L5:;
 L3:;
     TRAP();
 L2:;
-    l0 = load64(DATA(176) + (((uint64_t)l9) << 3));
+    l0 = load64(DATA(208) + (((uint64_t)l9) << 3));
 L1:;
     return l0;
 }
@@ -6900,7 +6892,7 @@ L4:;
     goto L1;
     TRAP();
 L2:;
-    l0 = load64(DATA(176) + (((uint64_t)l7) << 3));
+    l0 = load64(DATA(208) + (((uint64_t)l7) << 3));
 L1:;
     return l0;
 }
@@ -6996,7 +6988,7 @@ L4:;
     goto L1;
     TRAP();
 L2:;
-    l0 = load64(DATA(176) + (((uint64_t)l9) << 3));
+    l0 = load64(DATA(208) + (((uint64_t)l9) << 3));
 L1:;
     return l0;
 }
@@ -7096,7 +7088,7 @@ L4:;
     goto L1;
     TRAP();
 L2:;
-    l0 = load64(DATA(176) + (((uint64_t)l9) << 3));
+    l0 = load64(DATA(208) + (((uint64_t)l9) << 3));
 L1:;
     return l0;
 }
@@ -7154,229 +7146,447 @@ L6:;
 
 /* rattle::export hound_recorder_checkpoint */
 static void f70_hound_recorder_checkpoint(uint64_t sp, uint64_t l0) {
-    uint32_t l2 = 0, l3 = 0;
-    uint64_t l1 = 0, l4 = 0;
-    l1 = sp - 16ull;
+    uint32_t l2 = 0, l3 = 0, l4 = 0, l5 = 0, l6 = 0, l7 = 0, l9 = 0, l10 = 0;
+    uint64_t l1 = 0, l8 = 0;
+    l1 = sp - 48ull;
     sp = l1;
+    l2 = load32(l0 + 72ull);
+    l3 = load16(l0 + 80ull);
+    l4 = load16(l0 + 78ull);
+    l5 = load16(l0 + 76ull);
+    l6 = load32(l0 + 68ull);
+    l7 = load32(l0 + 64ull);
+    l8 = load64(l0 + 56ull);
+    l9 = 0u;
+    l10 = load16(l0 + 82ull);
+    switch (l10 - 1u) {
+    case 0: goto L4;
+    case 1: goto L8;
+    case 2: goto L7;
+    case 3: goto L6;
+    default: goto L5;
+    }
+L8:;
+    l10 = 2u;
+    l9 = l2;
+    goto L4;
+L7:;
+    l10 = 3u;
+    l9 = l2;
+    goto L4;
+L6:;
+    l10 = 4u;
+    l9 = 0u;
+    goto L4;
+L5:;
+    l9 = 0u;
+    l10 = 0u;
+L4:;
+    store16(l1 + 29, 0u);
+    store16(l1 + 26, l4);
+    store16(l1 + 24, l5);
+    store32(l1 + 20, l6);
+    store32(l1 + 16, l7);
+    store64(l1 + 8, l8);
+    store8(l1 + 31, 0u);
+    store32(l1 + 41, 0u);
+    store32(l1 + 36, l9);
+    store32(l1 + 32, l10);
+    store32(l1 + 44, 0u);
+    l8 = l0 + 84ull;
+    store8(l1 + 40, (uint32_t)(load16(l8) != 0u));
+    l9 = l3 & 65535u;
+    store8(l1 + 28, l9 != 0 ? (l9 == 1u ? 1u : 2u) : 0u);
+    l9 = load16(l0 + 14);
+    f22_settle(sp, l1, l1 + 8ull, load16(l0 + 12) != 0 ? (l9 == 1u ? 1u : (l9 == 2u ? 2u : 0u)) : 0u);
+    switch ((uint32_t)((uint64_t)load8(l1 + 32))) {
+    case 3: goto L2;
+    case 4: goto L9;
+    default: goto L1;
+    }
+L9:;
+    store8(l1 + 40, 1u);
+    goto L1;
+    TRAP();
+L2:;
+    store8(l1 + 40, 1u);
+    l9 = load8(l1 + 28);
+    store8(l1 + 28, l9 > 1u ? l9 : 1u);
+L1:;
     store64(l0, 0ull);
+    store64(l0 + 8, 0ull);
     store64(l0 + 16, 0ull);
     store64(l0 + 24, 0ull);
     store64(l0 + 32, 0ull);
     store64(l0 + 40, 0ull);
     store64(l0 + 48, 0ull);
-    l2 = load16(l0 + 12);
-    l3 = load16(l0 + 14);
-    store64(l0 + 8, 0ull);
-    f22_settle(sp, l1 + 8ull, l0 + 56ull, l2 != 0 ? (l3 == 1u ? 1u : (l3 == 2u ? 2u : 0u)) : 0u);
-    l4 = l0 + 82ull;
-    if (load16(l4) != 3u) goto L2;
-    store16(l0 + 84ull, 1u);
-    store16(l0 + 80ull, 1u);
+    store16(l0 + 86, 0u);
+    store16(l8, load8(l1 + 40) & 1u);
+    store16(l0 + 82ull, 1u);
+    store16(l0 + 80ull, load8(l1 + 28));
+    store32(l0 + 76ull, load32(l1 + 24));
+    store32(l0 + 72ull, 0u);
+    store64(l0 + 64ull, load64(l1 + 16));
+    store64(l0 + 56ull, load64(l1 + 8));
+}
+
+/* rattle::export hound_recorder_frames_left */
+static uint64_t f72_hound_recorder_frames_left(uint64_t l0) {
+    uint64_t l1 = 0, l2 = 0, l3 = 0;
+    l1 = 0ull;
+    l2 = load64(l0 + 56ull);
+    if ((l2 - 4294967304ull) < 0xffffffff0000000cull) goto L2;
+    l3 = ((uint64_t)load16(l0 + 78ull)) * ((uint64_t)load16(l0 + 76ull));
+    if (l3 == 0) goto L2;
+    l1 = (0x100000007ull - l2) & 0x1fffffffeull;
+    l0 = l1 - ((uint64_t)load32(l0 + 64ull));
+    l1 = (uint64_t)(div32(((uint32_t)(l0 > l1 ? 0ull : l0)), ((uint32_t)l3)));
 L2:;
-    store16(l4, 1u);
-    return;
+    return l1;
     TRAP();
 }
 
 /* rattle::export hound_recorder_next */
-static uint32_t f72_hound_recorder_next(uint64_t sp, uint64_t l0) {
-    uint32_t l3 = 0, l4 = 0, l7 = 0, l8 = 0, l9 = 0;
-    uint64_t l1 = 0, l2 = 0, l5 = 0, l6 = 0, l10 = 0, l11 = 0;
-    l1 = sp - 96ull;
+static uint32_t f74_hound_recorder_next(uint64_t sp, uint64_t l0) {
+    uint32_t l2 = 0, l3 = 0, l4 = 0, l5 = 0, l6 = 0, l7 = 0, l9 = 0, l10 = 0, l12 = 0, l13 = 0, l15 = 0, l16 = 0, l17 = 0, l18 = 0, l19 = 0, l20 = 0;
+    uint64_t l1 = 0, l8 = 0, l11 = 0, l14 = 0, l21 = 0, l22 = 0, l23 = 0;
+    l1 = sp - 128ull;
     sp = l1;
-    l2 = l0 + 56ull;
-    l3 = load16(l0 + 14);
-    f22_settle(sp, l1 + 8ull, l2, load16(l0 + 12) != 0 ? (l3 == 1u ? 1u : (l3 == 2u ? 2u : 0u)) : 0u);
-    if (load8(l1 + 8) != 0) goto L5;
-    l4 = load16(l0 + 80ull);
-    if (l4 < 2u) goto L6;
-    store64(l0 + 48, 0ull);
-    store64(l0 + 40, 0ull);
-    store64(l0 + 32, 0ull);
-    store64(l0 + 24, 0ull);
-    store64(l0 + 16, 0ull);
-    store64(l0 + 8, 0ull);
-    store64(l0, 0ull);
-    l3 = 0xffffffe4u;
-    goto L1;
+    store32(l1 + 40, 0u);
+    store64(l1 + 32, 0ull);
+    store64(l1 + 24, 0ull);
+    store64(l1 + 16, 0ull);
+    store64(l1 + 8, 0ull);
+    l2 = load32(l0 + 72ull);
+    l3 = load16(l0 + 80ull);
+    l4 = load16(l0 + 78ull);
+    l5 = load16(l0 + 76ull);
+    l6 = load32(l0 + 68ull);
+    l7 = load32(l0 + 64ull);
+    l8 = load64(l0 + 56ull);
+    l9 = 0u;
+    l10 = load16(l0 + 82ull);
+    switch (l10 - 1u) {
+    case 0: goto L2;
+    case 1: goto L6;
+    case 2: goto L5;
+    case 3: goto L4;
+    default: goto L3;
+    }
 L6:;
-    l3 = load16(l0 + 82ull);
-    if (l3 == 0) goto L14;
-    if (load16(l0 + 84ull) != 0) goto L9;
-    if (l3 > 2u) goto L12;
-    if (l4 != 0) goto L15;
-    if (l3 != 2u) goto L15;
-    if (load32(l0 + 68ull) == 0) goto L11;
-L15:;
-    l5 = load64(l2 + 24);
-    store64(l1 + 40, l5);
-    store64(l1 + 32, load64(l2 + 16));
-    store64(l1 + 24, load64(l2 + 8));
-    store64(l1 + 16, load64(l2));
-    store64(l1 + 80, 0ull);
-    store64(l1 + 72, 0ull);
-    store64(l1 + 64, 0ull);
-    store64(l1 + 56, 0ull);
-    if ((((uint32_t)l5) & 65535u) < 2u) goto L16;
-    store16(l1 + 40, 2u);
-    store32(l1 + 28, 0u);
-    l3 = 7u;
-    goto L3;
+    l10 = 2u;
+    l9 = l2;
+    goto L2;
+L5:;
+    l10 = 3u;
+    l9 = l2;
+    goto L2;
+L4:;
+    l10 = 4u;
+    l9 = 0u;
+    goto L2;
+L3:;
+    l9 = 0u;
+    l10 = 0u;
+L2:;
+    store16(l1 + 69, 0u);
+    store16(l1 + 66, l4);
+    store16(l1 + 64, l5);
+    store32(l1 + 60, l6);
+    store32(l1 + 56, l7);
+    store64(l1 + 48, l8);
+    store8(l1 + 71, 0u);
+    store32(l1 + 81, 0u);
+    store32(l1 + 76, l9);
+    store32(l1 + 72, l10);
+    store32(l1 + 84, 0u);
+    store8(l1 + 80, (uint32_t)(load16(l0 + 84ull) != 0u));
+    l7 = 1u;
+    l9 = l3 & 65535u;
+    store8(l1 + 68, l9 != 0 ? (l9 == 1u ? 1u : 2u) : 0u);
+    l9 = load16(l0 + 14);
+    f22_settle(sp, l1, l1 + 48ull, load16(l0 + 12) != 0 ? (l9 == 1u ? 1u : (l9 == 2u ? 2u : 0u)) : 0u);
+    if (load8(l1) != 0) goto L17;
+    l11 = 0ull;
+    l6 = load8(l1 + 68);
+    if (l6 != 2u) goto L16;
+    l12 = 0u;
+    l13 = 7u;
+    l6 = 2u;
+    goto L15;
+L17:;
+    l13 = load8(l1 + 1);
+    l12 = 0u;
+    l11 = 0ull;
+    l6 = load8(l1 + 68);
+    goto L15;
 L16:;
-    l3 = 0u;
-    l5 = load64(l1 + 16);
-    if (l5 < 20ull) goto L3;
-    if ((load16(l1 + 36) & 65535u) == 0) goto L3;
-    l3 = 2u;
-    if (l5 > 0x100000007ull) goto L3;
-    l6 = (uint64_t)load32(l1 + 24);
-    if ((((l6 + l5) + (l6 & 1ull)) - 8ull) > 0xffffffffull) goto L3;
-    f23_effect(l1 + 56ull, l1 + 16ull, load32(l1 + 28));
-    if (load8(l1 + 56) == 1u) goto L10;
-    store32(l1 + 28, 0u);
-    store16(l1 + 40, 0u);
-    store64(l2 + 24, load64(l1 + 40));
-    store64(l2 + 16, load64(l1 + 32));
-    store64(l2 + 8, load64(l1 + 24));
-    store64(l2, load64(l1 + 16));
-    l2 = l0 + 82ull;
-    if (load16(l2) != 1u) goto L13;
-    store16(l2, 0u);
-L14:;
-    l3 = 0u;
-    store32(l1 + 88, 0u);
-    l2 = 0ull;
-    store64(l1 + 80, 0ull);
-    store64(l1 + 72, 0ull);
-    store64(l1 + 64, 0ull);
-    store64(l1 + 56, 0ull);
-    l4 = 0u;
-    l7 = 0u;
-    l8 = 0u;
-    goto L7;
-L13:;
-    l3 = 7u;
-    l4 = load16(l0 + 80ull);
-    if (l4 > 1u) goto L2;
-L12:;
-    l3 = 6u;
-    if (l4 == 1u) goto L2;
-    if (load32(l0 + 68ull) != 0) goto L2;
-L11:;
-    l3 = 0u;
-    l7 = load16(l0 + 76ull);
-    if (l7 == 0) goto L2;
-    l2 = load64(l0 + 56ull);
-    if (l2 < 20ull) goto L2;
-    l3 = 2u;
-    if (l2 > 0x100000007ull) goto L2;
-    l9 = load32(l0 + 72ull);
-    l6 = (uint64_t)load32(l0 + 64ull);
-    l5 = (((uint64_t)l7) * ((uint64_t)l9)) + l6;
-    if (l5 > 0xffffffffull) goto L2;
-    if ((((l2 + l5) + (l5 & 1ull)) - 8ull) >= 0x100000000ull) goto L2;
-    l8 = 3u;
-    store16(l0 + 82ull, 3u);
-    l4 = 0u;
-    store32(l1 + 88, 0u);
-    store64(l1 + 80, 0ull);
-    store64(l1 + 72, 0ull);
-    store64(l1 + 64, 0ull);
-    store64(l1 + 56, 0ull);
-    l7 = l9 * l7;
-    l2 = l2 + l6;
-    l3 = 1u;
-    goto L7;
-L10:;
-    l9 = load32(l1 + 80);
-    l2 = load64(l1 + 72);
-    l3 = load8(l1 + 64);
-    l4 = 0u;
-    store32(l1 + 88, 0u);
-    store64(l1 + 80, 0ull);
-    store64(l1 + 72, 0ull);
-    store64(l1 + 64, 0ull);
-    store64(l1 + 56, 0ull);
-    l8 = 2u;
-    l7 = l3;
-    switch (l3) {
-    case 1: goto L7;
-    case 2: goto L18;
-    default: goto L17;
+    l7 = 1u;
+    l8 = 0ull;
+    l12 = load8(l1 + 72);
+    l9 = l12;
+    l4 = l12;
+    l13 = l12;
+    l10 = 1u;
+    switch (l12) {
+    case 1: case 2: case 3: goto L18;
+    case 4: goto L11;
+    default: goto L7;
     }
 L18:;
-    l7 = 4u;
-    l3 = 1u;
-    l4 = l9;
-    goto L7;
-L17:;
-    l8 = 4u;
-    l4 = 0u;
-    l3 = 1u;
-    l2 = 0ull;
-    goto L8;
-L9:;
-    l2 = (uint64_t)load32(l0 + 64ull);
-    l5 = load64(l0 + 56ull);
-    l4 = 0u;
-    store32(l1 + 88, 0u);
-    store64(l1 + 80, 0ull);
+    l4 = 1u;
+    if (load8(l1 + 80) != 1u) goto L19;
+    l8 = (uint64_t)load32(l1 + 56);
+    l14 = l8 + load64(l1 + 48);
+    l8 = l14 < l8 ? 0xffffffffffffffffull : l14;
+    goto L10;
+L19:;
+    switch (l12 - 1u) {
+    case 1: goto L21;
+    case 2: goto L12;
+    default: goto L22;
+    }
+L22:;
+    l10 = load16(l1 + 66);
+    l3 = load16(l1 + 64);
+    l9 = load32(l1 + 60);
+    l14 = (uint64_t)load32(l1 + 56);
+    l8 = load64(l1 + 48);
+    l11 = 0ull;
+    store64(l1 + 112, 0ull);
+    store64(l1 + 104, 0ull);
+    store64(l1 + 96, 0ull);
+    store64(l1 + 88, 0ull);
+    l12 = 0u;
+    l13 = 0u;
+    if (l8 < 20ull) goto L24;
+    l13 = 0u;
+    if ((l3 & 65535u) == 0) goto L24;
+    l13 = 2u;
+    if (l8 > 0x100000007ull) goto L24;
+    if ((((l8 + l14) + (l14 & 1ull)) - 8ull) > 0xffffffffull) goto L24;
+    f23_effect(l1 + 88ull, l1 + 48ull, l9);
+    l7 = 1u;
+    if (load8(l1 + 88) != 1u) goto L23;
+    l12 = load32(l1 + 112);
+    l11 = load64(l1 + 104);
+    l8 = (uint64_t)load8(l1 + 96);
+    l9 = 1u;
+    goto L13;
+L24:;
     store64(l1 + 72, 0ull);
-    store64(l1 + 64, 0ull);
-    store64(l1 + 56, 0ull);
-    l5 = l2 + l5;
-    l2 = l5 < l2 ? 0xffffffffffffffffull : l5;
-    l8 = 5u;
-    l3 = 1u;
-L8:;
+    store16(l1 + 66, l10);
+    store32(l1 + 60, l9);
+    goto L20;
+L23:;
+    l11 = 0ull;
+    store64(l1 + 72, 0ull);
+    store16(l1 + 66, l10);
+    l12 = 0u;
+    store32(l1 + 60, 0u);
+    l6 = 0u;
+    l8 = 0ull;
+    l9 = 0u;
+    l4 = 0u;
+    goto L8;
+L21:;
+    l10 = load32(l1 + 56);
+    l8 = load64(l1 + 48);
+    l9 = load32(l1 + 60);
+    l3 = load32(l1 + 76);
+    if (l6 != 0) goto L27;
+    if (l9 != 0) goto L27;
+    l14 = (uint64_t)l10;
+    goto L26;
+L27:;
+    l4 = load16(l1 + 66);
+    l5 = load16(l1 + 64);
+    l11 = 0ull;
+    store64(l1 + 112, 0ull);
+    store64(l1 + 104, 0ull);
+    store64(l1 + 96, 0ull);
+    store64(l1 + 88, 0ull);
+    l12 = 0u;
+    l13 = 0u;
+    if (l8 < 20ull) goto L25;
+    l13 = 0u;
+    if ((l5 & 65535u) == 0) goto L25;
+    l13 = 2u;
+    if (l8 > 0x100000007ull) goto L25;
+    l14 = (uint64_t)l10;
+    if ((((l8 + l14) + (l14 & 1ull)) - 8ull) > 0xffffffffull) goto L25;
+    f23_effect(l1 + 88ull, l1 + 48ull, l9);
+    l9 = 1u;
+    if (load8(l1 + 88) == 1u) goto L14;
+    store16(l1 + 66, l4);
+    store32(l1 + 60, 0u);
+L26:;
+    store32(l1 + 72, 3u);
+    l8 = l14 + l8;
+    l8 = l8 < l14 ? 0xffffffffffffffffull : l8;
+    l6 = 0u;
+    l9 = l3 - l10;
+    l11 = (uint64_t)(l9 > l3 ? 0u : l9);
+    l4 = 1u;
+    l9 = 2u;
+    l12 = 0u;
+    goto L9;
+L25:;
+    store64(l1 + 72, 0ull);
+    store16(l1 + 66, l4);
+L20:;
+    l7 = 1u;
+L15:;
+    l8 = 0ull;
+    l9 = 0u;
+    l4 = 0u;
+    l10 = 0u;
+    goto L7;
+L14:;
+    l12 = load32(l1 + 112);
+    l11 = load64(l1 + 104);
+    l8 = (uint64_t)load8(l1 + 96);
+L13:;
     l7 = 0u;
+    l4 = 1u;
+    goto L8;
+L12:;
+    store32(l1 + 72, 3u);
+    l9 = load32(l1 + 56);
+    l8 = (uint64_t)l9;
+    l14 = l8 + load64(l1 + 48);
+    l8 = l14 < l8 ? 0xffffffffffffffffull : l14;
+    l12 = 0u;
+    l10 = load32(l1 + 76);
+    l9 = l10 - l9;
+    l11 = (uint64_t)(l9 > l10 ? 0u : l9);
+    l4 = 1u;
+    l9 = 2u;
+    goto L9;
+L11:;
+    l8 = (uint64_t)load32(l1 + 56);
+    l14 = l8 + load64(l1 + 48);
+    l8 = l14 < l8 ? 0xffffffffffffffffull : l14;
+    l4 = 1u;
+L10:;
+    l12 = 0u;
+    l9 = 3u;
+L9:;
+    l7 = 0u;
+L8:;
+    l13 = 0u;
+    l10 = 1u;
 L7:;
-    l9 = load32(l1 + 88);
-    store32(l1 + 48, l9);
-    l5 = load64(l1 + 80);
-    store64(l1 + 40, l5);
-    l6 = load64(l1 + 72);
-    store64(l1 + 32, l6);
-    l10 = load64(l1 + 64);
-    store64(l1 + 24, l10);
-    l11 = load64(l1 + 56);
-    store64(l1 + 16, l11);
-    store32(l0 + 16, l4);
+    l2 = load8(l1 + 80);
+    l15 = load32(l1 + 76);
+    l3 = load32(l1 + 72);
+    l16 = load16(l1 + 66);
+    l17 = load16(l1 + 64);
+    l18 = load32(l1 + 60);
+    l19 = load32(l1 + 56);
+    l14 = load64(l1 + 48);
+    if (l10 != 0) goto L29;
+    l9 = 0u;
+    store32(l1 + 120, 0u);
+    l8 = 0ull;
+    store64(l1 + 112, 0ull);
+    store64(l1 + 104, 0ull);
+    store64(l1 + 96, 0ull);
+    store64(l1 + 88, 0ull);
+    l5 = 0u;
+    l7 = 0u;
+    goto L28;
+L29:;
+    l5 = 0u;
+    store32(l1 + 120, 0u);
+    store64(l1 + 112, 0ull);
+    store64(l1 + 104, 0ull);
+    store64(l1 + 96, 0ull);
+    store64(l1 + 88, 0ull);
+    if (l7 == 0) goto L30;
+    l9 = 0u;
+    l8 = 0ull;
+    l7 = 0u;
+    goto L28;
+L30:;
+    l5 = (uint32_t)l11;
+    l7 = 1u;
+    switch (l9) {
+    case 1: goto L34;
+    case 2: goto L33;
+    case 3: goto L32;
+    default: goto L28;
+    }
+L34:;
+    l20 = (uint32_t)l8;
+    l5 = l20 & 255u;
+    l7 = 2u;
+    l9 = 0u;
+    l8 = l11;
+    switch ((uint32_t)(((uint64_t)l20) & 255ull)) {
+    case 1: goto L28;
+    case 2: goto L36;
+    default: goto L35;
+    }
+L36:;
+    l5 = 4u;
+    l9 = l12;
+    l8 = l11;
+    goto L28;
+L35:;
+    l7 = 4u;
+    l9 = 0u;
+    l8 = 0ull;
+    goto L31;
+L33:;
+    l7 = 3u;
+    l9 = 0u;
+    goto L28;
+L32:;
+    l7 = 5u;
+    l9 = 0u;
+L31:;
+    l5 = 0u;
+L28:;
+    l12 = load32(l1 + 120);
+    store32(l1 + 40, l12);
+    l11 = load64(l1 + 112);
+    store64(l1 + 32, l11);
+    l21 = load64(l1 + 104);
+    store64(l1 + 24, l21);
+    l22 = load64(l1 + 96);
+    store64(l1 + 16, l22);
+    l23 = load64(l1 + 88);
+    store64(l1 + 8, l23);
+    store32(l0 + 16, l9);
     store16(l0 + 14, 0u);
-    store16(l0 + 12, l8);
-    store32(l0 + 8, l7);
-    store64(l0, l2);
-    store64(l0 + 20, l11);
-    store64(l0 + 28, l10);
-    store64(l0 + 36, l6);
-    store64(l0 + 44, l5);
-    store32(l0 + 52, l9);
-    goto L1;
-L5:;
-    l3 = load8(l1 + 9);
-    goto L2;
+    store16(l0 + 12, l7);
+    store32(l0 + 8, l5);
+    store64(l0, l8);
+    store64(l0 + 20, l23);
+    store64(l0 + 28, l22);
+    store64(l0 + 36, l21);
+    store64(l0 + 44, l11);
+    store32(l0 + 52, l12);
+    store16(l0 + 86, 0u);
+    store16(l0 + 84ull, l2 & 1u);
+    store16(l0 + 82ull, l3 & 255u);
+    store16(l0 + 80ull, l6 & 255u);
+    store16(l0 + 78ull, l16);
+    store16(l0 + 76ull, l17);
+    store32(l0 + 68ull, l18);
+    store32(l0 + 64ull, l19);
+    store64(l0 + 56ull, l14);
+    store32(l0 + 72ull, (l3 & 254u) == 2u ? l15 : 0u);
+    if (l10 != 0) goto L37;
+    l4 = load32(DATA(144) + ((((uint64_t)l13) & 255ull) << 2));
+L37:;
+    return l4;
     TRAP();
-L3:;
-    store64(l2 + 24, load64(l1 + 40));
-    store64(l2 + 16, load64(l1 + 32));
-    store64(l2 + 8, load64(l1 + 24));
-    store64(l2, load64(l1 + 16));
-    store16(l0 + 82ull, 0u);
-L2:;
-    store64(l0 + 48, 0ull);
-    store64(l0 + 40, 0ull);
-    store64(l0 + 32, 0ull);
-    store64(l0 + 24, 0ull);
-    store64(l0 + 16, 0ull);
-    store64(l0 + 8, 0ull);
-    store64(l0, 0ull);
-    l3 = load32(DATA(144) + ((((uint64_t)l3) & 255ull) << 2));
-L1:;
-    return l3;
 }
 
 /* rattle::export hound_recorder_resume */
-static uint32_t f74_hound_recorder_resume(uint64_t l0, uint32_t l1, uint64_t l2) {
+static uint32_t f76_hound_recorder_resume(uint64_t l0, uint32_t l1, uint64_t l2) {
     uint32_t l3 = 0, l4 = 0, l5 = 0, l9 = 0, l11 = 0, l13 = 0, l14 = 0;
     uint64_t l6 = 0, l7 = 0, l8 = 0, l10 = 0, l12 = 0;
     l3 = load16(l0 + 6);
@@ -7470,7 +7680,7 @@ L12:;
     store64(l2 + 56, l7);
     l4 = (uint32_t)(l12 < l6);
     store16(l2 + 84, l4);
-    store16(l2 + 80, l0 == l10 ? l4 : 1u);
+    store16(l2 + 80, (uint32_t)(l0 != l10) | l4);
 L3:;
     return l5;
 L1:;
@@ -7478,55 +7688,139 @@ L1:;
 }
 
 /* rattle::export hound_recorder_write */
-static uint32_t f76_hound_recorder_write(uint64_t sp, uint64_t l0, uint64_t l1) {
-    uint32_t l3 = 0, l4 = 0;
-    uint64_t l2 = 0, l5 = 0, l6 = 0;
-    l2 = sp - 16ull;
+static uint32_t f78_hound_recorder_write(uint64_t sp, uint64_t l0, uint64_t l1) {
+    uint32_t l3 = 0, l4 = 0, l5 = 0, l6 = 0, l7 = 0, l8 = 0, l10 = 0, l11 = 0, l13 = 0, l14 = 0;
+    uint64_t l2 = 0, l9 = 0, l12 = 0;
+    l2 = sp - 48ull;
     sp = l2;
-    store64(l0, 0ull);
-    store64(l0 + 16, 0ull);
-    store64(l0 + 24, 0ull);
-    store64(l0 + 32, 0ull);
-    store64(l0 + 40, 0ull);
-    store64(l0 + 48, 0ull);
-    l3 = load16(l0 + 12);
-    l4 = load16(l0 + 14);
-    store64(l0 + 8, 0ull);
-    f22_settle(sp, l2 + 8ull, l0 + 56ull, l3 != 0 ? (l4 == 1u ? 1u : (l4 == 2u ? 2u : 0u)) : 0u);
-    l5 = l0 + 82ull;
-    if (load16(l5) != 3u) goto L4;
-    store16(l0 + 84ull, 1u);
-    store32(l0 + 80ull, 1u);
-    goto L3;
+    l3 = load32(l0 + 72ull);
+    l4 = load16(l0 + 80ull);
+    l5 = load16(l0 + 78ull);
+    l6 = load16(l0 + 76ull);
+    l7 = load32(l0 + 68ull);
+    l8 = load32(l0 + 64ull);
+    l9 = load64(l0 + 56ull);
+    l10 = 0u;
+    l11 = load16(l0 + 82ull);
+    switch (l11 - 1u) {
+    case 0: goto L2;
+    case 1: goto L6;
+    case 2: goto L5;
+    case 3: goto L4;
+    default: goto L3;
+    }
+L6:;
+    l11 = 2u;
+    l10 = l3;
+    goto L2;
+L5:;
+    l11 = 3u;
+    l10 = l3;
+    goto L2;
 L4:;
-    store16(l5, 0u);
-    l4 = 0xffffffe4u;
-    if (load16(l0 + 80ull) > 1u) goto L2;
+    l11 = 4u;
+    l10 = 0u;
+    goto L2;
 L3:;
-    l4 = 0xfffffff8u;
-    l5 = (uint64_t)load16(l0 + 78ull);
-    if (l5 == 0) goto L2;
-    if (rem64(l1, l5) != 0ull) goto L2;
-    l4 = 0xfffffffbu;
-    l5 = load64(l0 + 56ull);
-    if (l5 < 20ull) goto L2;
-    l3 = load16(l0 + 76ull);
-    if ((l3 & 65535u) == 0) goto L2;
-    l4 = 0xfffffff9u;
-    if (l5 > 0x100000007ull) goto L2;
-    l6 = ((l1 < 0x100000000ull ? l1 : 0x100000000ull) * (((uint64_t)l3) & 65535ull)) + ((uint64_t)load32(l0 + 64ull));
-    if (l6 > 0xffffffffull) goto L2;
-    if ((((l5 + l6) + (l6 & 1ull)) - 8ull) > 0xffffffffull) goto L2;
-    store16(l0 + 82ull, 2u);
-    store32(l0 + 72ull, (uint32_t)(l1));
-    l4 = 0u;
+    l10 = 0u;
+    l11 = 0u;
 L2:;
+    store16(l2 + 29, 0u);
+    store16(l2 + 26, l5);
+    store16(l2 + 24, l6);
+    store32(l2 + 20, l7);
+    store32(l2 + 16, l8);
+    store64(l2 + 8, l9);
+    store8(l2 + 31, 0u);
+    store32(l2 + 41, 0u);
+    store32(l2 + 36, l10);
+    store32(l2 + 32, l11);
+    store32(l2 + 44, 0u);
+    store8(l2 + 40, (uint32_t)(load16(l0 + 84ull) != 0u));
+    l10 = l4 & 65535u;
+    store8(l2 + 28, l10 != 0 ? (l10 == 1u ? 1u : 2u) : 0u);
+    l10 = load16(l0 + 14);
+    f22_settle(sp, l2, l2 + 8ull, load16(l0 + 12) != 0 ? (l10 == 1u ? 1u : (l10 == 2u ? 2u : 0u)) : 0u);
+    switch ((uint32_t)((uint64_t)load8(l2 + 32))) {
+    case 3: goto L10;
+    case 4: goto L9;
+    default: goto L8;
+    }
+L10:;
+    store8(l2 + 40, 1u);
+    l10 = load8(l2 + 28);
+    l10 = l10 > 1u ? l10 : 1u;
+    goto L7;
+L9:;
+    store8(l2 + 40, 1u);
+L8:;
+    l10 = load8(l2 + 28);
+L7:;
+    l11 = load16(l2 + 26);
+    l9 = 7ull;
+    if ((l10 & 255u) == 2u) goto L13;
+    l9 = 1ull;
+    if ((l11 & 65535u) == 0) goto L13;
+    if ((rem64(l1, (((uint64_t)l11) & 65535ull))) != 0ull) goto L13;
+    l5 = load16(l2 + 24);
+    if (l5 != 0) goto L14;
+    l9 = 0ull;
+    goto L13;
+L14:;
+    l9 = 0ull;
+    l12 = load64(l2 + 8);
+    if (l12 < 20ull) goto L13;
+    l9 = 2ull;
+    if (l12 > 0x100000007ull) goto L13;
+    l6 = load32(l2 + 16);
+    l1 = ((l1 < 0x100000000ull ? l1 : 0x100000000ull) * ((uint64_t)l5)) + ((uint64_t)l6);
+    if (l1 > 0xffffffffull) goto L13;
+    if ((((l12 + l1) + (l1 & 1ull)) - 8ull) < 0x100000000ull) goto L12;
+L13:;
+    l7 = 0u;
+    l12 = load64(l2 + 8);
+    l8 = load8(l2 + 40);
+    l5 = load16(l2 + 24);
+    l3 = load32(l2 + 20);
+    l6 = load32(l2 + 16);
+    l13 = 0u;
+    l14 = 0u;
+    goto L11;
+L12:;
+    l14 = (uint32_t)l1;
+    l13 = 2u;
+    l9 = 0ull;
+    l7 = 1u;
+    l8 = load8(l2 + 40);
+    l3 = load32(l2 + 20);
+L11:;
+    store64(l0 + 48, 0ull);
+    store64(l0 + 40, 0ull);
+    store64(l0 + 32, 0ull);
+    store64(l0 + 24, 0ull);
+    store64(l0 + 16, 0ull);
+    store64(l0 + 8, 0ull);
+    store64(l0, 0ull);
+    l4 = 0u;
+    store16(l0 + 86, 0u);
+    store16(l0 + 84ull, l8 & 1u);
+    store16(l0 + 82ull, l13);
+    store16(l0 + 80ull, l10 & 255u);
+    store16(l0 + 78ull, l11);
+    store16(l0 + 76ull, l5);
+    store32(l0 + 72ull, l14);
+    store32(l0 + 68ull, l3);
+    store32(l0 + 64ull, l6);
+    store64(l0 + 56ull, l12);
+    if (l7 != 0) goto L15;
+    l4 = load32((l9 << 2) + DATA(176));
+L15:;
     return l4;
     TRAP();
 }
 
 /* rattle::export hound_repair */
-static uint64_t f78_hound_repair(uint64_t sp, uint64_t l0, uint64_t l1, uint64_t l2, uint64_t l3) {
+static uint64_t f80_hound_repair(uint64_t sp, uint64_t l0, uint64_t l1, uint64_t l2, uint64_t l3) {
     uint32_t l5 = 0;
     uint64_t l4 = 0;
     l4 = sp - 16ull;
@@ -7588,13 +7882,13 @@ L5:;
     goto L1;
     TRAP();
 L2:;
-    l0 = load64(DATA(176) + (((uint64_t)l5) << 3));
+    l0 = load64(DATA(208) + (((uint64_t)l5) << 3));
 L1:;
     return l0;
 }
 
 /* rattle::export hound_repair_to_end */
-static uint64_t f80_hound_repair_to_end(uint64_t sp, uint64_t l0, uint64_t l1, uint64_t l2, uint64_t l3) {
+static uint64_t f82_hound_repair_to_end(uint64_t sp, uint64_t l0, uint64_t l1, uint64_t l2, uint64_t l3) {
     uint32_t l5 = 0;
     uint64_t l4 = 0;
     l4 = sp - 16ull;
@@ -7656,13 +7950,13 @@ L5:;
     goto L1;
     TRAP();
 L2:;
-    l0 = load64(DATA(176) + (((uint64_t)l5) << 3));
+    l0 = load64(DATA(208) + (((uint64_t)l5) << 3));
 L1:;
     return l0;
 }
 
 /* rattle::export hound_repairer_begin */
-static void f82_hound_repairer_begin(uint64_t l0, uint32_t l1, uint64_t l2) {
+static void f84_hound_repairer_begin(uint64_t l0, uint32_t l1, uint64_t l2) {
     store64(l2 + 48, 0ull);
     store64(l2 + 40, 0ull);
     store64(l2 + 32, 0ull);
@@ -7682,7 +7976,7 @@ static void f82_hound_repairer_begin(uint64_t l0, uint32_t l1, uint64_t l2) {
 }
 
 /* rattle::export hound_repairer_next */
-static uint32_t f84_hound_repairer_next(uint64_t sp, uint64_t l0, uint64_t l1) {
+static uint32_t f86_hound_repairer_next(uint64_t sp, uint64_t l0, uint64_t l1) {
     uint32_t l5 = 0, l6 = 0, l7 = 0, l8 = 0, l9 = 0, l10 = 0, l11 = 0, l12 = 0, l13 = 0, l14 = 0, l16 = 0, l17 = 0, l18 = 0, l19 = 0, l20 = 0, l21 = 0, l22 = 0, l24 = 0, l25 = 0, l26 = 0, l27 = 0, l28 = 0, l29 = 0, l31 = 0, l32 = 0, l33 = 0, l34 = 0, l35 = 0, l36 = 0, l37 = 0, l38 = 0, l39 = 0, l40 = 0, l41 = 0, l42 = 0, l43 = 0, l44 = 0;
     uint64_t l2 = 0, l3 = 0, l4 = 0, l15 = 0, l23 = 0, l30 = 0, l45 = 0, l46 = 0, l47 = 0, l48 = 0, l49 = 0, l50 = 0, l51 = 0;
     l2 = sp - 1216ull;
@@ -8709,7 +9003,7 @@ L1:;
 }
 
 /* rattle::export hound_size */
-static uint64_t f86_hound_size(uint64_t l0, uint64_t l1) {
+static uint64_t f88_hound_size(uint64_t l0, uint64_t l1) {
     uint32_t l2 = 0, l3 = 0, l4 = 0, l5 = 0, l6 = 0;
     uint64_t l7 = 0;
     l2 = load16(l0 + 10);
@@ -8760,7 +9054,7 @@ L6:;
 }
 
 /* rattle::export hound_sizes */
-static uint64_t f88_hound_sizes(uint64_t l0, uint64_t l1, uint64_t l2, uint64_t l3, uint64_t l4) {
+static uint64_t f90_hound_sizes(uint64_t l0, uint64_t l1, uint64_t l2, uint64_t l3, uint64_t l4) {
     uint32_t l5 = 0, l6 = 0, l7 = 0, l8 = 0, l9 = 0;
     l5 = load16(l0 + 10);
     l6 = load16(l0 + 6);
@@ -8811,7 +9105,7 @@ L3:;
 }
 
 /* rattle::export hound_to_f32 */
-static uint64_t f90_hound_to_f32(uint64_t l0, uint64_t l1, uint32_t l2, uint64_t l3, uint64_t l4) {
+static uint64_t f92_hound_to_f32(uint64_t l0, uint64_t l1, uint32_t l2, uint64_t l3, uint64_t l4) {
     float l5 = 0, l6 = 0;
     if (((l2 - 33u) & 65535u) >= 65504u) goto L2;
     return 0xfffffffffffffffbull;
@@ -8846,22 +9140,22 @@ L6:;
 }
 
 /* rattle::export hound_value_16 */
-static uint32_t f92_hound_value_16(uint32_t l0) {
+static uint32_t f94_hound_value_16(uint32_t l0) {
     return extend16(l0);
 }
 
 /* rattle::export hound_value_24 */
-static uint32_t f94_hound_value_24(uint32_t l0) {
+static uint32_t f96_hound_value_24(uint32_t l0) {
     return ((shr_s32((l0 << 8), 8)) & 0xffff0000u) | (l0 & 65535u);
 }
 
 /* rattle::export hound_value_8 */
-static uint32_t f98_hound_value_8(uint32_t l0) {
+static uint32_t f100_hound_value_8(uint32_t l0) {
     return extend8(l0) ^ 0xffffff80u;
 }
 
 /* rattle::export hound_walk_next */
-static uint32_t f102_hound_walk_next(uint64_t sp, uint64_t l0, uint64_t l1) {
+static uint32_t f104_hound_walk_next(uint64_t sp, uint64_t l0, uint64_t l1) {
     uint32_t l4 = 0, l5 = 0, l6 = 0, l7 = 0, l8 = 0, l9 = 0, l10 = 0, l11 = 0, l12 = 0, l13 = 0, l14 = 0, l15 = 0, l16 = 0, l17 = 0, l18 = 0;
     uint64_t l2 = 0, l3 = 0, l19 = 0;
     l2 = sp - 128ull;
@@ -9230,7 +9524,7 @@ L1:;
 }
 
 /* rattle::export hound_walk_to_end */
-static uint32_t f104_hound_walk_to_end(uint64_t sp, uint64_t l0, uint64_t l1) {
+static uint32_t f106_hound_walk_to_end(uint64_t sp, uint64_t l0, uint64_t l1) {
     uint32_t l4 = 0, l5 = 0, l6 = 0, l7 = 0, l8 = 0, l9 = 0, l10 = 0, l11 = 0, l12 = 0, l13 = 0, l14 = 0, l15 = 0, l16 = 0, l17 = 0, l18 = 0, l20 = 0, l21 = 0;
     uint64_t l2 = 0, l3 = 0, l19 = 0;
     l2 = sp - 128ull;
@@ -9591,7 +9885,7 @@ L1:;
 }
 
 /* rattle::export hound_whole_frames */
-static uint64_t f106_hound_whole_frames(uint64_t l0, uint64_t l1) {
+static uint64_t f108_hound_whole_frames(uint64_t l0, uint64_t l1) {
     uint32_t l2 = 0, l3 = 0;
     l2 = load16(l0 + 4);
     l3 = load16(l0 + 8);
@@ -9612,7 +9906,7 @@ L1:;
 }
 
 /* rattle::export hound_write_f32 */
-static uint64_t f108_hound_write_f32(uint64_t sp, uint64_t l0, uint64_t l1, uint64_t l2, uint64_t l3, uint64_t l4) {
+static uint64_t f110_hound_write_f32(uint64_t sp, uint64_t l0, uint64_t l1, uint64_t l2, uint64_t l3, uint64_t l4) {
     uint32_t l6 = 0, l7 = 0, l8 = 0, l9 = 0, l10 = 0, l11 = 0, l12 = 0, l13 = 0, l14 = 0;
     uint64_t l5 = 0, l15 = 0, l16 = 0, l17 = 0, l18 = 0, l19 = 0, l20 = 0, l21 = 0, l22 = 0;
     l5 = sp - 16ull;
@@ -9713,7 +10007,7 @@ L1:;
 }
 
 /* rattle::export hound_write_i16 */
-static uint64_t f110_hound_write_i16(uint64_t sp, uint64_t l0, uint64_t l1, uint64_t l2, uint64_t l3, uint64_t l4) {
+static uint64_t f112_hound_write_i16(uint64_t sp, uint64_t l0, uint64_t l1, uint64_t l2, uint64_t l3, uint64_t l4) {
     uint32_t l6 = 0, l7 = 0, l8 = 0, l9 = 0, l10 = 0, l11 = 0, l12 = 0, l13 = 0;
     uint64_t l5 = 0, l14 = 0, l15 = 0;
     l5 = sp - 32ull;
@@ -9831,13 +10125,13 @@ L8:;
     goto L1;
     TRAP();
 L2:;
-    l0 = load64(DATA(176) + (((uint64_t)l7) << 3));
+    l0 = load64(DATA(208) + (((uint64_t)l7) << 3));
 L1:;
     return l0;
 }
 
 /* rattle::export hound_write_i32 */
-static uint64_t f112_hound_write_i32(uint64_t sp, uint64_t l0, uint64_t l1, uint64_t l2, uint64_t l3, uint64_t l4) {
+static uint64_t f114_hound_write_i32(uint64_t sp, uint64_t l0, uint64_t l1, uint64_t l2, uint64_t l3, uint64_t l4) {
     uint32_t l6 = 0, l7 = 0, l8 = 0, l9 = 0, l10 = 0, l11 = 0, l12 = 0, l13 = 0;
     uint64_t l5 = 0, l14 = 0, l15 = 0;
     l5 = sp - 32ull;
@@ -9955,7 +10249,7 @@ L8:;
     goto L1;
     TRAP();
 L2:;
-    l0 = load64(DATA(176) + (((uint64_t)l7) << 3));
+    l0 = load64(DATA(208) + (((uint64_t)l7) << 3));
 L1:;
     return l0;
 }
@@ -9971,16 +10265,16 @@ int32_t hound_info(const uint8_t *file, size_t length, hound_info_t *info) {
 
 int32_t hound_walk_next(hound_walk *walk, hound_info_t *info) {
     STACK(416);
-    return s32(f102_hound_walk_next(sp, (uint64_t)(uintptr_t)walk, (uint64_t)(uintptr_t)info));
+    return s32(f104_hound_walk_next(sp, (uint64_t)(uintptr_t)walk, (uint64_t)(uintptr_t)info));
 }
 
 int32_t hound_walk_to_end(hound_walk *walk, hound_info_t *info) {
     STACK(416);
-    return s32(f104_hound_walk_to_end(sp, (uint64_t)(uintptr_t)walk, (uint64_t)(uintptr_t)info));
+    return s32(f106_hound_walk_to_end(sp, (uint64_t)(uintptr_t)walk, (uint64_t)(uintptr_t)info));
 }
 
 int64_t hound_whole_frames(const hound_spec *spec, uint64_t length) {
-    return s64(f106_hound_whole_frames((uint64_t)(uintptr_t)spec, length));
+    return s64(f108_hound_whole_frames((uint64_t)(uintptr_t)spec, length));
 }
 
 int64_t hound_guess_data(const uint8_t *file, size_t length) {
@@ -10007,7 +10301,7 @@ int64_t hound_read_f32(const uint8_t *file, size_t length, uint64_t first, float
 }
 
 int64_t hound_size(const hound_spec *spec, uint64_t samples) {
-    return s64(f86_hound_size((uint64_t)(uintptr_t)spec, samples));
+    return s64(f88_hound_size((uint64_t)(uintptr_t)spec, samples));
 }
 
 int64_t hound_header(const hound_spec *spec, uint64_t samples, uint8_t *out, size_t capacity) {
@@ -10016,22 +10310,22 @@ int64_t hound_header(const hound_spec *spec, uint64_t samples, uint8_t *out, siz
 }
 
 int64_t hound_sizes(const hound_spec *spec, uint64_t data_start, uint64_t samples, uint8_t *out, size_t capacity) {
-    return s64(f88_hound_sizes((uint64_t)(uintptr_t)spec, data_start, samples, (uint64_t)(uintptr_t)out, capacity));
+    return s64(f90_hound_sizes((uint64_t)(uintptr_t)spec, data_start, samples, (uint64_t)(uintptr_t)out, capacity));
 }
 
 int64_t hound_write_i16(const hound_spec *spec, const int16_t *samples, size_t count, uint8_t *out, size_t capacity) {
     STACK(272);
-    return s64(f110_hound_write_i16(sp, (uint64_t)(uintptr_t)spec, (uint64_t)(uintptr_t)samples, count, (uint64_t)(uintptr_t)out, capacity));
+    return s64(f112_hound_write_i16(sp, (uint64_t)(uintptr_t)spec, (uint64_t)(uintptr_t)samples, count, (uint64_t)(uintptr_t)out, capacity));
 }
 
 int64_t hound_write_i32(const hound_spec *spec, const int32_t *samples, size_t count, uint8_t *out, size_t capacity) {
     STACK(272);
-    return s64(f112_hound_write_i32(sp, (uint64_t)(uintptr_t)spec, (uint64_t)(uintptr_t)samples, count, (uint64_t)(uintptr_t)out, capacity));
+    return s64(f114_hound_write_i32(sp, (uint64_t)(uintptr_t)spec, (uint64_t)(uintptr_t)samples, count, (uint64_t)(uintptr_t)out, capacity));
 }
 
 int64_t hound_write_f32(const hound_spec *spec, const float *samples, size_t count, uint8_t *out, size_t capacity) {
     STACK(256);
-    return s64(f108_hound_write_f32(sp, (uint64_t)(uintptr_t)spec, (uint64_t)(uintptr_t)samples, count, (uint64_t)(uintptr_t)out, capacity));
+    return s64(f110_hound_write_f32(sp, (uint64_t)(uintptr_t)spec, (uint64_t)(uintptr_t)samples, count, (uint64_t)(uintptr_t)out, capacity));
 }
 
 int64_t hound_append_i16(uint8_t *file, size_t capacity, size_t used, const int16_t *samples, size_t count) {
@@ -10051,12 +10345,12 @@ int64_t hound_append_f32(uint8_t *file, size_t capacity, size_t used, const floa
 
 int64_t hound_repair(uint8_t *file, size_t capacity, size_t used, hound_repair_t *found) {
     STACK(1072);
-    return s64(f78_hound_repair(sp, (uint64_t)(uintptr_t)file, capacity, used, (uint64_t)(uintptr_t)found));
+    return s64(f80_hound_repair(sp, (uint64_t)(uintptr_t)file, capacity, used, (uint64_t)(uintptr_t)found));
 }
 
 int64_t hound_repair_to_end(uint8_t *file, size_t capacity, size_t used, hound_repair_t *found) {
     STACK(1072);
-    return s64(f80_hound_repair_to_end(sp, (uint64_t)(uintptr_t)file, capacity, used, (uint64_t)(uintptr_t)found));
+    return s64(f82_hound_repair_to_end(sp, (uint64_t)(uintptr_t)file, capacity, used, (uint64_t)(uintptr_t)found));
 }
 
 int32_t hound_find_damage(const uint8_t *file, size_t length, hound_repair_t *found) {
@@ -10065,12 +10359,12 @@ int32_t hound_find_damage(const uint8_t *file, size_t length, hound_repair_t *fo
 }
 
 void hound_repairer_begin(uint64_t length, uint32_t mode, hound_repairer *repairer) {
-    f82_hound_repairer_begin(length, (uint32_t)mode, (uint64_t)(uintptr_t)repairer);
+    f84_hound_repairer_begin(length, (uint32_t)mode, (uint64_t)(uintptr_t)repairer);
 }
 
 int32_t hound_repairer_next(hound_repairer *repairer, hound_repair_t *found) {
     STACK(2032);
-    return s32(f84_hound_repairer_next(sp, (uint64_t)(uintptr_t)repairer, (uint64_t)(uintptr_t)found));
+    return s32(f86_hound_repairer_next(sp, (uint64_t)(uintptr_t)repairer, (uint64_t)(uintptr_t)found));
 }
 
 int64_t hound_decode_i8(const hound_spec *spec, const uint8_t *bytes, size_t length, int8_t *out, size_t count) {
@@ -10112,15 +10406,15 @@ int64_t hound_encode_f32(const hound_spec *spec, const float *samples, size_t co
 }
 
 int32_t hound_value_8(uint32_t container) {
-    return s32(f98_hound_value_8((uint32_t)container));
+    return s32(f100_hound_value_8((uint32_t)container));
 }
 
 int32_t hound_value_16(uint32_t container) {
-    return s32(f92_hound_value_16((uint32_t)container));
+    return s32(f94_hound_value_16((uint32_t)container));
 }
 
 int32_t hound_value_24(uint32_t container) {
-    return s32(f94_hound_value_24((uint32_t)container));
+    return s32(f96_hound_value_24((uint32_t)container));
 }
 
 int32_t hound_value_32(uint32_t container) {
@@ -10128,7 +10422,7 @@ int32_t hound_value_32(uint32_t container) {
 }
 
 int64_t hound_to_f32(const int32_t *samples, size_t count, uint16_t bits, float *out, size_t capacity) {
-    return s64(f90_hound_to_f32((uint64_t)(uintptr_t)samples, count, (uint32_t)bits, (uint64_t)(uintptr_t)out, capacity));
+    return s64(f92_hound_to_f32((uint64_t)(uintptr_t)samples, count, (uint32_t)bits, (uint64_t)(uintptr_t)out, capacity));
 }
 
 int64_t hound_from_f32(const float *samples, size_t count, uint16_t bits, int32_t *out, size_t capacity, uint64_t *clipped) {
@@ -10140,20 +10434,24 @@ int32_t hound_recorder_begin(const hound_spec *spec, hound_recorder *recorder) {
 }
 
 int32_t hound_recorder_resume(const hound_repair_t *found, uint32_t allowed, hound_recorder *recorder) {
-    return s32(f74_hound_recorder_resume((uint64_t)(uintptr_t)found, (uint32_t)allowed, (uint64_t)(uintptr_t)recorder));
+    return s32(f76_hound_recorder_resume((uint64_t)(uintptr_t)found, (uint32_t)allowed, (uint64_t)(uintptr_t)recorder));
 }
 
 int32_t hound_recorder_write(hound_recorder *recorder, uint64_t samples) {
-    STACK(192);
-    return s32(f76_hound_recorder_write(sp, (uint64_t)(uintptr_t)recorder, samples));
+    STACK(224);
+    return s32(f78_hound_recorder_write(sp, (uint64_t)(uintptr_t)recorder, samples));
 }
 
 void hound_recorder_checkpoint(hound_recorder *recorder) {
-    STACK(192);
+    STACK(224);
     f70_hound_recorder_checkpoint(sp, (uint64_t)(uintptr_t)recorder);
 }
 
+int64_t hound_recorder_frames_left(const hound_recorder *recorder) {
+    return s64(f72_hound_recorder_frames_left((uint64_t)(uintptr_t)recorder));
+}
+
 int32_t hound_recorder_next(hound_recorder *recorder) {
-    STACK(272);
-    return s32(f72_hound_recorder_next(sp, (uint64_t)(uintptr_t)recorder));
+    STACK(304);
+    return s32(f74_hound_recorder_next(sp, (uint64_t)(uintptr_t)recorder));
 }
