@@ -5,7 +5,8 @@ use hound::{
 use hound_callers::{
     Twelve, append_blocks, append_by_effects, continue_by_effects, finish, finish_durable,
     opened_meanwhile, pack_one, publish_and_continue, publish_durably, record, record_at_once,
-    record_batch, record_by_effects, record_checkpoints, record_steps, write_if_short,
+    record_batch, record_by_effects, record_checkpoints, record_in_parts, record_steps,
+    write_if_short,
 };
 use hound_test_helpers::{FOUR_SAMPLES, empty_tape, integers, read_all, sixteen, tape_of};
 use std::alloc::Global;
@@ -124,6 +125,51 @@ fn repeats(
     let taken = journal.taken();
     let bytes = journal.bytes_after(alloc, taken)?;
     Ok(count == blocks.len() && bytes.as_slice() == file && taken == written)
+}
+
+// The samples of three parts of a recording, of four bytes at most each, and how many blocks were saved; the calls of the
+// second file fail from this one on.
+fn in_parts(
+    alloc: Global,
+    blocks: &[&[u8]],
+    fail_from: u64,
+) -> hound::Result<(Vec<Vec<i16>>, usize)> {
+    let mut media = [
+        Journal::new(alloc, Vec::new(alloc))?,
+        Journal::new(alloc, Vec::new(alloc))?,
+        Journal::new(alloc, Vec::new(alloc))?,
+    ];
+    media[1].fail(fail_from, u64::MAX);
+    let count = record_in_parts(&mut media, integers(1, 44100, 16, 2), blocks, 4, &[]);
+    let mut parts = Vec::new(alloc);
+    for medium in &media {
+        let bytes = medium.bytes_after(alloc, medium.taken())?;
+        parts.push(match WavReader::new(&bytes[..]) {
+            Ok(reader) => read_all::<i16, _>(alloc, reader)?,
+            Err(_) => Vec::new(alloc),
+        })?;
+    }
+    Ok((parts, count))
+}
+
+// Whether the parts have these samples.
+fn have(parts: &[Vec<i16>], samples: &[&[i16]]) -> bool {
+    for i in 0..parts.len() {
+        if i >= samples.len() || parts[i].as_slice() != samples[i] {
+            return false;
+        }
+    }
+    parts.len() == samples.len()
+}
+
+// Whether a part takes the next blocks whole, and what one that fails doesn't take is in the next one.
+fn continues_in_parts(alloc: Global) -> hound::Result<bool> {
+    let blocks: &[&[u8]] = &[b"\x02\0", b"\xfd\xff", b"\x05\0\xf9\xff", b"\x0b\0"];
+    let (parts, count) = in_parts(alloc, blocks, u64::MAX)?;
+    let whole = have(&parts, &[&[2, -3], &[5, -7], &[11]]);
+    let (parts, saved) = in_parts(alloc, blocks, 0)?;
+    let failed = have(&parts, &[&[2, -3], &[], &[5, -7]]);
+    Ok(whole && count == 4 && failed && saved == 3)
 }
 
 // Whether the blocks that were saved are read, and nothing else than samples of the blocks, wherever
@@ -320,6 +366,7 @@ fn effects_leave_what_was_saved(rt: HostRuntime) -> Result<(), Fail> {
     assert!(rt; resumes(alloc, &FOUR_SAMPLES, blocks)?);
     // Two syncs, and then a size twice: a sync whose report is lost would have failed.
     assert!(rt; mends(alloc, blocks, &[false, false, true, true])?);
+    assert!(rt; continues_in_parts(alloc)?);
     Ok(())
 }
 

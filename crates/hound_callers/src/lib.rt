@@ -5,6 +5,7 @@
 mod callers;
 mod editing;
 mod example;
+mod parts;
 mod reading;
 mod recorder;
 mod recording;
@@ -16,6 +17,7 @@ pub use callers::{
 };
 pub use editing::append_blocks;
 pub use example::record_and_read;
+pub use parts::record_in_parts;
 pub use reading::{opened_meanwhile, read_block, read_from, reopen, written_and_read};
 pub use recorder::{
     a_cut_recording_counts, append_by_effects, continue_by_effects, record_by_effects,
