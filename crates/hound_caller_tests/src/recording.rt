@@ -127,8 +127,8 @@ fn repeats(
     Ok(count == blocks.len() && bytes.as_slice() == file && taken == written)
 }
 
-// The samples of three parts of a recording, of four bytes at most each, and how many blocks were saved; the calls of the
-// second file fail from this one on.
+// The samples of three parts of a recording, of four bytes at most each, and how many blocks were saved. The calls of
+// the second file fail from this one on.
 fn in_parts(
     alloc: Global,
     blocks: &[&[u8]],

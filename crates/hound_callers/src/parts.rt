@@ -43,12 +43,12 @@ fn record_part<M: Medium>(
     }
 }
 
-/// Records blocks of containers into new files, one after the other, with a checkpoint after each block, and returns how
-/// many were saved. A file takes the next blocks whole, as long as all of its own have at most so many bytes; where that is
-/// so, where a block has no room or where a call fails, the next file takes the rest. So what the headers of the files count,
-/// one after the other, are exactly the blocks that were saved, unless a checkpoint has failed; and a loss of power costs no
-/// published sample of any. A block whose write or checkpoint failed is in the next file, and a repair of the one before
-/// may find it there, too.
+/// Records blocks of containers into new files, one after the other, with a checkpoint after each block, and returns
+/// how many were saved. A file takes the next blocks whole, as long as all of its own have at most so many bytes;
+/// where they would have more, where a block has no room or where a call fails, the next file takes the rest. So what
+/// the headers of the files count, one after the other, are exactly the blocks that were saved, unless a checkpoint
+/// has failed; and a loss of power costs no published sample of any. A block whose write or checkpoint failed is in
+/// the next file, and a repair of the one before may find it there, too.
 ///
 /// Each medium must be at 0, and synced.
 pub fn record_in_parts<M: Medium>(
