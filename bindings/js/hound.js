@@ -266,11 +266,21 @@ function interleave({ samples, channels }, first, out) {
 
 /** Copies interleaved samples to the arrays of their channels, from a frame on. */
 function spread(samples, channels, start) {
+  if (channels.length === 1) return channels[0].set(samples, start);
+  if (channels.length === 2) return spreadPairs(exact(samples), exact(channels[0]), exact(channels[1]), start);
   const from = exact(samples);
   channels.forEach((channel, i) => {
     const to = exact(channel);
     for (let place = i, frame = start; place < from.length; place += channels.length) to[frame++] = from[place];
   });
+}
+
+/** The same of two channels, in one pass, since most files have two. */
+function spreadPairs(from, left, right, start) {
+  for (let place = 0, frame = start; place < from.length; place += 2) {
+    left[frame] = from[place];
+    right[frame++] = from[place + 1];
+  }
 }
 
 function checkChannels(given, channels) {
@@ -517,7 +527,9 @@ function encode(given, spec, out, place, width) {
 
 /** The containers of the given samples, and how many samples were clipped. */
 function encoded(given, spec) {
-  const width = widthOf(given.type, spec), data = new Uint8Array(given.count * width);
+  // Where there are samples, the calls that encode them say whether their type is written.
+  const width = given.count > 0 ? spec.bytesPerSample : widthOf(given.type, spec);
+  const data = new Uint8Array(given.count * width);
   return { data, clipped: encode(given, spec, data, 0, width) };
 }
 

@@ -1,11 +1,12 @@
 """Samples as callers give and take them: their types, and floats whose full scale is 1."""
 import array
+import contextlib
 import ctypes
 import os
 import random
 import sys
 import warnings
-from typing import Any, Callable, Iterator, NamedTuple, Optional, Tuple
+from typing import Any, Callable, ContextManager, Iterator, NamedTuple, Optional, Tuple
 
 from . import _POINTER, _SIZE, _SPARE, Cause, HoundError, Info, _checked, _function, _integer, _Spec
 
@@ -63,10 +64,6 @@ class address:  # noqa: N801
         self._buffer, self._align = buffer, align
 
     def __enter__(self) -> Tuple[Any, int]:
-        if type(self._buffer) is array.array and self._buffer:  # It is one of this package, which nobody else resizes.
-            start, count = self._buffer.buffer_info()
-            self._view = memoryview(b"")
-            return start, count * self._buffer.itemsize
         self._kept: Any = None
         view = self._view = memoryview(self._buffer)
         if view.nbytes == 0:
@@ -83,6 +80,11 @@ class address:  # noqa: N801
     def __exit__(self, *_: Any) -> None:
         self._kept = None
         self._view.release()
+
+
+def _start(samples: "array.array[Any]") -> int:
+    """The address of an array of this package, which nobody else resizes."""
+    return samples.buffer_info()[0] if samples else ctypes.addressof(_SPARE)
 
 
 def form_of(view: memoryview, name: str, taken: str) -> Tuple[str, Optional[int]]:
@@ -152,13 +154,12 @@ def is_converted(dtype: str, kind: str) -> bool:
 
 def _convert(part: "array.array[Any]", count: int, dtype: str, spec: _Spec, out: Any) -> None:
     """Stores the first samples that the library decoded at an address, in another type."""
-    with address(part) as (start, _):
-        if _is_scaled(dtype, spec):
-            _checked(_TO_SCALED[dtype](start, count, spec.bits_per_sample, out, count))
-        elif dtype == "float64":
-            _checked(_f32_to_f64(start, count, out, count))
-        else:
-            ctypes.memmove(out, part[:count].tobytes()[::2], count)  # The low bytes are those of int8.
+    if _is_scaled(dtype, spec):
+        _checked(_TO_SCALED[dtype](_start(part), count, spec.bits_per_sample, out, count))
+    elif dtype == "float64":
+        _checked(_f32_to_f64(_start(part), count, out, count))
+    else:
+        ctypes.memmove(out, part[:count].tobytes()[::2], count)  # The low bytes are those of int8.
 
 
 def filled(out: Any, count: int, dtype: str, spec: _Spec, kind: str, take: Take) -> int:
@@ -167,12 +168,11 @@ def filled(out: Any, count: int, dtype: str, spec: _Spec, kind: str, take: Take)
     if not is_converted(dtype, kind):
         return take(0, out, count)
     part, done, some, wanted = _zeros(CODES[kind], min(BLOCK, count)), 0, 0, 0
-    with address(part) as (start, _):
-        while done < count and some == wanted:
-            wanted = min(BLOCK, count - done)
-            some = take(done, start, wanted)
-            _convert(part, some, dtype, spec, out + done * width_of(dtype))
-            done += some
+    while done < count and some == wanted:
+        wanted = min(BLOCK, count - done)
+        some = take(done, _start(part), wanted)
+        _convert(part, some, dtype, spec, out + done * width_of(dtype))
+        done += some
     return done
 
 
@@ -220,12 +220,12 @@ class Room:
             self.most = self._view.nbytes // self._view.itemsize // spec.channels
         return self
 
-    def place(self, count: int) -> address:
-        """The address of the room for so many samples, while they are stored."""
+    def place(self, count: int) -> ContextManager[Tuple[Any, int]]:
+        """The address of the room for so many samples, while they are stored, and its bytes."""
         if self._view is not None:
             return address(self._view)
         self._array = _zeros(TYPES[self.dtype].code, count)
-        return address(self._array)
+        return contextlib.nullcontext((_start(self._array), count * width_of(self.dtype)))
 
     def result(self, count: int, always_2d: bool) -> Any:
         """The samples, of which there are so many."""
@@ -261,20 +261,22 @@ class Scale:
 
     def __init__(self, bits: int, noise: Optional[random.Random] = None) -> None:
         self._bits, self._noise, self.clipped = bits, noise, 0
+        self._integers = _zeros("i", 0)
 
-    def integers(self, dtype: str, start: Any, count: int) -> "array.array[int]":
-        """The integers of so many floats of a type at an address."""
+    def integers(self, dtype: str, start: Any, count: int) -> memoryview:
+        """The integers of so many floats of a type at an address, until the next call."""
         if self._noise:
-            with address(self._noisy(dtype, start, count)) as (noisy, _):
-                return self._rounded("float64", noisy, count)
+            noisy = self._noisy(dtype, start, count)
+            return self._rounded("float64", _start(noisy), count)
         return self._rounded(dtype, start, count)
 
-    def _rounded(self, dtype: str, start: Any, count: int) -> "array.array[int]":
-        integers, clipped = _zeros("i", count), ctypes.c_uint64()
-        with address(integers) as (out, _):
-            _checked(_FROM_SCALED[dtype](start, count, self._bits, out, count, ctypes.byref(clipped)))
+    def _rounded(self, dtype: str, start: Any, count: int) -> memoryview:
+        clipped = ctypes.c_uint64()
+        if count > len(self._integers):
+            self._integers = _zeros("i", count)
+        _checked(_FROM_SCALED[dtype](start, count, self._bits, _start(self._integers), count, ctypes.byref(clipped)))
         self.clipped += clipped.value
-        return integers
+        return memoryview(self._integers)[:count]
 
     def _noisy(self, dtype: str, start: Any, count: int) -> "array.array[float]":
         floats: "array.array[float]" = array.array(TYPES[dtype].code, ctypes.string_at(start, count * width_of(dtype)))
@@ -291,8 +293,7 @@ def _rounded(start: Any, count: int) -> "array.array[float]":
     """The float32 that are nearest to float64 at an address; an error where one would be infinite and the sample
     isn't."""
     floats, infinite = _zeros("f", count), ctypes.c_uint64()
-    with address(floats) as (out, _):
-        _checked(_f64_to_f32(start, count, out, count, ctypes.byref(infinite)))
+    _checked(_f64_to_f32(start, count, _start(floats), count, ctypes.byref(infinite)))
     if infinite.value:
         raise HoundError(Cause.TOO_WIDE)
     return floats
@@ -369,8 +370,8 @@ class Given:
         for first in range(0, len(self.view), rows):
             yield self.part(self.view[first : first + rows], spec, scale)
 
-    def _converted(self, view: memoryview, spec: _Spec, scale: Scale) -> "array.array[Any]":
-        """Samples in a type of the library."""
+    def _converted(self, view: memoryview, spec: _Spec, scale: Scale) -> Any:
+        """Samples in a type of the library, until the next ones."""
         if self.form.kind == "f32":
             with address(view, view.itemsize) as (start, length):
                 count = length // view.itemsize
