@@ -20,7 +20,11 @@ export interface Arrays {
   float64: Float64Array;
 }
 
-/** Interleaved samples: a frame has one of each channel. Or an array for each channel, all of one type and length. */
+/**
+ * Interleaved samples: a frame has one of each channel. Or an array for each channel, all of one type and length. In a
+ * file of floats those of a Float64Array are the nearest ones of 32 bits; a finite one that would be infinite is an
+ * error.
+ */
 export type Samples =
   | Arrays[keyof Arrays] | Int8Array[] | Int16Array[] | Int32Array[] | Float32Array[] | Float64Array[];
 

@@ -81,6 +81,7 @@ OPERATORS = {
         (0xBB, "f64.promote_f32", "f", "d", "(double){0}"),
         (0xBD, "i64.reinterpret_f64", "d", "l", "bits_of({0})"),
         (0xBE, "f32.reinterpret_i32", "i", "f", "f32_of({0})"),
+        (0xBF, "f64.reinterpret_i64", "l", "d", "f64_of({0})"),
         (0xC0, "i32.extend8_s", "i", "i", "extend8({0})"),
         (0xC1, "i32.extend16_s", "i", "i", "extend16({0})"),
         (0xFC06, "i64.trunc_sat_f64_s", "d", "l", "trunc64({0})"),

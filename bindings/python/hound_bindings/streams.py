@@ -465,7 +465,8 @@ class Writer(_OneAtATime):
                     yield self._piece(kind, start + first, min(conversion.BLOCK, (length - first) // width))
 
     def _encoded_at_once(self, given: conversion.Given, scale: conversion.Scale) -> List[Any]:
-        if given.count > conversion.BLOCK:
+        """The same, of which each stays; a short block is one piece, until the next one."""
+        if not 0 < given.count <= conversion.BLOCK:
             return list(map(bytes, self._encoded(given.parts(self._spec, scale))))
         kind, samples = given.part(given.view, self._spec, scale)
         with conversion.address(samples, conversion.width_of(kind)) as (start, _):

@@ -4,19 +4,20 @@ use mathlib.Core.Bool.{Bool, true, false, cond, not, true≢false}
 use Prim.Native.Nat.{ℕ, zero, suc, ◌+◌, ◌-◌, ◌*◌, ◌/◌, ◌%◌, ◌^◌, ◌≤◌, ◌<◌, compare, min}
 use native.Mathlib.Nat.{div-lt_iff_lt-mul, lt_of_lt_of_le, mul-div_cancel, mul-mod_left, mul-one}
 use native.Mathlib.Omega.{arith}
-use lib.Dec.{T, eqb, ltb, lit≤}
-use lib.IntN.{ℤ, pos, negsuc, nat_abs, neg_ℤ, ◌-ℤ◌, +ℤ_idl}
+use lib.Dec.{T, eqb, leb, ltb, lit≤}
+use lib.IntN.{ℤ, pos, negsuc, nat_abs, neg_ℤ, ◌-ℤ◌, ◌*ℤ◌}
 use mir.Facts.{to_z-of_z}
 use Rattle.std.proofs.Common.{[], ◌∷◌, FitsSigned, of_z, slice_index_or, to_z, w64}
 use mir.Val.{bool_byte}
 use lib.Pow.{pow_mono, shl_lt}
 use lib.Signed.{lt_z}
 use borrow.Author.Differences.{ints}
-use borrow.Author.Tests.{le-leb, lt-ltb, ltb-false, ltb-true}
-use lib.Ieee.{Float, Format, binary64, nan, inf, fin, prec, low, emax, up, down, odd, units, round, neg, div, unlike, lt, of_bits, of_int, in_signed, to_signed, whole}
+use borrow.Author.Tests.{le-leb, leb-false, leb-true, lt-leb, lt-ltb, ltb-true}
+use lib.Ieee.{Float, Format, binary64, nan, inf, fin, prec, low, emax, up, down, odd, units, round, neg, div, unlike, lt, fits, of_bits, of_fields, of_int, to_bits, in_signed, to_signed, whole}
+use lib.Ieee.Bits.{of_bits-to_bits}
 use lib.Ieee.Exact.{HasValue, round_exact}
 use lib.Ieee.Fits.{down_pos, nearest-le, round_is}
-use lib.Ieee.Nearest.{closest, closest_same}
+use lib.Ieee.Nearest.{closest}
 use Rattle.std.specs.Float.{float_with_sign, round_ties_even, round_with}
 
 neg-odd : (d q k l : ℕ) → neg (odd d false q k l) ≡ odd d true q k l
@@ -108,9 +109,6 @@ few m e h =
 tidy : (m : ℕ) (e : ℤ) → ltb (m * up e * 1) (1 * 2 ^ 52 * down e) ≡ true → m * up e < 2 ^ 52 * down e
 tidy m e h = omega (arith, ltb-true _ _ h)
 
-none : (m : ℕ) (e : ℤ) → m * up e * 1 + 0 * 1 * down e ≤ 0 → nearest_of m e ≡ 0
-none m e h = closest_same (m * up e) (down e) 0 1 (down_pos e) (lit≤ tt) (omega arith)
-
 rounded : (s : Bool) (n : ℕ) → n ≤ 2 ^ 52 → Whole (round binary64 s n 1) s n
 rounded s n h =
     let small : n < 2 ^ 53 = omega arith in
@@ -119,72 +117,131 @@ rounded s n h =
     whole_of (round binary64 s n 1) s n
     (round_exact binary64 s n 1 n (low binary64) (lit≤ tt) small fine (sym (mul-one (n * 2 ^ low binary64)))) h
 
--- 2^52 and 0, as literals
+-- 2^52 as a literal
 limit_is : of_bits binary64 0x4330_0000_0000_0000 ≡ fin false 1 (pos 52)
 unfolding of_bits
 limit_is = refl
 
-zero_is : of_bits binary64 0 ≡ fin false 0 (pos 0)
+-- ---- the sign of a float, and what is left without it, by its bits
+
+odd-signed : (s : Bool) (q k l : ℕ) → odd 53 s q k l ≡ float_with_sign s (odd 53 false q k l)
+unfolding odd float_with_sign
+odd-signed s zero k l = refl
+odd-signed s (suc q) k l = refl
+
+fields-signed : (s : Bool) (x t : ℕ) → of_fields binary64 s x t ≡ float_with_sign s (of_fields binary64 false x t)
+unfolding of_fields float_with_sign
+fields-signed s zero t = odd-signed s t 0 1074
+fields-signed s (suc x) t = by (eqb (suc x) 2047) (eqb t 0)
+  where
+    by : (p r : Bool) → cond p (cond r (inf s) nan) (odd 53 s (2 ^ 52 + t) x 1074)
+        ≡ float_with_sign s (cond p (cond r (inf false) nan) (odd 53 false (2 ^ 52 + t) x 1074))
+    by true true = refl
+    by true false = refl
+    by false r = odd-signed s (2 ^ 52 + t) x 1074
+
+signed : (b : ℕ) → of_bits binary64 b ≡ float_with_sign (leb (2 ^ 63) b) (of_bits binary64 (b % 2 ^ 63))
 unfolding of_bits
-zero_is = refl
+signed b =
+    let s : leb (2 ^ 63) (b % 2 ^ 63) ≡ false = lt-leb (2 ^ 63) (b % 2 ^ 63) (omega arith) in
+    let x : b % 2 ^ 63 % 2 ^ 63 / 2 ^ 52 ≡ b % 2 ^ 63 / 2 ^ 52 = omega arith in
+    let t : b % 2 ^ 63 % 2 ^ 52 ≡ b % 2 ^ 52 = omega arith in
+    fields-signed (leb (2 ^ 63) b) (b % 2 ^ 63 / 2 ^ 52) (b % 2 ^ 52)
+    ∙ (λ i. float_with_sign (leb (2 ^ 63) b) (of_fields binary64 (sym s i) (sym x i) (sym t i)))
 
--- the whole number that is nearest to a float below 2^52 in size, with 2^52 and 0 as they are in code
-abbrev Near : Float → Float → Type 0
-Near origin x = (n : ℕ) × (n ≤ 2 ^ 52)
-    × T (in_signed binary64 63 (round_ties_even binary64 (float_with_sign false x)))
-    × (to_signed 63 (round_ties_even binary64 (float_with_sign false x)) ≡ pos n)
-    × (lt x origin ≡ true → to_signed 63 (round_ties_even binary64 x) ≡ neg_ℤ (pos n))
-    × (lt x origin ≡ false → to_signed 63 (round_ties_even binary64 x) ≡ pos n)
+-- the float without its sign has none
+unsigned : (b : ℕ) → of_bits binary64 (b % 2 ^ 63) ≡ float_with_sign false (of_bits binary64 (b % 2 ^ 63))
+unsigned b =
+    let s : leb (2 ^ 63) (b % 2 ^ 63) ≡ false = lt-leb (2 ^ 63) (b % 2 ^ 63) (omega arith) in
+    let again : b % 2 ^ 63 % 2 ^ 63 ≡ b % 2 ^ 63 = omega arith in
+    signed (b % 2 ^ 63) ∙ (λ i. float_with_sign (s i) (of_bits binary64 (again i)))
 
-abbrev pub Nearest : Float → Type 0
-Nearest x = Near (of_bits binary64 0) x
+-- ---- the whole number that is nearest to a float
 
-by_value : (x : Float) → lt (float_with_sign false x) (fin false 1 (pos 52)) ≡ true → Near (fin false 0 (pos 0)) x
+-- it is n for a size y, with the sign of the float
+abbrev Nearest : Float → Bool → Type 0
+Nearest y s = (n : ℕ) × (n ≤ 2 ^ 52) × T (in_signed binary64 63 (round_ties_even binary64 y))
+    × (to_signed 63 (round_ties_even binary64 y) ≡ pos n)
+    × (to_signed 63 (round_ties_even binary64 (float_with_sign s y)) ≡ cond s (neg_ℤ (pos n)) (pos n))
+
+by_value : (y : Float) (s : Bool) → y ≡ float_with_sign false y → lt y (fin false 1 (pos 52)) ≡ true → Nearest y s
 unfolding lt float_with_sign round_with
-by_value nan h = absurd (true≢false (sym h))
-by_value (inf s) h = absurd (true≢false (sym h))
-by_value (fin false m e) h =
+by_value nan s is h = absurd (true≢false (sym h))
+by_value (inf t) s is h = absurd (infinite t is h)
+  where
+    infinite : (t : Bool) → inf t ≡ inf false → lt (inf t) (fin false 1 (pos 52)) ≡ true → ⊥
+    infinite true is h = cc
+    infinite false is h = true≢false (sym h)
+by_value (fin true m e) s is h = absurd cc
+by_value (fin false m e) s is h =
     let most = few m e (tidy m e h) in
     let (cast, value) = rounded false (nearest_of m e) most in
-    (nearest_of m e, most, cast refl, value, λ t. absurd (omega (arith, ltb-true _ _ t)), λ t. value)
-by_value (fin true m e) h =
-    let most = few m e (tidy m e h) in
-    let (cast, size) = rounded false (nearest_of m e) most in
-    let value = (rounded true (nearest_of m e) most).1 in (
-      nearest_of m e,
-      most,
-      cast refl,
-      size,
-      λ t. value,
-      λ t. value ∙ ap (λ k. neg_ℤ (pos k)) (none m e (ltb-false _ _ t)) ∙ sym (ap pos (none m e (ltb-false _ _ t))),
-    )
+    (nearest_of m e, most, cast refl, value, with_sign s)
+  where
+    with_sign : (s : Bool) → to_signed 63 (round_ties_even binary64 (fin s m e))
+        ≡ cond s (neg_ℤ (pos (nearest_of m e))) (pos (nearest_of m e))
+    with_sign true = (rounded true (nearest_of m e) (few m e (tidy m e h))).1
+    with_sign false = (rounded false (nearest_of m e) (few m e (tidy m e h))).1
 
-pub nearest : (x size : Float) → size ≡ float_with_sign false x
-    → lt size (of_bits binary64 0x4330_0000_0000_0000) ≡ true → Nearest x
-nearest x size is h =
-    let limit = ap (λ y. lt y (fin false 1 (pos 52))) (sym is) ∙ ap (lt size) (sym limit_is) ∙ h in
-    let (n, most, cast, value, below, others) = by_value x limit in
-    (n, most, cast, value, λ t. below (ap (lt x) (sym zero_is) ∙ t), λ t. others (ap (lt x) (sym zero_is) ∙ t))
+-- what a sign that is a bit makes of a number
+abbrev factor : ℕ → ℤ
+factor k = to_z w64 (of_z w64 (pos 1 -ℤ to_z w64 (of_z w64 (pos 2 *ℤ to_z w64 k))))
 
--- what a cast of its size gives, and that negated
-negative_fits : (n : ℕ) → n ≤ 2 ^ 52 → FitsSigned w64 (neg_ℤ (pos n))
-negative_fits zero h = record { sfits = omega arith }
-negative_fits (suc n) h = record { sfits = omega arith }
+product : (n k : ℕ) → n ≤ 2 ^ 52 → k < 2
+    → FitsSigned w64 (pos n *ℤ factor k)
+    × (to_z w64 (of_z w64 (pos n *ℤ factor k)) ≡ cond (leb 1 k) (neg_ℤ (pos n)) (pos n))
+product n zero most bit =
+    let is : pos n *ℤ factor 0 ≡ pos n = ap pos (mul-one n) in
+    let fits : FitsSigned w64 (pos n) = record { sfits = omega arith } in
+    (subst (FitsSigned w64) (sym is) fits, ap (λ z. to_z w64 (of_z w64 z)) is ∙ to_z-of_z {w = w64} fits)
+product n (suc zero) most bit =
+    let is : pos n *ℤ factor 1 ≡ neg_ℤ (pos n) = ap (λ k. neg_ℤ (pos k)) (mul-one n) in
+    let fits : FitsSigned w64 (neg_ℤ (pos n)) = negative n most in
+    (subst (FitsSigned w64) (sym is) fits, ap (λ z. to_z w64 (of_z w64 z)) is ∙ to_z-of_z {w = w64} fits)
+  where
+    negative : (n : ℕ) → n ≤ 2 ^ 52 → FitsSigned w64 (neg_ℤ (pos n))
+    negative zero h = record { sfits = omega arith }
+    negative (suc n) h = record { sfits = omega arith }
+product n (suc (suc k)) most bit = absurd (omega arith)
 
-module _ (x size whole : Float) (near : Nearest x) (size_is : size ≡ float_with_sign false x)
-    (whole_is : whole ≡ round_ties_even binary64 size) where
-  is : whole ≡ round_ties_even binary64 (float_with_sign false x)
-  is = whole_is ∙ ap (round_ties_even binary64) size_is
+-- a float by its bits: the cast of its size loses nothing, and the product with its sign is what is nearest to it
+module _ (x whole : Float) (bits : ℕ) (fit : T (fits binary64 x)) (bits_are : bits ≡ to_bits binary64 x)
+    (few_bits : bits < 2 ^ 64)
+    (small : lt (of_bits binary64 (bits % 2 ^ 63)) (of_bits binary64 0x4330_0000_0000_0000) ≡ true)
+    (whole_is : whole ≡ round_ties_even binary64 (of_bits binary64 (bits % 2 ^ 63))) where
+  abbrev size : Float
+  size = of_bits binary64 (bits % 2 ^ 63)
+
+  near : Nearest size (leb (2 ^ 63) bits)
+  near = by_value size (leb (2 ^ 63) bits) (unsigned bits) (ap (lt size) (sym limit_is) ∙ small)
+
+  x_is : x ≡ float_with_sign (leb (2 ^ 63) bits) size
+  x_is = sym (of_bits-to_bits binary64 x fit) ∙ ap (of_bits binary64) (sym bits_are) ∙ signed bits
 
   pub can_cast : T (in_signed binary64 63 whole)
-  can_cast = subst (λ y. T (in_signed binary64 63 y)) (sym is) near.2
+  can_cast = subst (λ y. T (in_signed binary64 63 y)) (sym whole_is) near.2
 
-  pub cast_is : to_z w64 (of_z w64 (to_signed 63 whole)) ≡ pos near.0
-  cast_is = ap (λ y. to_z w64 (of_z w64 (to_signed 63 y))) is ∙ ap (λ z. to_z w64 (of_z w64 z)) near.3
+  cast_is : to_z w64 (of_z w64 (to_signed 63 whole)) ≡ pos near.0
+  cast_is = ap (λ y. to_z w64 (of_z w64 (to_signed 63 y))) whole_is ∙ ap (λ z. to_z w64 (of_z w64 z)) near.3
       ∙ to_z-of_z {w = w64} {z = pos near.0} (record { sfits = omega (arith, near.1) })
 
-  pub negated_is : pos 0 -ℤ to_z w64 (of_z w64 (to_signed 63 whole)) ≡ neg_ℤ (pos near.0)
-  negated_is = ap (λ z. pos 0 -ℤ z) cast_is ∙ +ℤ_idl (neg_ℤ (pos near.0))
+  signed_is : FitsSigned w64 (pos near.0 *ℤ factor (bits / 2 ^ 63))
+      × (to_z w64 (of_z w64 (pos near.0 *ℤ factor (bits / 2 ^ 63))) ≡ cond (leb 1 (bits / 2 ^ 63)) (neg_ℤ (pos near.0)) (pos near.0))
+  signed_is = product near.0 (bits / 2 ^ 63) near.1 (omega (arith, few_bits))
 
-  pub negated_fits : FitsSigned w64 (pos 0 -ℤ to_z w64 (of_z w64 (to_signed 63 whole)))
-  negated_fits = subst (FitsSigned w64) (sym negated_is) (negative_fits near.0 near.1)
+  pub product_fits : FitsSigned w64 (to_z w64 (of_z w64 (to_signed 63 whole)) *ℤ factor (bits / 2 ^ 63))
+  product_fits = subst (λ z. FitsSigned w64 (z *ℤ factor (bits / 2 ^ 63))) (sym cast_is) signed_is.0
+
+  same_sign : leb 1 (bits / 2 ^ 63) ≡ leb (2 ^ 63) bits
+  same_sign = by (leb (2 ^ 63) bits) refl
+    where
+      by : (t : Bool) → leb (2 ^ 63) bits ≡ t → leb 1 (bits / 2 ^ 63) ≡ leb (2 ^ 63) bits
+      by true h = le-leb 1 (bits / 2 ^ 63) (omega (arith, leb-true _ _ h)) ∙ sym h
+      by false h = lt-leb 1 (bits / 2 ^ 63) (omega (arith, leb-false _ _ h)) ∙ sym h
+
+  pub product_is : to_z w64 (of_z w64 (to_z w64 (of_z w64 (to_signed 63 whole)) *ℤ factor (bits / 2 ^ 63)))
+      ≡ to_signed 63 (round_ties_even binary64 x)
+  product_is =
+      ap (λ z. to_z w64 (of_z w64 (z *ℤ factor (bits / 2 ^ 63)))) cast_is ∙ signed_is.1
+      ∙ ap (λ s. cond s (neg_ℤ (pos near.0)) (pos near.0)) same_sign ∙ sym near.4
+      ∙ ap (λ y. to_signed 63 (round_ties_even binary64 y)) (sym x_is)

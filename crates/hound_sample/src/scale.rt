@@ -6,7 +6,9 @@ ghost use Rattle.std.specs.Int.{int_shr, w64};
 ghost use Rattle.hound_sample.specs.Container.{fits};
 ghost use Rattle.hound_sample.specs.Scale.{clipped, double_of_int, float_of_int, scaled, with_bits};
 
-use std::num::{f32_to_f64_with_nan, nearest_u32_to_f32, saturating_f64_to_i64};
+use std::num::{
+    f32_to_f64_with_nan, f64_to_bits_with_nan, nearest_u32_to_f32, saturating_f64_to_i64,
+};
 
 /// An integer of so many bits as a float whose full scale is 1: over `2^(bits - 1)`.
 ///
@@ -72,12 +74,17 @@ pub fn double_to_int(number: f64, bits: u16) -> (i32, bool)
 fn nearest_integer(number: f64) -> i64
     ensures { result ≡ float_to_signed w64 (round_ties_even binary64 number) }
 {
-    let size = number.abs();
-    // Below 2^52 a cast loses nothing, and is one instruction. Only the last step looks at the sign, because a
-    // branch on it would be guessed wrong for each second sample.
-    if size < 4503599627370496.0 {
-        let whole = size.round_ties_even() as i64;
-        return if number < 0.0 { -whole } else { whole };
+    // The sign is a bit here, because a branch on it would be guessed wrong for each second sample.
+    let bits = f64_to_bits_with_nan(number);
+    let size_bits = bits % 0x8000_0000_0000_0000;
+    if size_bits < 0x7ff0_0000_0000_0000 {
+        let size = f64::from_bits(size_bits);
+        // Below 2^52 a cast loses nothing, and is one instruction.
+        if size < 4503599627370496.0 {
+            let whole = size.round_ties_even() as i64;
+            let sign = 1 - 2 * (bits / 0x8000_0000_0000_0000) as i64;
+            return whole * sign;
+        }
     }
     saturating_f64_to_i64(number.round_ties_even())
 }
