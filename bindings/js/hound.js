@@ -250,7 +250,7 @@ function taken(samples) {
 }
 
 /** The same samples, which their owner may change from now on. */
-function copied({ samples, channels, ...given }) {
+function copyOf({ samples, channels, ...given }) {
   return { ...given, channels, samples: channels ? samples.map((channel) => channel.slice()) : samples.slice() };
 }
 
@@ -565,7 +565,7 @@ export async function write(samples, { onClipped = warn, ...format } = {}) {
   const spec = specFor(given.type, { ...format, channels: format.channels ?? given.channels });
   checkChannels(given.channels, spec.channels);
   if (!shared) {
-    given = copied(given); // The samples are those of the call.
+    given = copyOf(given); // The samples are those of the call.
     await ready();
   }
   shared.putSpec(spec);
@@ -879,7 +879,7 @@ function join(parts) {
  * A recording that was cut off is an error, and so are chunks or a tag after the data, unless they may be overwritten.
  */
 export async function append(file, samples, { overwrite = false, onClipped = warn } = {}) {
-  const given = fileOf(file), block = copied(taken(samples)), isBlob = given instanceof Blob;
+  const given = fileOf(file), block = copyOf(taken(samples)), isBlob = given instanceof Blob;
   await ready();
   const { recorder: before, spec, parts = [given] } =
     made.get(given) ?? await resumed(sizeOf(given), readerOf(given), overwrite ? OVERWRITE : 0);
