@@ -337,6 +337,13 @@ int32_t hound_value_16(uint32_t container);
 int32_t hound_value_24(uint32_t container);
 int32_t hound_value_32(uint32_t container);
 
+/* The other direction: the container of one integer, in the low bytes of a number whose other bytes are 0, or
+   HOUND_TOO_WIDE if the bits don't hold the integer. */
+int64_t hound_container_8(int32_t value);
+int64_t hound_container_16(int32_t value);
+int64_t hound_container_24(int32_t value);
+int64_t hound_container_32(int32_t value);
+
 /* Converts integers of so many bits, from 1 to 32, to floats whose full scale is 1: each is divided by 2^(bits - 1).
    Returns how many. So any file of integers can be read as floats, by hound_decode_i32 or hound_read_i32 and this;
    integers of up to 24 bits are the same again after hound_from_f32. */
@@ -347,6 +354,17 @@ int64_t hound_to_f32(const int32_t *samples, size_t count, uint16_t bits, float 
    NaN is 0. Returns how many samples there are in all. */
 int64_t hound_from_f32(const float *samples, size_t count, uint16_t bits, int32_t *out, size_t capacity,
                        uint64_t *clipped) HOUND_NONNULL;
+
+/* The same of doubles, which hold integers of up to 32 bits: each is the same again after hound_from_f64. */
+int64_t hound_to_f64(const int32_t *samples, size_t count, uint16_t bits, double *out, size_t capacity) HOUND_NONNULL;
+int64_t hound_from_f64(const double *samples, size_t count, uint16_t bits, int32_t *out, size_t capacity,
+                       uint64_t *clipped) HOUND_NONNULL;
+
+/* Converts the floats of a file to doubles, which are the same numbers; and doubles to the nearest floats, of two the
+   even one, where `infinite` counts the finite doubles that become infinite. Each returns how many. */
+int64_t hound_f32_to_f64(const float *samples, size_t count, double *out, size_t capacity) HOUND_NONNULL;
+int64_t hound_f64_to_f32(const double *samples, size_t count, float *out, size_t capacity,
+                         uint64_t *infinite) HOUND_NONNULL;
 
 /* A recorder of a file that the caller writes, block by block. It says where the samples are written, and by which
    effects a checkpoint makes the header count them. Between checkpoints the header counts those of the last one, and

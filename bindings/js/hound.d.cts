@@ -17,10 +17,16 @@ export interface Arrays {
   int16: Int16Array;
   int32: Int32Array;
   float32: Float32Array;
+  float64: Float64Array;
 }
 
-/** Interleaved samples: a frame has one of each channel. Or an array for each channel, all of one type and length. */
-export type Samples = Arrays[keyof Arrays] | Int8Array[] | Int16Array[] | Int32Array[] | Float32Array[];
+/**
+ * Interleaved samples: a frame has one of each channel. Or an array for each channel, all of one type and length. In a
+ * file of floats those of a Float64Array are the nearest ones of 32 bits; a finite one that would be infinite is an
+ * error.
+ */
+export type Samples =
+  | Arrays[keyof Arrays] | Int8Array[] | Int16Array[] | Int32Array[] | Float32Array[] | Float64Array[];
 
 export interface Spec {
   sampleRate: number;
@@ -113,9 +119,9 @@ export function info(file: WavFile, options?: Stream): Promise<Info>;
 
 /**
  * Reads frames, and returns their samples: interleaved, or with `planar` an array for each channel. Without `type` it
- * is the narrowest one from 16 bits on that reads the file. With "float32" integers are divided by 2^(bits - 1), so
- * their full scale is 1; floats keep their bits. Of a file that holds fewer frames than its header counts these are
- * read, and a read that starts after them is an error.
+ * is the narrowest one from 16 bits on that reads the file. With "float32" and "float64" integers are divided by
+ * 2^(bits - 1), so their full scale is 1; floats keep their values, and with "float32" their bits. Of a file that holds
+ * fewer frames than its header counts these are read, and a read that starts after them is an error.
  */
 export function read<T extends keyof Arrays>(
   file: WavFile,

@@ -138,14 +138,15 @@ const LAYOUT = {
 const PAGE = 65536;
 // How many bytes the front of a file has, where its header is.
 const FRONT = 4096;
-// How many samples are decoded or encoded at once, and how many bytes they have at most in a file, or in an array.
-const BLOCK = 1 << 18;
-const BLOCK_BYTES = 4 * BLOCK;
+// How many samples are decoded or encoded at once, so that they stay in the processor's cache, and how many bytes they
+// have at most in a file, or in an array. A frame has fewer samples.
+const BLOCK = 1 << 16;
+const BLOCK_BYTES = 8 * BLOCK;
 // Where arguments are in the memory of the instance, from its start on: small ones in a page, then two blocks.
 const [SPEC, MACHINE, FOUND, HEADER, FIRST, SECOND] = [0, 16, 192, 256, PAGE, PAGE + BLOCK_BYTES];
 
 // Which argument of a call has 32 bits.
-const WORDS = { repairer_begin: 1, recorder_resume: 1, to_f32: 2, from_f32: 2 };
+const WORDS = { repairer_begin: 1, recorder_resume: 1, to_f32: 2, from_f32: 2, to_f64: 2, from_f64: 2 };
 
 /** An instance of the module, and so much memory of it. */
 class Memory {
@@ -211,6 +212,7 @@ const TYPES = {
   int16: { array: Int16Array, call: "i16", bits: 16, isFloat: false },
   int32: { array: Int32Array, call: "i32", bits: 32, isFloat: false },
   float32: { array: Float32Array, call: "f32", bits: 32, isFloat: true },
+  float64: { array: Float64Array, call: "f64", bits: 32, isFloat: true },
 };
 
 function integer(name, value, low, high) {
@@ -234,7 +236,9 @@ function typeNamed(name) {
 function typeOf(samples) {
   const type = Object.values(TYPES).find(({ array }) => samples instanceof array);
   if (!type) {
-    throw new TypeError("samples is no Int8Array, Int16Array, Int32Array or Float32Array, and no array of these");
+    throw new TypeError(
+      "samples is no Int8Array, Int16Array, Int32Array, Float32Array or Float64Array, and no array of these",
+    );
   }
   return type;
 }
@@ -245,28 +249,49 @@ function exact(samples) {
   return new Int32Array(samples.buffer, samples.byteOffset, samples.length);
 }
 
-/** A copy of the given samples, interleaved, with their type, and the number of channels if each has an array. */
+/** The given samples: their type, how many there are, and the number of channels if each has an array. */
 function taken(samples) {
-  if (!Array.isArray(samples)) return { type: typeOf(samples), all: samples.slice() };
+  if (!Array.isArray(samples)) return { type: typeOf(samples), samples, count: samples.length };
   const type = typeOf(samples[0]), channels = samples.length;
-  const all = new type.array(channels * samples[0].length), out = exact(all);
-  samples.forEach((channel, i) => {
+  for (const channel of samples) {
     if (typeOf(channel) !== type) throw new TypeError("samples has arrays of different types");
     if (channel.length !== samples[0].length) throw new RangeError("samples has arrays of different lengths");
-    const from = exact(channel);
-    for (let frame = 0; frame < from.length; frame++) out[frame * channels + i] = from[frame];
-  });
-  return { type, all, channels };
+  }
+  return { type, samples, count: channels * samples[0].length, channels };
 }
 
-/** An array for each channel of interleaved samples. */
-function planarOf(all, channels) {
-  const from = exact(all);
-  return Array.from({ length: channels }, (_, i) => {
-    const channel = new all.constructor(all.length / channels), out = exact(channel);
-    for (let frame = 0; frame < out.length; frame++) out[frame] = from[frame * channels + i];
-    return channel;
+/** The same samples, which their owner may change from now on. */
+function copyOf({ samples, channels, ...given }) {
+  return { ...given, channels, samples: channels ? samples.map((channel) => channel.slice()) : samples.slice() };
+}
+
+/** Copies samples from a number on, which is that of a frame, into an array, as many as it has. */
+function interleave({ samples, channels }, first, out) {
+  if (!channels) return out.set(samples.subarray(first, first + out.length));
+  const to = exact(out), start = first / channels;
+  samples.forEach((channel, i) => {
+    const from = exact(channel);
+    for (let place = i, frame = start; place < to.length; place += channels) to[place] = from[frame++];
   });
+}
+
+/** Copies interleaved samples to the arrays of their channels, from a frame on. */
+function spread(samples, channels, start) {
+  if (channels.length === 1) return channels[0].set(samples, start);
+  if (channels.length === 2) return spreadPairs(exact(samples), exact(channels[0]), exact(channels[1]), start);
+  const from = exact(samples);
+  channels.forEach((channel, i) => {
+    const to = exact(channel);
+    for (let place = i, frame = start; place < from.length; place += channels.length) to[frame++] = from[place];
+  });
+}
+
+/** The same of two channels, in one pass, since most files have two. */
+function spreadPairs(from, left, right, start) {
+  for (let place = 0, frame = start; place < from.length; place += 2) {
+    left[frame] = from[place];
+    right[frame++] = from[place + 1];
+  }
 }
 
 function checkChannels(given, channels) {
@@ -406,35 +431,53 @@ export async function info(file, { toEnd = false } = {}) {
 }
 
 /** The type that is stored where samples of a type are read or written: floats may be scaled to integers. */
-const storedAs = (type, spec) => type.isFloat && !spec.isFloat ? TYPES.int32 : type;
+function storedAs(type, spec) {
+  if (!type.isFloat) return type;
+  return spec.isFloat ? TYPES.float32 : TYPES.int32;
+}
 
-/** Decodes containers into the front of an array. */
-function decode(type, spec, bytes, out) {
+/** An array of a type over the memory of the instance. */
+const arrayAt = (type, place, count) => new type.array(shared.bytes.buffer, shared.at(place), count);
+
+/** Decodes containers, and returns their samples, which are in the memory of the instance until the next call. */
+function decode(type, spec, bytes) {
   const stored = storedAs(type, spec);
   shared.putSpec(spec);
   shared.bytes.set(bytes, FIRST);
-  const places = [shared.at(FIRST), bytes.length, shared.at(SECOND), out.length];
+  const places = [shared.at(FIRST), bytes.length, shared.at(SECOND), BLOCK];
   const count = checked(shared.call("decode_" + stored.call, shared.at(SPEC), ...places));
-  if (type !== stored) {
-    checked(shared.call("to_f32", shared.at(SECOND), count, spec.bitsPerSample, shared.at(FIRST), count));
+  if (type === stored) return arrayAt(type, SECOND, count);
+  if (spec.isFloat) {
+    checked(shared.call("f32_to_f64", shared.at(SECOND), count, shared.at(FIRST), count));
+  } else {
+    checked(shared.call("to_" + type.call, shared.at(SECOND), count, spec.bitsPerSample, shared.at(FIRST), count));
   }
-  out.set(new type.array(shared.bytes.buffer, shared.at(type === stored ? SECOND : FIRST), count));
+  return arrayAt(type, FIRST, count);
 }
 
-/** Encodes samples into an array, and returns how many were clipped. */
-function encode(type, spec, samples, out) {
-  const stored = storedAs(type, spec), count = samples.length;
-  shared.putSpec(spec);
-  new type.array(shared.bytes.buffer, shared.at(FIRST), count).set(samples);
-  shared.view.setBigUint64(FOUND, 0n, true);
-  if (type !== stored) {
+/** Converts the first samples of a type to what is stored, in the memory of the instance, and returns how many were
+    clipped. A finite one that would be infinite is an error. */
+function convert(type, spec, count) {
+  if (spec.isFloat) {
+    checked(shared.call("f64_to_f32", shared.at(FIRST), count, shared.at(SECOND), count, shared.at(FOUND)));
+  } else {
     const places = [shared.at(SECOND), count, shared.at(FOUND)];
-    checked(shared.call("from_f32", shared.at(FIRST), count, spec.bitsPerSample, ...places));
+    checked(shared.call("from_" + type.call, shared.at(FIRST), count, spec.bitsPerSample, ...places));
   }
+  const counted = Number(shared.view.getBigUint64(FOUND, true));
+  if (spec.isFloat && counted > 0) throw new HoundError("TOO_WIDE");
+  return counted;
+}
+
+/** Encodes so many given samples from a number on into an array, and returns how many were clipped. */
+function encodeBlock(given, spec, first, count, out) {
+  const { type } = given, stored = storedAs(type, spec);
+  interleave(given, first, arrayAt(type, FIRST, count));
+  const clipped = type === stored ? 0 : convert(type, spec, count);
   const [from, to] = type === stored ? [FIRST, SECOND] : [SECOND, FIRST];
   checked(shared.call("encode_" + stored.call, shared.at(SPEC), shared.at(from), count, shared.at(to), out.length));
   out.set(shared.bytes.subarray(to, to + out.length));
-  return Number(shared.view.getBigUint64(FOUND, true));
+  return clipped;
 }
 
 /**
@@ -451,17 +494,25 @@ export async function read(file, { start = 0, frames = Infinity, type, planar = 
   if (type !== undefined) typeNamed(type);
   const found = await info(given, { toEnd }), { channels, bytesPerSample, dataStart } = found;
   const form = typeNamed(type ?? (found.isFloat ? "float32" : found.bitsPerSample <= 16 ? "int16" : "int32"));
-  decode(form, found, new Uint8Array(0), new form.array(0)); // An error where the type doesn't read the file.
+  decode(form, found, new Uint8Array(0)); // An error where the type doesn't read the file.
   const counted = Math.max(Math.min(frames, found.frames - start), 0);
   const count = Math.min(counted, Math.floor((length - dataStart) / (channels * bytesPerSample)) - start);
   if (count <= 0 && counted > 0) throw new HoundError("TRUNCATED");
-  const samples = new form.array(Math.max(count, 0) * channels);
-  const place = dataStart + start * channels * bytesPerSample;
-  for (let first = 0; first < samples.length; first += BLOCK) {
-    const block = samples.subarray(first, first + BLOCK), from = place + first * bytesPerSample;
-    decode(form, found, await bytesOf(given, from, from + block.length * bytesPerSample), block);
+  const held = Math.max(count, 0), step = Math.floor(BLOCK / channels);
+  const samples = planar ? undefined : new form.array(held * channels);
+  const arrays = Array.from({ length: planar ? channels : 0 }, () => new form.array(held));
+  for (let frame = 0; frame < held; frame += step) {
+    const from = dataStart + (start + frame) * channels * bytesPerSample;
+    const to = from + Math.min(step, held - frame) * channels * bytesPerSample;
+    const bytes = given instanceof Blob ? await bytesOf(given, from, to) : given.subarray(from, to);
+    const block = decode(form, found, bytes);
+    if (planar) {
+      spread(block, arrays, frame);
+    } else {
+      samples.set(block, frame * channels);
+    }
   }
-  return planar ? planarOf(samples, channels) : samples;
+  return planar ? arrays : samples;
 }
 
 /** How many bytes a sample takes; an error where the type isn't written. */
@@ -473,15 +524,24 @@ function widthOf(type, spec) {
   return checked(shared.call("encode_" + stored.call, shared.at(SPEC), ...places));
 }
 
-/** The containers of samples of a spec, and how many samples were clipped. */
-function encoded(type, samples, spec) {
-  const width = widthOf(type, spec), data = new Uint8Array(samples.length * width);
+/** Encodes the given samples into the part of an array from a place on, and returns how many were clipped. */
+function encode(given, spec, out, place, width) {
+  const step = given.channels ? Math.floor(BLOCK / given.channels) * given.channels : BLOCK;
   let clipped = 0;
-  for (let first = 0; first < samples.length; first += BLOCK) {
-    const part = data.subarray(first * width, (first + BLOCK) * width);
-    clipped += encode(type, spec, samples.subarray(first, first + BLOCK), part);
+  shared.putSpec(spec);
+  for (let first = 0; first < given.count; first += step) {
+    const count = Math.min(step, given.count - first), start = place + first * width;
+    clipped += encodeBlock(given, spec, first, count, out.subarray(start, start + count * width));
   }
-  return { data, clipped };
+  return clipped;
+}
+
+/** The containers of the given samples, and how many samples were clipped. */
+function encoded(given, spec) {
+  // Where there are samples, the calls that encode them say whether their type is written.
+  const width = given.count > 0 ? spec.bytesPerSample : widthOf(given.type, spec);
+  const data = new Uint8Array(given.count * width);
+  return { data, clipped: encode(given, spec, data, 0, width) };
 }
 
 function warn(clipped) {
@@ -512,14 +572,18 @@ function headerOf(spec, samples) {
 
 /** Makes the file of these samples. `bitsPerSample` is the width of the samples unless it is given. */
 export async function write(samples, { onClipped = warn, ...format } = {}) {
-  const { type, all, channels } = taken(samples);
-  const spec = specFor(type, { ...format, channels: format.channels ?? channels });
-  checkChannels(channels, spec.channels);
-  await ready();
+  let given = taken(samples);
+  const spec = specFor(given.type, { ...format, channels: format.channels ?? given.channels });
+  checkChannels(given.channels, spec.channels);
+  if (!shared) {
+    given = copyOf(given); // The samples are those of the call.
+    await ready();
+  }
   shared.putSpec(spec);
-  const size = checked(shared.call("size", shared.at(SPEC), all.length)), header = headerOf(spec, all.length);
-  const { data, clipped } = encoded(type, all, spec);
-  const file = joined([header, data, new Uint8Array(size - header.length - data.length)], false);
+  const size = checked(shared.call("size", shared.at(SPEC), given.count)), header = headerOf(spec, given.count);
+  const width = widthOf(given.type, spec), file = new Uint8Array(size);
+  file.set(header);
+  const clipped = encode(given, spec, file, header.length, width);
   if (clipped > 0) onClipped(clipped);
   return file;
 }
@@ -666,7 +730,7 @@ async function cutAt(handle, place) {
 }
 
 /** Performs an effect on a file of Node. Without `durable` nothing is synced: the system has what was written. */
-async function performOn(handle, durable, effect, block) {
+function performOn(handle, durable, effect, block) {
   switch (effect.kind) {
     case READ: return readAt(handle, effect);
     case WRITE: return writeAt(handle, effect.bytes, effect.place);
@@ -734,11 +798,11 @@ class Recorder {
   /** Writes whole frames after the last ones. After a write that failed it makes a checkpoint first. */
   async write(samples, { onClipped = warn } = {}) {
     this.#checkOpen();
-    const { type, all, channels } = taken(samples);
-    checkChannels(channels, this.spec.channels);
-    const { data, clipped } = encoded(type, all, this.spec);
+    const given = taken(samples);
+    checkChannels(given.channels, this.spec.channels);
+    const { data, clipped } = encoded(given, this.spec);
     if (clipped > 0) onClipped(clipped);
-    await this.#queue(() => this.#perform("recorder_write", data, all.length));
+    await this.#queue(() => this.#perform("recorder_write", data, given.count));
   }
 
   /** Makes a checkpoint: the header counts all frames that are written. */
@@ -850,14 +914,14 @@ function join(parts) {
  * A recording that was cut off is an error, and so are chunks or a tag after the data, unless they may be overwritten.
  */
 export async function append(file, samples, { overwrite = false, onClipped = warn } = {}) {
-  const given = fileOf(file), { type, all, channels } = taken(samples), isBlob = given instanceof Blob;
+  const given = fileOf(file), block = copyOf(taken(samples)), isBlob = given instanceof Blob;
   await ready();
   const { recorder: before, spec, parts = [given] } =
     made.get(given) ?? await resumed(sizeOf(given), readerOf(given), overwrite ? OVERWRITE : 0);
-  checkChannels(channels, spec.channels);
-  const recorder = new Machine("recorder"), overlay = new Overlay(parts), { data, clipped } = encoded(type, all, spec);
+  checkChannels(block.channels, spec.channels);
+  const recorder = new Machine("recorder"), overlay = new Overlay(parts), { data, clipped } = encoded(block, spec);
   recorder.bytes.set(before.bytes);
-  checked(recorder.call("recorder_write", shared.at(MACHINE), all.length));
+  checked(recorder.call("recorder_write", shared.at(MACHINE), block.count));
   performOver(overlay, recorder, isBlob ? new Blob([data]) : data);
   join(overlay.parts);
   recorder.call("recorder_checkpoint", shared.at(MACHINE));

@@ -31,6 +31,15 @@ static int64_t call(const char *name, const uint64_t *a) {
     if (!strcmp(name, "to_f32")) return hound_to_f32(AT(int32_t, 0), a[1], (uint16_t)a[2], AT(float, 3), a[4]);
     if (!strcmp(name, "from_f32"))
         return hound_from_f32(AT(float, 0), a[1], (uint16_t)a[2], AT(int32_t, 3), a[4], AT(uint64_t, 5));
+    if (!strcmp(name, "to_f64")) return hound_to_f64(AT(int32_t, 0), a[1], (uint16_t)a[2], AT(double, 3), a[4]);
+    if (!strcmp(name, "from_f64"))
+        return hound_from_f64(AT(double, 0), a[1], (uint16_t)a[2], AT(int32_t, 3), a[4], AT(uint64_t, 5));
+    if (!strcmp(name, "f32_to_f64")) return hound_f32_to_f64(AT(float, 0), a[1], AT(double, 2), a[3]);
+    if (!strcmp(name, "f64_to_f32")) return hound_f64_to_f32(AT(double, 0), a[1], AT(float, 2), a[3], AT(uint64_t, 4));
+    if (!strcmp(name, "container_8")) return hound_container_8((int32_t)a[0]);
+    if (!strcmp(name, "container_16")) return hound_container_16((int32_t)a[0]);
+    if (!strcmp(name, "container_24")) return hound_container_24((int32_t)a[0]);
+    if (!strcmp(name, "container_32")) return hound_container_32((int32_t)a[0]);
     if (!strcmp(name, "value_8")) return hound_value_8((uint32_t)a[0]);
     if (!strcmp(name, "value_16")) return hound_value_16((uint32_t)a[0]);
     if (!strcmp(name, "value_24")) return hound_value_24((uint32_t)a[0]);

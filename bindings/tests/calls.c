@@ -1,6 +1,7 @@
 /* Each call of the header over small files, with what it must return by the format, and what each
    error leaves: nothing changed. What follows each file can't be touched by AddressSanitizer's rules. */
 #include "hound.h"
+#include <math.h>
 #include <stdio.h>
 #include <stdlib.h>
 #include <string.h>
@@ -401,6 +402,23 @@ static void values(void) {
          "32 bits");
 }
 
+/* The other direction: the lowest integer, the highest, and the next ones. */
+static void containers_of(void) {
+    must(hound_container_8(-128) == 0 && hound_container_8(0) == 0x80 && hound_container_8(127) == 0xff
+             && hound_container_8(-129) == HOUND_TOO_WIDE && hound_container_8(128) == HOUND_TOO_WIDE,
+         "the containers of 8 bits");
+    must(hound_container_16(-32768) == 0x8000 && hound_container_16(32767) == 0x7fff && hound_container_16(-3) == 0xfffd
+             && hound_container_16(-32769) == HOUND_TOO_WIDE && hound_container_16(32768) == HOUND_TOO_WIDE,
+         "the containers of 16 bits");
+    must(hound_container_24(-8388608) == 0x800000 && hound_container_24(8388607) == 0x7fffff
+             && hound_container_24(-3) == 0xfffffd && hound_container_24(-8388609) == HOUND_TOO_WIDE
+             && hound_container_24(8388608) == HOUND_TOO_WIDE,
+         "the containers of 24 bits");
+    must(hound_container_32(INT32_MIN) == 0x80000000 && hound_container_32(INT32_MAX) == 0x7fffffff
+             && hound_container_32(-3) == 0xfffffffd,
+         "the containers of 32 bits");
+}
+
 /* Scales of 16 bits, 8 and 32: halves go to the even integer, and what is past full scale is clipped and counted. */
 static void scales(void) {
     const int32_t values[5] = {16384, -32768, 32767, 0, 1};
@@ -433,6 +451,64 @@ static void scales(void) {
         must(hound_to_f32(values, 5, (uint16_t)bits, out, 6) == HOUND_NOT_WRITABLE
              && hound_from_f32(some, 9, (uint16_t)bits, back, 10, &clipped) == HOUND_NOT_WRITABLE, "no such bits");
     must(out[0] == -1 && back[0] == 16384 && clipped == 77, "an error scales nothing");
+}
+
+/* Doubles, which have all integers of 32 bits, and halves of a step that a float hasn't. */
+static void scales_of_doubles(void) {
+    const int32_t values[5] = {INT32_MAX, INT32_MIN, 1, 0, -16777217};
+    const double doubles[5] = {2147483647 / 2147483648.0, -1, 1 / 2147483648.0, 0, -16777217 / 2147483648.0};
+    double out[6] = {9, 9, 9, 9, 9, 9};
+    must(hound_to_f64(values, 5, 32, out, 6) == 5 && !memcmp(out, doubles, sizeof doubles) && out[5] == 9,
+         "32 bits as doubles");
+    must(hound_to_f64(values + 2, 1, 8, out, 6) == 1 && out[0] == 1 / 128.0, "8 bits as doubles");
+    int32_t back[10];
+    uint64_t clipped = 77;
+    must(hound_from_f64(doubles, 5, 32, back, 10, &clipped) == 5 && !memcmp(back, values, sizeof values)
+             && clipped == 0,
+         "what comes back of doubles");
+    /* The next doubles after 2.5 steps, and infinities and the largest doubles. */
+    const double some[9] = {1, -1, 2.5 / 32768, (2.5 + 4.440892098500626e-16) / 32768, 3.5 / 32768, HUGE_VAL, -HUGE_VAL,
+                            1.7976931348623157e308, -32768.5 / 32768};
+    const int32_t integers[9] = {32767, -32768, 2, 3, 4, 32767, -32768, 32767, -32768};
+    memset(back, 9, sizeof back);
+    must(hound_from_f64(some, 9, 16, back, 10, &clipped) == 9 && !memcmp(back, integers, sizeof integers),
+         "doubles as 16 bits");
+    must(clipped == 4 && back[9] == 0x09090909, "what is clipped of doubles, and the rest");
+    const uint64_t nan = 0x7ff8000000000001;
+    double number;
+    memcpy(&number, &nan, sizeof number);
+    must(hound_from_f64(&number, 1, 24, back, 10, &clipped) == 1 && back[0] == 0 && clipped == 0,
+         "no number of 64 bits");
+    clipped = 77;
+    must(hound_to_f64(values, 5, 16, out, 4) == HOUND_NO_ROOM
+             && hound_from_f64(some, 9, 16, back, 8, &clipped) == HOUND_NO_ROOM,
+         "no room for scaled doubles");
+    for (int bits = 0; bits <= 33; bits += 33)
+        must(hound_to_f64(values, 5, (uint16_t)bits, out, 6) == HOUND_NOT_WRITABLE
+                 && hound_from_f64(some, 9, (uint16_t)bits, back, 10, &clipped) == HOUND_NOT_WRITABLE,
+             "no such bits of doubles");
+    must(out[0] == 1 / 128.0 && back[0] == 0 && clipped == 77, "an error scales no double");
+}
+
+/* Floats as doubles and back: ties go to the even one, the largest are infinite from half a step above them on. */
+static void widths_of_floats(void) {
+    const float floats[4] = {0.1f, -0.0f, 3.4028234663852886e38f, 1.401298464324817e-45f};
+    double wide[5] = {9, 9, 9, 9, 9};
+    must(hound_f32_to_f64(floats, 4, wide, 5) == 4 && wide[0] == 0.10000000149011612 && signbit(wide[1]) && wide[1] == 0
+             && wide[2] == 3.4028234663852886e38 && wide[3] == 1.401298464324817e-45 && wide[4] == 9,
+         "floats as doubles");
+    const double some[6] = {1 + 5.9604644775390625e-08, 1 + 1.7881393432617188e-07, 3.4028235677973366e38,
+                            3.4028235677973362e38, HUGE_VAL, -1e-46};
+    const float nearest[5] = {1, 1.00000023841857910156f, HUGE_VALF, 3.4028234663852886e38f, HUGE_VALF};
+    float narrow[7] = {9, 9, 9, 9, 9, 9, 9};
+    uint64_t infinite = 77;
+    must(hound_f64_to_f32(some, 6, narrow, 7, &infinite) == 6 && !memcmp(narrow, nearest, sizeof nearest)
+             && narrow[5] == 0 && signbit(narrow[5]) && narrow[6] == 9 && infinite == 1,
+         "doubles as floats");
+    must(hound_f32_to_f64(floats, 4, wide, 3) == HOUND_NO_ROOM
+             && hound_f64_to_f32(some, 6, narrow, 5, &infinite) == HOUND_NO_ROOM && infinite == 1
+             && wide[0] == 0.10000000149011612 && narrow[0] == 1,
+         "no room for converted floats");
 }
 
 /* What has no header, and no sizes. */
@@ -926,7 +1002,10 @@ int main(void) {
     streams();
     eight_bits();
     values();
+    containers_of();
     scales();
+    scales_of_doubles();
+    widths_of_floats();
     sizes_of_none();
     recorders();
     counted_torn_frame();

@@ -4,6 +4,7 @@ byte, and over random ones. The answers of each processor have to be the same; t
 model by rows.py.
 
 usage: requests.py > REQUESTS"""
+import math
 import os
 import random
 import struct
@@ -127,7 +128,10 @@ def requests(file, some):
             start, samples = some.choice((44, 68, 20, 19, used, 2**33)), some.choice((few, used, 2**31))
             yield f"sizes @{SPEC} {start} {samples} @{OUT} {some.choice((8, 8, 7))}"
             for width in (8, 16, 24, 32):
-                yield f"value_{width} #{some.choice((0, 2 ** (width - 1), some.randrange(2**32)))}"
+                half = 2 ** (width - 1)
+                yield f"value_{width} #{some.choice((0, half, some.randrange(2**32)))}"
+                edges = -half, half - 1, max(-half - 1, -(2**31)), min(half, 2**31 - 1)
+                yield f"container_{width} #{some.choice((*edges, some.randrange(-half, half)))}"
             yield f"recorder_begin @{SPEC} @{FOUND}"
             yield f"recorder_resume @{INFO} #{some.randrange(5)} @{FOUND}"
             yield f"recorder_write @{FOUND} {some.choice((few, few, 2**31, 2**64 - 1))}"
@@ -148,6 +152,7 @@ def requests(file, some):
             continue
         if suffix == "i32":
             yield f"to_f32 @{SAMPLES} {few} #{some.choice((bits, 0, 33))} @{OUT} {some.choice((COUNT, few, 0))}"
+            yield f"to_f64 @{SAMPLES} {few} #{some.choice((bits, 0, 33))} @{OUT} {some.choice((COUNT, few, 0))}"
         if suffix == "f32":
             to, room = some.choice((bits, 1, 33)), some.choice((COUNT, few, 0))
             yield f"from_f32 @{SAMPLES} {few} #{to} @{OUT} {room} @{FOUND}"
@@ -159,10 +164,35 @@ def requests(file, some):
             yield f"append_{suffix} @{FILE} {capacity} {used} @{SAMPLES} {few}"
 
 
+def numbers(some):
+    """A float that isn't a NaN, whose bits would be those that a processor has for it: also one between two steps, one
+    that no bits hold, and one that is infinite in 32 bits."""
+    step, wide = some.randrange(-40000, 40000) / 65536, some.uniform(-4e38, 4e38)
+    return some.choice((step, step + 2**-40, some.uniform(-1.1, 1.1), wide, 1e-46, -0.0, 1e300, -math.inf))
+
+
+def conversions(some):
+    """The calls over floats, of 64 bits and of 32."""
+    half = COUNT // 2
+    doubles = [numbers(some) for _ in range(half)]
+    floats = struct.pack(f"<{half}f", *(number if abs(number) < 3e38 else math.inf for number in doubles))
+    for samples in (struct.pack(f"<{half}d", *doubles), floats):
+        yield f"memory {FILE} {(bytes(SAMPLES) + samples).hex()}"
+        room = some.choice((half, half - 1))
+        if samples is floats:
+            yield f"f32_to_f64 @{SAMPLES} {half} @{OUT} {room}"
+        else:
+            yield f"from_f64 @{SAMPLES} {half} #{some.choice((8, 16, 24, 32, 1, 0, 33))} @{OUT} {room} @{FOUND}"
+            yield f"f64_to_f32 @{SAMPLES} {half} @{OUT} {room} @{FOUND}"
+
+
 def main():
     some = random.Random(7)
     for file in files(some):
         for line in requests(file, some):
+            print(line)
+    for _ in range(1000):
+        for line in conversions(some):
             print(line)
 
 

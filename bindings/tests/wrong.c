@@ -98,6 +98,48 @@ REAL(int64_t, from_f32,
     return n;
 }
 
+REAL(int64_t, to_f64, (const int32_t *samples, size_t count, uint16_t bits, double *out, size_t capacity)) {
+    int64_t n = __real_hound_to_f64(samples, count, bits, out, capacity);
+    for (int64_t i = 0; i < n; i++) if (has("doubles are floats")) out[i] = (float)out[i];
+    return n;
+}
+
+REAL(int64_t, from_f64,
+     (const double *samples, size_t count, uint16_t bits, int32_t *out, size_t capacity, uint64_t *clipped)) {
+    int64_t n = __real_hound_from_f64(samples, count, bits, out, capacity, clipped);
+    if (n >= 0 && has("no clipped double")) *clipped = 0;
+    for (int64_t i = 0; i < n; i++) if (has("doubles rounded twice") && (float)samples[i] == 2.5f / 32768) out[i] = 2;
+    return n;
+}
+
+REAL(int64_t, f32_to_f64, (const float *samples, size_t count, double *out, size_t capacity)) {
+    int64_t n = __real_hound_f32_to_f64(samples, count, out, capacity);
+    for (int64_t i = 0; i < n; i++) if (has("small floats are zeros") && samples[i] < 1e-38f) out[i] = 0;
+    return n;
+}
+
+REAL(int64_t, f64_to_f32, (const double *samples, size_t count, float *out, size_t capacity, uint64_t *infinite)) {
+    int64_t n = __real_hound_f64_to_f32(samples, count, out, capacity, infinite);
+    for (int64_t i = 0; i < n; i++) *infinite += has("infinities count as infinite") && samples[i] > 1e308;
+    return n;
+}
+
+REAL(int64_t, container_8, (int32_t value)) {
+    return has("the container of 8 bits is signed") && value < 0 ? (uint8_t)value : __real_hound_container_8(value);
+}
+
+REAL(int64_t, container_16, (int32_t value)) {
+    return has("the container of 16 bits has four bytes") ? (uint32_t)value : __real_hound_container_16(value);
+}
+
+REAL(int64_t, container_24, (int32_t value)) {
+    return has("the container of 24 bits isn't checked") ? value & 0xffffff : __real_hound_container_24(value);
+}
+
+REAL(int64_t, container_32, (int32_t value)) {
+    return has("the container of 32 bits has a sign") ? value : __real_hound_container_32(value);
+}
+
 REAL(int32_t, value_8, (uint32_t container)) {
     return has("8 bits signed") ? (int8_t)container : __real_hound_value_8(container);
 }

@@ -16,6 +16,7 @@ An address of the module is an address of the process. Of the module's own memor
 A value that is computed becomes a part of an expression, where it is used; one that reads a local or the memory is
 stored in a variable before that changes. A block becomes a label, and a branch a goto."""
 import hashlib
+import math
 import os
 import re
 import struct
@@ -171,10 +172,11 @@ class Translator:
             need(not is_address, "only an i64.const is the address of a constant")
             digits, suffix = str(number) if number < 1 << 16 else hex(number), "u" if code == I32_CONST else "ull"
             self.push("i" if code == I32_CONST else "l", digits + suffix, number=number)
-        elif number != number:
-            is_usual = code == F64_CONST and struct.pack("<d", number) == struct.pack("<Q", 0x7FF8 << 48)
-            need(is_usual, "a NaN is the usual one")
-            self.push("d", "f64_of(0x7ff8000000000000ull)", number=number)
+        elif number != number or abs(number) == math.inf:
+            kind, text, form = PATTERNS[code]
+            bits, = struct.unpack("<" + form[1], struct.pack("<" + form[0], number))
+            need(number == number or bits == NANS[code], "a NaN is the usual one")
+            self.push(kind, text.format(bits), number=number)
         else:
             text = f"{number!r}{'f' if code == F32_CONST else ''}"
             self.push("f" if code == F32_CONST else "d", f"({text})" if text.startswith("-") else text, number=number)
@@ -324,6 +326,10 @@ class Translator:
 
 
 # Three stores of a value's bytes: the first one, a higher one, and the second one.
+# How a float is in C whose number can't be written, by its bits: its type, and how struct packs it and its bits.
+PATTERNS = {F32_CONST: ("f", "f32_of({:#x}u)", "fI"), F64_CONST: ("d", "f64_of({:#x}ull)", "dQ")}
+# The bits of the usual NaN of each type.
+NANS = {F32_CONST: 0x7FC00000, F64_CONST: 0x7FF8000000000000}
 THREE_STORES = re.compile(
     r"store8\((\w+)(?: \+ (\d+)ull)?, (\w+)\);\n    (store8\(\1 \+ (\d+)ull, \3 >> \d+\);)\n"
     r"    store8\(\1 \+ (\d+)ull, \3 >> 8\);"

@@ -52,6 +52,7 @@ OPERATORS = {
         (0x74, "i32.shl", "ii", "i", "{0} << {1}"),
         (0x75, "i32.shr_s", "ii", "i", "shr_s32({0}, {1})"),
         (0x76, "i32.shr_u", "ii", "i", "{0} >> {1}"),
+        (0x79, "i64.clz", "l", "l", "clz64({0})"),
         (0x7C, "i64.add", "ll", "l", "{0} + {1}"),
         (0x7D, "i64.sub", "ll", "l", "{0} - {1}"),
         (0x7E, "i64.mul", "ll", "l", "{0} * {1}"),
@@ -64,19 +65,26 @@ OPERATORS = {
         (0x88, "i64.shr_u", "ll", "l", "{0} >> {1}"),
         (0x8C, "f32.neg", "f", "f", "neg_f32({0})"),
         (0x92, "f32.add", "ff", "f", "{0} + {1}"),
+        (0x93, "f32.sub", "ff", "f", "{0} - {1}"),
         (0x94, "f32.mul", "ff", "f", "{0} * {1}"),
         (0x95, "f32.div", "ff", "f", "{0} / {1}"),
         (0x9A, "f64.neg", "d", "d", "neg_f64({0})"),
         (0xA0, "f64.add", "dd", "d", "{0} + {1}"),
+        (0xA1, "f64.sub", "dd", "d", "{0} - {1}"),
         (0xA2, "f64.mul", "dd", "d", "{0} * {1}"),
+        (0xA3, "f64.div", "dd", "d", "{0} / {1}"),
         (0xA7, "i32.wrap_i64", "l", "i", "(uint32_t){0}"),
         (0xAD, "i64.extend_i32_u", "i", "l", "(uint64_t){0}"),
         (0xB3, "f32.convert_i32_u", "i", "f", "(float){0}"),
+        (0xB7, "f64.convert_i32_s", "i", "d", "(double)s32({0})"),
         (0xB8, "f64.convert_i32_u", "i", "d", "(double){0}"),
         (0xBB, "f64.promote_f32", "f", "d", "(double){0}"),
         (0xBD, "i64.reinterpret_f64", "d", "l", "bits_of({0})"),
+        (0xBE, "f32.reinterpret_i32", "i", "f", "f32_of({0})"),
+        (0xBF, "f64.reinterpret_i64", "l", "d", "f64_of({0})"),
         (0xC0, "i32.extend8_s", "i", "i", "extend8({0})"),
         (0xC1, "i32.extend16_s", "i", "i", "extend16({0})"),
+        (0xFC06, "i64.trunc_sat_f64_s", "d", "l", "trunc64({0})"),
     ]
 }
 # The operators whose last operand is a count of bits, which is taken modulo the width.
@@ -86,6 +94,7 @@ LOADS = {
     0x28: ("i", "load32({})"),  # i32.load
     0x29: ("l", "load64({})"),  # i64.load
     0x2A: ("f", "load_f32({})"),  # f32.load
+    0x2B: ("d", "load_f64({})"),  # f64.load
     0x2C: ("i", "extend8(load8({}))"),  # i32.load8_s
     0x2D: ("i", "load8({})"),  # i32.load8_u
     0x2E: ("i", "extend16(load16({}))"),  # i32.load16_s
@@ -99,6 +108,7 @@ STORES = {
     0x36: ("i", "store32({}, {})"),  # i32.store
     0x37: ("l", "store64({}, {})"),  # i64.store
     0x38: ("f", "store_f32({}, {})"),  # f32.store
+    0x39: ("d", "store_f64({}, {})"),  # f64.store
     0x3A: ("i", "store8({}, {})"),  # i32.store8
     0x3B: ("i", "store16({}, {})"),  # i32.store16
     0x3C: ("l", "store8({}, (uint32_t)({}))"),  # i64.store8

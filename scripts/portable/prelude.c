@@ -58,16 +58,19 @@ static inline uint32_t load16(uint64_t at) { uint16_t x; COPY(&x, AT(at), 2); re
 static inline uint32_t load32(uint64_t at) { uint32_t x; COPY(&x, AT(at), 4); return x; }
 static inline uint64_t load64(uint64_t at) { uint64_t x; COPY(&x, AT(at), 8); return x; }
 static inline float load_f32(uint64_t at) { float x; COPY(&x, AT(at), 4); return x; }
+static inline double load_f64(uint64_t at) { double x; COPY(&x, AT(at), 8); return x; }
 static inline void store8(uint64_t at, uint32_t value) { *(uint8_t *)AT(at) = (uint8_t)(value & 255); }
 static inline void store16(uint64_t at, uint32_t value) { uint16_t x = (uint16_t)(value & 65535); COPY(AT(at), &x, 2); }
 static inline void store32(uint64_t at, uint32_t value) { COPY(AT(at), &value, 4); }
 static inline void store64(uint64_t at, uint64_t value) { COPY(AT(at), &value, 8); }
 static inline void store_f32(uint64_t at, float value) { COPY(AT(at), &value, 4); }
+static inline void store_f64(uint64_t at, double value) { COPY(AT(at), &value, 8); }
 
 static inline int32_t s32(uint32_t x) { int32_t y; COPY(&y, &x, 4); return y; }
 static inline int64_t s64(uint64_t x) { int64_t y; COPY(&y, &x, 8); return y; }
 static inline uint64_t bits_of(double x) { uint64_t y; COPY(&y, &x, 8); return y; }
 static inline double f64_of(uint64_t x) { double y; COPY(&y, &x, 8); return y; }
+static inline float f32_of(uint32_t x) { float y; COPY(&y, &x, 4); return y; }
 static inline double neg_f64(double x) { return f64_of(bits_of(x) ^ 0x8000000000000000ull); }
 static inline float neg_f32(float x) { uint32_t y; COPY(&y, &x, 4); y ^= 0x80000000u; COPY(&x, &y, 4); return x; }
 static inline uint32_t extend8(uint32_t x) {
@@ -83,6 +86,20 @@ static inline uint32_t extend16(uint32_t x) {
     return (uint32_t)z;
 }
 static inline uint32_t shr_s32(uint32_t x, uint32_t by) { return x >> 31 ? ~(~x >> by) : x >> by; }
+static inline uint64_t clz64(uint64_t x) {
+#ifdef __GNUC__
+    return x == 0 ? 64 : (uint64_t)__builtin_clzll(x);
+#else
+    uint64_t zeros = 0;
+    while (zeros < 64 && (x >> (63 - zeros)) == 0) zeros++;
+    return zeros;
+#endif
+}
+/* A cast of a number past the ends of the type would be undefined. */
+static inline uint64_t trunc64(double x) {
+    const double end = 9223372036854775808.0;
+    return (uint64_t)(x >= end ? INT64_MAX : x >= -end ? (int64_t)x : x != x ? 0 : INT64_MIN);
+}
 static inline uint32_t div32(uint32_t x, uint32_t y) { if (y == 0) TRAP(); return x / y; }
 static inline uint32_t rem32(uint32_t x, uint32_t y) { if (y == 0) TRAP(); return x % y; }
 static inline uint64_t div64(uint64_t x, uint64_t y) { if (y == 0) TRAP(); return x / y; }

@@ -89,22 +89,40 @@ fn rejected<S: proved::Coded>(spec: &proved::Spec) -> Result<S> {
     Err(Error::Unsupported)
 }
 
-// The library has no call that makes one container, as `hound_value_16` reads one; this could be as fast as hound then.
-fn write_container<S: proved::Coded, W: io::Write>(sample: S, writer: &mut W, spec: &proved::Spec) -> Result<()> {
-    let mut container = [0; 4];
-    let width = proved::encode(spec, &[sample], &mut container)?;
-    Ok(writer.write_all(&container[..width])?)
+// Why containers aren't written of this type. It writes no byte.
+#[cold]
+fn unwritten<S: proved::Coded>(spec: &proved::Spec) -> Error {
+    match proved::encode::<S>(spec, &[], &mut []) {
+        Err(error) => error.into(),
+        Ok(_) => Error::Unsupported,
+    }
+}
+
+/// Writes the container of an integer, or of a float that is given as the integer of its bits.
+#[inline(always)]
+fn write_container<S: proved::Coded, W: io::Write>(value: i32, writer: &mut W, spec: &proved::Spec) -> Result<()> {
+    let (number, width) = match Container::of(spec) {
+        Some(Container::Int16) => (proved::container_16(value), 2),
+        Some(Container::Int24) => (proved::container_24(value), 3),
+        Some(Container::Int32 | Container::Float) => (proved::container_32(value), 4),
+        Some(Container::Int8) => (proved::container_8(value), 1),
+        Some(Container::Int24In4) => (proved::container_24(value), 4),
+        None => return Err(unwritten::<S>(spec)),
+    };
+    Ok(writer.write_all(&number?.to_le_bytes()[..width])?)
 }
 
 macro_rules! sample {
     ($type:ident, $format:ident, $from:expr, $to:expr, $as_i16:expr) => {
         impl Sample for $type {
+            #[inline]
             fn write<W: io::Write>(self, writer: &mut W, bits: u16) -> Result<()> {
-                write_container(self, writer, &unpadded(SampleFormat::$format, bits))
+                write_container::<$type, W>($to(self), writer, &unpadded(SampleFormat::$format, bits))
             }
 
+            #[inline]
             fn write_padded<W: io::Write>(self, writer: &mut W, bits: u16, byte_width: u16) -> Result<()> {
-                write_container(self, writer, &containers(SampleFormat::$format, bits, byte_width))
+                write_container::<$type, W>($to(self), writer, &containers(SampleFormat::$format, bits, byte_width))
             }
 
             #[inline]
@@ -133,7 +151,7 @@ macro_rules! sample {
 }
 sample!(i8, Int, |int| int as i8, i32::from, i16::from);
 sample!(i16, Int, |int| int as i16, i32::from, |sample| sample);
-sample!(i32, Int, |int| int, |sample| sample, |sample| sample as i16);
-sample!(f32, Float, |int| f32::from_bits(int as u32), |float| float.to_bits() as i32, |_| panic!(
+sample!(i32, Int, |int| int, |sample: i32| sample, |sample| sample as i16);
+sample!(f32, Float, |int| f32::from_bits(int as u32), |float: f32| float.to_bits() as i32, |_| panic!(
     "a float has no 16 bits"
 ));

@@ -482,6 +482,42 @@ test("an error names what a file is that isn't read, and what to do", async () =
   await fs.rm(folder, { recursive: true });
 });
 
+test("doubles hold integers of 32 bits, and are rounded once", async () => {
+  const integers = Int32Array.of(2147483647, -2147483648, -16777217, 1);
+  const file = await write(integers, { sampleRate: 8000 }), doubles = await read(file, { type: "float64" });
+  assert.deepEqual(doubles, Float64Array.from(integers, (sample) => sample / 2 ** 31));
+  assert.deepEqual(await write(doubles, await info(file)), file);
+  assert.deepEqual(await read(await append(file, doubles)), Int32Array.of(...integers, ...integers));
+  let clipped = 0;
+  const onClipped = (count) => (clipped += count), half = 2.5 / 32768;
+  const given = Float64Array.of(1, -1, half, half + 2 ** -60, NaN, -Infinity, 3.5 / 32768);
+  const short = await write(given, { sampleRate: 8000, bitsPerSample: 16, onClipped });
+  assert.deepEqual([await read(short), clipped], [Int16Array.of(32767, -32768, 2, 3, 0, -32768, 4), 2]);
+});
+
+test("doubles in a file of floats are the nearest ones", async () => {
+  const given = [Float64Array.of(0.1, -0, Infinity), Float64Array.of(1e-46, 1 + 2 ** -24, 1 + 3 * 2 ** -24)];
+  const file = await write(given, { sampleRate: 8000 });
+  assert.deepEqual(await read(file, { planar: true }), given.map((channel) => Float32Array.from(channel)));
+  const back = given.map((channel) => Float64Array.from(Float32Array.from(channel)));
+  assert.deepEqual(await read(file, { planar: true, type: "float64" }), back);
+  await fails(write(Float64Array.of(0, 3.5e38), { sampleRate: 8000 }), "TOO_WIDE");
+});
+
+test("arrays of channels longer than a block are interleaved, and read back", async () => {
+  for (const [channels, frames] of [[1, 70000], [2, 40000], [3, 30000], [7, 20001]]) {
+    const given = Array.from({ length: channels }, (_, i) => Int16Array.from({ length: frames }, (_, k) => k * 7 + i));
+    const all = Int16Array.from({ length: channels * frames }, (_, k) => given[k % channels][Math.floor(k / channels)]);
+    const file = await write(given, { sampleRate: 8000 });
+    assert.deepEqual(file, await write(all, { sampleRate: 8000, channels }));
+    for (const kind of kinds(file)) {
+      assert.deepEqual(await read(kind), all);
+      const expected = given.map((channel) => channel.slice(5, 5 + frames - 9));
+      assert.deepEqual(await read(kind, { planar: true, start: 5, frames: frames - 9 }), expected);
+    }
+  }
+});
+
 test("an argument out of range is named", async () => {
   const file = byHand([1, 0]), one = Int16Array.of(1);
   for (const [call, kind, name] of [
@@ -491,7 +527,7 @@ test("an argument out of range is named", async () => {
     [() => findDamage([1]), TypeError, "file"],
     [() => append(undefined, one), TypeError, "file"],
     [() => append(file, [1]), TypeError, "samples"],
-    [() => write(Float64Array.of(1), { sampleRate: 1 }), TypeError, "samples"],
+    [() => write(Uint16Array.of(1), { sampleRate: 1 }), TypeError, "samples"],
     [() => write([], { sampleRate: 1 }), TypeError, "samples"],
     [() => write([one, Int8Array.of(1)], { sampleRate: 1 }), TypeError, "samples"],
     [() => write([one, Int16Array.of(1, 2)], { sampleRate: 1 }), RangeError, "samples"],

@@ -658,8 +658,10 @@ def to_bytes(
         with conversion.address(file) as (out, capacity):
             empty = "f32" if spec.sample_format else "i16"
             used = _checked(_write[empty](ctypes.byref(spec), _SPARE, 0, out, capacity))
-            for kind, start, count in given.parts(spec, scale):
-                used = _checked(_append[kind](out, capacity, used, start, count))
+            for kind, part in given.parts(spec, scale):
+                width = conversion.width_of(kind)
+                with conversion.address(part, width) as (start, length):
+                    used = _checked(_append[kind](out, capacity, used, start, length // width))
         scale.warn(given.count)
     return file
 

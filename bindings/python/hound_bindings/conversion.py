@@ -1,18 +1,18 @@
 """Samples as callers give and take them: their types, and floats whose full scale is 1."""
 import array
+import contextlib
 import ctypes
 import os
 import random
-import struct
 import sys
 import warnings
-from typing import Any, Callable, Dict, Iterator, List, NamedTuple, Optional, Tuple
+from typing import Any, Callable, ContextManager, Iterator, NamedTuple, Optional, Tuple
 
 from . import _POINTER, _SIZE, _SPARE, Cause, HoundError, Info, _checked, _function, _integer, _Spec
 
 __all__ = [
     "BLOCK", "CODES", "Given", "Room", "Scale", "TYPES", "Take", "address", "check_columns", "filled", "form_of",
-    "kind_of", "noise_of", "spec_like", "type_of", "warn_caller", "width_of",
+    "is_converted", "kind_of", "noise_of", "spec_like", "type_of", "warn_caller", "width_of",
 ]  # fmt: skip
 
 
@@ -44,8 +44,16 @@ BLOCK = 1 << 16
 # What decodes the samples of a file from a number on, to an address, at most so many, and returns how many there were.
 Take = Callable[[int, Any, int], int]
 
-_to_f32 = _function("to_f32", _POINTER, _SIZE, ctypes.c_uint16, _POINTER, _SIZE)
-_from_f32 = _function("from_f32", _POINTER, _SIZE, ctypes.c_uint16, _POINTER, _SIZE, _POINTER)
+_TO_SCALED = {
+    name: _function(call, _POINTER, _SIZE, ctypes.c_uint16, _POINTER, _SIZE)
+    for name, call in (("float32", "to_f32"), ("float64", "to_f64"))
+}
+_FROM_SCALED = {
+    name: _function(call, _POINTER, _SIZE, ctypes.c_uint16, _POINTER, _SIZE, _POINTER)
+    for name, call in (("float32", "from_f32"), ("float64", "from_f64"))
+}
+_f32_to_f64 = _function("f32_to_f64", _POINTER, _SIZE, _POINTER, _SIZE)
+_f64_to_f32 = _function("f64_to_f32", _POINTER, _SIZE, _POINTER, _SIZE, _POINTER)
 
 
 class address:  # noqa: N801
@@ -72,6 +80,11 @@ class address:  # noqa: N801
     def __exit__(self, *_: Any) -> None:
         self._kept = None
         self._view.release()
+
+
+def _start(samples: "array.array[Any]") -> int:
+    """The address of an array of this package, which nobody else resizes."""
+    return samples.buffer_info()[0] if samples else ctypes.addressof(_SPARE)
 
 
 def form_of(view: memoryview, name: str, taken: str) -> Tuple[str, Optional[int]]:
@@ -125,42 +138,46 @@ def kind_of(dtype: str, spec: _Spec) -> str:
     return "i8" if dtype == "int8" else TYPES[dtype].kind
 
 
+_ZEROS = {form.code: array.array(form.code, bytes(array.array(form.code).itemsize)) for form in TYPES.values()}
+_WIDTHS = {name: _ZEROS[form.code].itemsize for name, form in TYPES.items()}
+_WIDTHS.update((kind, _ZEROS[code].itemsize) for kind, code in CODES.items())
+
+
 def _zeros(code: str, count: int) -> "array.array[Any]":
-    return array.array(code, bytes(array.array(code).itemsize)) * count
+    return _ZEROS[code] * count
 
 
 def width_of(dtype: str) -> int:
-    """How many bytes a sample of a type has in an array."""
-    return array.array(TYPES[dtype].code).itemsize
+    """How many bytes a sample of a type, or of the calls of a kind, has in an array."""
+    return _WIDTHS[dtype]
 
 
-def _converted(samples: "array.array[Any]", dtype: str, spec: _Spec) -> "array.array[Any]":
-    """Samples that the library decoded in another type, where it doesn't convert them: it rounds integers of more than
-    24 bits to float32, and for float64 all are multiplied here."""
-    if dtype == "int8":
-        return array.array("b", samples.tobytes()[::2])
-    if not _is_scaled(dtype, spec):
-        return array.array("d", samples)
-    scale = 2.0 ** (1 - spec.bits_per_sample)
-    return array.array("d", [sample * scale for sample in samples])
+def is_converted(dtype: str, kind: str) -> bool:
+    """Whether what the calls of a kind decode is converted to a type."""
+    return CODES[kind] != TYPES[dtype].code
+
+
+def _convert(part: "array.array[Any]", count: int, dtype: str, spec: _Spec, out: Any) -> None:
+    """Stores the first samples that the library decoded at an address, in another type."""
+    if _is_scaled(dtype, spec):
+        _checked(_TO_SCALED[dtype](_start(part), count, spec.bits_per_sample, out, count))
+    elif dtype == "float64":
+        _checked(_f32_to_f64(_start(part), count, out, count))
+    else:
+        ctypes.memmove(out, part[:count].tobytes()[::2], count)  # The low bytes are those of int8.
 
 
 def filled(out: Any, count: int, dtype: str, spec: _Spec, kind: str, take: Take) -> int:
     """Stores at most so many samples of a file in a type at an address, and returns how many. `take` decodes them by
     calls of this kind."""
-    if CODES[kind] == TYPES[dtype].code:
+    if not is_converted(dtype, kind):
         return take(0, out, count)
     part, done, some, wanted = _zeros(CODES[kind], min(BLOCK, count)), 0, 0, 0
-    with address(part) as (start, _):
-        while done < count and some == wanted:
-            place, wanted = out + done * width_of(dtype), min(BLOCK, count - done)
-            some = take(done, start, wanted)
-            if dtype == "float32":
-                _checked(_to_f32(start, some, spec.bits_per_sample, place, some))
-            else:
-                with address(_converted(part[:some], dtype, spec)) as (converted, size):
-                    ctypes.memmove(place, converted, size)
-            done += some
+    while done < count and some == wanted:
+        wanted = min(BLOCK, count - done)
+        some = take(done, _start(part), wanted)
+        _convert(part, some, dtype, spec, out + done * width_of(dtype))
+        done += some
     return done
 
 
@@ -215,12 +232,12 @@ class Room:
             self.most = self._view.nbytes // self._view.itemsize // spec.channels
         return self
 
-    def place(self, count: int) -> address:
-        """The address of the room for so many samples, while they are stored."""
+    def place(self, count: int) -> ContextManager[Tuple[Any, int]]:
+        """The address of the room for so many samples, while they are stored, and its bytes."""
         if self._view is not None:
             return address(self._view)
         self._array = _zeros(TYPES[self.dtype].code, count)
-        return address(self._array)
+        return contextlib.nullcontext((_start(self._array), count * width_of(self.dtype)))
 
     def result(self, count: int, always_2d: bool) -> Any:
         """The samples, of which there are so many."""
@@ -256,40 +273,27 @@ class Scale:
 
     def __init__(self, bits: int, noise: Optional[random.Random] = None) -> None:
         self._bits, self._noise, self.clipped = bits, noise, 0
+        self._integers = _zeros("i", 0)
 
-    def integers(self, floats: "array.array[float]") -> "array.array[int]":
-        if floats.typecode == "f" and not self._noise:
-            return self._by_library(floats)
-        values: Any = map((2.0 ** (self._bits - 1)).__mul__, floats)
+    def integers(self, dtype: str, start: Any, count: int) -> memoryview:
+        """The integers of so many floats of a type at an address, until the next call."""
         if self._noise:
-            some = self._noise.random
-            values = [value + some() - some() for value in values]
-        return self._rounded(list(values))
+            noisy = self._noisy(dtype, start, count)
+            return self._rounded("float64", _start(noisy), count)
+        return self._rounded(dtype, start, count)
 
-    def _by_library(self, floats: "array.array[float]") -> "array.array[int]":
-        integers, clipped = array.array("i", bytes(4 * len(floats))), ctypes.c_uint64()
-        with address(floats) as (start, _), address(integers) as (out, _):
-            _checked(_from_f32(start, len(floats), self._bits, out, len(integers), ctypes.byref(clipped)))
+    def _rounded(self, dtype: str, start: Any, count: int) -> memoryview:
+        clipped = ctypes.c_uint64()
+        if count > len(self._integers):
+            self._integers = _zeros("i", count)
+        _checked(_FROM_SCALED[dtype](start, count, self._bits, _start(self._integers), count, ctypes.byref(clipped)))
         self.clipped += clipped.value
-        return integers
+        return memoryview(self._integers)[:count]
 
-    def _rounded(self, values: List[float]) -> "array.array[int]":
-        """The same as the library does with float32, without rounding twice: to the nearest, of two to the even one."""
-        low, high = -(1 << (self._bits - 1)), (1 << (self._bits - 1)) - 1
-        try:
-            integers = array.array("i", [round(value) for value in values])
-            if not integers or low <= min(integers) <= max(integers) <= high:
-                return integers
-        except (OverflowError, ValueError):
-            pass  # One is out of range, or isn't finite.
-        return array.array("i", (self._within(value, low, high) for value in values))
-
-    def _within(self, value: float, low: int, high: int) -> int:
-        if value != value:
-            return 0
-        number = round(min(max(value, low - 1), high + 1))
-        self.clipped += not low <= number <= high
-        return min(max(number, low), high)
+    def _noisy(self, dtype: str, start: Any, count: int) -> "array.array[float]":
+        floats: "array.array[float]" = array.array(TYPES[dtype].code, ctypes.string_at(start, count * width_of(dtype)))
+        some, step = self._noise.random, 2.0 ** (1 - self._bits)  # type: ignore[union-attr]
+        return array.array("d", [value + (some() - some()) * step for value in floats])
 
     def warn(self, count: int) -> None:
         """Warns where samples were clipped."""
@@ -297,27 +301,14 @@ class Scale:
             warn_caller(f"{self.clipped} of {count} samples were clipped")
 
 
-def _narrowed(samples: "array.array[int]") -> "array.array[int]":
-    try:
-        return array.array("i", samples)
-    except OverflowError:
-        raise HoundError(Cause.TOO_WIDE) from None
-
-
-def _rounded(samples: "array.array[float]") -> "array.array[float]":
-    """The nearest float32; an error where it would be infinite and the sample isn't."""
-    try:
-        return array.array("f", struct.pack(f"<{len(samples)}f", *samples))
-    except OverflowError:
-        raise HoundError(Cause.TOO_WIDE) from None
-
-
-# What makes a type of the library of another one.
-_CONVERSIONS: Dict[str, Any] = {
-    "int8": lambda samples: array.array("h", samples),
-    "int64": _narrowed,
-    "float64": _rounded,
-}
+def _rounded(start: Any, count: int) -> "array.array[float]":
+    """The float32 that are nearest to float64 at an address; an error where one would be infinite and the sample
+    isn't."""
+    floats, infinite = _zeros("f", count), ctypes.c_uint64()
+    _checked(_f64_to_f32(start, count, _start(floats), count, ctypes.byref(infinite)))
+    if infinite.value:
+        raise HoundError(Cause.TOO_WIDE)
+    return floats
 
 
 def _array_of(samples: Any) -> Any:
@@ -343,19 +334,22 @@ def _buffer_of(samples: Any) -> Any:
     return memoryview(flat).cast("B").cast(flat.typecode, [len(samples), columns])
 
 
+_UNSCALED = Scale(0)
+
+
 class Given:
     """Samples that a caller gives to be written."""
 
     def __init__(self, samples: Any, name: str = "samples") -> None:
-        self._name, self._view = name, memoryview(_buffer_of(samples))
-        self.dtype, self.columns = form_of(self._view, name, GIVEN)
-        self.form, self.count = TYPES[self.dtype], self._view.nbytes // self._view.itemsize
+        self._name, self.view = name, memoryview(_buffer_of(samples))
+        self.dtype, self.columns = form_of(self.view, name, GIVEN)
+        self.form, self.count = TYPES[self.dtype], self.view.nbytes // self.view.itemsize
 
     def __enter__(self) -> "Given":
         return self
 
     def __exit__(self, *_: Any) -> None:
-        self._view.release()
+        self.view.release()
 
     def fits(self, spec: _Spec) -> bool:
         """Whether a file has a container for each value of this type, so that no sample is an error."""
@@ -366,21 +360,38 @@ class Given:
     def scale(self, spec: _Spec, noise: Optional[random.Random]) -> Scale:
         """What scales the samples for a file; an error where it has other channels, or noise can't be added to them."""
         check_columns(self._name, self.columns, spec.channels)
-        if noise and not _is_scaled(self.dtype, spec):
+        if _is_scaled(self.dtype, spec):
+            return Scale(spec.bits_per_sample, noise)
+        if noise:
             raise ValueError("dither is for floats that become integers")
-        return Scale(spec.bits_per_sample, noise)
+        return _UNSCALED
 
-    def parts(self, spec: _Spec, scale: Scale) -> Iterator[Tuple[str, Any, int]]:
-        """The samples as the library takes them: the calls, an address, and how many. They are one part, or where they
-        are converted, parts of whole frames."""
-        if self.dtype in _LIBRARYS and not _is_scaled(self.dtype, spec):
-            with address(self._view, self._view.itemsize) as (start, _):
-                yield self.form.kind, start, self.count
-            return
+    def part(self, view: memoryview, spec: _Spec, scale: Scale) -> Tuple[str, Any]:
+        """Some of the samples as the library takes them: the calls, and a buffer."""
         is_scaled = _is_scaled(self.dtype, spec)
-        kind, convert = ("i32", scale.integers) if is_scaled else (self.form.kind, _CONVERSIONS[self.dtype])
+        if self.dtype in _LIBRARYS and not is_scaled:
+            return self.form.kind, view
+        return "i32" if is_scaled else self.form.kind, self._converted(view, spec, scale)
+
+    def parts(self, spec: _Spec, scale: Scale) -> Iterator[Tuple[str, Any]]:
+        """All samples so: they are one part, or where they are converted, parts of whole frames."""
+        if self.dtype in _LIBRARYS and not _is_scaled(self.dtype, spec):
+            yield self.form.kind, self.view
+            return
         rows = max(BLOCK // spec.channels, 1) * (1 if self.columns else spec.channels)
-        for first in range(0, len(self._view), rows):
-            part = convert(array.array(self.form.code, self._view[first : first + rows].tobytes()))
-            with address(part) as (start, _):
-                yield kind, start, len(part)
+        for first in range(0, len(self.view), rows):
+            yield self.part(self.view[first : first + rows], spec, scale)
+
+    def _converted(self, view: memoryview, spec: _Spec, scale: Scale) -> Any:
+        """Samples in a type of the library, until the next ones."""
+        if self.form.kind == "f32":
+            with address(view, view.itemsize) as (start, length):
+                count = length // view.itemsize
+                if _is_scaled(self.dtype, spec):
+                    return scale.integers(self.dtype, start, count)
+                return _rounded(start, count)
+        samples: "array.array[int]" = array.array(self.form.code, view.tobytes())
+        try:
+            return array.array("h" if self.dtype == "int8" else "i", samples)
+        except OverflowError:
+            raise HoundError(Cause.TOO_WIDE) from None

@@ -77,6 +77,8 @@ def put(descriptor: int, content: Any, place: int) -> None:
     """Writes all of this at a place of a file."""
     write = getattr(os, "pwrite", _pwrite)
     done = write(descriptor, content, place)
+    if done == len(content):
+        return
     with memoryview(content) as left:
         while done < len(left):
             count = write(descriptor, left[done:], place + done)
@@ -108,19 +110,18 @@ def perform(effect: Any, file: "Medium", durable: bool, block: Iterable[Any] = (
     """Performs an effect of hound.h on a file, and reports it as done; an OSError says why it failed. A block comes in
     pieces. A sync of a file that isn't durable only passes on to the system what was written. What a read gives is
     shorter only at the end of the file."""
-    kind = effect.kind
-    if kind == WRITE:
-        file.put(bytes(effect.bytes)[: effect.length], effect.place)
-    elif kind == WRITE_BLOCK:
-        place = effect.place
+    kind, place = effect.kind, effect.place
+    if kind == WRITE_BLOCK:
         for piece in block:
             file.put(piece, place)
             place += len(piece)
+    elif kind == WRITE:
+        file.put(bytes(effect.bytes)[: effect.length], place)
     elif kind == READ:
-        content = file.read_at(effect.length, effect.place)
+        content = file.read_at(effect.length, place)
         effect.length, effect.bytes[: len(content)] = len(content), content
     elif kind == CUT:
-        file.cut(effect.place)
+        file.cut(place)
     elif kind == SYNC:
         file.sync(durable)
     else:

@@ -14,7 +14,7 @@ import types
 import warnings
 import weakref
 from typing import (
-    IO, Any, Callable, Generator, Iterable, Iterator, List, NamedTuple, NoReturn, Optional, Tuple, TypeVar, Union,
+    IO, Any, Callable, Generator, Iterable, Iterator, List, NamedTuple, NoReturn, Optional, Set, Tuple, TypeVar, Union,
 )  # fmt: skip
 
 from . import (
@@ -108,6 +108,9 @@ _PIECE, _CACHED, _MOST_FRAMES = 1 << 20, 1 << 18, 1 << 46
 def _store(content: bytes, count: int, spec: _Spec, room: conversion.Room, out: Any) -> None:
     """Stores the first samples of these bytes at an address."""
     width = spec.bytes_per_sample
+    if not conversion.is_converted(room.dtype, room.kind):
+        _checked(_decode[room.kind](ctypes.byref(spec), content, count * width, out, count))
+        return
     with conversion.address(content) as (start, _):
 
         def take(first: int, place: Any, count: int) -> int:
@@ -145,6 +148,7 @@ class Reader(_OneAtATime):
         super().__init__()
         _READERS.add(self)
         self._name, self._to_end, self._front = file, to_end, b""
+        self._kinds: Set[str] = set()  # The calls that read the file.
         self._is_own = isinstance(file, (str, os.PathLike))
         if not self._is_own:
             disk.check_object(file, "read")
@@ -237,6 +241,10 @@ class Reader(_OneAtATime):
     def _pieces(self, frames: int, size: int, place: int) -> Tuple[Iterator[bytes], int]:
         """The bytes of so many frames from a place on, and how many whole ones there are at most. They are read in
         pieces if the system says that the file holds them all: then nothing is lost if a read fails."""
+        if self._reads_at and frames * size <= _CACHED:
+            content = os.pread(self._source.fileno(), frames * size, place)
+            if len(content) == frames * size:
+                return iter((content,)), frames
         if self._reads_at and os.fstat(self._source.fileno()).st_size >= place + frames * size:
             return self._read_in_pieces(frames, size, place), frames
         content = self._fill(frames * size, place)
@@ -264,8 +272,9 @@ class Reader(_OneAtATime):
         """
         frames = _integer("frames", frames, -1, sys.maxsize)
         room = _room_of(out).bound(self._spec, dtype)
-        # Whether the type reads the file is known before a byte is taken.
-        _check_header(_decode[room.kind](ctypes.byref(self._spec), _SPARE, 0, _SPARE, 0), lambda: self._front)
+        if room.kind not in self._kinds:  # Whether the type reads the file is known before a byte is taken.
+            _check_header(_decode[room.kind](ctypes.byref(self._spec), _SPARE, 0, _SPARE, 0), lambda: self._front)
+            self._kinds.add(room.kind)
         frame, channels = self._state.frame, self._spec.channels
         left = min(self._most - frame, room.most)
         frames = left if frames < 0 else min(frames, left)
@@ -440,25 +449,42 @@ class Writer(_OneAtATime):
         self._check_open()
         with block if isinstance(block, conversion.Given) else conversion.Given(block, "block") as given:
             scale = given.scale(self._spec, self._noise)
-            with contextlib.closing(self._encoded(given, scale)) as encoded:
+            if given.count > conversion.BLOCK and given.fits(self._spec):
+                with contextlib.closing(self._encoded(given.parts(self._spec, scale))) as pieces:
+                    self._request(_recorder_write, given.count)
+                    recorder = self._perform_all(pieces)
+            else:
                 # Where a sample may be an error all are encoded before any is written.
-                pieces = encoded if given.fits(self._spec) else list(map(bytes, encoded))
+                encoded = self._encoded_at_once(given, scale)
                 self._request(_recorder_write, given.count)
-                recorder = self._perform_all(pieces)
-        scale.warn(given.count)
+                recorder = self._perform_all(encoded)
+        if scale.clipped:
+            scale.warn(given.count)
         self._finish(_Recording(recorder, [], self._state.clipped + scale.clipped))
 
-    def _encoded(self, given: conversion.Given, scale: conversion.Scale) -> Generator[memoryview, None, None]:
-        """The bytes of all samples, in pieces that stay in the processor's cache, each of them until the next one."""
-        length = min(given.count, conversion.BLOCK) * self._state.recorder.bytes_per_sample
+    def _encoded(self, parts: Iterable[Tuple[str, Any]]) -> Generator[memoryview, None, None]:
+        """The bytes of all parts, in pieces that stay in the processor's cache, each of them until the next one."""
+        for kind, samples in parts:
+            width = conversion.width_of(kind)
+            with conversion.address(samples, width) as (start, length):
+                for first in range(0, length, conversion.BLOCK * width):
+                    yield self._piece(kind, start + first, min(conversion.BLOCK, (length - first) // width))
+
+    def _encoded_at_once(self, given: conversion.Given, scale: conversion.Scale) -> List[Any]:
+        """The same, of which each stays; a short block is one piece, until the next one."""
+        if not 0 < given.count <= conversion.BLOCK:
+            return list(map(bytes, self._encoded(given.parts(self._spec, scale))))
+        kind, samples = given.part(given.view, self._spec, scale)
+        with conversion.address(samples, conversion.width_of(kind)) as (start, _):
+            return [self._piece(kind, start, given.count)]
+
+    def _piece(self, kind: str, start: Any, count: int) -> memoryview:
+        """The bytes of so many samples at an address, until the next call."""
+        length = count * self._state.recorder.bytes_per_sample
         if length > len(self._out):
             self._out = ctypes.create_string_buffer(length)
-        for kind, start, count in given.parts(self._spec, scale):
-            width = array.array(conversion.CODES[kind]).itemsize
-            for first in range(0, count, conversion.BLOCK):
-                place, some = start + first * width, min(conversion.BLOCK, count - first)
-                used = _checked(_encode[kind](ctypes.byref(self._spec), place, some, self._out, len(self._out)))
-                yield memoryview(self._out)[:used]
+        used = _checked(_encode[kind](ctypes.byref(self._spec), start, count, self._out, len(self._out)))
+        return memoryview(self._out)[:used]
 
     @_one_at_a_time
     def flush(self) -> None:

@@ -114,6 +114,30 @@ class Floats(Folder):
         exact = hound.to_bytes(every, 8000, like=Info(8000, 1, 32))
         self.assertEqual(list(hound.read(exact)), WIDE[32])
 
+    def test_float64_in_files_of_floats(self):
+        """They are the nearest floats, also of more samples than are converted at once."""
+        largest, next_one = 3.4028235677973362e38, 3.4028235677973366e38  # The second one is nearer to infinity.
+        values = [0.1, 1 + 2**-24, 1 + 3 * 2**-24, -0.0, 1e-46, -1e-45, math.inf, -math.inf, largest] * 8000
+        floats = array.array("f", values)
+        content = hound.to_bytes(array.array("d", values), 8000)
+        self.assertEqual(hound.read(content).tobytes(), floats.tobytes())
+        self.assertEqual(hound.read(content, dtype="float64").tobytes(), array.array("d", floats).tobytes())
+        with hound.create(self.path, 8000, like=hound.info(content)) as writer:
+            writer.write(values[:9])
+            self.assertRaises(hound.HoundError, lambda: writer.write([0.5, next_one]))
+        self.assertEqual(content_of(self.path)[-36:], floats[:9].tobytes())
+        with self.assertRaises(hound.HoundError) as caught:
+            hound.to_bytes([next_one], 8000)
+        self.assertEqual(caught.exception.cause, hound.Cause.TOO_WIDE)
+
+    def test_float64_is_rounded_once(self):
+        """A float32 would make a half of what is a little more or less."""
+        for bits in 8, 16, 24:
+            step, tiny = 2.0 ** (1 - bits), 2.0**-52
+            values = [(k + 0.5) * step * sign for k in range(-3, 4) for sign in (1 - tiny, 1, 1 + tiny)] * 4000
+            content = hound.to_bytes(array.array("d", values), 8000, bits=bits)
+            self.assertEqual(list(hound.read(content, dtype="int32")), [nearest(value, bits) for value in values])
+
     def test_what_is_clipped_is_counted(self):
         values = [1.0, 1 - 2**-17, -1.0, -1.0001, math.inf, -math.inf, math.nan, 1e300, 0.5, 32767.49 / TOP]
         wanted = [32767, 32767, -32768, -32768, 32767, -32768, 0, 32767, 16384, 32767]

@@ -310,6 +310,15 @@ mod c {
             capacity: usize,
             clipped: *mut u64,
         ) -> i64;
+        pub fn hound_to_f64(samples: *const i32, count: usize, bits: u16, out: *mut f64, capacity: usize) -> i64;
+        pub fn hound_from_f64(
+            samples: *const f64,
+            count: usize,
+            bits: u16,
+            out: *mut i32,
+            capacity: usize,
+            clipped: *mut u64,
+        ) -> i64;
         pub fn hound_repair(file: *mut u8, capacity: usize, used: usize, found: *mut Repair) -> i64;
         pub fn hound_repair_to_end(file: *mut u8, capacity: usize, used: usize, found: *mut Repair) -> i64;
         pub fn hound_repairer_begin(length: u64, mode: u32, repairer: *mut Repairer);
@@ -324,6 +333,10 @@ mod c {
         pub fn hound_value_16(container: u32) -> i32;
         pub fn hound_value_24(container: u32) -> i32;
         pub fn hound_value_32(container: u32) -> i32;
+        pub fn hound_container_8(value: i32) -> i64;
+        pub fn hound_container_16(value: i32) -> i64;
+        pub fn hound_container_24(value: i32) -> i64;
+        pub fn hound_container_32(value: i32) -> i64;
     }
 
     macro_rules! coding {
@@ -808,6 +821,32 @@ pub fn value_32(container: u32) -> i32 {
     unsafe { c::hound_value_32(container) }
 }
 
+/// The container of 8 bits of an integer, in the low bytes of a number whose others are 0; `TooWide` if the bits don't
+/// hold the integer.
+#[inline(always)]
+pub fn container_8(value: i32) -> Result<u32> {
+    // SAFETY: no pointer is passed; so below.
+    checked(unsafe { c::hound_container_8(value) }).map(|number| number as u32)
+}
+
+/// The same of 16 bits.
+#[inline(always)]
+pub fn container_16(value: i32) -> Result<u32> {
+    checked(unsafe { c::hound_container_16(value) }).map(|number| number as u32)
+}
+
+/// The same of 24 bits, in three bytes or four.
+#[inline(always)]
+pub fn container_24(value: i32) -> Result<u32> {
+    checked(unsafe { c::hound_container_24(value) }).map(|number| number as u32)
+}
+
+/// The same of 32 bits, which hold each integer.
+#[inline(always)]
+pub fn container_32(value: i32) -> Result<u32> {
+    checked(unsafe { c::hound_container_32(value) }).map(|number| number as u32)
+}
+
 /// Scales integers of so many bits, from 1 to 32, to floats whose full scale is 1, and returns how many. Other
 /// bits are `NotWritable`, and where `out` is shorter the error is `NoRoom`.
 pub fn to_f32(samples: &[i32], bits: u16, out: &mut [f32]) -> Result<usize> {
@@ -822,6 +861,22 @@ pub fn from_f32(samples: &[f32], bits: u16, out: &mut [i32]) -> Result<u64> {
     // SAFETY: as above.
     checked(unsafe {
         c::hound_from_f32(samples.as_ptr(), samples.len(), bits, out.as_mut_ptr(), out.len(), &mut clipped)
+    })?;
+    Ok(clipped)
+}
+
+/// Scales integers as [`to_f32`] does, to floats of 64 bits, which hold those of up to 32 bits.
+pub fn to_f64(samples: &[i32], bits: u16, out: &mut [f64]) -> Result<usize> {
+    // SAFETY: as above.
+    checked(unsafe { c::hound_to_f64(samples.as_ptr(), samples.len(), bits, out.as_mut_ptr(), out.len()) })
+}
+
+/// Scales floats of 64 bits as [`from_f32`] does those of 32.
+pub fn from_f64(samples: &[f64], bits: u16, out: &mut [i32]) -> Result<u64> {
+    let mut clipped = 0;
+    // SAFETY: as above.
+    checked(unsafe {
+        c::hound_from_f64(samples.as_ptr(), samples.len(), bits, out.as_mut_ptr(), out.len(), &mut clipped)
     })?;
     Ok(clipped)
 }

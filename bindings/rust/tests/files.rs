@@ -1,9 +1,10 @@
 //! The calls over small files.
 use hound_bindings::{
-    append_to, decode, decode_scaled, encode, encode_scaled, find_damage, from_f32, guess_data, header, info, kind,
-    read, read_into, read_scaled, repair, repair_to_end, size, sizes, to_f32, value_16, value_24, value_32, value_8,
-    whole_frames, write, write_scaled, write_to, Allowed, Container, Error, Format, Kind, Medium, Mode, Next, Recorder,
-    Repairer, Spec, State, Walk, ERRORS,
+    append_to, container_16, container_24, container_32, container_8, decode, decode_scaled, encode, encode_scaled,
+    find_damage, from_f32, from_f64, guess_data, header, info, kind, read, read_into, read_scaled, repair,
+    repair_to_end, size, sizes, to_f32, to_f64, value_16, value_24, value_32, value_8, whole_frames, write,
+    write_scaled, write_to, Allowed, Container, Error, Format, Kind, Medium, Mode, Next, Recorder, Repairer, Spec,
+    State, Walk, ERRORS,
 };
 use std::panic::{catch_unwind, AssertUnwindSafe};
 use std::path::{Path, PathBuf};
@@ -506,6 +507,30 @@ fn single_containers() {
     assert_eq!((value_16(0x8000), value_16(0x17fff)), (-32768, 32767));
     assert_eq!((value_24(0x80_0000), value_24(0x17f_ffff)), (-8_388_608, 8_388_607));
     assert_eq!((value_32(0x8000_0000), value_32(u32::MAX)), (i32::MIN, -1));
+    assert_eq!((container_8(-128), container_8(127), container_8(128)), (Ok(0), Ok(255), Err(Error::TooWide)));
+    assert_eq!((container_16(-32768), container_16(-32769)), (Ok(0x8000), Err(Error::TooWide)));
+    assert_eq!((container_24(-1), container_24(8_388_608)), (Ok(0xff_ffff), Err(Error::TooWide)));
+    assert_eq!((container_32(i32::MIN), container_32(-1)), (Ok(0x8000_0000), Ok(u32::MAX)));
+}
+
+#[test]
+fn doubles_have_integers_of_32_bits() {
+    let integers = [i32::MAX, i32::MIN, -16_777_217, 1];
+    let mut doubles = [9.0; 5];
+    assert_eq!(to_f64(&integers, 32, &mut doubles), Ok(4));
+    assert_eq!(
+        doubles,
+        [2_147_483_647.0 / 2_147_483_648.0, -1.0, -16_777_217.0 / 2_147_483_648.0, 0.5f64.powi(31), 9.0]
+    );
+    let mut back = [9; 5];
+    assert_eq!((from_f64(&doubles, 32, &mut back), back), (Ok(1), [i32::MAX, i32::MIN, -16_777_217, 1, i32::MAX]));
+    assert_eq!(from_f64(&[0.5 / 32768.0, f64::NAN, -1.0001], 16, &mut back), Ok(1));
+    assert_eq!(back[..3], [0, 0, -32768]);
+    for bits in [0, 33] {
+        assert_eq!(to_f64(&[1], bits, &mut [0.0]), Err(Error::NotWritable));
+        assert_eq!(from_f64(&[1.0], bits, &mut [0]), Err(Error::NotWritable));
+    }
+    assert_eq!((to_f64(&[1], 8, &mut []), from_f64(&[1.0], 8, &mut [])), (Err(Error::NoRoom), Err(Error::NoRoom)));
 }
 
 #[test]

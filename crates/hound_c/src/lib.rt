@@ -11,11 +11,11 @@ ghost use Rattle.std.specs.Option.{option_len};
 ghost use Rattle.std.specs.Result.{result_unwrap_or};
 ghost use Rattle.hound_number.specs.{bytes_of};
 ghost use Rattle.hound_walk.specs.{Readable, Unreadable};
-ghost use Rattle.hound_sample.specs.{int_container, pattern_container, float_rejection, int_meaning, int_rejection, pattern};
+ghost use Rattle.hound_sample.specs.{double_of_int, float_of_int, int_container, pattern_container, float_rejection, int_meaning, int_rejection, pattern};
 ghost use Rattle.hound_spec.specs.declared.spec.SampleFormat.TheVariants.{Float, Int};
 ghost use Rattle.hound_walk.specs.declared.cause.Cause.{Cause};
 ghost use Rattle.hound_writer.specs.{Advances, AsksForBlock, AsksForCheckpoint, BeginsRecorder, LeavesRoom, Resumes};
-ghost use Rattle.hound_slices.specs.{AppendsInPlace, BeginsForC, BeginsRepairer, CountsWhole, Decodes, Encodes, FindsInFile, GivesHeader, GivesSizes, GuessesData, IsDamageError, IsExplicit, IsKind, ReadsInto, Records, RepairsFile, Returns, ScalesToFloats, ScalesToIntegers, Sizes, StepsRepairer, TakesPart, WritesFile, effect_of, error_code, found_file, mends, overwrites, recorder_of, report_of, spec_from_c};
+ghost use Rattle.hound_slices.specs.{AppendsInPlace, BeginsForC, BeginsRepairer, CountsWhole, Decodes, Encodes, FindsInFile, GivesHeader, GivesSizes, GuessesData, IsDamageError, IsExplicit, IsKind, MakesContainer, NarrowsFloats, ReadsInto, Records, RepairsFile, Returns, ScalesToFloats, ScalesToIntegers, Sizes, StepsRepairer, TakesPart, WidensFloats, WritesFile, effect_of, error_code, found_file, mends, overwrites, recorder_of, report_of, spec_from_c};
 ghost use Rattle.hound_slices.specs.declared.error.CallError.{CallError as AnyError};
 ghost use Rattle.hound_slices.specs.declared.error.CallError.TheVariants.{Head};
 
@@ -23,11 +23,13 @@ use hound_repair::Task;
 use hound_sample::FloatBits;
 use hound_slices::{
     CallError, HoundInfo, HoundRecorder, HoundRepair, HoundRepairer, HoundSpec, HoundWalk,
-    append_block, begin_repairer, code_of, code_of_error, decode_block, encode_block, file_kind,
-    file_size, find_file_damage, find_samples, found_file, guess_data, info_for_c, mends,
-    overwrites, read_block, recorder_for_c, recorder_of, repair_file, report_of, scale_to_floats,
-    scale_to_integers, spec_from_c, step_repairer, step_walk, value_of_8, value_of_16, value_of_24,
-    value_of_32, whole_frames, write_file, write_header, write_sizes,
+    append_block, begin_repairer, code_of, code_of_error, container_of_8, container_of_16,
+    container_of_24, container_of_32, decode_block, encode_block, file_kind, file_size,
+    find_file_damage, find_samples, found_file, guess_data, info_for_c, mends, narrow_floats,
+    overwrites, read_block, recorder_for_c, recorder_of, repair_file, report_of,
+    scale_doubles_to_integers, scale_to_doubles, scale_to_floats, scale_to_integers, spec_from_c,
+    step_repairer, step_walk, value_of_8, value_of_16, value_of_24, value_of_32, whole_frames,
+    widen_floats, write_file, write_header, write_sizes,
 };
 use hound_spec::SampleFormat;
 use hound_writer::Recorder;
@@ -356,12 +358,53 @@ pub extern "C" fn hound_value_32(container: u32) -> i32
     value_of_32(container)
 }
 
+/// The container of an integer, in the low bytes of a number.
+#[unsafe(no_mangle)]
+pub extern "C" fn hound_container_8(value: i32) -> i64
+    ensures { Returns result (MakesContainer (int_container value 8 1)) }
+{
+    code_of(container_of_8(value))
+}
+
+/// The same of 16 bits.
+#[unsafe(no_mangle)]
+pub extern "C" fn hound_container_16(value: i32) -> i64
+    ensures { Returns result (MakesContainer (int_container value 16 2)) }
+{
+    code_of(container_of_16(value))
+}
+
+/// The same of 24 bits, in three bytes or four.
+#[unsafe(no_mangle)]
+pub extern "C" fn hound_container_24(value: i32) -> i64
+    ensures three { Returns result (MakesContainer (int_container value 24 3)) }
+    ensures four { Returns result (MakesContainer (int_container value 24 4)) }
+{
+    code_of(container_of_24(value))
+}
+
+/// The same of 32 bits.
+#[unsafe(no_mangle)]
+pub extern "C" fn hound_container_32(value: i32) -> i64
+    ensures { Returns result (MakesContainer (int_container value 32 4)) }
+{
+    code_of(container_of_32(value))
+}
+
 /// Scales integers of so many bits to floats whose full scale is 1.
 #[unsafe(no_mangle)]
 pub extern "C" fn hound_to_f32(samples: &[i32], bits: u16, out: &mut [f32]) -> i64
-    ensures { Returns result (ScalesToFloats bits samples.now out.old out.new) }
+    ensures { Returns result (ScalesToFloats float_of_int bits samples.now out.old out.new) }
 {
     code_of(scale_to_floats(samples, bits, out))
+}
+
+/// The same to floats of 64 bits, which are exact.
+#[unsafe(no_mangle)]
+pub extern "C" fn hound_to_f64(samples: &[i32], bits: u16, out: &mut [f64]) -> i64
+    ensures { Returns result (ScalesToFloats double_of_int bits samples.now out.old out.new) }
+{
+    code_of(scale_to_doubles(samples, bits, out))
 }
 
 /// Scales floats whose full scale is 1 to integers of so many bits, and counts those that were clipped.
@@ -375,6 +418,35 @@ pub extern "C" fn hound_from_f32(
     ensures { Returns result (ScalesToIntegers bits samples.now out.old out.new clipped.old clipped.new) }
 {
     code_of(scale_to_integers(samples, bits, out, clipped))
+}
+
+/// The same of floats of 64 bits.
+#[unsafe(no_mangle)]
+pub extern "C" fn hound_from_f64(
+    samples: &[f64],
+    bits: u16,
+    out: &mut [i32],
+    clipped: &mut u64,
+) -> i64
+    ensures { Returns result (ScalesToIntegers bits samples.now out.old out.new clipped.old clipped.new) }
+{
+    code_of(scale_doubles_to_integers(samples, bits, out, clipped))
+}
+
+/// Widens floats to 64 bits, which changes none.
+#[unsafe(no_mangle)]
+pub extern "C" fn hound_f32_to_f64(samples: &[f32], out: &mut [f64]) -> i64
+    ensures { Returns result (WidensFloats samples.now out.old out.new) }
+{
+    code_of(widen_floats(samples, out))
+}
+
+/// Narrows floats to 32 bits, to the nearest, and counts those that become infinite.
+#[unsafe(no_mangle)]
+pub extern "C" fn hound_f64_to_f32(samples: &[f64], out: &mut [f32], infinite: &mut u64) -> i64
+    ensures { Returns result (NarrowsFloats samples.now out.old out.new infinite.old infinite.new) }
+{
+    code_of(narrow_floats(samples, out, infinite))
 }
 
 /// Begins to record a new file, whose header the caller has written.

@@ -1,5 +1,6 @@
 pub mod Back
 pub mod Containers
+pub mod Floats
 pub mod Many
 pub mod Reading
 pub mod Joined

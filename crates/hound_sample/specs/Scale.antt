@@ -16,6 +16,10 @@ clipped bits v = saturate_to_bits (bits - 1) v
 abbrev pub float_of_int : ℕ → ℤ → Float
 float_of_int bits v = div binary32 (of_int binary32 v) (of_int binary32 (full_scale bits))
 
+-- the same as an `f64`, which has each integer of up to 32 bits and so each quotient
+abbrev pub double_of_int : ℕ → ℤ → Float
+double_of_int bits v = div binary64 (of_int binary64 v) (of_int binary64 (full_scale bits))
+
 -- a float in full scale 1 in that of so many bits, not clipped: times full scale, which is exact in
 -- `f64`, as the nearest integer, a half as the even one; a NaN is 0
 abbrev pub scaled : ℕ → Float → ℤ

@@ -1,11 +1,13 @@
 // Samples as floats whose full scale is 1, and as integers of other bits.
 ghost use Rattle.std.specs.Prelude.{◌≡◌, ◌<◌, ◌≤◌, ◌-◌, ◌+ℤ◌, ◌*ℤ◌, ◌^◌, not, pos};
-ghost use Rattle.std.specs.Int.{int_shr};
+ghost use lib.Ieee.{binary32, binary64, of_int};
+ghost use Rattle.std.specs.Float.{float_to_signed, round_ties_even};
+ghost use Rattle.std.specs.Int.{int_shr, w64};
 ghost use Rattle.hound_sample.specs.Container.{fits};
-ghost use Rattle.hound_sample.specs.Scale.{clipped, float_of_int, scaled, with_bits};
+ghost use Rattle.hound_sample.specs.Scale.{clipped, double_of_int, float_of_int, scaled, with_bits};
 
 use std::num::{
-    f32_to_f64_with_nan, nearest_i32_to_f32, nearest_u32_to_f32, saturating_f64_to_i64,
+    f32_to_f64_with_nan, f64_to_bits_with_nan, nearest_u32_to_f32, saturating_f64_to_i64,
 };
 
 /// An integer of so many bits as a float whose full scale is 1: over `2^(bits - 1)`.
@@ -22,7 +24,20 @@ pub fn int_to_float(sample: i32, bits: u16) -> f32
     requires most { bits ≤ 32 }
     ensures { result ≡ float_of_int bits sample }
 {
-    nearest_i32_to_f32(sample) / nearest_u32_to_f32(two_to(bits - 1))
+    let full_scale = nearest_u32_to_f32(two_to(bits - 1));
+    // A sign that is looked up needs no branch, which would be guessed wrong for each second sample.
+    let divisors = [full_scale, -full_scale];
+    nearest_u32_to_f32(sample.unsigned_abs()) / divisors[(sample < 0) as usize]
+}
+
+/// The same as a float of 64 bits, which is the quotient itself.
+#[inline]
+pub fn int_to_double(sample: i32, bits: u16) -> f64
+    requires some { 0 < bits }
+    requires most { bits ≤ 32 }
+    ensures { result ≡ double_of_int bits sample }
+{
+    f64::from(sample) / f64::from(two_to(bits - 1))
 }
 
 /// A float whose full scale is 1 as an integer of so many bits, and whether it was clipped.
@@ -40,8 +55,38 @@ pub fn float_to_int(number: f32, bits: u16) -> (i32, bool)
     ensures value { result.0 ≡ clipped bits (scaled bits number) }
     ensures is_clipped { result.1 ≡ not (fits bits (scaled bits number)) }
 {
-    let exact = f32_to_f64_with_nan(number) * f64::from(two_to(bits - 1));
-    clip(saturating_f64_to_i64(exact.round_ties_even()), bits)
+    double_to_int(f32_to_f64_with_nan(number), bits)
+}
+
+/// The same of a float of 64 bits.
+#[inline]
+pub fn double_to_int(number: f64, bits: u16) -> (i32, bool)
+    requires some { 0 < bits }
+    requires most { bits ≤ 32 }
+    ensures value { result.0 ≡ clipped bits (scaled bits number) }
+    ensures is_clipped { result.1 ≡ not (fits bits (scaled bits number)) }
+{
+    clip(nearest_integer(number * f64::from(two_to(bits - 1))), bits)
+}
+
+// The nearest integer, of two the even one; past the ends of an `i64` the nearer end, and 0 for a NaN.
+#[inline(always)]
+fn nearest_integer(number: f64) -> i64
+    ensures { result ≡ float_to_signed w64 (round_ties_even binary64 number) }
+{
+    // The sign is a bit here, because a branch on it would be guessed wrong for each second sample.
+    let bits = f64_to_bits_with_nan(number);
+    let size_bits = bits % 0x8000_0000_0000_0000;
+    if size_bits < 0x7ff0_0000_0000_0000 {
+        let size = f64::from_bits(size_bits);
+        // Below 2^52 a cast loses nothing, and is one instruction.
+        if size < 4503599627370496.0 {
+            let whole = size.round_ties_even() as i64;
+            let sign = 1 - 2 * (bits / 0x8000_0000_0000_0000) as i64;
+            return whole * sign;
+        }
+    }
+    saturating_f64_to_i64(number.round_ties_even())
 }
 
 /// An integer of so many bits as one of others, and whether it was clipped.

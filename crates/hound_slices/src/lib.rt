@@ -27,9 +27,15 @@ pub use reading::{decode_block, read_block};
 pub use recording::{HoundRecorder, found_file, mends, overwrites, recorder_for_c, recorder_of};
 pub use repairer::{HoundRepairer, begin_repairer, step_repairer};
 pub use repairing::{find_file_damage, repair_file};
-pub use scaling::{scale_to_floats, scale_to_integers};
+pub use scaling::{
+    narrow_floats, scale_doubles_to_integers, scale_to_doubles, scale_to_floats, scale_to_integers,
+    widen_floats,
+};
 pub use searching::{file_kind, guess_data, whole_frames};
 pub use spec::{HoundInfo, HoundRepair, HoundSpec, HoundWalk, info_for_c, spec_from_c};
-pub use value::{value_of_8, value_of_16, value_of_24, value_of_32};
+pub use value::{
+    container_of_8, container_of_16, container_of_24, container_of_32, value_of_8, value_of_16,
+    value_of_24, value_of_32,
+};
 pub use walking::step_walk;
 pub use writing::{encode_block, file_size, write_file, write_header, write_sizes};
