@@ -1,4 +1,4 @@
-/* The functions of hound.h in C99, for computers that bindings/lib has no library for.
+/* The functions of hound.h in C99 (and C++11), for computers that bindings/lib has no library for.
    scripts/portable/convert.py makes this file from the proved module hound_c.wasm, whose sha256 is
    68f6f92ae0223b63cbbac3bc5513a230362a2382aa51e053d76a73d3a4a3bb94: don't edit it.
      cc -O3 -c bindings/rust/hound_c.c
@@ -387,7 +387,7 @@ static uint64_t f112_hound_write_i32(uint64_t sp, uint64_t l0, uint64_t l1, uint
 
 /* hound_slices::head::find_samples */
 static void f3_find_samples(uint64_t sp, uint64_t l0, uint64_t l1, uint64_t l2) {
-    uint32_t l4 = 0, l7 = 0, l8 = 0, l9 = 0, l10 = 0, l11 = 0, l12 = 0, l13 = 0, l14 = 0, l15 = 0, l16 = 0, l19 = 0;
+    uint32_t l4 = 0, l7 = 0, l8 = 0, l9 = 0, l10 = 0, l11 = 0, l12 = 0, l13 = 0, l14 = 0, l15 = 0, l16 = 0, l19 = 0, t1, t2, t3, t4;
     uint64_t l3 = 0, l5 = 0, l6 = 0, l17 = 0, l18 = 0, l20 = 0;
     l3 = sp - 208ull;
     sp = l3;
@@ -469,7 +469,7 @@ L20:;
     if ((l13 & 255u) != 100u) goto L28;
     if ((l16 & 255u) != 97u) goto L28;
     if ((l12 & 255u) != 97u) goto L28;
-    const uint32_t t1 = f5_groups_equal(l18, 4ull, DATA(8));
+    t1 = f5_groups_equal(l18, 4ull, DATA(8));
     if (t1 == 0) goto L28;
     if ((l10 & 255u) != 0) goto L25;
     l15 = 3u;
@@ -489,7 +489,7 @@ L26:;
     if ((l13 & 255u) != 102u) goto L24;
     if ((l16 & 255u) != 109u) goto L24;
     if ((l12 & 255u) != 32u) goto L24;
-    const uint32_t t2 = f5_groups_equal(l18, 4ull, DATA(12));
+    t2 = f5_groups_equal(l18, 4ull, DATA(12));
     if (t2 == 0) goto L24;
     store16(l3 + 96, load16(l3 + 48));
     store64(l3 + 88, load64(l3 + 40));
@@ -551,7 +551,7 @@ L31:;
     if ((l13 & 255u) != 100u) goto L38;
     if ((l16 & 255u) != 97u) goto L38;
     if ((l12 & 255u) != 97u) goto L38;
-    const uint32_t t3 = f5_groups_equal(l20, 4ull, DATA(8));
+    t3 = f5_groups_equal(l20, 4ull, DATA(8));
     if (t3 == 0) goto L38;
     if ((l10 & 255u) != 0) goto L35;
     l15 = 3u;
@@ -571,7 +571,7 @@ L36:;
     if ((l13 & 255u) != 102u) goto L34;
     if ((l16 & 255u) != 109u) goto L34;
     if ((l12 & 255u) != 32u) goto L34;
-    const uint32_t t4 = f5_groups_equal(l20, 4ull, DATA(12));
+    t4 = f5_groups_equal(l20, 4ull, DATA(12));
     if (t4 == 0) goto L34;
     store16(l3 + 96, load16(l3 + 48));
     store64(l3 + 88, load64(l3 + 40));
@@ -747,7 +747,7 @@ L1:;
 
 /* hound_walk::chunks::read_riff_header::<#eb3ec3a834a989ad> */
 static void f4_read_riff_header(uint64_t sp, uint64_t l0, uint64_t l1) {
-    uint32_t l13 = 0;
+    uint32_t l13 = 0, t1, t2;
     uint64_t l2 = 0, l3 = 0, l4 = 0, l5 = 0, l6 = 0, l7 = 0, l8 = 0, l9 = 0, l10 = 0, l11 = 0, l12 = 0;
     l2 = sp - 16ull;
     sp = l2;
@@ -817,7 +817,7 @@ L3:;
     if ((load8(l3 + 13) & 255u) != 73u) goto L14;
     if ((load8(l3 + 14) & 255u) != 70u) goto L14;
     if ((load8(l3 + 15) & 255u) != 70u) goto L14;
-    const uint32_t t1 = f5_groups_equal(l3 + 12ull, 4ull, DATA(0));
+    t1 = f5_groups_equal(l3 + 12ull, 4ull, DATA(0));
     if (t1 != 0) goto L13;
 L14:;
     store64(l0, 1ull);
@@ -888,7 +888,7 @@ L15:;
     if ((load8(l3 + 5) & 255u) != 65u) goto L26;
     if ((load8(l3 + 6) & 255u) != 86u) goto L26;
     if ((load8(l3 + 7) & 255u) != 69u) goto L26;
-    const uint32_t t2 = f5_groups_equal(l3 | 4ull, 4ull, DATA(4));
+    t2 = f5_groups_equal(l3 | 4ull, 4ull, DATA(4));
     if (t2 != 0) goto L25;
 L26:;
     store64(l0, 1ull);
@@ -909,15 +909,15 @@ L1:;
 
 /* core::cmp::slices::groups_equal::<i8,31'core::cmp::numbers::U8PartialEq{}> */
 static uint32_t f5_groups_equal(uint64_t l0, uint64_t l1, uint64_t l2) {
-    uint32_t l4 = 0;
+    uint32_t l4 = 0, t1, t2, t3;
     uint64_t l3 = 0, l5 = 0, l6 = 0, l7 = 0, l8 = 0, l9 = 0, l10 = 0;
     if (l1 > 8ull) goto L4;
     l3 = l1 - 4ull;
-    const uint32_t t1 = (uint32_t)(load8(l0 + l3) != load8(l2 + l3));
+    t1 = (uint32_t)(load8(l0 + l3) != load8(l2 + l3));
     l3 = l1 - 3ull;
-    const uint32_t t2 = t1 | (uint32_t)(load8(l0 + l3) != load8(l2 + l3));
+    t2 = t1 | (uint32_t)(load8(l0 + l3) != load8(l2 + l3));
     l3 = l1 - 2ull;
-    const uint32_t t3 = t2 | (uint32_t)(load8(l0 + l3) != load8(l2 + l3));
+    t3 = t2 | (uint32_t)(load8(l0 + l3) != load8(l2 + l3));
     l3 = l1 - 1ull;
     l4 = ((((uint32_t)(load8(l0) != load8(l2)) | (uint32_t)(load8(l0 + 1ull) != load8(l2 + 1ull))) | (uint32_t)(load8(l0 + 2ull) != load8(l2 + 2ull))) | (uint32_t)(load8(l0 + 3ull) != load8(l2 + 3ull))) | (t3 | (uint32_t)(load8(l0 + l3) != load8(l2 + l3)));
     goto L1;
@@ -988,7 +988,7 @@ L1:;
 
 /* hound_walk::fmt::read_fmt_chunk::<#eb3ec3a834a989ad> */
 static void f6_read_fmt_chunk(uint64_t sp, uint64_t l0, uint64_t l1, uint32_t l2) {
-    uint32_t l10 = 0, l11 = 0, l12 = 0, l13 = 0, l14 = 0, l16 = 0;
+    uint32_t l10 = 0, l11 = 0, l12 = 0, l13 = 0, l14 = 0, l16 = 0, t1, t2;
     uint64_t l3 = 0, l4 = 0, l5 = 0, l6 = 0, l7 = 0, l8 = 0, l9 = 0, l15 = 0, l17 = 0, l18 = 0, l19 = 0, l20 = 0, l21 = 0, l22 = 0, l23 = 0;
     l3 = sp - 288ull;
     sp = l3;
@@ -1368,14 +1368,14 @@ L62:;
     l10 = load8(l4 + 270);
     if (l10 != 1u) goto L74;
     if ((l2 & 255u) != 0) goto L74;
-    const uint32_t t1 = f5_groups_equal(l3, 16ull, DATA(16));
+    t1 = f5_groups_equal(l3, 16ull, DATA(16));
     if (t1 == 0) goto L72;
     l10 = 1u;
     goto L73;
 L74:;
     if (l10 != 3u) goto L72;
     if ((l2 & 255u) != 0) goto L72;
-    const uint32_t t2 = f5_groups_equal(l3, 16ull, DATA(32));
+    t2 = f5_groups_equal(l3, 16ull, DATA(32));
     if (t2 == 0) goto L72;
     l10 = 0u;
 L73:;
@@ -3207,7 +3207,7 @@ L1:;
 
 /* hound_repair::steps::take_asked */
 static void f19_take_asked(uint64_t sp, uint64_t l0, uint64_t l1, uint32_t l2, uint64_t l3, uint64_t l4, uint64_t l5) {
-    uint32_t l7 = 0, l8 = 0, l11 = 0, l12 = 0, l17 = 0, l18 = 0, l19 = 0, l20 = 0, l21 = 0, l22 = 0, l29 = 0, l30 = 0, l31 = 0, l32 = 0, l33 = 0, l34 = 0;
+    uint32_t l7 = 0, l8 = 0, l11 = 0, l12 = 0, l17 = 0, l18 = 0, l19 = 0, l20 = 0, l21 = 0, l22 = 0, l29 = 0, l30 = 0, l31 = 0, l32 = 0, l33 = 0, l34 = 0, t1, t2, t3, t4;
     uint64_t l6 = 0, l9 = 0, l10 = 0, l13 = 0, l14 = 0, l15 = 0, l16 = 0, l23 = 0, l24 = 0, l25 = 0, l26 = 0, l27 = 0, l28 = 0;
     l6 = sp - 528ull;
     sp = l6;
@@ -3301,7 +3301,7 @@ L28:;
     if ((l8 & 255u) != 100u) goto L32;
     if ((l20 & 255u) != 97u) goto L32;
     if ((l19 & 255u) != 97u) goto L32;
-    const uint32_t t1 = f5_groups_equal(l4, 4ull, DATA(8));
+    t1 = f5_groups_equal(l4, 4ull, DATA(8));
     if (t1 == 0) goto L32;
     if ((l7 & 255u) != 0) goto L24;
     goto L6;
@@ -3313,7 +3313,7 @@ L32:;
     if ((l8 & 255u) != 102u) goto L20;
     if ((l20 & 255u) != 109u) goto L20;
     if ((l19 & 255u) != 32u) goto L20;
-    const uint32_t t2 = f5_groups_equal(l4, 4ull, DATA(12));
+    t2 = f5_groups_equal(l4, 4ull, DATA(12));
     if (t2 == 0) goto L20;
     goto L10;
 L27:;
@@ -3349,7 +3349,7 @@ L25:;
     if ((l8 & 255u) != 100u) goto L23;
     if ((l20 & 255u) != 97u) goto L23;
     if ((l19 & 255u) != 97u) goto L23;
-    const uint32_t t3 = f5_groups_equal(l16, 4ull, DATA(8));
+    t3 = f5_groups_equal(l16, 4ull, DATA(8));
     if (t3 == 0) goto L23;
     if ((l7 & 255u) == 0) goto L6;
 L24:;
@@ -3369,7 +3369,7 @@ L23:;
     if ((l8 & 255u) != 102u) goto L34;
     if ((l20 & 255u) != 109u) goto L34;
     if ((l19 & 255u) != 32u) goto L34;
-    const uint32_t t4 = f5_groups_equal(l16, 4ull, DATA(12));
+    t4 = f5_groups_equal(l16, 4ull, DATA(12));
     if (t4 != 0) goto L10;
 L34:;
     l12 = l2 + (l18 & 1u);
@@ -5205,7 +5205,7 @@ L1:;
 /* rattle::export hound_decode_f32 */
 static uint64_t f34_hound_decode_f32(uint64_t sp, uint64_t l0, uint64_t l1, uint64_t l2, uint64_t l3, uint64_t l4) {
     uint32_t l6 = 0, l7 = 0, l8 = 0, l9 = 0, l10 = 0;
-    uint64_t l5 = 0;
+    uint64_t l5 = 0, t1;
     l5 = sp - 16ull;
     sp = l5;
     l6 = load16(l0 + 10);
@@ -5234,7 +5234,7 @@ L6:;
 L5:;
     if ((l7 & 65535u) != 32u) goto L2;
     if (l10 != 4u) goto L2;
-    const uint64_t t1 = f14_decode_front(l5, l1 + (l1 == 0 ? 4096ull : 0ull), l2, l3 + (l3 == 0 ? 4096ull : 0ull), l4);
+    t1 = f14_decode_front(l5, l1 + (l1 == 0 ? 4096ull : 0ull), l2, l3 + (l3 == 0 ? 4096ull : 0ull), l4);
     l0 = t1;
     goto L1;
     TRAP();
@@ -5247,7 +5247,7 @@ L1:;
 /* rattle::export hound_decode_i16 */
 static uint64_t f36_hound_decode_i16(uint64_t sp, uint64_t l0, uint64_t l1, uint64_t l2, uint64_t l3, uint64_t l4) {
     uint32_t l6 = 0, l7 = 0, l8 = 0, l9 = 0, l10 = 0;
-    uint64_t l5 = 0;
+    uint64_t l5 = 0, t1;
     l5 = sp - 16ull;
     sp = l5;
     l6 = load16(l0 + 10);
@@ -5277,7 +5277,7 @@ L5:;
     if (((uint32_t)(l6 == 8u) & (uint32_t)(l10 == 1u)) != 0) goto L7;
     if (((uint32_t)(l6 == 16u) & (uint32_t)(l10 == 2u)) == 0) goto L2;
 L7:;
-    const uint64_t t1 = f15_decode_front(l5, l1 + (l1 == 0 ? 4096ull : 0ull), l2, l3 + (l3 == 0 ? 4096ull : 0ull), l4);
+    t1 = f15_decode_front(l5, l1 + (l1 == 0 ? 4096ull : 0ull), l2, l3 + (l3 == 0 ? 4096ull : 0ull), l4);
     l0 = t1;
     goto L1;
     TRAP();
@@ -5290,7 +5290,7 @@ L1:;
 /* rattle::export hound_decode_i32 */
 static uint64_t f38_hound_decode_i32(uint64_t sp, uint64_t l0, uint64_t l1, uint64_t l2, uint64_t l3, uint64_t l4) {
     uint32_t l6 = 0, l7 = 0, l8 = 0, l9 = 0, l10 = 0;
-    uint64_t l5 = 0;
+    uint64_t l5 = 0, t1;
     l5 = sp - 16ull;
     sp = l5;
     l6 = load16(l0 + 10);
@@ -5319,7 +5319,7 @@ L4:;
     if (((uint32_t)(l7 == 24u) & (uint32_t)(l10 > 2u)) != 0) goto L6;
     if (((uint32_t)(l7 == 32u) & (uint32_t)(l10 == 4u)) == 0) goto L5;
 L6:;
-    const uint64_t t1 = f16_decode_front(l5, l1 + (l1 == 0 ? 4096ull : 0ull), l2, l3 + (l3 == 0 ? 4096ull : 0ull), l4);
+    t1 = f16_decode_front(l5, l1 + (l1 == 0 ? 4096ull : 0ull), l2, l3 + (l3 == 0 ? 4096ull : 0ull), l4);
     l0 = t1;
     goto L1;
 L5:;
@@ -6472,7 +6472,7 @@ L1:;
 static uint64_t f52_hound_from_f32(uint64_t l0, uint64_t l1, uint32_t l2, uint64_t l3, uint64_t l4, uint64_t l5) {
     uint64_t l6 = 0, l7 = 0, l8 = 0, l16 = 0, l21 = 0, l22 = 0;
     float l17 = 0;
-    double l9 = 0, l10 = 0, l11 = 0, l12 = 0, l13 = 0, l14 = 0, l15 = 0, l18 = 0, l19 = 0, l20 = 0;
+    double l9 = 0, l10 = 0, l11 = 0, l12 = 0, l13 = 0, l14 = 0, l15 = 0, l18 = 0, l19 = 0, l20 = 0, t1;
     if (((l2 - 33u) & 65535u) >= 65504u) goto L2;
     return 0xfffffffffffffffbull;
 L2:;
@@ -6500,7 +6500,7 @@ L4:;
     l16 = l1;
 L5:;
     l17 = load_f32(l0);
-    const double t1 = (double)l17;
+    t1 = (double)l17;
     l18 = l9 * (l17 != l17 ? f64_of(0x7ff8000000000000ull) : t1);
     l19 = l18;
     l19 = l19 < l15 ? neg_f64(l18) : (l19 == l15 ? (0.0) : l18);
@@ -6816,7 +6816,7 @@ L2:;
 /* rattle::export hound_read_f32 */
 static uint64_t f62_hound_read_f32(uint64_t sp, uint64_t l0, uint64_t l1, uint64_t l2, uint64_t l3, uint64_t l4) {
     uint32_t l7 = 0, l8 = 0;
-    uint64_t l5 = 0, l6 = 0, l9 = 0, l10 = 0;
+    uint64_t l5 = 0, l6 = 0, l9 = 0, l10 = 0, t1;
     l5 = sp - 48ull;
     sp = l5;
     store64(l5 + 40, 0ull);
@@ -6846,7 +6846,7 @@ L12:;
     l10 = load64(l5 + 32);
     l0 = (l1 - l10) >> 2;
     if (l0 <= l2) goto L8;
-    const uint64_t t1 = f14_decode_front(l5 + 8ull, (l6 + l10) + (l2 << 2), ((l0 < l9 ? l0 : l9) - l2) << 2, l3 + (l3 == 0 ? 4096ull : 0ull), l4);
+    t1 = f14_decode_front(l5 + 8ull, (l6 + l10) + (l2 << 2), ((l0 < l9 ? l0 : l9) - l2) << 2, l3 + (l3 == 0 ? 4096ull : 0ull), l4);
     l0 = t1;
     goto L1;
 L11:;
@@ -6908,7 +6908,7 @@ L1:;
 /* rattle::export hound_read_i16 */
 static uint64_t f64_hound_read_i16(uint64_t sp, uint64_t l0, uint64_t l1, uint64_t l2, uint64_t l3, uint64_t l4) {
     uint32_t l7 = 0, l8 = 0, l9 = 0;
-    uint64_t l5 = 0, l6 = 0, l10 = 0, l11 = 0;
+    uint64_t l5 = 0, l6 = 0, l10 = 0, l11 = 0, t1;
     l5 = sp - 48ull;
     sp = l5;
     store64(l5 + 40, 0ull);
@@ -6942,7 +6942,7 @@ L14:;
     l0 = ((uint64_t)l8) & 65535ull;
     l1 = div64((l1 - l11), l0);
     if (l1 <= l2) goto L8;
-    const uint64_t t1 = f15_decode_front(l5 + 8ull, (l6 + l11) + (l2 * l0), ((l1 < l10 ? l1 : l10) - l2) * l0, l3 + (l3 == 0 ? 4096ull : 0ull), l4);
+    t1 = f15_decode_front(l5 + 8ull, (l6 + l11) + (l2 * l0), ((l1 < l10 ? l1 : l10) - l2) * l0, l3 + (l3 == 0 ? 4096ull : 0ull), l4);
     l0 = t1;
     goto L1;
 L11:;
@@ -7004,7 +7004,7 @@ L1:;
 /* rattle::export hound_read_i32 */
 static uint64_t f66_hound_read_i32(uint64_t sp, uint64_t l0, uint64_t l1, uint64_t l2, uint64_t l3, uint64_t l4) {
     uint32_t l7 = 0, l8 = 0, l9 = 0, l12 = 0;
-    uint64_t l5 = 0, l6 = 0, l10 = 0, l11 = 0;
+    uint64_t l5 = 0, l6 = 0, l10 = 0, l11 = 0, t1;
     l5 = sp - 48ull;
     sp = l5;
     store64(l5 + 40, 0ull);
@@ -7038,7 +7038,7 @@ L13:;
     l0 = ((uint64_t)l8) & 65535ull;
     l1 = div64((l1 - l11), l0);
     if (l1 <= l2) goto L8;
-    const uint64_t t1 = f16_decode_front(l5 + 8ull, (l6 + l11) + (l2 * l0), ((l1 < l10 ? l1 : l10) - l2) * l0, l3 + (l3 == 0 ? 4096ull : 0ull), l4);
+    t1 = f16_decode_front(l5 + 8ull, (l6 + l11) + (l2 * l0), ((l1 < l10 ? l1 : l10) - l2) * l0, l3 + (l3 == 0 ? 4096ull : 0ull), l4);
     l0 = t1;
     goto L1;
 L12:;
@@ -8862,7 +8862,7 @@ static uint32_t f98_hound_value_8(uint32_t l0) {
 
 /* rattle::export hound_walk_next */
 static uint32_t f102_hound_walk_next(uint64_t sp, uint64_t l0, uint64_t l1) {
-    uint32_t l4 = 0, l5 = 0, l6 = 0, l7 = 0, l8 = 0, l9 = 0, l10 = 0, l11 = 0, l12 = 0, l13 = 0, l14 = 0, l15 = 0, l16 = 0, l17 = 0, l18 = 0;
+    uint32_t l4 = 0, l5 = 0, l6 = 0, l7 = 0, l8 = 0, l9 = 0, l10 = 0, l11 = 0, l12 = 0, l13 = 0, l14 = 0, l15 = 0, l16 = 0, l17 = 0, l18 = 0, t1, t2, t3, t4;
     uint64_t l2 = 0, l3 = 0, l19 = 0;
     l2 = sp - 128ull;
     sp = l2;
@@ -9029,7 +9029,7 @@ L31:;
     if ((l8 & 255u) != 100u) goto L32;
     if ((l5 & 255u) != 97u) goto L32;
     if ((l16 & 255u) != 97u) goto L32;
-    const uint32_t t1 = f5_groups_equal(l19, 4ull, DATA(8));
+    t1 = f5_groups_equal(l19, 4ull, DATA(8));
     if (t1 == 0) goto L32;
     if (l9 != 0) goto L25;
     goto L15;
@@ -9041,7 +9041,7 @@ L32:;
     if ((l8 & 255u) != 102u) goto L33;
     if ((l5 & 255u) != 109u) goto L33;
     if ((l16 & 255u) != 32u) goto L33;
-    const uint32_t t2 = f5_groups_equal(l19, 4ull, DATA(12));
+    t2 = f5_groups_equal(l19, 4ull, DATA(12));
     if (t2 != 0) goto L21;
 L33:;
     l8 = l7 + (l18 & 1u);
@@ -9065,7 +9065,7 @@ L26:;
     if ((l8 & 255u) != 100u) goto L24;
     if ((l5 & 255u) != 97u) goto L24;
     if ((l16 & 255u) != 97u) goto L24;
-    const uint32_t t3 = f5_groups_equal(l19, 4ull, DATA(8));
+    t3 = f5_groups_equal(l19, 4ull, DATA(8));
     if (t3 == 0) goto L24;
     if (l9 == 0) goto L15;
 L25:;
@@ -9079,7 +9079,7 @@ L24:;
     if ((l8 & 255u) != 102u) goto L34;
     if ((l5 & 255u) != 109u) goto L34;
     if ((l16 & 255u) != 32u) goto L34;
-    const uint32_t t4 = f5_groups_equal(l19, 4ull, DATA(12));
+    t4 = f5_groups_equal(l19, 4ull, DATA(12));
     if (t4 != 0) goto L21;
 L34:;
     l8 = l7 + (l18 & 1u);
@@ -9231,7 +9231,7 @@ L1:;
 
 /* rattle::export hound_walk_to_end */
 static uint32_t f104_hound_walk_to_end(uint64_t sp, uint64_t l0, uint64_t l1) {
-    uint32_t l4 = 0, l5 = 0, l6 = 0, l7 = 0, l8 = 0, l9 = 0, l10 = 0, l11 = 0, l12 = 0, l13 = 0, l14 = 0, l15 = 0, l16 = 0, l17 = 0, l18 = 0, l20 = 0, l21 = 0;
+    uint32_t l4 = 0, l5 = 0, l6 = 0, l7 = 0, l8 = 0, l9 = 0, l10 = 0, l11 = 0, l12 = 0, l13 = 0, l14 = 0, l15 = 0, l16 = 0, l17 = 0, l18 = 0, l20 = 0, l21 = 0, t1, t2, t3, t4;
     uint64_t l2 = 0, l3 = 0, l19 = 0;
     l2 = sp - 128ull;
     sp = l2;
@@ -9400,7 +9400,7 @@ L31:;
     if ((l5 & 255u) != 100u) goto L32;
     if ((l16 & 255u) != 97u) goto L32;
     if ((l17 & 255u) != 97u) goto L32;
-    const uint32_t t1 = f5_groups_equal(l19, 4ull, DATA(8));
+    t1 = f5_groups_equal(l19, 4ull, DATA(8));
     if (t1 == 0) goto L32;
     if (l9 != 0) goto L25;
     goto L2;
@@ -9413,7 +9413,7 @@ L32:;
     if ((l5 & 255u) != 102u) goto L33;
     if ((l16 & 255u) != 109u) goto L33;
     if ((l17 & 255u) != 32u) goto L33;
-    const uint32_t t2 = f5_groups_equal(l19, 4ull, DATA(12));
+    t2 = f5_groups_equal(l19, 4ull, DATA(12));
     if (t2 != 0) goto L21;
 L33:;
     l8 = l7 + (l8 & 1u);
@@ -9439,7 +9439,7 @@ L26:;
     if ((l5 & 255u) != 100u) goto L24;
     if ((l16 & 255u) != 97u) goto L24;
     if ((l17 & 255u) != 97u) goto L24;
-    const uint32_t t3 = f5_groups_equal(l19, 4ull, DATA(8));
+    t3 = f5_groups_equal(l19, 4ull, DATA(8));
     if (t3 == 0) goto L24;
     if (l9 == 0) goto L2;
 L25:;
@@ -9454,7 +9454,7 @@ L24:;
     if ((l5 & 255u) != 102u) goto L34;
     if ((l16 & 255u) != 109u) goto L34;
     if ((l17 & 255u) != 32u) goto L34;
-    const uint32_t t4 = f5_groups_equal(l19, 4ull, DATA(12));
+    t4 = f5_groups_equal(l19, 4ull, DATA(12));
     if (t4 != 0) goto L21;
 L34:;
     l8 = l7 + (l8 & 1u);
