@@ -474,12 +474,16 @@ function summary({ found, says, chunks }) {
   return `was cut off${chunks ? `, and seems to end in a ${chunks.name} chunk: look at it` : ""}`;
 }
 
+/** Why a file of the table can't be read. */
+function shortReason({ code, kind, message }) {
+  return `${kind ?? (WITHOUT_BEGINNING.includes(code) ? "its beginning may be lost" : message)}: look at it`;
+}
+
 /** Adds a file to the table, and returns its repaired form, if there is one. */
 async function listed(file, isCurrent) {
   const seen = await judged(file, false).catch((error) => ({ error }));
   if (!isCurrent()) return null;
-  const texts = seen.error ? ["", `${seen.error.kind ?? seen.error.message}: look at it`] :
-    [time(lengthOfTime(seen.found)), summary(seen)];
+  const texts = seen.error ? ["", shortReason(seen.error)] : [time(lengthOfTime(seen.found)), summary(seen)];
   const cells = ["", ...texts].map((textContent) => Object.assign(document.createElement("td"), { textContent }));
   const row = document.createElement("tr"), button = document.createElement("button");
   Object.assign(button, { type: "button", textContent: file.name, onclick: () => open(file) });
