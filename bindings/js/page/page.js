@@ -109,9 +109,9 @@ function verdict(found, { rest, mayBeSound }, toEnd, chunks) {
   const ofThese = before > frames ? `; its header counted ${number(before)}` :
     `, of which its header counted ${before ? number(before) : "none"}`;
   const back = `${framesOf(found)} come${frames === 1 ? "s" : ""} back${ofThese}.${left}`;
-  const says = chunks ? ` ${chunksText(chunks)}` : "";
+  const says = chunks ? ` ${chunksText(chunks)}` : "", press = 'press "End it where the player is".';
   return [`${cause} ${back}${says}\n` +
-    `Listen to its end: if ${AFTER_IT} is there, stop the player before that, and end it where the player is.`, "cut"];
+    `Listen to its end: if ${AFTER_IT} is there, stop the player before that, and ${press}`, "cut"];
 }
 
 /** The second choice where chunks or a tag follow the sound: what it is, and its button. */
