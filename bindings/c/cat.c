@@ -54,6 +54,13 @@ static int fail(const char *why) {
     return 1;
 }
 
+/* The sentence of an error. Where the data length is wrong it says what reads the samples all the same. */
+static const char *text_of(int32_t code) {
+    int is_wrong = code == HOUND_TRUNCATED || code == HOUND_DATA_LENGTH || code == HOUND_FRAME_LENGTH;
+    if (!is_wrong) return hound_error_text(code);
+    return "the header counts other samples than there are: --to-end reads them, and repair mends a file";
+}
+
 /* Names what the input is that isn't read. Its fmt chunk may begin after the last byte that was read. */
 static int fail_by_kind(const char *otherwise) {
     static uint8_t fmt[64];
@@ -75,7 +82,7 @@ static int copy(const hound_info_t *info, int to_end, int as_floats) {
         if (fwrite(&out, 1, (size_t)length, stdout) != (size_t)length || (got < wanted && fflush(stdout)))
             return fail("writing failed");
         if (got < wanted && ferror(stdin)) return fail("reading failed");
-        if (got < wanted && !to_end) return fail(hound_error_text(HOUND_TRUNCATED));
+        if (got < wanted && !to_end) return fail(text_of(HOUND_TRUNCATED));
         if (got < wanted)
             return hound_whole_frames(spec, got) == (int64_t)got ? 0 : fail("the last bytes are no whole frame");
         left -= got;
@@ -94,5 +101,5 @@ int main(int argc, char **argv) {
     hound_file_set_binary(0), hound_file_set_binary(1);
     int32_t code = find_data(&info, to_end);
     if (ferror(stdin)) return fail("reading failed");
-    return code < 0 ? fail_by_kind(hound_error_text(code)) : copy(&info, to_end, as_floats);
+    return code < 0 ? fail_by_kind(text_of(code)) : copy(&info, to_end, as_floats);
 }

@@ -219,7 +219,9 @@ typedef struct {
 /* A sentence for an error of the last call, without its full stop. */
 static inline const char *hound_file_text(const hound_file *file, int32_t code) {
     switch (file->fault) {
-    case 0: return hound_error_text(code);
+    case 0:
+        if (code == HOUND_OTHER_FORMAT) return "the file has samples of another rate, format or number of channels";
+        return hound_error_text(code);
     case EWOULDBLOCK: return "another program records to this file or repairs it";
     case ESPIPE: return "this is no regular file";
     case EBADF: return "the file isn't open to read and write at a place: open it with O_RDWR, without O_APPEND (>>)";
@@ -403,6 +405,26 @@ static inline int32_t hound_file_append(hound_file *file, const char *path, uint
     if (code == 0) code = hound_recorder_resume(found, allowed, &file->recorder);
     file->counted = found->data_length;
     return code < 0 ? hound_file_give_up(file, path, 0, code) : 0;
+}
+
+/* Goes on with the recording at a path, whatever is there: one that was cut off is repaired first, by the first
+   checkpoint, and where no file is, or one without bytes, as a kill before the header leaves it, a new one begins.
+   `found` is what was there; in a new file its state is whole, and all else 0. A file of another spec is
+   HOUND_OTHER_FORMAT, and stays as it is. So does one that chunks follow, or whose header isn't all there. */
+static inline int32_t hound_file_continue(hound_file *file, const char *path, const hound_spec *spec, int is_durable,
+                                          hound_repair_t *found) {
+    const hound_spec *held = &found->spec;
+    int32_t code = hound_file_append(file, path, HOUND_MEND, is_durable, found);
+    if (code == HOUND_ENDED || (code < 0 && file->fault == ENOENT)) {
+        memset(found, 0, sizeof *found);
+        code = hound_file_create(file, path, spec, is_durable, HOUND_FILE_IF_EMPTY);
+        if (file->fault == EEXIST) file->fault = 0, code = HOUND_ENDED;
+    } else if (code == 0
+               && (held->sample_rate != spec->sample_rate || held->channels != spec->channels
+                   || held->bits_per_sample != spec->bits_per_sample || held->sample_format != spec->sample_format
+                   || (spec->bytes_per_sample != 0 && held->bytes_per_sample != spec->bytes_per_sample)))
+        code = hound_file_give_up(file, path, 0, HOUND_OTHER_FORMAT);
+    return code;
 }
 
 /* Makes the header count all samples. */

@@ -1,11 +1,11 @@
 /* Records PCM from standard input: little-endian, with 8 bits (unsigned), 16, 24 in three bytes, or 32, as from
    arecord. After every so many frames a checkpoint makes the header count all samples, and prints how many they are. If
    the program is killed, the file has those. A file that exists is rejected; --append continues after all that it
-   holds, and begins one without bytes anew, as a kill before the header leaves it; --overwrite empties it. No other
-   program that asks for a lock (flock; LockFileEx on Windows), as repair.c does, writes it meanwhile. With --durable a
-   sync is an fsync (_commit): then the file has its checkpoints after a loss of power, too, but Windows may lose the
-   name of a new one. Without it a sync does nothing, since what was written is with the system. After an error the
-   program continues, and prints how many samples were lost; why, it says on standard error.
+   holds, and begins one that is missing, or without bytes, as a kill before the header leaves it; --overwrite empties
+   it. No other program that asks for a lock (flock; LockFileEx on Windows), as repair.c does, writes it meanwhile. With
+   --durable a sync is an fsync (_commit): then the file has its checkpoints after a loss of power, too, but Windows may
+   lose the name of a new one. Without it a sync does nothing, since what was written is with the system. After an error
+   the program continues, and prints how many samples were lost; why, it says on standard error.
      cc -Ibindings/c bindings/c/record.c bindings/lib/x86_64-linux/libhound_c.a -o record
      arecord -t raw -f S16_LE -r 48000 -c 2 | ./record take.wav 48000 2 16 240000 --durable */
 #include "hound_file.h"
@@ -26,20 +26,10 @@ static int32_t said(int32_t code) {
     return code;
 }
 
-static int32_t begin(const char *path, const hound_spec *spec, int is_durable, int is_appended, int is_overwritten) {
-    hound_repair_t found;
-    if (!is_appended) return hound_file_create(&file, path, spec, is_durable, is_overwritten);
-    int32_t code = hound_file_append(&file, path, HOUND_MEND, is_durable, &found);
-    if (code == HOUND_ENDED) {
-        code = hound_file_create(&file, path, spec, is_durable, HOUND_FILE_IF_EMPTY);
-        if (file.fault == EEXIST) file.fault = 0, code = HOUND_ENDED;
-    } else if (code == 0 && memcmp(&found.spec, spec, sizeof *spec)) stop("the file has samples of another kind");
-    return code;
-}
-
 int main(int argc, char **argv) {
     static uint8_t block[1 << 17];
     char room[HOUND_FILE_SENTENCE];
+    hound_repair_t found;
     static const char usage[] = "usage: record FILE RATE CHANNELS BITS FRAMES [--durable] [--append | --overwrite]";
     uint64_t numbers[4] = {0}, most[4] = {UINT32_MAX, UINT16_MAX, 32, UINT32_MAX};
     int is_durable = 0, is_appended = 0, is_overwritten = 0, fault;
@@ -54,7 +44,8 @@ int main(int argc, char **argv) {
     if (argc < 6 || every == 0 || (is_appended && is_overwritten)) stop(usage);
     hound_spec spec = {(uint32_t)numbers[0], (uint16_t)numbers[1], (uint16_t)numbers[2],
                        (uint16_t)((numbers[2] + 7) / 8), HOUND_INT};
-    int32_t code = begin(argv[1], &spec, is_durable, is_appended, is_overwritten);
+    int32_t code = is_appended ? hound_file_continue(&file, argv[1], &spec, is_durable, &found)
+                               : hound_file_create(&file, argv[1], &spec, is_durable, is_overwritten);
     if (file.fault == EEXIST) stop("the file exists: --append continues it, --overwrite empties it");
     if (code == HOUND_UNFINISHED_FRAME) stop("the header counts a part of a frame: repair the file first");
     if (code < 0) stop(hound_file_reason(&file, code, room));

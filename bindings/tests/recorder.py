@@ -60,6 +60,9 @@ WRONG = {
         'if (code == HOUND_UNFINISHED_FRAME) stop("the header counts a part of a frame: repair the file first");',
         "",
     ),
+    "samples of another rate are appended": ("held->sample_rate != spec->sample_rate || ", ""),
+    "samples of other channels are appended": ("held->channels != spec->channels", "0"),
+    "a missing file isn't begun": ("|| (code < 0 && file->fault == ENOENT)", ""),
     "a rest of a block isn't reported": (
         'if (file.has_rest) complain("a part of a block that was lost stays in the file");',
         "",
@@ -78,7 +81,7 @@ WRONG = {
         "effect->report = HOUND_DONE;",
     ),
     "a recording that was cut off is overwritten": ("HOUND_MEND, is_durable", "HOUND_OVERWRITE, is_durable"),
-    "an empty file isn't begun anew": ("if (code == HOUND_ENDED) {", "if (0) {"),
+    "an empty file isn't begun anew": ("if (code == HOUND_ENDED || ", "if ("),
     "a file with a part of a header is emptied": ("is_emptied == HOUND_FILE_IF_EMPTY && held > 0", "0"),
     "chunks after the data are overwritten": ("HOUND_MEND, is_durable", "HOUND_MEND | HOUND_OVERWRITE, is_durable"),
 }
@@ -328,7 +331,24 @@ def killed_before_the_header(record, path):
         expect("a file with a cut header changes", contents_of(path) == whole[:length])
     os.remove(path)
     ran = run([record, path, *SHAPE, "--append"])
-    expect("a missing file is made", is_rejected(ran, b"No such file") and not os.path.exists(path))
+    expect("a missing file isn't begun", ran.returncode == 0 and contents_of(path) == whole)
+    ran = run([record, os.path.join(path, "file"), *SHAPE, "--append"])
+    expect("a file is made in a file", is_rejected(ran, b"Not a directory"))
+    ran = run([record, os.path.join(os.path.dirname(path), "none", "file"), *SHAPE, "--append"])
+    expect("a folder that is missing is made", is_rejected(ran, b"No such file"))
+
+
+def another_spec(record, path):
+    run([record, path, *SHAPE], DATA[:400])
+    before = contents_of(path)
+    for shape in ["44100", "2", "16", "100"], ["48000", "1", "16", "100"], ["48000", "2", "8", "100"]:
+        said = b"the file has samples of another rate, format or number of channels"
+        expect("samples of another spec are appended", is_rejected(run([record, path, *shape, "--append"]), said))
+        expect("a file of another spec changes", contents_of(path) == before)
+    with open(path, "wb") as file:
+        file.write(before[:40] + bytes(4) + before[44:])
+    expect("another spec is repaired", run([record, path, "8000", *SHAPE[1:], "--append"]).returncode == 1)
+    expect("a file of another spec is repaired", contents_of(path) == before[:40] + bytes(4) + before[44:])
 
 
 def not_appended(record, path):
@@ -363,6 +383,7 @@ CHECKS = [
     failing_cut,
     failing_header,
     killed_before_the_header,
+    another_spec,
     not_appended,
     closed_streams,
     replaced,

@@ -1,8 +1,8 @@
 #!/usr/bin/env python3
-"""Translates hound_c.wasm, the proved module for a memory of 64 bits, into one C99 file that has the functions of
-hound.h, for computers that bindings/lib has no library for. It is trusted: a mistake here is one in that file. So it
-only knows what that module has, and rejects everything else; module.py reads the module, and addresses.py looks that
-nothing in it depends on where memory is.
+"""Translates hound_c.wasm, the proved module for a memory of 64 bits, into one file of C99, and of C++11, that has the
+functions of hound.h, for computers that bindings/lib has no library for. It is trusted: a mistake here is one in that
+file. So it only knows what that module has, and rejects everything else; module.py reads the module, and addresses.py
+looks that nothing in it depends on where memory is.
 
 usage: convert.py hound_c.wasm hound.h > hound_c.c     (prelude.c, beside it, begins the file)
 
@@ -139,7 +139,7 @@ class Translator:
     def __init__(self, module, function):
         self.module, self.function = module, function
         self.lines, self.values, self.blocks = [], [], []
-        self.labels = self.variables = 0
+        self.labels, self.variables = 0, []  # The types of the variables that values are stored in.
 
     def write(self, line):
         self.lines.append("    " + line)
@@ -159,9 +159,10 @@ class Translator:
         """Stores the values that read this in variables, before it changes; without it, all but constants."""
         for place, value in enumerate(self.values):
             if what in value.reads or what is None and value.number is None and not re.fullmatch(r"t\d+", value.text):
-                self.variables += 1
-                self.write(f"const {C_TYPES[value.type]} t{self.variables} = {value.alone};")
-                self.values[place] = Value(value.type, f"t{self.variables}")
+                self.variables.append(value.type)
+                name = f"t{len(self.variables)}"
+                self.write(f"{name} = {value.alone};")
+                self.values[place] = Value(value.type, name)
 
     def constant(self, code, number):
         is_in_data = self.module.is_in_data(number)
@@ -321,6 +322,8 @@ class Translator:
             own = range(len(function.parameters), len(function.locals))
             own = [number for number in own if function.locals[number] == kind]
             names = [f"l{number} = 0" for number in own if re.search(rf"\bl{number}\b", text)]
+            # In C++ no goto may pass a declaration with a value, so these are all before the first one.
+            names += [f"t{number}" for number, other in enumerate(self.variables, 1) if other == kind]
             declared += [f"    {C_TYPES[kind]} {', '.join(names)};"] if names else []
         return "\n".join([f"/* {function.name} */", signature(function) + " {", *declared, text, "}", ""])
 

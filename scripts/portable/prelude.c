@@ -1,4 +1,4 @@
-/* The functions of hound.h in C99, for computers that bindings/lib has no library for.
+/* The functions of hound.h in C99 (and C++11), for computers that bindings/lib has no library for.
    scripts/portable/convert.py makes this file from the proved module hound_c.wasm, whose sha256 is
    @MODULE@: don't edit it.
      cc -O3 -c bindings/c/hound_c.c

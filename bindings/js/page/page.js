@@ -109,9 +109,9 @@ function verdict(found, { rest, mayBeSound }, toEnd, chunks) {
   const ofThese = before > frames ? `; its header counted ${number(before)}` :
     `, of which its header counted ${before ? number(before) : "none"}`;
   const back = `${framesOf(found)} come${frames === 1 ? "s" : ""} back${ofThese}.${left}`;
-  const says = chunks ? ` ${chunksText(chunks)}` : "";
+  const says = chunks ? ` ${chunksText(chunks)}` : "", press = 'press "End it where the player is".';
   return [`${cause} ${back}${says}\n` +
-    `Listen to its end: if ${AFTER_IT} is there, stop the player before that, and end it where the player is.`, "cut"];
+    `Listen to its end: if ${AFTER_IT} is there, stop the player before that, and ${press}`, "cut"];
 }
 
 /** The second choice where chunks or a tag follow the sound: what it is, and its button. */
@@ -474,12 +474,16 @@ function summary({ found, says, chunks }) {
   return `was cut off${chunks ? `, and seems to end in a ${chunks.name} chunk: look at it` : ""}`;
 }
 
+/** Why a file of the table can't be read. */
+function shortReason({ code, kind, message }) {
+  return `${kind ?? (WITHOUT_BEGINNING.includes(code) ? "its beginning may be lost" : message)}: look at it`;
+}
+
 /** Adds a file to the table, and returns its repaired form, if there is one. */
 async function listed(file, isCurrent) {
   const seen = await judged(file, false).catch((error) => ({ error }));
   if (!isCurrent()) return null;
-  const texts = seen.error ? ["", `${seen.error.kind ?? seen.error.message}: look at it`] :
-    [time(lengthOfTime(seen.found)), summary(seen)];
+  const texts = seen.error ? ["", shortReason(seen.error)] : [time(lengthOfTime(seen.found)), summary(seen)];
   const cells = ["", ...texts].map((textContent) => Object.assign(document.createElement("td"), { textContent }));
   const row = document.createElement("tr"), button = document.createElement("button");
   Object.assign(button, { type: "button", textContent: file.name, onclick: () => open(file) });
