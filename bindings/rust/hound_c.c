@@ -1,6 +1,6 @@
-/* The functions of hound.h in C99, for computers that bindings/lib has no library for.
+/* The functions of hound.h in C99 (and C++11), for computers that bindings/lib has no library for.
    scripts/portable/convert.py makes this file from the proved module hound_c.wasm, whose sha256 is
-   6ae791f53a757d4bee84010c7f9f9eab36d7a1e316c62e915dd75e6528bdf818: don't edit it.
+   71f535f448a2b0ae245a28ec2e60050cabcea5dd7bbb591995c1680d594e3fc7: don't edit it.
      cc -O3 -c bindings/c/hound_c.c
 
    Numbers are the module's: an i32 is a uint32_t, an i64 or an address a uint64_t, and an address is
@@ -172,8 +172,16 @@ int32_t hound_value_8(uint32_t container);
 int32_t hound_value_16(uint32_t container);
 int32_t hound_value_24(uint32_t container);
 int32_t hound_value_32(uint32_t container);
+int64_t hound_container_8(int32_t value);
+int64_t hound_container_16(int32_t value);
+int64_t hound_container_24(int32_t value);
+int64_t hound_container_32(int32_t value);
 int64_t hound_to_f32(const int32_t *samples, size_t count, uint16_t bits, float *out, size_t capacity) HOUND_NONNULL;
 int64_t hound_from_f32(const float *samples, size_t count, uint16_t bits, int32_t *out, size_t capacity, uint64_t *clipped) HOUND_NONNULL;
+int64_t hound_to_f64(const int32_t *samples, size_t count, uint16_t bits, double *out, size_t capacity) HOUND_NONNULL;
+int64_t hound_from_f64(const double *samples, size_t count, uint16_t bits, int32_t *out, size_t capacity, uint64_t *clipped) HOUND_NONNULL;
+int64_t hound_f32_to_f64(const float *samples, size_t count, double *out, size_t capacity) HOUND_NONNULL;
+int64_t hound_f64_to_f32(const double *samples, size_t count, float *out, size_t capacity, uint64_t *infinite) HOUND_NONNULL;
 typedef struct {
     hound_effect effect;
     uint64_t data_start;
@@ -291,16 +299,19 @@ static inline uint32_t load16(uint64_t at) { uint16_t x; COPY(&x, AT(at), 2); re
 static inline uint32_t load32(uint64_t at) { uint32_t x; COPY(&x, AT(at), 4); return x; }
 static inline uint64_t load64(uint64_t at) { uint64_t x; COPY(&x, AT(at), 8); return x; }
 static inline float load_f32(uint64_t at) { float x; COPY(&x, AT(at), 4); return x; }
+static inline double load_f64(uint64_t at) { double x; COPY(&x, AT(at), 8); return x; }
 static inline void store8(uint64_t at, uint32_t value) { *(uint8_t *)AT(at) = (uint8_t)(value & 255); }
 static inline void store16(uint64_t at, uint32_t value) { uint16_t x = (uint16_t)(value & 65535); COPY(AT(at), &x, 2); }
 static inline void store32(uint64_t at, uint32_t value) { COPY(AT(at), &value, 4); }
 static inline void store64(uint64_t at, uint64_t value) { COPY(AT(at), &value, 8); }
 static inline void store_f32(uint64_t at, float value) { COPY(AT(at), &value, 4); }
+static inline void store_f64(uint64_t at, double value) { COPY(AT(at), &value, 8); }
 
 static inline int32_t s32(uint32_t x) { int32_t y; COPY(&y, &x, 4); return y; }
 static inline int64_t s64(uint64_t x) { int64_t y; COPY(&y, &x, 8); return y; }
 static inline uint64_t bits_of(double x) { uint64_t y; COPY(&y, &x, 8); return y; }
 static inline double f64_of(uint64_t x) { double y; COPY(&y, &x, 8); return y; }
+static inline float f32_of(uint32_t x) { float y; COPY(&y, &x, 4); return y; }
 static inline double neg_f64(double x) { return f64_of(bits_of(x) ^ 0x8000000000000000ull); }
 static inline float neg_f32(float x) { uint32_t y; COPY(&y, &x, 4); y ^= 0x80000000u; COPY(&x, &y, 4); return x; }
 static inline uint32_t extend8(uint32_t x) {
@@ -316,6 +327,20 @@ static inline uint32_t extend16(uint32_t x) {
     return (uint32_t)z;
 }
 static inline uint32_t shr_s32(uint32_t x, uint32_t by) { return x >> 31 ? ~(~x >> by) : x >> by; }
+static inline uint64_t clz64(uint64_t x) {
+#ifdef __GNUC__
+    return x == 0 ? 64 : (uint64_t)__builtin_clzll(x);
+#else
+    uint64_t zeros = 0;
+    while (zeros < 64 && (x >> (63 - zeros)) == 0) zeros++;
+    return zeros;
+#endif
+}
+/* A cast of a number past the ends of the type would be undefined. */
+static inline uint64_t trunc64(double x) {
+    const double end = 9223372036854775808.0;
+    return (uint64_t)(x >= end ? INT64_MAX : x >= -end ? (int64_t)x : x != x ? 0 : INT64_MIN);
+}
 static inline uint32_t div32(uint32_t x, uint32_t y) { if (y == 0) TRAP(); return x / y; }
 static inline uint32_t rem32(uint32_t x, uint32_t y) { if (y == 0) TRAP(); return x % y; }
 static inline uint64_t div64(uint64_t x, uint64_t y) { if (y == 0) TRAP(); return x / y; }
@@ -339,58 +364,67 @@ static void f17_check_containers(uint64_t l0, uint64_t l1, uint32_t l2, uint32_t
 static void f18_find_damage_in_bytes(uint64_t sp, uint64_t l0, uint64_t l1, uint64_t l2, uint32_t l3);
 static void f19_take_asked(uint64_t sp, uint64_t l0, uint64_t l1, uint32_t l2, uint64_t l3, uint64_t l4, uint64_t l5);
 static void f20_measured(uint64_t sp, uint64_t l0, uint64_t l1, uint64_t l2);
-static void f21_put_header(uint64_t sp, uint64_t l0, uint32_t l1, uint32_t l2, uint64_t l3);
-static void f22_settle(uint64_t sp, uint64_t l0, uint64_t l1, uint32_t l2);
-static void f23_effect(uint64_t l0, uint64_t l1, uint32_t l2);
-static void f24_next_effect(uint64_t sp, uint64_t l0, uint64_t l1, uint32_t l2);
-static void f25_repair_file(uint64_t sp, uint64_t l0, uint64_t l1, uint64_t l2, uint64_t l3, uint32_t l4, uint64_t l5);
-static void f26_repairer_for_c(uint64_t sp, uint64_t l0, uint64_t l1, uint64_t l2, uint64_t l3);
-static uint64_t f28_hound_append_f32(uint64_t sp, uint64_t l0, uint64_t l1, uint64_t l2, uint64_t l3, uint64_t l4);
-static uint64_t f30_hound_append_i16(uint64_t sp, uint64_t l0, uint64_t l1, uint64_t l2, uint64_t l3, uint64_t l4);
-static uint64_t f32_hound_append_i32(uint64_t sp, uint64_t l0, uint64_t l1, uint64_t l2, uint64_t l3, uint64_t l4);
-static uint64_t f34_hound_decode_f32(uint64_t sp, uint64_t l0, uint64_t l1, uint64_t l2, uint64_t l3, uint64_t l4);
-static uint64_t f36_hound_decode_i16(uint64_t sp, uint64_t l0, uint64_t l1, uint64_t l2, uint64_t l3, uint64_t l4);
-static uint64_t f38_hound_decode_i32(uint64_t sp, uint64_t l0, uint64_t l1, uint64_t l2, uint64_t l3, uint64_t l4);
-static uint64_t f40_hound_decode_i8(uint64_t l0, uint64_t l1, uint64_t l2, uint64_t l3, uint64_t l4);
-static uint64_t f42_hound_encode_f32(uint64_t l0, uint64_t l1, uint64_t l2, uint64_t l3, uint64_t l4);
-static uint64_t f44_hound_encode_i16(uint64_t sp, uint64_t l0, uint64_t l1, uint64_t l2, uint64_t l3, uint64_t l4);
-static uint64_t f46_hound_encode_i32(uint64_t sp, uint64_t l0, uint64_t l1, uint64_t l2, uint64_t l3, uint64_t l4);
-static uint64_t f48_hound_encode_i8(uint64_t sp, uint64_t l0, uint64_t l1, uint64_t l2, uint64_t l3, uint64_t l4);
-static uint32_t f50_hound_find_damage(uint64_t sp, uint64_t l0, uint64_t l1, uint64_t l2);
-static uint64_t f52_hound_from_f32(uint64_t l0, uint64_t l1, uint32_t l2, uint64_t l3, uint64_t l4, uint64_t l5);
-static uint64_t f54_hound_guess_data(uint64_t l0, uint64_t l1);
-static uint64_t f56_hound_header(uint64_t sp, uint64_t l0, uint64_t l1, uint64_t l2, uint64_t l3);
-static uint32_t f58_hound_info(uint64_t sp, uint64_t l0, uint64_t l1, uint64_t l2);
-static uint32_t f60_hound_kind(uint64_t l0, uint64_t l1);
-static uint64_t f62_hound_read_f32(uint64_t sp, uint64_t l0, uint64_t l1, uint64_t l2, uint64_t l3, uint64_t l4);
-static uint64_t f64_hound_read_i16(uint64_t sp, uint64_t l0, uint64_t l1, uint64_t l2, uint64_t l3, uint64_t l4);
-static uint64_t f66_hound_read_i32(uint64_t sp, uint64_t l0, uint64_t l1, uint64_t l2, uint64_t l3, uint64_t l4);
-static uint32_t f68_hound_recorder_begin(uint64_t l0, uint64_t l1);
-static void f70_hound_recorder_checkpoint(uint64_t sp, uint64_t l0);
-static uint64_t f72_hound_recorder_frames_left(uint64_t l0);
-static uint32_t f74_hound_recorder_next(uint64_t sp, uint64_t l0);
-static uint32_t f76_hound_recorder_resume(uint64_t l0, uint32_t l1, uint64_t l2);
-static uint32_t f78_hound_recorder_write(uint64_t sp, uint64_t l0, uint64_t l1);
-static uint64_t f80_hound_repair(uint64_t sp, uint64_t l0, uint64_t l1, uint64_t l2, uint64_t l3);
-static uint64_t f82_hound_repair_to_end(uint64_t sp, uint64_t l0, uint64_t l1, uint64_t l2, uint64_t l3);
-static void f84_hound_repairer_begin(uint64_t l0, uint32_t l1, uint64_t l2);
-static uint32_t f86_hound_repairer_next(uint64_t sp, uint64_t l0, uint64_t l1);
-static uint64_t f88_hound_size(uint64_t l0, uint64_t l1);
-static uint64_t f90_hound_sizes(uint64_t l0, uint64_t l1, uint64_t l2, uint64_t l3, uint64_t l4);
-static uint64_t f92_hound_to_f32(uint64_t l0, uint64_t l1, uint32_t l2, uint64_t l3, uint64_t l4);
-static uint32_t f94_hound_value_16(uint32_t l0);
-static uint32_t f96_hound_value_24(uint32_t l0);
-static uint32_t f100_hound_value_8(uint32_t l0);
-static uint32_t f104_hound_walk_next(uint64_t sp, uint64_t l0, uint64_t l1);
-static uint32_t f106_hound_walk_to_end(uint64_t sp, uint64_t l0, uint64_t l1);
-static uint64_t f108_hound_whole_frames(uint64_t l0, uint64_t l1);
-static uint64_t f110_hound_write_f32(uint64_t sp, uint64_t l0, uint64_t l1, uint64_t l2, uint64_t l3, uint64_t l4);
-static uint64_t f112_hound_write_i16(uint64_t sp, uint64_t l0, uint64_t l1, uint64_t l2, uint64_t l3, uint64_t l4);
-static uint64_t f114_hound_write_i32(uint64_t sp, uint64_t l0, uint64_t l1, uint64_t l2, uint64_t l3, uint64_t l4);
+static void f21_double_to_int(uint64_t l0, double l1, uint32_t l2);
+static void f22_put_header(uint64_t sp, uint64_t l0, uint32_t l1, uint32_t l2, uint64_t l3);
+static void f23_settle(uint64_t sp, uint64_t l0, uint64_t l1, uint32_t l2);
+static void f24_effect(uint64_t l0, uint64_t l1, uint32_t l2);
+static void f25_next_effect(uint64_t sp, uint64_t l0, uint64_t l1, uint32_t l2);
+static void f26_repair_file(uint64_t sp, uint64_t l0, uint64_t l1, uint64_t l2, uint64_t l3, uint32_t l4, uint64_t l5);
+static void f27_repairer_for_c(uint64_t sp, uint64_t l0, uint64_t l1, uint64_t l2, uint64_t l3);
+static uint64_t f29_hound_append_f32(uint64_t sp, uint64_t l0, uint64_t l1, uint64_t l2, uint64_t l3, uint64_t l4);
+static uint64_t f31_hound_append_i16(uint64_t sp, uint64_t l0, uint64_t l1, uint64_t l2, uint64_t l3, uint64_t l4);
+static uint64_t f33_hound_append_i32(uint64_t sp, uint64_t l0, uint64_t l1, uint64_t l2, uint64_t l3, uint64_t l4);
+static uint64_t f35_hound_container_16(uint32_t l0);
+static uint64_t f37_hound_container_24(uint32_t l0);
+static uint64_t f39_hound_container_32(uint32_t l0);
+static uint64_t f41_hound_container_8(uint32_t l0);
+static uint64_t f43_hound_decode_f32(uint64_t sp, uint64_t l0, uint64_t l1, uint64_t l2, uint64_t l3, uint64_t l4);
+static uint64_t f45_hound_decode_i16(uint64_t sp, uint64_t l0, uint64_t l1, uint64_t l2, uint64_t l3, uint64_t l4);
+static uint64_t f47_hound_decode_i32(uint64_t sp, uint64_t l0, uint64_t l1, uint64_t l2, uint64_t l3, uint64_t l4);
+static uint64_t f49_hound_decode_i8(uint64_t l0, uint64_t l1, uint64_t l2, uint64_t l3, uint64_t l4);
+static uint64_t f51_hound_encode_f32(uint64_t l0, uint64_t l1, uint64_t l2, uint64_t l3, uint64_t l4);
+static uint64_t f53_hound_encode_i16(uint64_t sp, uint64_t l0, uint64_t l1, uint64_t l2, uint64_t l3, uint64_t l4);
+static uint64_t f55_hound_encode_i32(uint64_t sp, uint64_t l0, uint64_t l1, uint64_t l2, uint64_t l3, uint64_t l4);
+static uint64_t f57_hound_encode_i8(uint64_t sp, uint64_t l0, uint64_t l1, uint64_t l2, uint64_t l3, uint64_t l4);
+static uint64_t f59_hound_f32_to_f64(uint64_t l0, uint64_t l1, uint64_t l2, uint64_t l3);
+static uint64_t f61_hound_f64_to_f32(uint64_t l0, uint64_t l1, uint64_t l2, uint64_t l3, uint64_t l4);
+static uint32_t f63_hound_find_damage(uint64_t sp, uint64_t l0, uint64_t l1, uint64_t l2);
+static uint64_t f65_hound_from_f32(uint64_t sp, uint64_t l0, uint64_t l1, uint32_t l2, uint64_t l3, uint64_t l4, uint64_t l5);
+static uint64_t f67_hound_from_f64(uint64_t sp, uint64_t l0, uint64_t l1, uint32_t l2, uint64_t l3, uint64_t l4, uint64_t l5);
+static uint64_t f69_hound_guess_data(uint64_t l0, uint64_t l1);
+static uint64_t f71_hound_header(uint64_t sp, uint64_t l0, uint64_t l1, uint64_t l2, uint64_t l3);
+static uint32_t f73_hound_info(uint64_t sp, uint64_t l0, uint64_t l1, uint64_t l2);
+static uint32_t f75_hound_kind(uint64_t l0, uint64_t l1);
+static uint64_t f77_hound_read_f32(uint64_t sp, uint64_t l0, uint64_t l1, uint64_t l2, uint64_t l3, uint64_t l4);
+static uint64_t f79_hound_read_i16(uint64_t sp, uint64_t l0, uint64_t l1, uint64_t l2, uint64_t l3, uint64_t l4);
+static uint64_t f81_hound_read_i32(uint64_t sp, uint64_t l0, uint64_t l1, uint64_t l2, uint64_t l3, uint64_t l4);
+static uint32_t f83_hound_recorder_begin(uint64_t l0, uint64_t l1);
+static void f85_hound_recorder_checkpoint(uint64_t sp, uint64_t l0);
+static uint64_t f87_hound_recorder_frames_left(uint64_t l0);
+static uint32_t f89_hound_recorder_next(uint64_t sp, uint64_t l0);
+static uint32_t f91_hound_recorder_resume(uint64_t l0, uint32_t l1, uint64_t l2);
+static uint32_t f93_hound_recorder_write(uint64_t sp, uint64_t l0, uint64_t l1);
+static uint64_t f95_hound_repair(uint64_t sp, uint64_t l0, uint64_t l1, uint64_t l2, uint64_t l3);
+static uint64_t f97_hound_repair_to_end(uint64_t sp, uint64_t l0, uint64_t l1, uint64_t l2, uint64_t l3);
+static void f99_hound_repairer_begin(uint64_t l0, uint32_t l1, uint64_t l2);
+static uint32_t f101_hound_repairer_next(uint64_t sp, uint64_t l0, uint64_t l1);
+static uint64_t f103_hound_size(uint64_t l0, uint64_t l1);
+static uint64_t f105_hound_sizes(uint64_t l0, uint64_t l1, uint64_t l2, uint64_t l3, uint64_t l4);
+static uint64_t f107_hound_to_f32(uint64_t sp, uint64_t l0, uint64_t l1, uint32_t l2, uint64_t l3, uint64_t l4);
+static uint64_t f109_hound_to_f64(uint64_t l0, uint64_t l1, uint32_t l2, uint64_t l3, uint64_t l4);
+static uint32_t f111_hound_value_16(uint32_t l0);
+static uint32_t f113_hound_value_24(uint32_t l0);
+static uint32_t f117_hound_value_8(uint32_t l0);
+static uint32_t f121_hound_walk_next(uint64_t sp, uint64_t l0, uint64_t l1);
+static uint32_t f123_hound_walk_to_end(uint64_t sp, uint64_t l0, uint64_t l1);
+static uint64_t f125_hound_whole_frames(uint64_t l0, uint64_t l1);
+static uint64_t f127_hound_write_f32(uint64_t sp, uint64_t l0, uint64_t l1, uint64_t l2, uint64_t l3, uint64_t l4);
+static uint64_t f129_hound_write_i16(uint64_t sp, uint64_t l0, uint64_t l1, uint64_t l2, uint64_t l3, uint64_t l4);
+static uint64_t f131_hound_write_i32(uint64_t sp, uint64_t l0, uint64_t l1, uint64_t l2, uint64_t l3, uint64_t l4);
 
 /* hound_slices::head::find_samples */
 static void f3_find_samples(uint64_t sp, uint64_t l0, uint64_t l1, uint64_t l2) {
-    uint32_t l4 = 0, l7 = 0, l8 = 0, l9 = 0, l10 = 0, l11 = 0, l12 = 0, l13 = 0, l14 = 0, l15 = 0, l16 = 0, l19 = 0;
+    uint32_t l4 = 0, l7 = 0, l8 = 0, l9 = 0, l10 = 0, l11 = 0, l12 = 0, l13 = 0, l14 = 0, l15 = 0, l16 = 0, l19 = 0, t1, t2, t3, t4;
     uint64_t l3 = 0, l5 = 0, l6 = 0, l17 = 0, l18 = 0, l20 = 0;
     l3 = sp - 208ull;
     sp = l3;
@@ -472,7 +506,7 @@ L20:;
     if ((l13 & 255u) != 100u) goto L28;
     if ((l16 & 255u) != 97u) goto L28;
     if ((l12 & 255u) != 97u) goto L28;
-    const uint32_t t1 = f5_groups_equal(l18, 4ull, DATA(8));
+    t1 = f5_groups_equal(l18, 4ull, DATA(8));
     if (t1 == 0) goto L28;
     if ((l10 & 255u) != 0) goto L25;
     l15 = 3u;
@@ -492,7 +526,7 @@ L26:;
     if ((l13 & 255u) != 102u) goto L24;
     if ((l16 & 255u) != 109u) goto L24;
     if ((l12 & 255u) != 32u) goto L24;
-    const uint32_t t2 = f5_groups_equal(l18, 4ull, DATA(12));
+    t2 = f5_groups_equal(l18, 4ull, DATA(12));
     if (t2 == 0) goto L24;
     store16(l3 + 96, load16(l3 + 48));
     store64(l3 + 88, load64(l3 + 40));
@@ -554,7 +588,7 @@ L31:;
     if ((l13 & 255u) != 100u) goto L38;
     if ((l16 & 255u) != 97u) goto L38;
     if ((l12 & 255u) != 97u) goto L38;
-    const uint32_t t3 = f5_groups_equal(l20, 4ull, DATA(8));
+    t3 = f5_groups_equal(l20, 4ull, DATA(8));
     if (t3 == 0) goto L38;
     if ((l10 & 255u) != 0) goto L35;
     l15 = 3u;
@@ -574,7 +608,7 @@ L36:;
     if ((l13 & 255u) != 102u) goto L34;
     if ((l16 & 255u) != 109u) goto L34;
     if ((l12 & 255u) != 32u) goto L34;
-    const uint32_t t4 = f5_groups_equal(l20, 4ull, DATA(12));
+    t4 = f5_groups_equal(l20, 4ull, DATA(12));
     if (t4 == 0) goto L34;
     store16(l3 + 96, load16(l3 + 48));
     store64(l3 + 88, load64(l3 + 40));
@@ -750,7 +784,7 @@ L1:;
 
 /* hound_walk::chunks::read_riff_header::<#eb3ec3a834a989ad> */
 static void f4_read_riff_header(uint64_t sp, uint64_t l0, uint64_t l1) {
-    uint32_t l13 = 0;
+    uint32_t l13 = 0, t1, t2;
     uint64_t l2 = 0, l3 = 0, l4 = 0, l5 = 0, l6 = 0, l7 = 0, l8 = 0, l9 = 0, l10 = 0, l11 = 0, l12 = 0;
     l2 = sp - 16ull;
     sp = l2;
@@ -820,7 +854,7 @@ L3:;
     if ((load8(l3 + 13) & 255u) != 73u) goto L14;
     if ((load8(l3 + 14) & 255u) != 70u) goto L14;
     if ((load8(l3 + 15) & 255u) != 70u) goto L14;
-    const uint32_t t1 = f5_groups_equal(l3 + 12ull, 4ull, DATA(0));
+    t1 = f5_groups_equal(l3 + 12ull, 4ull, DATA(0));
     if (t1 != 0) goto L13;
 L14:;
     store64(l0, 1ull);
@@ -891,7 +925,7 @@ L15:;
     if ((load8(l3 + 5) & 255u) != 65u) goto L26;
     if ((load8(l3 + 6) & 255u) != 86u) goto L26;
     if ((load8(l3 + 7) & 255u) != 69u) goto L26;
-    const uint32_t t2 = f5_groups_equal(l3 | 4ull, 4ull, DATA(4));
+    t2 = f5_groups_equal(l3 | 4ull, 4ull, DATA(4));
     if (t2 != 0) goto L25;
 L26:;
     store64(l0, 1ull);
@@ -912,15 +946,15 @@ L1:;
 
 /* core::cmp::slices::groups_equal::<i8,31'core::cmp::numbers::U8PartialEq{}> */
 static uint32_t f5_groups_equal(uint64_t l0, uint64_t l1, uint64_t l2) {
-    uint32_t l4 = 0;
+    uint32_t l4 = 0, t1, t2, t3;
     uint64_t l3 = 0, l5 = 0, l6 = 0, l7 = 0, l8 = 0, l9 = 0, l10 = 0;
     if (l1 > 8ull) goto L4;
     l3 = l1 - 4ull;
-    const uint32_t t1 = (uint32_t)(load8(l0 + l3) != load8(l2 + l3));
+    t1 = (uint32_t)(load8(l0 + l3) != load8(l2 + l3));
     l3 = l1 - 3ull;
-    const uint32_t t2 = t1 | (uint32_t)(load8(l0 + l3) != load8(l2 + l3));
+    t2 = t1 | (uint32_t)(load8(l0 + l3) != load8(l2 + l3));
     l3 = l1 - 2ull;
-    const uint32_t t3 = t2 | (uint32_t)(load8(l0 + l3) != load8(l2 + l3));
+    t3 = t2 | (uint32_t)(load8(l0 + l3) != load8(l2 + l3));
     l3 = l1 - 1ull;
     l4 = ((((uint32_t)(load8(l0) != load8(l2)) | (uint32_t)(load8(l0 + 1ull) != load8(l2 + 1ull))) | (uint32_t)(load8(l0 + 2ull) != load8(l2 + 2ull))) | (uint32_t)(load8(l0 + 3ull) != load8(l2 + 3ull))) | (t3 | (uint32_t)(load8(l0 + l3) != load8(l2 + l3)));
     goto L1;
@@ -991,7 +1025,7 @@ L1:;
 
 /* hound_walk::fmt::read_fmt_chunk::<#eb3ec3a834a989ad> */
 static void f6_read_fmt_chunk(uint64_t sp, uint64_t l0, uint64_t l1, uint32_t l2) {
-    uint32_t l10 = 0, l11 = 0, l12 = 0, l13 = 0, l14 = 0, l16 = 0;
+    uint32_t l10 = 0, l11 = 0, l12 = 0, l13 = 0, l14 = 0, l16 = 0, t1, t2;
     uint64_t l3 = 0, l4 = 0, l5 = 0, l6 = 0, l7 = 0, l8 = 0, l9 = 0, l15 = 0, l17 = 0, l18 = 0, l19 = 0, l20 = 0, l21 = 0, l22 = 0, l23 = 0;
     l3 = sp - 288ull;
     sp = l3;
@@ -1371,14 +1405,14 @@ L62:;
     l10 = load8(l4 + 270);
     if (l10 != 1u) goto L74;
     if ((l2 & 255u) != 0) goto L74;
-    const uint32_t t1 = f5_groups_equal(l3, 16ull, DATA(16));
+    t1 = f5_groups_equal(l3, 16ull, DATA(16));
     if (t1 == 0) goto L72;
     l10 = 1u;
     goto L73;
 L74:;
     if (l10 != 3u) goto L72;
     if ((l2 & 255u) != 0) goto L72;
-    const uint32_t t2 = f5_groups_equal(l3, 16ull, DATA(32));
+    t2 = f5_groups_equal(l3, 16ull, DATA(32));
     if (t2 == 0) goto L72;
     l10 = 0u;
 L73:;
@@ -3210,7 +3244,7 @@ L1:;
 
 /* hound_repair::steps::take_asked */
 static void f19_take_asked(uint64_t sp, uint64_t l0, uint64_t l1, uint32_t l2, uint64_t l3, uint64_t l4, uint64_t l5) {
-    uint32_t l7 = 0, l8 = 0, l11 = 0, l12 = 0, l17 = 0, l18 = 0, l19 = 0, l20 = 0, l21 = 0, l22 = 0, l29 = 0, l30 = 0, l31 = 0, l32 = 0, l33 = 0, l34 = 0;
+    uint32_t l7 = 0, l8 = 0, l11 = 0, l12 = 0, l17 = 0, l18 = 0, l19 = 0, l20 = 0, l21 = 0, l22 = 0, l29 = 0, l30 = 0, l31 = 0, l32 = 0, l33 = 0, l34 = 0, t1, t2, t3, t4;
     uint64_t l6 = 0, l9 = 0, l10 = 0, l13 = 0, l14 = 0, l15 = 0, l16 = 0, l23 = 0, l24 = 0, l25 = 0, l26 = 0, l27 = 0, l28 = 0;
     l6 = sp - 528ull;
     sp = l6;
@@ -3304,7 +3338,7 @@ L28:;
     if ((l8 & 255u) != 100u) goto L32;
     if ((l20 & 255u) != 97u) goto L32;
     if ((l19 & 255u) != 97u) goto L32;
-    const uint32_t t1 = f5_groups_equal(l4, 4ull, DATA(8));
+    t1 = f5_groups_equal(l4, 4ull, DATA(8));
     if (t1 == 0) goto L32;
     if ((l7 & 255u) != 0) goto L24;
     goto L6;
@@ -3316,7 +3350,7 @@ L32:;
     if ((l8 & 255u) != 102u) goto L20;
     if ((l20 & 255u) != 109u) goto L20;
     if ((l19 & 255u) != 32u) goto L20;
-    const uint32_t t2 = f5_groups_equal(l4, 4ull, DATA(12));
+    t2 = f5_groups_equal(l4, 4ull, DATA(12));
     if (t2 == 0) goto L20;
     goto L10;
 L27:;
@@ -3352,7 +3386,7 @@ L25:;
     if ((l8 & 255u) != 100u) goto L23;
     if ((l20 & 255u) != 97u) goto L23;
     if ((l19 & 255u) != 97u) goto L23;
-    const uint32_t t3 = f5_groups_equal(l16, 4ull, DATA(8));
+    t3 = f5_groups_equal(l16, 4ull, DATA(8));
     if (t3 == 0) goto L23;
     if ((l7 & 255u) == 0) goto L6;
 L24:;
@@ -3372,7 +3406,7 @@ L23:;
     if ((l8 & 255u) != 102u) goto L34;
     if ((l20 & 255u) != 109u) goto L34;
     if ((l19 & 255u) != 32u) goto L34;
-    const uint32_t t4 = f5_groups_equal(l16, 4ull, DATA(12));
+    t4 = f5_groups_equal(l16, 4ull, DATA(12));
     if (t4 != 0) goto L10;
 L34:;
     l12 = l2 + (l18 & 1u);
@@ -4008,8 +4042,87 @@ L1:;
     TRAP();
 }
 
+/* hound_sample::scale::double_to_int */
+static void f21_double_to_int(uint64_t l0, double l1, uint32_t l2) {
+    uint64_t l3 = 0, l5 = 0, l6 = 0;
+    double l4 = 0, l7 = 0, l8 = 0, l9 = 0;
+    l2 = 1u << ((((l2 - 1u) & 65535u) & 31));
+    l1 = l1 * ((double)l2);
+    l3 = bits_of(l1);
+    l4 = l1;
+    l5 = l4 != l4 ? 0x7ff8000000000000ull : l3;
+    l6 = l5 & 0x7fffffffffffffffull;
+    if (l6 < 0x7ff0000000000000ull) goto L4;
+    l7 = 4503599627370496.0;
+    goto L2;
+L4:;
+    l8 = f64_of(l6);
+    l9 = l8;
+    l7 = 4503599627370496.0;
+    if (!(l9 < l7)) goto L2;
+    l1 = 0.0;
+    l4 = l9 < l1 ? neg_f64(l8) : (l9 == l1 ? (0.0) : l8);
+    if (!(l4 < l7)) goto L5;
+    l4 = (l4 + (4503599627370496.0)) + (-4503599627370496.0);
+    l8 = l4;
+    l8 = l8 < l1 ? neg_f64(l4) : (l8 == l1 ? (0.0) : l4);
+L5:;
+    l6 = (1ull - ((l5 >> 62) & 2ull)) * trunc64(l8);
+    goto L1;
+    TRAP();
+L2:;
+    l8 = 0.0;
+    l4 = l4 < l8 ? neg_f64(l1) : (l4 == l8 ? (0.0) : l1);
+    if (!(l4 < l7)) goto L6;
+    l1 = (l4 + (4503599627370496.0)) + (-4503599627370496.0);
+    l4 = l1;
+    if (s64(l3) > s64(0xffffffffffffffffull)) goto L7;
+    l1 = l4 < l8 ? l1 : (l4 == l8 ? (-0.0) : neg_f64(l1));
+    goto L6;
+L7:;
+    l1 = l4 < l8 ? neg_f64(l1) : (l4 == l8 ? (0.0) : l1);
+L6:;
+    l4 = l1;
+    if (!((9.223372036854776e+18) <= l4)) goto L8;
+    l6 = 0x7fffffffffffffffull;
+    goto L1;
+L8:;
+    if (!((-9.223372036854776e+18) <= l4)) goto L9;
+    l8 = 1.0;
+    if (!(l8 <= l4)) goto L10;
+    l6 = bits_of(l1);
+    l3 = (l6 & 0xfffffffffffffull) | 0x10000000000000ull;
+    l5 = l6 >> 52;
+    l6 = l6 < 0x4340000000000000ull ? (l3 >> (((1075ull - l5) & 63))) : (l3 << (((l5 - 1075ull) & 63)));
+    goto L1;
+L10:;
+    if (l4 <= (-1.0)) goto L11;
+    l6 = 0ull;
+    goto L1;
+L11:;
+    l6 = 0ull;
+    l1 = neg_f64(l1);
+    if (!(l8 <= l1)) goto L12;
+    l6 = bits_of(l1);
+    l3 = (l6 & 0xfffffffffffffull) | 0x10000000000000ull;
+    l5 = l6 >> 52;
+    l6 = l6 < 0x4340000000000000ull ? (l3 >> (((1075ull - l5) & 63))) : (l3 << (((l5 - 1075ull) & 63)));
+L12:;
+    l6 = 0ull - l6;
+    goto L1;
+L9:;
+    l6 = l4 != l4 ? 0ull : 0x8000000000000000ull;
+L1:;
+    l3 = (uint64_t)l2;
+    l5 = 0ull - l3;
+    l3 = l3 - 1ull;
+    l3 = s64(l6) < s64(l5) ? l5 : (s64(l3) < s64(l6) ? l3 : l6);
+    store32(l0, (uint32_t)(l3));
+    store8(l0 + 4, (uint32_t)(l3 != l6));
+}
+
 /* hound_slices::writing::put_header */
-static void f21_put_header(uint64_t sp, uint64_t l0, uint32_t l1, uint32_t l2, uint64_t l3) {
+static void f22_put_header(uint64_t sp, uint64_t l0, uint32_t l1, uint32_t l2, uint64_t l3) {
     uint32_t l5 = 0, l6 = 0, l7 = 0, l8 = 0, l9 = 0;
     uint64_t l4 = 0, l10 = 0;
     l4 = sp - 240ull;
@@ -4101,7 +4214,7 @@ L8:;
 }
 
 /* hound_writer::recorder::Recorder::settle */
-static void f22_settle(uint64_t sp, uint64_t l0, uint64_t l1, uint32_t l2) {
+static void f23_settle(uint64_t sp, uint64_t l0, uint64_t l1, uint32_t l2) {
     uint32_t l4 = 0, l5 = 0;
     uint64_t l3 = 0, l6 = 0, l7 = 0;
     l3 = sp - 112ull;
@@ -4161,7 +4274,7 @@ L11:;
     l7 = (uint64_t)load32(l3 + 48);
     if ((((l7 + l6) + (l7 & 1ull)) - 8ull) > 0xffffffffull) goto L2;
     l2 = load32(l3 + 52);
-    f23_effect(l3 + 80ull, l3 + 40ull, l2);
+    f24_effect(l3 + 80ull, l3 + 40ull, l2);
     if (load8(l3 + 80) != 1u) goto L3;
     store32(l3 + 52, l2 + 1u);
     if (l4 == 0) goto L12;
@@ -4173,7 +4286,7 @@ L11:;
     goto L3;
 L12:;
     l2 = 0u;
-    f24_next_effect(sp, l3, l3 + 40ull, 0u);
+    f25_next_effect(sp, l3, l3 + 40ull, 0u);
     store64(l1 + 24ull, 0ull);
     store64(l1 + 32, load64(l3 + 72));
     store64(l1 + 16, load64(l3 + 56));
@@ -4220,7 +4333,7 @@ L1:;
 }
 
 /* hound_writer::recorder::Recorder::effect */
-static void f23_effect(uint64_t l0, uint64_t l1, uint32_t l2) {
+static void f24_effect(uint64_t l0, uint64_t l1, uint32_t l2) {
     uint32_t l4 = 0, l6 = 0;
     uint64_t l3 = 0, l5 = 0, l7 = 0;
     if (load8(l1 + 20ull) != 0) goto L8;
@@ -4355,7 +4468,7 @@ L1:;
 }
 
 /* hound_writer::recorder::Recorder::next_effect */
-static void f24_next_effect(uint64_t sp, uint64_t l0, uint64_t l1, uint32_t l2) {
+static void f25_next_effect(uint64_t sp, uint64_t l0, uint64_t l1, uint32_t l2) {
     uint32_t l4 = 0;
     uint64_t l3 = 0, l5 = 0, l6 = 0;
     l3 = sp - 64ull;
@@ -4389,7 +4502,7 @@ L4:;
     l4 = load32(l1 + 12ull);
     if (l2 != 0) goto L5;
     if (l4 == 0) goto L5;
-    f23_effect(l3 + 32ull, l1, l4 - 1u);
+    f24_effect(l3 + 32ull, l1, l4 - 1u);
     store32(l1 + 12ull, 0u);
     l5 = l0 + 8ull;
     if (load8(l3 + 32) != 1u) goto L6;
@@ -4410,7 +4523,7 @@ L6:;
     store32(l5 + 24, 0u);
     goto L1;
 L5:;
-    f23_effect(l3, l1, l4);
+    f24_effect(l3, l1, l4);
     l5 = (uint64_t)load8(l3);
     if (l5 != 1ull) goto L8;
     l4 = l4 + 1u;
@@ -4438,7 +4551,7 @@ L1:;
 }
 
 /* hound_slices::repairing::repair_file */
-static void f25_repair_file(uint64_t sp, uint64_t l0, uint64_t l1, uint64_t l2, uint64_t l3, uint32_t l4, uint64_t l5) {
+static void f26_repair_file(uint64_t sp, uint64_t l0, uint64_t l1, uint64_t l2, uint64_t l3, uint32_t l4, uint64_t l5) {
     uint32_t l7 = 0, l8 = 0, l9 = 0, l10 = 0, l13 = 0, l14 = 0, l15 = 0, l16 = 0, l17 = 0, l18 = 0, l20 = 0;
     uint64_t l6 = 0, l11 = 0, l12 = 0, l19 = 0;
     l6 = sp - 80ull;
@@ -4547,7 +4660,7 @@ L1:;
 }
 
 /* hound_slices::repairer::repairer_for_c */
-static void f26_repairer_for_c(uint64_t sp, uint64_t l0, uint64_t l1, uint64_t l2, uint64_t l3) {
+static void f27_repairer_for_c(uint64_t sp, uint64_t l0, uint64_t l1, uint64_t l2, uint64_t l3) {
     uint32_t l5 = 0, l6 = 0, l9 = 0, l10 = 0, l12 = 0, l13 = 0, l14 = 0, l15 = 0, l16 = 0, l17 = 0, l18 = 0, l19 = 0, l20 = 0, l23 = 0, l24 = 0, l25 = 0, l26 = 0, l27 = 0, l28 = 0, l29 = 0, l30 = 0, l31 = 0, l32 = 0, l33 = 0, l34 = 0, l36 = 0, l37 = 0, l38 = 0;
     uint64_t l4 = 0, l7 = 0, l8 = 0, l11 = 0, l21 = 0, l22 = 0, l35 = 0;
     l4 = sp - 128ull;
@@ -4838,7 +4951,7 @@ L10:;
 }
 
 /* rattle::export hound_append_f32 */
-static uint64_t f28_hound_append_f32(uint64_t sp, uint64_t l0, uint64_t l1, uint64_t l2, uint64_t l3, uint64_t l4) {
+static uint64_t f29_hound_append_f32(uint64_t sp, uint64_t l0, uint64_t l1, uint64_t l2, uint64_t l3, uint64_t l4) {
     uint32_t l13 = 0, l19 = 0, l20 = 0;
     uint64_t l5 = 0, l6 = 0, l7 = 0, l8 = 0, l9 = 0, l10 = 0, l11 = 0, l12 = 0, l14 = 0, l15 = 0, l16 = 0, l17 = 0, l18 = 0;
     l5 = sp - 80ull;
@@ -4977,7 +5090,7 @@ L1:;
 }
 
 /* rattle::export hound_append_i16 */
-static uint64_t f30_hound_append_i16(uint64_t sp, uint64_t l0, uint64_t l1, uint64_t l2, uint64_t l3, uint64_t l4) {
+static uint64_t f31_hound_append_i16(uint64_t sp, uint64_t l0, uint64_t l1, uint64_t l2, uint64_t l3, uint64_t l4) {
     uint32_t l6 = 0, l7 = 0, l10 = 0;
     uint64_t l5 = 0, l8 = 0, l9 = 0, l11 = 0;
     l5 = sp - 80ull;
@@ -5086,7 +5199,7 @@ L1:;
 }
 
 /* rattle::export hound_append_i32 */
-static uint64_t f32_hound_append_i32(uint64_t sp, uint64_t l0, uint64_t l1, uint64_t l2, uint64_t l3, uint64_t l4) {
+static uint64_t f33_hound_append_i32(uint64_t sp, uint64_t l0, uint64_t l1, uint64_t l2, uint64_t l3, uint64_t l4) {
     uint32_t l6 = 0, l7 = 0, l10 = 0;
     uint64_t l5 = 0, l8 = 0, l9 = 0, l11 = 0;
     l5 = sp - 80ull;
@@ -5194,10 +5307,30 @@ L1:;
     return l2;
 }
 
+/* rattle::export hound_container_16 */
+static uint64_t f35_hound_container_16(uint32_t l0) {
+    return (l0 + 32768u) < 0x10000u ? ((uint64_t)(l0 & 65535u)) : 0xfffffffffffffffcull;
+}
+
+/* rattle::export hound_container_24 */
+static uint64_t f37_hound_container_24(uint32_t l0) {
+    return (l0 + 0x800000u) < 0x1000000u ? ((uint64_t)(l0 & 0xffffffu)) : 0xfffffffffffffffcull;
+}
+
+/* rattle::export hound_container_32 */
+static uint64_t f39_hound_container_32(uint32_t l0) {
+    return (uint64_t)l0;
+}
+
+/* rattle::export hound_container_8 */
+static uint64_t f41_hound_container_8(uint32_t l0) {
+    return (l0 + 128u) < 256u ? ((uint64_t)((l0 & 255u) ^ 128u)) : 0xfffffffffffffffcull;
+}
+
 /* rattle::export hound_decode_f32 */
-static uint64_t f34_hound_decode_f32(uint64_t sp, uint64_t l0, uint64_t l1, uint64_t l2, uint64_t l3, uint64_t l4) {
+static uint64_t f43_hound_decode_f32(uint64_t sp, uint64_t l0, uint64_t l1, uint64_t l2, uint64_t l3, uint64_t l4) {
     uint32_t l6 = 0, l7 = 0, l8 = 0, l9 = 0, l10 = 0;
-    uint64_t l5 = 0;
+    uint64_t l5 = 0, t1;
     l5 = sp - 16ull;
     sp = l5;
     l6 = load16(l0 + 10);
@@ -5226,7 +5359,7 @@ L6:;
 L5:;
     if ((l7 & 65535u) != 32u) goto L2;
     if (l10 != 4u) goto L2;
-    const uint64_t t1 = f14_decode_front(l5, l1 + (l1 == 0 ? 4096ull : 0ull), l2, l3 + (l3 == 0 ? 4096ull : 0ull), l4);
+    t1 = f14_decode_front(l5, l1 + (l1 == 0 ? 4096ull : 0ull), l2, l3 + (l3 == 0 ? 4096ull : 0ull), l4);
     l0 = t1;
     goto L1;
     TRAP();
@@ -5237,9 +5370,9 @@ L1:;
 }
 
 /* rattle::export hound_decode_i16 */
-static uint64_t f36_hound_decode_i16(uint64_t sp, uint64_t l0, uint64_t l1, uint64_t l2, uint64_t l3, uint64_t l4) {
+static uint64_t f45_hound_decode_i16(uint64_t sp, uint64_t l0, uint64_t l1, uint64_t l2, uint64_t l3, uint64_t l4) {
     uint32_t l6 = 0, l7 = 0, l8 = 0, l9 = 0, l10 = 0;
-    uint64_t l5 = 0;
+    uint64_t l5 = 0, t1;
     l5 = sp - 16ull;
     sp = l5;
     l6 = load16(l0 + 10);
@@ -5269,7 +5402,7 @@ L5:;
     if (((uint32_t)(l6 == 8u) & (uint32_t)(l10 == 1u)) != 0) goto L7;
     if (((uint32_t)(l6 == 16u) & (uint32_t)(l10 == 2u)) == 0) goto L2;
 L7:;
-    const uint64_t t1 = f15_decode_front(l5, l1 + (l1 == 0 ? 4096ull : 0ull), l2, l3 + (l3 == 0 ? 4096ull : 0ull), l4);
+    t1 = f15_decode_front(l5, l1 + (l1 == 0 ? 4096ull : 0ull), l2, l3 + (l3 == 0 ? 4096ull : 0ull), l4);
     l0 = t1;
     goto L1;
     TRAP();
@@ -5280,9 +5413,9 @@ L1:;
 }
 
 /* rattle::export hound_decode_i32 */
-static uint64_t f38_hound_decode_i32(uint64_t sp, uint64_t l0, uint64_t l1, uint64_t l2, uint64_t l3, uint64_t l4) {
+static uint64_t f47_hound_decode_i32(uint64_t sp, uint64_t l0, uint64_t l1, uint64_t l2, uint64_t l3, uint64_t l4) {
     uint32_t l6 = 0, l7 = 0, l8 = 0, l9 = 0, l10 = 0;
-    uint64_t l5 = 0;
+    uint64_t l5 = 0, t1;
     l5 = sp - 16ull;
     sp = l5;
     l6 = load16(l0 + 10);
@@ -5311,7 +5444,7 @@ L4:;
     if (((uint32_t)(l7 == 24u) & (uint32_t)(l10 > 2u)) != 0) goto L6;
     if (((uint32_t)(l7 == 32u) & (uint32_t)(l10 == 4u)) == 0) goto L5;
 L6:;
-    const uint64_t t1 = f16_decode_front(l5, l1 + (l1 == 0 ? 4096ull : 0ull), l2, l3 + (l3 == 0 ? 4096ull : 0ull), l4);
+    t1 = f16_decode_front(l5, l1 + (l1 == 0 ? 4096ull : 0ull), l2, l3 + (l3 == 0 ? 4096ull : 0ull), l4);
     l0 = t1;
     goto L1;
 L5:;
@@ -5325,7 +5458,7 @@ L1:;
 }
 
 /* rattle::export hound_decode_i8 */
-static uint64_t f40_hound_decode_i8(uint64_t l0, uint64_t l1, uint64_t l2, uint64_t l3, uint64_t l4) {
+static uint64_t f49_hound_decode_i8(uint64_t l0, uint64_t l1, uint64_t l2, uint64_t l3, uint64_t l4) {
     uint32_t l5 = 0, l6 = 0, l7 = 0;
     uint64_t l8 = 0, l9 = 0, l10 = 0, l11 = 0, l12 = 0, l13 = 0, l14 = 0;
     l5 = load16(l0 + 10);
@@ -5381,7 +5514,7 @@ L5:;
 }
 
 /* rattle::export hound_encode_f32 */
-static uint64_t f42_hound_encode_f32(uint64_t l0, uint64_t l1, uint64_t l2, uint64_t l3, uint64_t l4) {
+static uint64_t f51_hound_encode_f32(uint64_t l0, uint64_t l1, uint64_t l2, uint64_t l3, uint64_t l4) {
     uint32_t l5 = 0, l6 = 0, l7 = 0;
     uint64_t l8 = 0, l9 = 0, l10 = 0, l11 = 0, l12 = 0, l13 = 0, l14 = 0, l15 = 0;
     l5 = load16(l0 + 10);
@@ -5442,7 +5575,7 @@ L4:;
 }
 
 /* rattle::export hound_encode_i16 */
-static uint64_t f44_hound_encode_i16(uint64_t sp, uint64_t l0, uint64_t l1, uint64_t l2, uint64_t l3, uint64_t l4) {
+static uint64_t f53_hound_encode_i16(uint64_t sp, uint64_t l0, uint64_t l1, uint64_t l2, uint64_t l3, uint64_t l4) {
     uint32_t l6 = 0, l7 = 0, l8 = 0, l9 = 0, l10 = 0, l16 = 0;
     uint64_t l5 = 0, l11 = 0, l12 = 0, l13 = 0, l14 = 0, l15 = 0;
     l5 = sp - 32ull;
@@ -5742,7 +5875,7 @@ L1:;
 }
 
 /* rattle::export hound_encode_i32 */
-static uint64_t f46_hound_encode_i32(uint64_t sp, uint64_t l0, uint64_t l1, uint64_t l2, uint64_t l3, uint64_t l4) {
+static uint64_t f55_hound_encode_i32(uint64_t sp, uint64_t l0, uint64_t l1, uint64_t l2, uint64_t l3, uint64_t l4) {
     uint32_t l8 = 0, l9 = 0, l10 = 0, l11 = 0, l12 = 0, l20 = 0;
     uint64_t l5 = 0, l6 = 0, l7 = 0, l13 = 0, l14 = 0, l15 = 0, l16 = 0, l17 = 0, l18 = 0, l19 = 0;
     l5 = sp - 32ull;
@@ -6037,7 +6170,7 @@ L1:;
 }
 
 /* rattle::export hound_encode_i8 */
-static uint64_t f48_hound_encode_i8(uint64_t sp, uint64_t l0, uint64_t l1, uint64_t l2, uint64_t l3, uint64_t l4) {
+static uint64_t f57_hound_encode_i8(uint64_t sp, uint64_t l0, uint64_t l1, uint64_t l2, uint64_t l3, uint64_t l4) {
     uint32_t l7 = 0, l8 = 0, l9 = 0, l10 = 0, l11 = 0, l12 = 0, l13 = 0, l14 = 0;
     uint64_t l5 = 0, l6 = 0, l15 = 0, l16 = 0, l17 = 0, l18 = 0, l19 = 0, l20 = 0;
     l5 = sp - 16ull;
@@ -6386,8 +6519,127 @@ L1:;
     return l4;
 }
 
+/* rattle::export hound_f32_to_f64 */
+static uint64_t f59_hound_f32_to_f64(uint64_t l0, uint64_t l1, uint64_t l2, uint64_t l3) {
+    uint64_t l4 = 0, l5 = 0, l6 = 0, l7 = 0;
+    float l8 = 0;
+    double t1, t2, t3;
+    if (l3 >= l1) goto L2;
+    return 0xfffffffffffffff7ull;
+L2:;
+    if (!(l1 == 0)) goto L3;
+    return 0ull;
+L3:;
+    l4 = l2 + (l2 == 0 ? 4096ull : 0ull);
+    l5 = l0 + (l0 == 0 ? 4096ull : 0ull);
+    l0 = 0ull;
+    if (l1 == 1ull) goto L5;
+    l6 = l1 & 1ull;
+    l7 = l1 & 0xfffffffffffffffeull;
+    l0 = 0ull;
+    l3 = l4;
+    l2 = l5;
+L6:;
+    l8 = load_f32(l2);
+    t1 = (double)l8;
+    store_f64(l3, l8 != l8 ? f64_of(0x7ff8000000000000ull) : t1);
+    l8 = load_f32(l2 + 4ull);
+    t2 = (double)l8;
+    store_f64(l3 + 8ull, l8 != l8 ? f64_of(0x7ff8000000000000ull) : t2);
+    l3 = l3 + 16ull;
+    l2 = l2 + 8ull;
+    l0 = l0 + 2ull;
+    if (l7 != l0) goto L6;
+    if (l6 == 0) goto L4;
+L5:;
+    l8 = load_f32(l5 + (l0 << 2));
+    t3 = (double)l8;
+    store_f64(l4 + (l0 << 3), l8 != l8 ? f64_of(0x7ff8000000000000ull) : t3);
+L4:;
+    return l1;
+    TRAP();
+}
+
+/* rattle::export hound_f64_to_f32 */
+static uint64_t f61_hound_f64_to_f32(uint64_t l0, uint64_t l1, uint64_t l2, uint64_t l3, uint64_t l4) {
+    uint64_t l5 = 0, l8 = 0, l12 = 0, l13 = 0, l14 = 0, l15 = 0, l16 = 0, l17 = 0;
+    float l6 = 0, l11 = 0;
+    double l7 = 0, l9 = 0, l10 = 0;
+    l5 = 0xfffffffffffffff7ull;
+    if (l3 < l1) goto L2;
+    if (!(l1 == 0)) goto L4;
+    l0 = 0ull;
+    goto L3;
+L4:;
+    l5 = l2 + (l2 == 0 ? 4096ull : 0ull);
+    l3 = l0 + (l0 == 0 ? 4096ull : 0ull);
+    l6 = 0.0f;
+    l7 = 0.0;
+    l0 = 0ull;
+    l8 = l1;
+L5:;
+    l9 = load_f64(l3);
+    l10 = l9;
+    if (l10 == l10) goto L7;
+    l11 = f32_of(0x7fc00000u);
+    goto L6;
+L7:;
+    l11 = 0.0f;
+    l12 = bits_of(l9);
+    l2 = l12 & 0x7fffffffffffffffull;
+    if (l2 == 0) goto L8;
+    l11 = f32_of(0x7f800000u);
+    if (l2 > 0x7fefffffffffffffull) goto L8;
+    if (l2 < 0x10000000000000ull) goto L10;
+    l13 = (l2 >> 52) + 1197ull;
+    l14 = (l2 & 0xfffffffffffffull) | 0x10000000000000ull;
+    goto L9;
+L10:;
+    l11 = 0.0f;
+    l13 = (clz64(l2) + 0xfffffff5ull) & 0xffffffffull;
+    l14 = l2 << ((l13 & 63));
+    if (l14 == 0) goto L8;
+    l13 = 1198ull - l13;
+L9:;
+    l2 = l13 - clz64(l14);
+    l15 = l2 - 2083ull;
+    l15 = l15 > (l2 + 64ull) ? 0ull : l15;
+    l16 = l15 + 2121ull;
+    if (l13 > l16) goto L12;
+    l2 = 1ull;
+    l17 = l16 - l13;
+    if (l17 > 63ull) goto L11;
+    if (l16 != l13) goto L13;
+    l2 = l14;
+    goto L11;
+L13:;
+    l2 = (l14 >> ((l17 & 63))) | ((uint64_t)(uint32_t)((l14 << (((64ull - l17) & 63))) != 0ull));
+    goto L11;
+L12:;
+    l2 = l14 << (((l13 - l16) & 63));
+L11:;
+    l13 = l2 >> 2;
+    l2 = l2 & 3ull;
+    l11 = l15 > 253ull ? f32_of(0x7f800000u) : (f32_of(((uint32_t)((l13 + (l15 << 23)) + (l2 < 2ull ? 0ull : (l2 == 2ull ? (l13 & 1ull) : 1ull))))));
+L8:;
+    l11 = s64(l12) < s64(0ull) ? neg_f32(l11) : l11;
+L6:;
+    store_f32(l5, l11);
+    l0 = l0 + ((uint64_t)((uint32_t)((l9 - l9) == l7) & (uint32_t)((l11 - l11) != l6)));
+    l3 = l3 + 8ull;
+    l5 = l5 + 4ull;
+    l8 = l8 - 1ull;
+    if (l8 != 0ull) goto L5;
+L3:;
+    store64(l4, l0);
+    l5 = l1;
+L2:;
+    return l5;
+    TRAP();
+}
+
 /* rattle::export hound_find_damage */
-static uint32_t f50_hound_find_damage(uint64_t sp, uint64_t l0, uint64_t l1, uint64_t l2) {
+static uint32_t f63_hound_find_damage(uint64_t sp, uint64_t l0, uint64_t l1, uint64_t l2) {
     uint32_t l4 = 0, l5 = 0, l6 = 0, l7 = 0, l8 = 0, l9 = 0, l10 = 0, l11 = 0, l12 = 0, l13 = 0;
     uint64_t l3 = 0;
     l3 = sp - 80ull;
@@ -6461,94 +6713,85 @@ L1:;
 }
 
 /* rattle::export hound_from_f32 */
-static uint64_t f52_hound_from_f32(uint64_t l0, uint64_t l1, uint32_t l2, uint64_t l3, uint64_t l4, uint64_t l5) {
-    uint64_t l6 = 0, l7 = 0, l8 = 0, l16 = 0, l21 = 0, l22 = 0;
-    float l17 = 0;
-    double l9 = 0, l10 = 0, l11 = 0, l12 = 0, l13 = 0, l14 = 0, l15 = 0, l18 = 0, l19 = 0, l20 = 0;
-    if (((l2 - 33u) & 65535u) >= 65504u) goto L2;
-    return 0xfffffffffffffffbull;
-L2:;
-    if (l4 >= l1) goto L3;
-    return 0xfffffffffffffff7ull;
+static uint64_t f65_hound_from_f32(uint64_t sp, uint64_t l0, uint64_t l1, uint32_t l2, uint64_t l3, uint64_t l4, uint64_t l5) {
+    uint64_t l6 = 0, l7 = 0, l9 = 0;
+    float l8 = 0;
+    double t1;
+    l6 = sp - 16ull;
+    sp = l6;
+    if (((l2 - 33u) & 65535u) >= 65504u) goto L3;
+    l1 = 0xfffffffffffffffbull;
+    goto L2;
 L3:;
-    if (!(l1 == 0)) goto L4;
-    store64(l5, 0ull);
-    return l1;
+    if (l4 >= l1) goto L4;
+    l1 = 0xfffffffffffffff7ull;
+    goto L2;
 L4:;
-    l3 = l3 + (l3 == 0 ? 4096ull : 0ull);
-    l0 = l0 + (l0 == 0 ? 4096ull : 0ull);
-    l2 = 1u << ((((l2 - 1u) & 65535u) & 31));
-    l4 = (uint64_t)l2;
-    l6 = l4 - 1ull;
-    l7 = 0ull;
-    l8 = 0ull - l4;
-    l9 = (double)l2;
-    l10 = (-1.0);
-    l11 = 1.0;
-    l12 = (-9.223372036854776e+18);
-    l13 = 9.223372036854776e+18;
-    l14 = 4503599627370496.0;
-    l15 = 0.0;
-    l16 = l1;
-L5:;
-    l17 = load_f32(l0);
-    const double t1 = (double)l17;
-    l18 = l9 * (l17 != l17 ? f64_of(0x7ff8000000000000ull) : t1);
-    l19 = l18;
-    l19 = l19 < l15 ? neg_f64(l18) : (l19 == l15 ? (0.0) : l18);
-    if (!(l19 < l14)) goto L6;
-    l19 = (l19 + (4503599627370496.0)) + (-4503599627370496.0);
-    l20 = l19;
-    if (s64(bits_of(l18)) > s64(0xffffffffffffffffull)) goto L7;
-    l18 = l20 < l15 ? l19 : (l20 == l15 ? (-0.0) : neg_f64(l19));
-    goto L6;
-L7:;
-    l18 = l20 < l15 ? neg_f64(l19) : (l20 == l15 ? (0.0) : l19);
+    if (!(l1 == 0)) goto L6;
+    l0 = 0ull;
+    goto L5;
 L6:;
-    l19 = l18;
-    if (!(l13 <= l19)) goto L9;
-    l4 = 0x7fffffffffffffffull;
-    goto L8;
-L9:;
-    if (!(l12 <= l19)) goto L10;
-    if (!(l11 <= l19)) goto L11;
-    l4 = bits_of(l18);
-    l21 = (l4 & 0xfffffffffffffull) | 0x10000000000000ull;
-    l22 = l4 >> 52;
-    l4 = l4 < 0x4340000000000000ull ? (l21 >> (((1075ull - l22) & 63))) : (l21 << (((l22 - 1075ull) & 63)));
-    goto L8;
-L11:;
-    if (l19 <= l10) goto L12;
-    l4 = 0ull;
-    goto L8;
-L12:;
-    l4 = 0ull;
-    l18 = neg_f64(l18);
-    if (!(l11 <= l18)) goto L13;
-    l4 = bits_of(l18);
-    l21 = (l4 & 0xfffffffffffffull) | 0x10000000000000ull;
-    l22 = l4 >> 52;
-    l4 = l4 < 0x4340000000000000ull ? (l21 >> (((1075ull - l22) & 63))) : (l21 << (((l22 - 1075ull) & 63)));
-L13:;
-    l4 = 0ull - l4;
-    goto L8;
-L10:;
-    l4 = l19 != l19 ? 0ull : 0x8000000000000000ull;
-L8:;
-    l21 = s64(l4) < s64(l8) ? l8 : (s64(l6) < s64(l4) ? l6 : l4);
-    store32(l3, (uint32_t)(l21));
-    l7 = l7 + ((uint64_t)(uint32_t)(l21 != l4));
-    l0 = l0 + 4ull;
+    l4 = l3 + (l3 == 0 ? 4096ull : 0ull);
+    l3 = l0 + (l0 == 0 ? 4096ull : 0ull);
+    l7 = l1;
+    l0 = 0ull;
+L7:;
+    l8 = load_f32(l3);
+    t1 = (double)l8;
+    f21_double_to_int(l6 + 8ull, l8 != l8 ? f64_of(0x7ff8000000000000ull) : t1, l2);
+    l9 = (uint64_t)load8(l6 + 12);
+    store32(l4, load32(l6 + 8));
     l3 = l3 + 4ull;
-    l16 = l16 - 1ull;
-    if (l16 != 0ull) goto L5;
-    store64(l5, l7);
+    l4 = l4 + 4ull;
+    l0 = l0 + (l9 & 1ull);
+    l7 = l7 - 1ull;
+    if (l7 != 0ull) goto L7;
+L5:;
+    store64(l5, l0);
+L2:;
+    return l1;
+    TRAP();
+}
+
+/* rattle::export hound_from_f64 */
+static uint64_t f67_hound_from_f64(uint64_t sp, uint64_t l0, uint64_t l1, uint32_t l2, uint64_t l3, uint64_t l4, uint64_t l5) {
+    uint64_t l6 = 0, l7 = 0, l8 = 0;
+    l6 = sp - 16ull;
+    sp = l6;
+    if (((l2 - 33u) & 65535u) >= 65504u) goto L3;
+    l1 = 0xfffffffffffffffbull;
+    goto L2;
+L3:;
+    if (l4 >= l1) goto L4;
+    l1 = 0xfffffffffffffff7ull;
+    goto L2;
+L4:;
+    if (!(l1 == 0)) goto L6;
+    l0 = 0ull;
+    goto L5;
+L6:;
+    l4 = l3 + (l3 == 0 ? 4096ull : 0ull);
+    l3 = l0 + (l0 == 0 ? 4096ull : 0ull);
+    l7 = l1;
+    l0 = 0ull;
+L7:;
+    f21_double_to_int(l6 + 8ull, load_f64(l3), l2);
+    l8 = (uint64_t)load8(l6 + 12);
+    store32(l4, load32(l6 + 8));
+    l3 = l3 + 8ull;
+    l4 = l4 + 4ull;
+    l0 = l0 + (l8 & 1ull);
+    l7 = l7 - 1ull;
+    if (l7 != 0ull) goto L7;
+L5:;
+    store64(l5, l0);
+L2:;
     return l1;
     TRAP();
 }
 
 /* rattle::export hound_guess_data */
-static uint64_t f54_hound_guess_data(uint64_t l0, uint64_t l1) {
+static uint64_t f69_hound_guess_data(uint64_t l0, uint64_t l1) {
     uint64_t l2 = 0, l3 = 0;
     l2 = 0xfffffffffffffff4ull;
     l3 = l1 - 7ull;
@@ -6569,7 +6812,7 @@ L1:;
 }
 
 /* rattle::export hound_header */
-static uint64_t f56_hound_header(uint64_t sp, uint64_t l0, uint64_t l1, uint64_t l2, uint64_t l3) {
+static uint64_t f71_hound_header(uint64_t sp, uint64_t l0, uint64_t l1, uint64_t l2, uint64_t l3) {
     uint32_t l5 = 0, l6 = 0, l7 = 0, l8 = 0, l9 = 0, l10 = 0;
     uint64_t l4 = 0, l11 = 0;
     l4 = sp - 16ull;
@@ -6618,7 +6861,7 @@ L5:;
     store32(l4 + 4, l8);
     store16(l4 + 2, 0u);
     store16(l4, l6);
-    f21_put_header(sp, l4, ((uint32_t)l11) - 8u, (uint32_t)l1, l2 + (l2 == 0 ? 4096ull : 0ull));
+    f22_put_header(sp, l4, ((uint32_t)l11) - 8u, (uint32_t)l1, l2 + (l2 == 0 ? 4096ull : 0ull));
     goto L1;
 L10:;
     l0 = 0xfffffffffffffff9ull;
@@ -6637,7 +6880,7 @@ L1:;
 }
 
 /* rattle::export hound_info */
-static uint32_t f58_hound_info(uint64_t sp, uint64_t l0, uint64_t l1, uint64_t l2) {
+static uint32_t f73_hound_info(uint64_t sp, uint64_t l0, uint64_t l1, uint64_t l2) {
     uint32_t l4 = 0, l5 = 0;
     uint64_t l3 = 0;
     l3 = sp - 48ull;
@@ -6716,7 +6959,7 @@ L1:;
 }
 
 /* rattle::export hound_kind */
-static uint32_t f60_hound_kind(uint64_t l0, uint64_t l1) {
+static uint32_t f75_hound_kind(uint64_t l0, uint64_t l1) {
     uint32_t l2 = 0, l3 = 0, l4 = 0, l5 = 0, l6 = 0, l7 = 0;
     uint64_t l8 = 0, l9 = 0, l10 = 0;
     l2 = 0x10000u;
@@ -6806,9 +7049,9 @@ L2:;
 }
 
 /* rattle::export hound_read_f32 */
-static uint64_t f62_hound_read_f32(uint64_t sp, uint64_t l0, uint64_t l1, uint64_t l2, uint64_t l3, uint64_t l4) {
+static uint64_t f77_hound_read_f32(uint64_t sp, uint64_t l0, uint64_t l1, uint64_t l2, uint64_t l3, uint64_t l4) {
     uint32_t l7 = 0, l8 = 0;
-    uint64_t l5 = 0, l6 = 0, l9 = 0, l10 = 0;
+    uint64_t l5 = 0, l6 = 0, l9 = 0, l10 = 0, t1;
     l5 = sp - 48ull;
     sp = l5;
     store64(l5 + 40, 0ull);
@@ -6838,7 +7081,7 @@ L12:;
     l10 = load64(l5 + 32);
     l0 = (l1 - l10) >> 2;
     if (l0 <= l2) goto L8;
-    const uint64_t t1 = f14_decode_front(l5 + 8ull, (l6 + l10) + (l2 << 2), ((l0 < l9 ? l0 : l9) - l2) << 2, l3 + (l3 == 0 ? 4096ull : 0ull), l4);
+    t1 = f14_decode_front(l5 + 8ull, (l6 + l10) + (l2 << 2), ((l0 < l9 ? l0 : l9) - l2) << 2, l3 + (l3 == 0 ? 4096ull : 0ull), l4);
     l0 = t1;
     goto L1;
 L11:;
@@ -6898,9 +7141,9 @@ L1:;
 }
 
 /* rattle::export hound_read_i16 */
-static uint64_t f64_hound_read_i16(uint64_t sp, uint64_t l0, uint64_t l1, uint64_t l2, uint64_t l3, uint64_t l4) {
+static uint64_t f79_hound_read_i16(uint64_t sp, uint64_t l0, uint64_t l1, uint64_t l2, uint64_t l3, uint64_t l4) {
     uint32_t l7 = 0, l8 = 0, l9 = 0;
-    uint64_t l5 = 0, l6 = 0, l10 = 0, l11 = 0;
+    uint64_t l5 = 0, l6 = 0, l10 = 0, l11 = 0, t1;
     l5 = sp - 48ull;
     sp = l5;
     store64(l5 + 40, 0ull);
@@ -6934,7 +7177,7 @@ L14:;
     l0 = ((uint64_t)l8) & 65535ull;
     l1 = div64((l1 - l11), l0);
     if (l1 <= l2) goto L8;
-    const uint64_t t1 = f15_decode_front(l5 + 8ull, (l6 + l11) + (l2 * l0), ((l1 < l10 ? l1 : l10) - l2) * l0, l3 + (l3 == 0 ? 4096ull : 0ull), l4);
+    t1 = f15_decode_front(l5 + 8ull, (l6 + l11) + (l2 * l0), ((l1 < l10 ? l1 : l10) - l2) * l0, l3 + (l3 == 0 ? 4096ull : 0ull), l4);
     l0 = t1;
     goto L1;
 L11:;
@@ -6994,9 +7237,9 @@ L1:;
 }
 
 /* rattle::export hound_read_i32 */
-static uint64_t f66_hound_read_i32(uint64_t sp, uint64_t l0, uint64_t l1, uint64_t l2, uint64_t l3, uint64_t l4) {
+static uint64_t f81_hound_read_i32(uint64_t sp, uint64_t l0, uint64_t l1, uint64_t l2, uint64_t l3, uint64_t l4) {
     uint32_t l7 = 0, l8 = 0, l9 = 0, l12 = 0;
-    uint64_t l5 = 0, l6 = 0, l10 = 0, l11 = 0;
+    uint64_t l5 = 0, l6 = 0, l10 = 0, l11 = 0, t1;
     l5 = sp - 48ull;
     sp = l5;
     store64(l5 + 40, 0ull);
@@ -7030,7 +7273,7 @@ L13:;
     l0 = ((uint64_t)l8) & 65535ull;
     l1 = div64((l1 - l11), l0);
     if (l1 <= l2) goto L8;
-    const uint64_t t1 = f16_decode_front(l5 + 8ull, (l6 + l11) + (l2 * l0), ((l1 < l10 ? l1 : l10) - l2) * l0, l3 + (l3 == 0 ? 4096ull : 0ull), l4);
+    t1 = f16_decode_front(l5 + 8ull, (l6 + l11) + (l2 * l0), ((l1 < l10 ? l1 : l10) - l2) * l0, l3 + (l3 == 0 ? 4096ull : 0ull), l4);
     l0 = t1;
     goto L1;
 L12:;
@@ -7094,7 +7337,7 @@ L1:;
 }
 
 /* rattle::export hound_recorder_begin */
-static uint32_t f68_hound_recorder_begin(uint64_t l0, uint64_t l1) {
+static uint32_t f83_hound_recorder_begin(uint64_t l0, uint64_t l1) {
     uint32_t l2 = 0, l3 = 0, l4 = 0, l5 = 0, l6 = 0, l7 = 0;
     l2 = load16(l0 + 10);
     l3 = load16(l0 + 6);
@@ -7145,7 +7388,7 @@ L6:;
 }
 
 /* rattle::export hound_recorder_checkpoint */
-static void f70_hound_recorder_checkpoint(uint64_t sp, uint64_t l0) {
+static void f85_hound_recorder_checkpoint(uint64_t sp, uint64_t l0) {
     uint32_t l2 = 0, l3 = 0, l4 = 0, l5 = 0, l6 = 0, l7 = 0, l9 = 0, l10 = 0;
     uint64_t l1 = 0, l8 = 0;
     l1 = sp - 48ull;
@@ -7198,7 +7441,7 @@ L4:;
     l9 = l3 & 65535u;
     store8(l1 + 28, l9 != 0 ? (l9 == 1u ? 1u : 2u) : 0u);
     l9 = load16(l0 + 14);
-    f22_settle(sp, l1, l1 + 8ull, load16(l0 + 12) != 0 ? (l9 == 1u ? 1u : (l9 == 2u ? 2u : 0u)) : 0u);
+    f23_settle(sp, l1, l1 + 8ull, load16(l0 + 12) != 0 ? (l9 == 1u ? 1u : (l9 == 2u ? 2u : 0u)) : 0u);
     switch ((uint32_t)((uint64_t)load8(l1 + 32))) {
     case 3: goto L2;
     case 4: goto L9;
@@ -7231,7 +7474,7 @@ L1:;
 }
 
 /* rattle::export hound_recorder_frames_left */
-static uint64_t f72_hound_recorder_frames_left(uint64_t l0) {
+static uint64_t f87_hound_recorder_frames_left(uint64_t l0) {
     uint64_t l1 = 0, l2 = 0, l3 = 0;
     l1 = 0ull;
     l2 = load64(l0 + 56ull);
@@ -7247,7 +7490,7 @@ L2:;
 }
 
 /* rattle::export hound_recorder_next */
-static uint32_t f74_hound_recorder_next(uint64_t sp, uint64_t l0) {
+static uint32_t f89_hound_recorder_next(uint64_t sp, uint64_t l0) {
     uint32_t l2 = 0, l3 = 0, l4 = 0, l5 = 0, l6 = 0, l7 = 0, l9 = 0, l10 = 0, l12 = 0, l13 = 0, l15 = 0, l16 = 0, l17 = 0, l18 = 0, l19 = 0, l20 = 0;
     uint64_t l1 = 0, l8 = 0, l11 = 0, l14 = 0, l21 = 0, l22 = 0, l23 = 0;
     l1 = sp - 128ull;
@@ -7305,7 +7548,7 @@ L2:;
     l9 = l3 & 65535u;
     store8(l1 + 68, l9 != 0 ? (l9 == 1u ? 1u : 2u) : 0u);
     l9 = load16(l0 + 14);
-    f22_settle(sp, l1, l1 + 48ull, load16(l0 + 12) != 0 ? (l9 == 1u ? 1u : (l9 == 2u ? 2u : 0u)) : 0u);
+    f23_settle(sp, l1, l1 + 48ull, load16(l0 + 12) != 0 ? (l9 == 1u ? 1u : (l9 == 2u ? 2u : 0u)) : 0u);
     if (load8(l1) != 0) goto L17;
     l11 = 0ull;
     l6 = load8(l1 + 68);
@@ -7365,7 +7608,7 @@ L22:;
     l13 = 2u;
     if (l8 > 0x100000007ull) goto L24;
     if ((((l8 + l14) + (l14 & 1ull)) - 8ull) > 0xffffffffull) goto L24;
-    f23_effect(l1 + 88ull, l1 + 48ull, l9);
+    f24_effect(l1 + 88ull, l1 + 48ull, l9);
     l7 = 1u;
     if (load8(l1 + 88) != 1u) goto L23;
     l12 = load32(l1 + 112);
@@ -7415,7 +7658,7 @@ L27:;
     if (l8 > 0x100000007ull) goto L25;
     l14 = (uint64_t)l10;
     if ((((l8 + l14) + (l14 & 1ull)) - 8ull) > 0xffffffffull) goto L25;
-    f23_effect(l1 + 88ull, l1 + 48ull, l9);
+    f24_effect(l1 + 88ull, l1 + 48ull, l9);
     l9 = 1u;
     if (load8(l1 + 88) == 1u) goto L14;
     store16(l1 + 66, l4);
@@ -7586,7 +7829,7 @@ L37:;
 }
 
 /* rattle::export hound_recorder_resume */
-static uint32_t f76_hound_recorder_resume(uint64_t l0, uint32_t l1, uint64_t l2) {
+static uint32_t f91_hound_recorder_resume(uint64_t l0, uint32_t l1, uint64_t l2) {
     uint32_t l3 = 0, l4 = 0, l5 = 0, l9 = 0, l11 = 0, l13 = 0, l14 = 0;
     uint64_t l6 = 0, l7 = 0, l8 = 0, l10 = 0, l12 = 0;
     l3 = load16(l0 + 6);
@@ -7688,7 +7931,7 @@ L1:;
 }
 
 /* rattle::export hound_recorder_write */
-static uint32_t f78_hound_recorder_write(uint64_t sp, uint64_t l0, uint64_t l1) {
+static uint32_t f93_hound_recorder_write(uint64_t sp, uint64_t l0, uint64_t l1) {
     uint32_t l3 = 0, l4 = 0, l5 = 0, l6 = 0, l7 = 0, l8 = 0, l10 = 0, l11 = 0, l13 = 0, l14 = 0;
     uint64_t l2 = 0, l9 = 0, l12 = 0;
     l2 = sp - 48ull;
@@ -7740,7 +7983,7 @@ L2:;
     l10 = l4 & 65535u;
     store8(l2 + 28, l10 != 0 ? (l10 == 1u ? 1u : 2u) : 0u);
     l10 = load16(l0 + 14);
-    f22_settle(sp, l2, l2 + 8ull, load16(l0 + 12) != 0 ? (l10 == 1u ? 1u : (l10 == 2u ? 2u : 0u)) : 0u);
+    f23_settle(sp, l2, l2 + 8ull, load16(l0 + 12) != 0 ? (l10 == 1u ? 1u : (l10 == 2u ? 2u : 0u)) : 0u);
     switch ((uint32_t)((uint64_t)load8(l2 + 32))) {
     case 3: goto L10;
     case 4: goto L9;
@@ -7820,14 +8063,14 @@ L15:;
 }
 
 /* rattle::export hound_repair */
-static uint64_t f80_hound_repair(uint64_t sp, uint64_t l0, uint64_t l1, uint64_t l2, uint64_t l3) {
+static uint64_t f95_hound_repair(uint64_t sp, uint64_t l0, uint64_t l1, uint64_t l2, uint64_t l3) {
     uint32_t l5 = 0;
     uint64_t l4 = 0;
     l4 = sp - 16ull;
     sp = l4;
     store64(l4 + 8, 0ull);
     store64(l4, 0ull);
-    f25_repair_file(sp, l4, l0 + (l0 == 0 ? 4096ull : 0ull), l1, l2, 1u, l3);
+    f26_repair_file(sp, l4, l0 + (l0 == 0 ? 4096ull : 0ull), l1, l2, 1u, l3);
     if (load8(l4) != 0) goto L4;
     l0 = load64(l4 + 8);
     goto L1;
@@ -7888,14 +8131,14 @@ L1:;
 }
 
 /* rattle::export hound_repair_to_end */
-static uint64_t f82_hound_repair_to_end(uint64_t sp, uint64_t l0, uint64_t l1, uint64_t l2, uint64_t l3) {
+static uint64_t f97_hound_repair_to_end(uint64_t sp, uint64_t l0, uint64_t l1, uint64_t l2, uint64_t l3) {
     uint32_t l5 = 0;
     uint64_t l4 = 0;
     l4 = sp - 16ull;
     sp = l4;
     store64(l4 + 8, 0ull);
     store64(l4, 0ull);
-    f25_repair_file(sp, l4, l0 + (l0 == 0 ? 4096ull : 0ull), l1, l2, 2u, l3);
+    f26_repair_file(sp, l4, l0 + (l0 == 0 ? 4096ull : 0ull), l1, l2, 2u, l3);
     if (load8(l4) != 0) goto L4;
     l0 = load64(l4 + 8);
     goto L1;
@@ -7956,7 +8199,7 @@ L1:;
 }
 
 /* rattle::export hound_repairer_begin */
-static void f84_hound_repairer_begin(uint64_t l0, uint32_t l1, uint64_t l2) {
+static void f99_hound_repairer_begin(uint64_t l0, uint32_t l1, uint64_t l2) {
     store64(l2 + 48, 0ull);
     store64(l2 + 40, 0ull);
     store64(l2 + 32, 0ull);
@@ -7976,7 +8219,7 @@ static void f84_hound_repairer_begin(uint64_t l0, uint32_t l1, uint64_t l2) {
 }
 
 /* rattle::export hound_repairer_next */
-static uint32_t f86_hound_repairer_next(uint64_t sp, uint64_t l0, uint64_t l1) {
+static uint32_t f101_hound_repairer_next(uint64_t sp, uint64_t l0, uint64_t l1) {
     uint32_t l5 = 0, l6 = 0, l7 = 0, l8 = 0, l9 = 0, l10 = 0, l11 = 0, l12 = 0, l13 = 0, l14 = 0, l16 = 0, l17 = 0, l18 = 0, l19 = 0, l20 = 0, l21 = 0, l22 = 0, l24 = 0, l25 = 0, l26 = 0, l27 = 0, l28 = 0, l29 = 0, l31 = 0, l32 = 0, l33 = 0, l34 = 0, l35 = 0, l36 = 0, l37 = 0, l38 = 0, l39 = 0, l40 = 0, l41 = 0, l42 = 0, l43 = 0, l44 = 0;
     uint64_t l2 = 0, l3 = 0, l4 = 0, l15 = 0, l23 = 0, l30 = 0, l45 = 0, l46 = 0, l47 = 0, l48 = 0, l49 = 0, l50 = 0, l51 = 0;
     l2 = sp - 1216ull;
@@ -8730,7 +8973,7 @@ L47:;
     store64(l2 + 64, (((uint64_t)l35) << 32) | ((uint64_t)l34));
     store64(l2 + 56, (((uint64_t)l17) << 32) | ((((uint64_t)l16) << 8) | (((uint64_t)l5) & 255ull)));
     store8(l2 + 49, l6);
-    f26_repairer_for_c(sp, l2 + 120ull, l2 + 704ull, l2 + 48ull, l2 + 8ull);
+    f27_repairer_for_c(sp, l2 + 120ull, l2 + 704ull, l2 + 48ull, l2 + 8ull);
     MOVE(l0, l2 + 120ull, 120ull);
     l12 = (l6 & 255u) != 0 ? 0xffffffe1u : 0xffffffe4u;
     goto L1;
@@ -8947,7 +9190,7 @@ L28:;
     store64(l2 + 528, (((uint64_t)l21) << 32) | ((uint64_t)l20));
     store64(l2 + 560, ((((uint64_t)l18) << 8) | (((uint64_t)l29) & 255ull)) | l45);
     store64(l2 + 520, ((((uint64_t)l26) << 8) | (((uint64_t)l13) & 255ull)) | (((uint64_t)l19) << 32));
-    f26_repairer_for_c(sp, l2 + 584ull, l2 + 704ull, l2 + 512ull, l2 + 472ull);
+    f27_repairer_for_c(sp, l2 + 584ull, l2 + 704ull, l2 + 512ull, l2 + 472ull);
     MOVE(l0, l2 + 584ull, 120ull);
     l12 = 1u;
     goto L1;
@@ -8992,7 +9235,7 @@ L101:;
     store64(l2 + 328, ((((uint64_t)l18) << 8) | (((uint64_t)l29) & 255ull)) | l45);
     store64(l2 + 288, ((((uint64_t)l26) << 8) | (((uint64_t)l13) & 255ull)) | (((uint64_t)l19) << 32));
     store64(l2 + 240, 0ull);
-    f26_repairer_for_c(sp, l2 + 352ull, l2 + 704ull, l2 + 280ull, l2 + 240ull);
+    f27_repairer_for_c(sp, l2 + 352ull, l2 + 704ull, l2 + 280ull, l2 + 240ull);
     MOVE(l0, l2 + 352ull, 120ull);
     l12 = 0u;
     goto L1;
@@ -9003,7 +9246,7 @@ L1:;
 }
 
 /* rattle::export hound_size */
-static uint64_t f88_hound_size(uint64_t l0, uint64_t l1) {
+static uint64_t f103_hound_size(uint64_t l0, uint64_t l1) {
     uint32_t l2 = 0, l3 = 0, l4 = 0, l5 = 0, l6 = 0;
     uint64_t l7 = 0;
     l2 = load16(l0 + 10);
@@ -9054,7 +9297,7 @@ L6:;
 }
 
 /* rattle::export hound_sizes */
-static uint64_t f90_hound_sizes(uint64_t l0, uint64_t l1, uint64_t l2, uint64_t l3, uint64_t l4) {
+static uint64_t f105_hound_sizes(uint64_t l0, uint64_t l1, uint64_t l2, uint64_t l3, uint64_t l4) {
     uint32_t l5 = 0, l6 = 0, l7 = 0, l8 = 0, l9 = 0;
     l5 = load16(l0 + 10);
     l6 = load16(l0 + 6);
@@ -9105,8 +9348,11 @@ L3:;
 }
 
 /* rattle::export hound_to_f32 */
-static uint64_t f92_hound_to_f32(uint64_t l0, uint64_t l1, uint32_t l2, uint64_t l3, uint64_t l4) {
-    float l5 = 0, l6 = 0;
+static uint64_t f107_hound_to_f32(uint64_t sp, uint64_t l0, uint64_t l1, uint32_t l2, uint64_t l3, uint64_t l4) {
+    uint32_t l8 = 0;
+    uint64_t l5 = 0;
+    float l6 = 0, l7 = 0;
+    l5 = sp - 16ull;
     if (((l2 - 33u) & 65535u) >= 65504u) goto L2;
     return 0xfffffffffffffffbull;
 L2:;
@@ -9119,18 +9365,16 @@ L4:;
     l4 = l3 + (l3 == 0 ? 4096ull : 0ull);
     l3 = l0 + (l0 == 0 ? 4096ull : 0ull);
     l2 = 1u << ((((l2 - 1u) & 65535u) & 31));
-    l5 = ((float)(l2 & 65535u)) + (((float)(l2 >> 16)) * (65536.0f));
+    l6 = ((float)(l2 & 65535u)) + (((float)(l2 >> 16)) * (65536.0f));
+    l7 = neg_f32(l6);
     l0 = l1;
 L5:;
     l2 = load32(l3);
-    if (s32(l2) < s32(0u)) goto L7;
-    l6 = ((float)(l2 & 65535u)) + (((float)(l2 >> 16)) * (65536.0f));
-    goto L6;
-L7:;
-    l2 = 0u - l2;
-    l6 = neg_f32((((float)(l2 & 65535u)) + (((float)(l2 >> 16)) * (65536.0f))));
-L6:;
-    store_f32(l4, l6 / l5);
+    store_f32(l5 + 12, l7);
+    store_f32(l5 + 8, l6);
+    l8 = shr_s32(l2, 31);
+    l8 = (l2 ^ l8) - l8;
+    store_f32(l4, (((float)(l8 & 65535u)) + (((float)(l8 >> 16)) * (65536.0f))) / (load_f32((l5 + 8ull) + ((uint64_t)((l2 >> 29) & 4u)))));
     l3 = l3 + 4ull;
     l4 = l4 + 4ull;
     l0 = l0 - 1ull;
@@ -9139,24 +9383,62 @@ L6:;
     TRAP();
 }
 
+/* rattle::export hound_to_f64 */
+static uint64_t f109_hound_to_f64(uint64_t l0, uint64_t l1, uint32_t l2, uint64_t l3, uint64_t l4) {
+    uint64_t l5 = 0, l6 = 0, l8 = 0, l9 = 0;
+    double l7 = 0;
+    if (((l2 - 33u) & 65535u) >= 65504u) goto L2;
+    return 0xfffffffffffffffbull;
+L2:;
+    if (l4 >= l1) goto L3;
+    return 0xfffffffffffffff7ull;
+L3:;
+    if (!(l1 == 0)) goto L4;
+    return 0ull;
+L4:;
+    l5 = l3 + (l3 == 0 ? 4096ull : 0ull);
+    l6 = l0 + (l0 == 0 ? 4096ull : 0ull);
+    l7 = (double)(1u << ((((l2 - 1u) & 65535u) & 31)));
+    l0 = 0ull;
+    if (l1 == 1ull) goto L6;
+    l8 = l1 & 1ull;
+    l9 = l1 & 0xfffffffffffffffeull;
+    l0 = 0ull;
+    l4 = l5;
+    l3 = l6;
+L7:;
+    store_f64(l4, ((double)s32(load32(l3))) / l7);
+    store_f64(l4 + 8ull, ((double)s32(load32(l3 + 4ull))) / l7);
+    l4 = l4 + 16ull;
+    l3 = l3 + 8ull;
+    l0 = l0 + 2ull;
+    if (l9 != l0) goto L7;
+    if (l8 == 0) goto L5;
+L6:;
+    store_f64(l5 + (l0 << 3), ((double)s32((load32(l6 + (l0 << 2))))) / l7);
+L5:;
+    return l1;
+    TRAP();
+}
+
 /* rattle::export hound_value_16 */
-static uint32_t f94_hound_value_16(uint32_t l0) {
+static uint32_t f111_hound_value_16(uint32_t l0) {
     return extend16(l0);
 }
 
 /* rattle::export hound_value_24 */
-static uint32_t f96_hound_value_24(uint32_t l0) {
+static uint32_t f113_hound_value_24(uint32_t l0) {
     return ((shr_s32((l0 << 8), 8)) & 0xffff0000u) | (l0 & 65535u);
 }
 
 /* rattle::export hound_value_8 */
-static uint32_t f100_hound_value_8(uint32_t l0) {
+static uint32_t f117_hound_value_8(uint32_t l0) {
     return extend8(l0) ^ 0xffffff80u;
 }
 
 /* rattle::export hound_walk_next */
-static uint32_t f104_hound_walk_next(uint64_t sp, uint64_t l0, uint64_t l1) {
-    uint32_t l4 = 0, l5 = 0, l6 = 0, l7 = 0, l8 = 0, l9 = 0, l10 = 0, l11 = 0, l12 = 0, l13 = 0, l14 = 0, l15 = 0, l16 = 0, l17 = 0, l18 = 0;
+static uint32_t f121_hound_walk_next(uint64_t sp, uint64_t l0, uint64_t l1) {
+    uint32_t l4 = 0, l5 = 0, l6 = 0, l7 = 0, l8 = 0, l9 = 0, l10 = 0, l11 = 0, l12 = 0, l13 = 0, l14 = 0, l15 = 0, l16 = 0, l17 = 0, l18 = 0, t1, t2, t3, t4;
     uint64_t l2 = 0, l3 = 0, l19 = 0;
     l2 = sp - 128ull;
     sp = l2;
@@ -9323,7 +9605,7 @@ L31:;
     if ((l8 & 255u) != 100u) goto L32;
     if ((l5 & 255u) != 97u) goto L32;
     if ((l16 & 255u) != 97u) goto L32;
-    const uint32_t t1 = f5_groups_equal(l19, 4ull, DATA(8));
+    t1 = f5_groups_equal(l19, 4ull, DATA(8));
     if (t1 == 0) goto L32;
     if (l9 != 0) goto L25;
     goto L15;
@@ -9335,7 +9617,7 @@ L32:;
     if ((l8 & 255u) != 102u) goto L33;
     if ((l5 & 255u) != 109u) goto L33;
     if ((l16 & 255u) != 32u) goto L33;
-    const uint32_t t2 = f5_groups_equal(l19, 4ull, DATA(12));
+    t2 = f5_groups_equal(l19, 4ull, DATA(12));
     if (t2 != 0) goto L21;
 L33:;
     l8 = l7 + (l18 & 1u);
@@ -9359,7 +9641,7 @@ L26:;
     if ((l8 & 255u) != 100u) goto L24;
     if ((l5 & 255u) != 97u) goto L24;
     if ((l16 & 255u) != 97u) goto L24;
-    const uint32_t t3 = f5_groups_equal(l19, 4ull, DATA(8));
+    t3 = f5_groups_equal(l19, 4ull, DATA(8));
     if (t3 == 0) goto L24;
     if (l9 == 0) goto L15;
 L25:;
@@ -9373,7 +9655,7 @@ L24:;
     if ((l8 & 255u) != 102u) goto L34;
     if ((l5 & 255u) != 109u) goto L34;
     if ((l16 & 255u) != 32u) goto L34;
-    const uint32_t t4 = f5_groups_equal(l19, 4ull, DATA(12));
+    t4 = f5_groups_equal(l19, 4ull, DATA(12));
     if (t4 != 0) goto L21;
 L34:;
     l8 = l7 + (l18 & 1u);
@@ -9524,8 +9806,8 @@ L1:;
 }
 
 /* rattle::export hound_walk_to_end */
-static uint32_t f106_hound_walk_to_end(uint64_t sp, uint64_t l0, uint64_t l1) {
-    uint32_t l4 = 0, l5 = 0, l6 = 0, l7 = 0, l8 = 0, l9 = 0, l10 = 0, l11 = 0, l12 = 0, l13 = 0, l14 = 0, l15 = 0, l16 = 0, l17 = 0, l18 = 0, l20 = 0, l21 = 0;
+static uint32_t f123_hound_walk_to_end(uint64_t sp, uint64_t l0, uint64_t l1) {
+    uint32_t l4 = 0, l5 = 0, l6 = 0, l7 = 0, l8 = 0, l9 = 0, l10 = 0, l11 = 0, l12 = 0, l13 = 0, l14 = 0, l15 = 0, l16 = 0, l17 = 0, l18 = 0, l20 = 0, l21 = 0, t1, t2, t3, t4;
     uint64_t l2 = 0, l3 = 0, l19 = 0;
     l2 = sp - 128ull;
     sp = l2;
@@ -9694,7 +9976,7 @@ L31:;
     if ((l5 & 255u) != 100u) goto L32;
     if ((l16 & 255u) != 97u) goto L32;
     if ((l17 & 255u) != 97u) goto L32;
-    const uint32_t t1 = f5_groups_equal(l19, 4ull, DATA(8));
+    t1 = f5_groups_equal(l19, 4ull, DATA(8));
     if (t1 == 0) goto L32;
     if (l9 != 0) goto L25;
     goto L2;
@@ -9707,7 +9989,7 @@ L32:;
     if ((l5 & 255u) != 102u) goto L33;
     if ((l16 & 255u) != 109u) goto L33;
     if ((l17 & 255u) != 32u) goto L33;
-    const uint32_t t2 = f5_groups_equal(l19, 4ull, DATA(12));
+    t2 = f5_groups_equal(l19, 4ull, DATA(12));
     if (t2 != 0) goto L21;
 L33:;
     l8 = l7 + (l8 & 1u);
@@ -9733,7 +10015,7 @@ L26:;
     if ((l5 & 255u) != 100u) goto L24;
     if ((l16 & 255u) != 97u) goto L24;
     if ((l17 & 255u) != 97u) goto L24;
-    const uint32_t t3 = f5_groups_equal(l19, 4ull, DATA(8));
+    t3 = f5_groups_equal(l19, 4ull, DATA(8));
     if (t3 == 0) goto L24;
     if (l9 == 0) goto L2;
 L25:;
@@ -9748,7 +10030,7 @@ L24:;
     if ((l5 & 255u) != 102u) goto L34;
     if ((l16 & 255u) != 109u) goto L34;
     if ((l17 & 255u) != 32u) goto L34;
-    const uint32_t t4 = f5_groups_equal(l19, 4ull, DATA(12));
+    t4 = f5_groups_equal(l19, 4ull, DATA(12));
     if (t4 != 0) goto L21;
 L34:;
     l8 = l7 + (l8 & 1u);
@@ -9885,7 +10167,7 @@ L1:;
 }
 
 /* rattle::export hound_whole_frames */
-static uint64_t f108_hound_whole_frames(uint64_t l0, uint64_t l1) {
+static uint64_t f125_hound_whole_frames(uint64_t l0, uint64_t l1) {
     uint32_t l2 = 0, l3 = 0;
     l2 = load16(l0 + 4);
     l3 = load16(l0 + 8);
@@ -9906,7 +10188,7 @@ L1:;
 }
 
 /* rattle::export hound_write_f32 */
-static uint64_t f110_hound_write_f32(uint64_t sp, uint64_t l0, uint64_t l1, uint64_t l2, uint64_t l3, uint64_t l4) {
+static uint64_t f127_hound_write_f32(uint64_t sp, uint64_t l0, uint64_t l1, uint64_t l2, uint64_t l3, uint64_t l4) {
     uint32_t l6 = 0, l7 = 0, l8 = 0, l9 = 0, l10 = 0, l11 = 0, l12 = 0, l13 = 0, l14 = 0;
     uint64_t l5 = 0, l15 = 0, l16 = 0, l17 = 0, l18 = 0, l19 = 0, l20 = 0, l21 = 0, l22 = 0;
     l5 = sp - 16ull;
@@ -9958,7 +10240,7 @@ L8:;
     store16(l5, l9);
     l16 = l3 == 0 ? 4096ull : 0ull;
     l17 = l3 + l16;
-    f21_put_header(sp, l5, ((uint32_t)l0) - 8u, (uint32_t)l15, l17);
+    f22_put_header(sp, l5, ((uint32_t)l0) - 8u, (uint32_t)l15, l17);
     if (l2 == 0) goto L1;
     l18 = l1 == 0 ? 4096ull : 0ull;
     l19 = l2 & 3ull;
@@ -10007,7 +10289,7 @@ L1:;
 }
 
 /* rattle::export hound_write_i16 */
-static uint64_t f112_hound_write_i16(uint64_t sp, uint64_t l0, uint64_t l1, uint64_t l2, uint64_t l3, uint64_t l4) {
+static uint64_t f129_hound_write_i16(uint64_t sp, uint64_t l0, uint64_t l1, uint64_t l2, uint64_t l3, uint64_t l4) {
     uint32_t l6 = 0, l7 = 0, l8 = 0, l9 = 0, l10 = 0, l11 = 0, l12 = 0, l13 = 0;
     uint64_t l5 = 0, l14 = 0, l15 = 0;
     l5 = sp - 32ull;
@@ -10071,7 +10353,7 @@ L5:;
     store16(l5 + 16, l9);
     l8 = (uint32_t)l14;
     l3 = l3 + (l3 == 0 ? 4096ull : 0ull);
-    f21_put_header(sp, l5 + 16ull, ((uint32_t)l0) - 8u, l8, l3);
+    f22_put_header(sp, l5 + 16ull, ((uint32_t)l0) - 8u, l8, l3);
     f10_write_data_at(l3, l15, l1, l2, l12, l7, l8);
     goto L1;
 L14:;
@@ -10131,7 +10413,7 @@ L1:;
 }
 
 /* rattle::export hound_write_i32 */
-static uint64_t f114_hound_write_i32(uint64_t sp, uint64_t l0, uint64_t l1, uint64_t l2, uint64_t l3, uint64_t l4) {
+static uint64_t f131_hound_write_i32(uint64_t sp, uint64_t l0, uint64_t l1, uint64_t l2, uint64_t l3, uint64_t l4) {
     uint32_t l6 = 0, l7 = 0, l8 = 0, l9 = 0, l10 = 0, l11 = 0, l12 = 0, l13 = 0;
     uint64_t l5 = 0, l14 = 0, l15 = 0;
     l5 = sp - 32ull;
@@ -10195,7 +10477,7 @@ L5:;
     store16(l5 + 16, l9);
     l8 = (uint32_t)l14;
     l3 = l3 + (l3 == 0 ? 4096ull : 0ull);
-    f21_put_header(sp, l5 + 16ull, ((uint32_t)l0) - 8u, l8, l3);
+    f22_put_header(sp, l5 + 16ull, ((uint32_t)l0) - 8u, l8, l3);
     f13_write_data_at(l3, l15, l1, l2, l12, l7, l8);
     goto L1;
 L14:;
@@ -10260,198 +10542,233 @@ int32_t hound_version(void) {
 
 int32_t hound_info(const uint8_t *file, size_t length, hound_info_t *info) {
     STACK(544);
-    return s32(f58_hound_info(sp, (uint64_t)(uintptr_t)file, length, (uint64_t)(uintptr_t)info));
+    return s32(f73_hound_info(sp, (uint64_t)(uintptr_t)file, length, (uint64_t)(uintptr_t)info));
 }
 
 int32_t hound_walk_next(hound_walk *walk, hound_info_t *info) {
     STACK(416);
-    return s32(f104_hound_walk_next(sp, (uint64_t)(uintptr_t)walk, (uint64_t)(uintptr_t)info));
+    return s32(f121_hound_walk_next(sp, (uint64_t)(uintptr_t)walk, (uint64_t)(uintptr_t)info));
 }
 
 int32_t hound_walk_to_end(hound_walk *walk, hound_info_t *info) {
     STACK(416);
-    return s32(f106_hound_walk_to_end(sp, (uint64_t)(uintptr_t)walk, (uint64_t)(uintptr_t)info));
+    return s32(f123_hound_walk_to_end(sp, (uint64_t)(uintptr_t)walk, (uint64_t)(uintptr_t)info));
 }
 
 int64_t hound_whole_frames(const hound_spec *spec, uint64_t length) {
-    return s64(f108_hound_whole_frames((uint64_t)(uintptr_t)spec, length));
+    return s64(f125_hound_whole_frames((uint64_t)(uintptr_t)spec, length));
 }
 
 int64_t hound_guess_data(const uint8_t *file, size_t length) {
-    return s64(f54_hound_guess_data((uint64_t)(uintptr_t)file, length));
+    return s64(f69_hound_guess_data((uint64_t)(uintptr_t)file, length));
 }
 
 int32_t hound_kind(const uint8_t *file, size_t length) {
-    return s32(f60_hound_kind((uint64_t)(uintptr_t)file, length));
+    return s32(f75_hound_kind((uint64_t)(uintptr_t)file, length));
 }
 
 int64_t hound_read_i16(const uint8_t *file, size_t length, uint64_t first, int16_t *out, size_t count) {
     STACK(544);
-    return s64(f64_hound_read_i16(sp, (uint64_t)(uintptr_t)file, length, first, (uint64_t)(uintptr_t)out, count));
+    return s64(f79_hound_read_i16(sp, (uint64_t)(uintptr_t)file, length, first, (uint64_t)(uintptr_t)out, count));
 }
 
 int64_t hound_read_i32(const uint8_t *file, size_t length, uint64_t first, int32_t *out, size_t count) {
     STACK(544);
-    return s64(f66_hound_read_i32(sp, (uint64_t)(uintptr_t)file, length, first, (uint64_t)(uintptr_t)out, count));
+    return s64(f81_hound_read_i32(sp, (uint64_t)(uintptr_t)file, length, first, (uint64_t)(uintptr_t)out, count));
 }
 
 int64_t hound_read_f32(const uint8_t *file, size_t length, uint64_t first, float *out, size_t count) {
     STACK(544);
-    return s64(f62_hound_read_f32(sp, (uint64_t)(uintptr_t)file, length, first, (uint64_t)(uintptr_t)out, count));
+    return s64(f77_hound_read_f32(sp, (uint64_t)(uintptr_t)file, length, first, (uint64_t)(uintptr_t)out, count));
 }
 
 int64_t hound_size(const hound_spec *spec, uint64_t samples) {
-    return s64(f88_hound_size((uint64_t)(uintptr_t)spec, samples));
+    return s64(f103_hound_size((uint64_t)(uintptr_t)spec, samples));
 }
 
 int64_t hound_header(const hound_spec *spec, uint64_t samples, uint8_t *out, size_t capacity) {
     STACK(256);
-    return s64(f56_hound_header(sp, (uint64_t)(uintptr_t)spec, samples, (uint64_t)(uintptr_t)out, capacity));
+    return s64(f71_hound_header(sp, (uint64_t)(uintptr_t)spec, samples, (uint64_t)(uintptr_t)out, capacity));
 }
 
 int64_t hound_sizes(const hound_spec *spec, uint64_t data_start, uint64_t samples, uint8_t *out, size_t capacity) {
-    return s64(f90_hound_sizes((uint64_t)(uintptr_t)spec, data_start, samples, (uint64_t)(uintptr_t)out, capacity));
+    return s64(f105_hound_sizes((uint64_t)(uintptr_t)spec, data_start, samples, (uint64_t)(uintptr_t)out, capacity));
 }
 
 int64_t hound_write_i16(const hound_spec *spec, const int16_t *samples, size_t count, uint8_t *out, size_t capacity) {
     STACK(272);
-    return s64(f112_hound_write_i16(sp, (uint64_t)(uintptr_t)spec, (uint64_t)(uintptr_t)samples, count, (uint64_t)(uintptr_t)out, capacity));
+    return s64(f129_hound_write_i16(sp, (uint64_t)(uintptr_t)spec, (uint64_t)(uintptr_t)samples, count, (uint64_t)(uintptr_t)out, capacity));
 }
 
 int64_t hound_write_i32(const hound_spec *spec, const int32_t *samples, size_t count, uint8_t *out, size_t capacity) {
     STACK(272);
-    return s64(f114_hound_write_i32(sp, (uint64_t)(uintptr_t)spec, (uint64_t)(uintptr_t)samples, count, (uint64_t)(uintptr_t)out, capacity));
+    return s64(f131_hound_write_i32(sp, (uint64_t)(uintptr_t)spec, (uint64_t)(uintptr_t)samples, count, (uint64_t)(uintptr_t)out, capacity));
 }
 
 int64_t hound_write_f32(const hound_spec *spec, const float *samples, size_t count, uint8_t *out, size_t capacity) {
     STACK(256);
-    return s64(f110_hound_write_f32(sp, (uint64_t)(uintptr_t)spec, (uint64_t)(uintptr_t)samples, count, (uint64_t)(uintptr_t)out, capacity));
+    return s64(f127_hound_write_f32(sp, (uint64_t)(uintptr_t)spec, (uint64_t)(uintptr_t)samples, count, (uint64_t)(uintptr_t)out, capacity));
 }
 
 int64_t hound_append_i16(uint8_t *file, size_t capacity, size_t used, const int16_t *samples, size_t count) {
     STACK(576);
-    return s64(f30_hound_append_i16(sp, (uint64_t)(uintptr_t)file, capacity, used, (uint64_t)(uintptr_t)samples, count));
+    return s64(f31_hound_append_i16(sp, (uint64_t)(uintptr_t)file, capacity, used, (uint64_t)(uintptr_t)samples, count));
 }
 
 int64_t hound_append_i32(uint8_t *file, size_t capacity, size_t used, const int32_t *samples, size_t count) {
     STACK(576);
-    return s64(f32_hound_append_i32(sp, (uint64_t)(uintptr_t)file, capacity, used, (uint64_t)(uintptr_t)samples, count));
+    return s64(f33_hound_append_i32(sp, (uint64_t)(uintptr_t)file, capacity, used, (uint64_t)(uintptr_t)samples, count));
 }
 
 int64_t hound_append_f32(uint8_t *file, size_t capacity, size_t used, const float *samples, size_t count) {
     STACK(576);
-    return s64(f28_hound_append_f32(sp, (uint64_t)(uintptr_t)file, capacity, used, (uint64_t)(uintptr_t)samples, count));
+    return s64(f29_hound_append_f32(sp, (uint64_t)(uintptr_t)file, capacity, used, (uint64_t)(uintptr_t)samples, count));
 }
 
 int64_t hound_repair(uint8_t *file, size_t capacity, size_t used, hound_repair_t *found) {
     STACK(1072);
-    return s64(f80_hound_repair(sp, (uint64_t)(uintptr_t)file, capacity, used, (uint64_t)(uintptr_t)found));
+    return s64(f95_hound_repair(sp, (uint64_t)(uintptr_t)file, capacity, used, (uint64_t)(uintptr_t)found));
 }
 
 int64_t hound_repair_to_end(uint8_t *file, size_t capacity, size_t used, hound_repair_t *found) {
     STACK(1072);
-    return s64(f82_hound_repair_to_end(sp, (uint64_t)(uintptr_t)file, capacity, used, (uint64_t)(uintptr_t)found));
+    return s64(f97_hound_repair_to_end(sp, (uint64_t)(uintptr_t)file, capacity, used, (uint64_t)(uintptr_t)found));
 }
 
 int32_t hound_find_damage(const uint8_t *file, size_t length, hound_repair_t *found) {
     STACK(1056);
-    return s32(f50_hound_find_damage(sp, (uint64_t)(uintptr_t)file, length, (uint64_t)(uintptr_t)found));
+    return s32(f63_hound_find_damage(sp, (uint64_t)(uintptr_t)file, length, (uint64_t)(uintptr_t)found));
 }
 
 void hound_repairer_begin(uint64_t length, uint32_t mode, hound_repairer *repairer) {
-    f84_hound_repairer_begin(length, (uint32_t)mode, (uint64_t)(uintptr_t)repairer);
+    f99_hound_repairer_begin(length, (uint32_t)mode, (uint64_t)(uintptr_t)repairer);
 }
 
 int32_t hound_repairer_next(hound_repairer *repairer, hound_repair_t *found) {
     STACK(2032);
-    return s32(f86_hound_repairer_next(sp, (uint64_t)(uintptr_t)repairer, (uint64_t)(uintptr_t)found));
+    return s32(f101_hound_repairer_next(sp, (uint64_t)(uintptr_t)repairer, (uint64_t)(uintptr_t)found));
 }
 
 int64_t hound_decode_i8(const hound_spec *spec, const uint8_t *bytes, size_t length, int8_t *out, size_t count) {
-    return s64(f40_hound_decode_i8((uint64_t)(uintptr_t)spec, (uint64_t)(uintptr_t)bytes, length, (uint64_t)(uintptr_t)out, count));
+    return s64(f49_hound_decode_i8((uint64_t)(uintptr_t)spec, (uint64_t)(uintptr_t)bytes, length, (uint64_t)(uintptr_t)out, count));
 }
 
 int64_t hound_decode_i16(const hound_spec *spec, const uint8_t *bytes, size_t length, int16_t *out, size_t count) {
     STACK(16);
-    return s64(f36_hound_decode_i16(sp, (uint64_t)(uintptr_t)spec, (uint64_t)(uintptr_t)bytes, length, (uint64_t)(uintptr_t)out, count));
+    return s64(f45_hound_decode_i16(sp, (uint64_t)(uintptr_t)spec, (uint64_t)(uintptr_t)bytes, length, (uint64_t)(uintptr_t)out, count));
 }
 
 int64_t hound_decode_i32(const hound_spec *spec, const uint8_t *bytes, size_t length, int32_t *out, size_t count) {
     STACK(16);
-    return s64(f38_hound_decode_i32(sp, (uint64_t)(uintptr_t)spec, (uint64_t)(uintptr_t)bytes, length, (uint64_t)(uintptr_t)out, count));
+    return s64(f47_hound_decode_i32(sp, (uint64_t)(uintptr_t)spec, (uint64_t)(uintptr_t)bytes, length, (uint64_t)(uintptr_t)out, count));
 }
 
 int64_t hound_decode_f32(const hound_spec *spec, const uint8_t *bytes, size_t length, float *out, size_t count) {
     STACK(16);
-    return s64(f34_hound_decode_f32(sp, (uint64_t)(uintptr_t)spec, (uint64_t)(uintptr_t)bytes, length, (uint64_t)(uintptr_t)out, count));
+    return s64(f43_hound_decode_f32(sp, (uint64_t)(uintptr_t)spec, (uint64_t)(uintptr_t)bytes, length, (uint64_t)(uintptr_t)out, count));
 }
 
 int64_t hound_encode_i8(const hound_spec *spec, const int8_t *samples, size_t count, uint8_t *out, size_t capacity) {
     STACK(16);
-    return s64(f48_hound_encode_i8(sp, (uint64_t)(uintptr_t)spec, (uint64_t)(uintptr_t)samples, count, (uint64_t)(uintptr_t)out, capacity));
+    return s64(f57_hound_encode_i8(sp, (uint64_t)(uintptr_t)spec, (uint64_t)(uintptr_t)samples, count, (uint64_t)(uintptr_t)out, capacity));
 }
 
 int64_t hound_encode_i16(const hound_spec *spec, const int16_t *samples, size_t count, uint8_t *out, size_t capacity) {
     STACK(48);
-    return s64(f44_hound_encode_i16(sp, (uint64_t)(uintptr_t)spec, (uint64_t)(uintptr_t)samples, count, (uint64_t)(uintptr_t)out, capacity));
+    return s64(f53_hound_encode_i16(sp, (uint64_t)(uintptr_t)spec, (uint64_t)(uintptr_t)samples, count, (uint64_t)(uintptr_t)out, capacity));
 }
 
 int64_t hound_encode_i32(const hound_spec *spec, const int32_t *samples, size_t count, uint8_t *out, size_t capacity) {
     STACK(48);
-    return s64(f46_hound_encode_i32(sp, (uint64_t)(uintptr_t)spec, (uint64_t)(uintptr_t)samples, count, (uint64_t)(uintptr_t)out, capacity));
+    return s64(f55_hound_encode_i32(sp, (uint64_t)(uintptr_t)spec, (uint64_t)(uintptr_t)samples, count, (uint64_t)(uintptr_t)out, capacity));
 }
 
 int64_t hound_encode_f32(const hound_spec *spec, const float *samples, size_t count, uint8_t *out, size_t capacity) {
-    return s64(f42_hound_encode_f32((uint64_t)(uintptr_t)spec, (uint64_t)(uintptr_t)samples, count, (uint64_t)(uintptr_t)out, capacity));
+    return s64(f51_hound_encode_f32((uint64_t)(uintptr_t)spec, (uint64_t)(uintptr_t)samples, count, (uint64_t)(uintptr_t)out, capacity));
 }
 
 int32_t hound_value_8(uint32_t container) {
-    return s32(f100_hound_value_8((uint32_t)container));
+    return s32(f117_hound_value_8((uint32_t)container));
 }
 
 int32_t hound_value_16(uint32_t container) {
-    return s32(f94_hound_value_16((uint32_t)container));
+    return s32(f111_hound_value_16((uint32_t)container));
 }
 
 int32_t hound_value_24(uint32_t container) {
-    return s32(f96_hound_value_24((uint32_t)container));
+    return s32(f113_hound_value_24((uint32_t)container));
 }
 
 int32_t hound_value_32(uint32_t container) {
     return s32((uint32_t)container);
 }
 
+int64_t hound_container_8(int32_t value) {
+    return s64(f41_hound_container_8((uint32_t)value));
+}
+
+int64_t hound_container_16(int32_t value) {
+    return s64(f35_hound_container_16((uint32_t)value));
+}
+
+int64_t hound_container_24(int32_t value) {
+    return s64(f37_hound_container_24((uint32_t)value));
+}
+
+int64_t hound_container_32(int32_t value) {
+    return s64(f39_hound_container_32((uint32_t)value));
+}
+
 int64_t hound_to_f32(const int32_t *samples, size_t count, uint16_t bits, float *out, size_t capacity) {
-    return s64(f92_hound_to_f32((uint64_t)(uintptr_t)samples, count, (uint32_t)bits, (uint64_t)(uintptr_t)out, capacity));
+    STACK(16);
+    return s64(f107_hound_to_f32(sp, (uint64_t)(uintptr_t)samples, count, (uint32_t)bits, (uint64_t)(uintptr_t)out, capacity));
 }
 
 int64_t hound_from_f32(const float *samples, size_t count, uint16_t bits, int32_t *out, size_t capacity, uint64_t *clipped) {
-    return s64(f52_hound_from_f32((uint64_t)(uintptr_t)samples, count, (uint32_t)bits, (uint64_t)(uintptr_t)out, capacity, (uint64_t)(uintptr_t)clipped));
+    STACK(16);
+    return s64(f65_hound_from_f32(sp, (uint64_t)(uintptr_t)samples, count, (uint32_t)bits, (uint64_t)(uintptr_t)out, capacity, (uint64_t)(uintptr_t)clipped));
+}
+
+int64_t hound_to_f64(const int32_t *samples, size_t count, uint16_t bits, double *out, size_t capacity) {
+    return s64(f109_hound_to_f64((uint64_t)(uintptr_t)samples, count, (uint32_t)bits, (uint64_t)(uintptr_t)out, capacity));
+}
+
+int64_t hound_from_f64(const double *samples, size_t count, uint16_t bits, int32_t *out, size_t capacity, uint64_t *clipped) {
+    STACK(16);
+    return s64(f67_hound_from_f64(sp, (uint64_t)(uintptr_t)samples, count, (uint32_t)bits, (uint64_t)(uintptr_t)out, capacity, (uint64_t)(uintptr_t)clipped));
+}
+
+int64_t hound_f32_to_f64(const float *samples, size_t count, double *out, size_t capacity) {
+    return s64(f59_hound_f32_to_f64((uint64_t)(uintptr_t)samples, count, (uint64_t)(uintptr_t)out, capacity));
+}
+
+int64_t hound_f64_to_f32(const double *samples, size_t count, float *out, size_t capacity, uint64_t *infinite) {
+    return s64(f61_hound_f64_to_f32((uint64_t)(uintptr_t)samples, count, (uint64_t)(uintptr_t)out, capacity, (uint64_t)(uintptr_t)infinite));
 }
 
 int32_t hound_recorder_begin(const hound_spec *spec, hound_recorder *recorder) {
-    return s32(f68_hound_recorder_begin((uint64_t)(uintptr_t)spec, (uint64_t)(uintptr_t)recorder));
+    return s32(f83_hound_recorder_begin((uint64_t)(uintptr_t)spec, (uint64_t)(uintptr_t)recorder));
 }
 
 int32_t hound_recorder_resume(const hound_repair_t *found, uint32_t allowed, hound_recorder *recorder) {
-    return s32(f76_hound_recorder_resume((uint64_t)(uintptr_t)found, (uint32_t)allowed, (uint64_t)(uintptr_t)recorder));
+    return s32(f91_hound_recorder_resume((uint64_t)(uintptr_t)found, (uint32_t)allowed, (uint64_t)(uintptr_t)recorder));
 }
 
 int32_t hound_recorder_write(hound_recorder *recorder, uint64_t samples) {
     STACK(224);
-    return s32(f78_hound_recorder_write(sp, (uint64_t)(uintptr_t)recorder, samples));
+    return s32(f93_hound_recorder_write(sp, (uint64_t)(uintptr_t)recorder, samples));
 }
 
 void hound_recorder_checkpoint(hound_recorder *recorder) {
     STACK(224);
-    f70_hound_recorder_checkpoint(sp, (uint64_t)(uintptr_t)recorder);
+    f85_hound_recorder_checkpoint(sp, (uint64_t)(uintptr_t)recorder);
 }
 
 int64_t hound_recorder_frames_left(const hound_recorder *recorder) {
-    return s64(f72_hound_recorder_frames_left((uint64_t)(uintptr_t)recorder));
+    return s64(f87_hound_recorder_frames_left((uint64_t)(uintptr_t)recorder));
 }
 
 int32_t hound_recorder_next(hound_recorder *recorder) {
     STACK(304);
-    return s32(f74_hound_recorder_next(sp, (uint64_t)(uintptr_t)recorder));
+    return s32(f89_hound_recorder_next(sp, (uint64_t)(uintptr_t)recorder));
 }
