@@ -235,6 +235,8 @@ export function appendTo(path: string | URL, options?: { durable?: boolean }): P
  */
 export interface Recorder {
   readonly spec: Readonly<Spec>;
+  /** How many frames have room after those that are written, for a program that continues in another file. */
+  readonly framesLeft: number;
   /** Writes whole frames, as they are at the call. Floats are scaled where the file has integers. */
   write(samples: Samples, options?: Clipping): Promise<void>;
   /** Makes a checkpoint: the header counts all frames that are written. */

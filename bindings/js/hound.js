@@ -637,10 +637,8 @@ export async function guess(file, { skip } = {}) {
 /** All whole samples of these bytes, of one channel. */
 function decodedAs(form, bytes) {
   const type = form.isFloat ? TYPES.float32 : TYPES.int32;
-  const samples = new type.array(Math.floor(bytes.length / form.bytesPerSample));
   const spec = { ...form, sampleRate: 1, channels: 1 };
-  decode(type, spec, bytes.subarray(0, samples.length * form.bytesPerSample), samples);
-  return samples;
+  return decode(type, spec, bytes.subarray(0, bytes.length - bytes.length % form.bytesPerSample)).slice();
 }
 
 /** What a file becomes by effects: its own parts and those that were written, one after the other. The file stays. */
@@ -793,6 +791,11 @@ class Recorder {
     this.#durable = durable;
     this.#machine = recorder;
     this.spec = Object.freeze(spec);
+  }
+
+  /** How many frames have room after those that are written. */
+  get framesLeft() {
+    return Number(this.#machine.call("recorder_frames_left", shared.at(MACHINE)));
   }
 
   /** Writes whole frames after the last ones. After a write that failed it makes a checkpoint first. */

@@ -33,7 +33,10 @@ test("a checkpoint is what a reader finds, and a closed file is canonical", asyn
   for (const durable of [false, true]) {
     const recorder = await record(take, SPEC, { durable });
     assert.deepEqual(recorder.spec, { ...SPEC, bytesPerSample: 2, isFloat: false });
+    const most = 4294967259 / 4 | 0; // The RIFF size counts all but 8 of 4294967303 bytes, 44 of which are the header.
+    assert.equal(recorder.framesLeft, most);
     await recorder.write(block(1));
+    assert.equal(recorder.framesLeft, most - 3);
     assert.equal((await info(await content())).frames, 0);
     await recorder.flush();
     assert.deepEqual(await content(), fileOf([block(1)]));

@@ -593,6 +593,14 @@ class Files(unittest.TestCase):
         self.assertLess(int(said.split()[2]), 60_000)
         self.assertEqual((hound.info(self.path).frames, os.path.getsize(self.path)), (length, 44 + length + 1))
 
+    def test_how_many_frames_have_room(self):
+        # The RIFF size counts all but 8 of 4,294,967,303 bytes, of which the header has 44, and a pad byte an odd one.
+        for channels, bits, most in ((2, 16, 4294967259 // 4), (1, 8, 4294967258)):
+            with hound.create(self.path, 8000, channels, bits) as writer:
+                self.assertEqual(writer.frames_left, most)
+                writer.write([0] * 3 * channels)
+                self.assertEqual(writer.frames_left, most - 3)
+
     def test_a_failed_write_leaves_the_older_file(self):
         self.leave(b"older")
         os.chmod(self.path, 0o640)
