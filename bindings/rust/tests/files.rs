@@ -467,7 +467,7 @@ fn what_the_header_does_not_count_is_overwritten() {
 
 #[test]
 fn a_recorder_says_how_many_frames_have_room() {
-    // The RIFF size counts all but 8 of 4,294,967,303 bytes, of which the header has 44, and a pad byte follows an odd one.
+    // The RIFF size counts all but 8 of 4,294,967,303 bytes, of which the header has 44; a pad byte follows an odd one.
     let most = 4_294_967_258 / u64::from(SPEC.channels) / 2;
     let mut recorder = Recorder::begin(&SPEC).unwrap();
     assert_eq!(recorder.frames_left(), most);
