@@ -57,7 +57,12 @@ asked_count (stages.Size head) = 4
 asked_count (stages.Chunk head place padded) = 8
 asked_count (stages.Tag head) = 3
 
--- what its caller does
+-- Table: which part of a file a look requests, by its stage (Stage, Bytes, Place).
+-- | Head | as many as the next part of the header has | after the parts before |
+-- | Last | 1 | after the data that the header counts |
+-- | Size | 4 | that of the RIFF size |
+-- | Chunk | 8 | after the data, or after the chunk before |
+-- | Tag | 3 | 128 bytes before the end |
 abbrev pub asks_for : Stage → ℕ → Action
 asks_for stage n = Read (stage_place stage n) (asked_count stage)
 
@@ -362,6 +367,7 @@ abbrev pub failure_of : Effect → Failure
 failure_of Sync = SyncFailed
 failure_of _ = CallFailed
 
+-- Table: what a repairer requests, by what it does (It, Report, Then).
 -- the effect with a number is requested, or all are done
 abbrev pub AsksEffect : Task → Damage → ℕ → RepairStep → Repairing → Type 0
 AsksEffect task d number (Asks action) new = (effect : Effect)
@@ -370,7 +376,10 @@ AsksEffect task d number (Asks action) new = (effect : Effect)
 AsksEffect task d number (Found_so found) new = (nth (effects_of_task task d) number ≡ None)
     × (found ≡ d) × (new ≡ Found_now d.head d.state)
 
--- where an effect leads whose number is given: to the next one once it is done, to itself before
+-- where an effect leads whose number is given
+-- | Mends | done | the next effect; after the last one what was found, and Found |
+-- | Mends | none | the same effect again |
+-- | Mends | failed | Failed, with the error that the effect has |
 abbrev pub AsksAfter : Task → Damage → ℕ → Report → Option Effect → Repairing → Result RepairStep RepairError
     → Type 0
 AsksAfter task d number Pending effect new result =
@@ -396,9 +405,11 @@ abbrev pub AreEnough : Stage → List ℕ → Type 0
 AreEnough (stages.Size head) bytes = 4 ≤ length bytes
 AreEnough _ bytes = ⊤
 
--- What a part that was read leads to, whatever bytes were handed in: another part, after which fewer are left,
--- or what was found of the whole file and the first effect that mends it. Of a RIFF size of fewer than four bytes
--- nothing is found.
+-- What a part that was read leads to, whatever bytes were handed in. Of a RIFF size of fewer than four bytes nothing is
+-- found.
+-- | Looks, and another part decides | done | that part, after which fewer are left |
+-- | Looks, and the file is known | done | the first effect, and Mends; or what was found, and Found |
+-- | Looks, at bytes that aren't repaired | done | their error, and stays as it is |
 abbrev pub AsksPart : Task → ℕ → List ℕ → Stage → Repairing → Result RepairStep RepairError → Type 0
 AsksPart task n bytes stage new (Ok ask) = AreEnough stage bytes
     × (((next : Stage) × (new ≡ Looks_for next) × (ask ≡ Asks (asks_for next n))
@@ -430,7 +441,9 @@ Remeasures n head old new result P =
     ⊎ ((why : Rejection) × (result ≡ Err (rejected why)) × (new ≡ old)
     × WhereFound n head (λ file. IsRejectedFor file why))
 
--- what comes of a part, by how its read has ended: what is pending is requested again
+-- what comes of a part, by how its read has ended
+-- | Looks | none | the same part again |
+-- | Looks | failed | Failed, with the error of a call that wasn't performed |
 abbrev pub AsksOfLook : Task → ℕ → List ℕ → Stage → Repairing → Result RepairStep RepairError → Report → Type 0
 AsksOfLook task n bytes stage new result Pending = (new ≡ Looks_for stage)
     × (result ≡ Ok (Asks (asks_for stage n)))
@@ -438,9 +451,9 @@ AsksOfLook task n bytes stage new result Done = AsksPart task n bytes stage new 
 AsksOfLook task n bytes stage new result NotDone =
     (result ≡ Err (failed CallFailed)) × (new ≡ Failed_with CallFailed)
 
--- What a call leads to, whatever is handed in: a part after which fewer are left, or what is found and the
--- first effect that mends the file, or its fault; then one effect after the other, until one fails, which
--- ends it. What is found is that of each file of which the parts were read.
+-- What a call leads to, whatever is handed in. What is found is that of each file of which the parts were read.
+-- | Found | any | what was found again |
+-- | Failed | any | the same error again |
 abbrev pub AsksNext : Task → ℕ → List ℕ → Report → Repairing → Repairing → Result RepairStep RepairError → Type 0
 AsksNext task n bytes report (Looks_for stage) new result =
     AsksOfLook task n bytes stage new result report
