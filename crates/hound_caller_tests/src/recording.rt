@@ -1,6 +1,6 @@
 // The recorders of `hound_callers`, each run once.
 use hound::{
-    Durable, FoundFile, Journal, RepairState, Step, Tape, WavReader, WavSpecEx, WavWriter,
+    Durable, FoundFile, Journal, Recorder, RepairState, Step, Tape, WavReader, WavSpecEx, WavWriter,
 };
 use hound_callers::{
     Twelve, append_blocks, append_by_effects, continue_by_effects, finish, finish_durable,
@@ -150,6 +150,15 @@ fn in_parts(
         })?;
     }
     Ok((parts, count))
+}
+
+// Whether a new recording has room for as many frames as the RIFF size counts: it counts all but 8 of 4,294,967,303
+// bytes, of which the header has 44, and a pad byte follows data of an odd length.
+fn has_room() -> bool {
+    match Recorder::begin(integers(2, 44100, 16, 2)) {
+        Ok(recorder) => recorder.frames_left() == 4_294_967_258 / 4,
+        Err(_) => false,
+    }
 }
 
 // Whether the parts have these samples.
@@ -367,6 +376,7 @@ fn effects_leave_what_was_saved(rt: HostRuntime) -> Result<(), Fail> {
     // Two syncs, and then a size twice: a sync whose report is lost would have failed.
     assert!(rt; mends(alloc, blocks, &[false, false, true, true])?);
     assert!(rt; continues_in_parts(alloc)?);
+    assert!(rt; has_room());
     Ok(())
 }
 
