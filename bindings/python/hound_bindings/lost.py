@@ -104,7 +104,7 @@ def _predicted(samples: List[int]) -> _Prediction:
 def _turns_of(samples: List[int], found: _Prediction) -> Tuple[int, int]:
     """How many pairs of samples are predicted worse in the first, less those that are in the second; of how many."""
     triples = zip(samples[2:], samples[1:], samples)
-    errors = [abs(now - found.one * before - found.two * second) for now, before, second in triples]
+    errors = [abs(later - found.one * before - found.two * second) for later, before, second in triples]
     pairs = list(zip(errors[::2], errors[1::2]))
     return sum(first > later for first, later in pairs) - sum(first < later for first, later in pairs), len(pairs)
 
