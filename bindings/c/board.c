@@ -27,6 +27,7 @@ static void perform(FIL *file, hound_effect *effect, const uint8_t *block) {
         done = count;
         break;
     case HOUND_SYNC: result = f_sync(file), done = count; break;
+    case HOUND_SYNC_FOLDER: result = FR_OK; break; /* f_sync stores the name with the file. */
     }
     effect->report = result == FR_OK && done == count ? HOUND_DONE : HOUND_FAILED;
 }
@@ -38,15 +39,18 @@ static int32_t finish(FIL *file, hound_recorder *recorder, const uint8_t *block)
     return code;
 }
 
-/* Begins a recording in a file without bytes. */
+/* Begins a recording in a file, which is emptied. */
 static int32_t begin_recording(FIL *file, const hound_spec *spec, hound_recorder *recorder) {
-    uint8_t header[HOUND_HEADER_BYTES];
-    UINT done = 0;
-    int64_t length = hound_header(spec, 0, header, sizeof header);
-    int32_t code = length < 0 ? (int32_t)length : hound_recorder_begin(spec, recorder);
-    if (code < 0) return code;
-    if (f_write(file, header, (UINT)length, &done) != FR_OK || done != (UINT)length) return HOUND_NOT_PERFORMED;
-    return f_sync(file) == FR_OK ? 0 : HOUND_NOT_PERFORMED;
+    hound_effect effect;
+    uint32_t number = 0;
+    int32_t code;
+    while ((code = hound_beginning(spec, number, &effect)) == 1) {
+        perform(file, &effect, (const uint8_t *)"");
+        if (effect.report != HOUND_DONE) return HOUND_NOT_PERFORMED;
+        number++;
+    }
+    if (code == 0) code = hound_recorder_begin(spec, recorder);
+    return code < 0 ? code : finish(file, recorder, (const uint8_t *)"");
 }
 
 /* Writes so many samples, as hound_encode_.. gave them. */

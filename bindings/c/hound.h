@@ -56,10 +56,11 @@ enum {
     HOUND_TOO_WIDE = -4,         /* the samples are wider than the type, or a value than its bits */
     HOUND_NOT_WRITABLE = -5,     /* no call reads, writes, appends, repairs, encodes, decodes or scales
                                     samples with these bits and bytes; hound_write_.., hound_size,
-                                    hound_header and hound_recorder_begin also return it where the channels
-                                    or the rate are 0, or where the bytes of a frame don't fit in 16 bits or
-                                    those of a second in 32; hound_sizes and hound_recorder_resume where the
-                                    channels are 0 or the data begin before byte 20 */
+                                    hound_header, hound_beginning and hound_recorder_begin also return it
+                                    where the channels or the rate are 0, or where the bytes of a frame don't
+                                    fit in 16 bits or those of a second in 32; hound_sizes and
+                                    hound_recorder_resume where the channels are 0 or the data begin before
+                                    byte 20 */
     HOUND_TRUNCATED = -6,        /* the header counts a sample that isn't among the bytes of the file */
     HOUND_TOO_LONG = -7,         /* the sizes of the file would not fit in 32 bits */
     HOUND_UNFINISHED_FRAME = -8, /* the samples are no whole frames */
@@ -157,7 +158,9 @@ enum {
     HOUND_WRITE_BLOCK, /* write the caller's block, which has `length` bytes, at `place` */
     HOUND_SYNC,        /* sync the file. If that only passes the bytes on to the system, the file has all that comes
                           before it after a kill; only if it stores them, as fsync does, also after a loss of power */
-    HOUND_CUT          /* cut the file off at `place`, where it is longer than that */
+    HOUND_CUT,         /* cut the file off at `place`, where it is longer than that */
+    HOUND_SYNC_FOLDER  /* sync the folder that holds the file's name, as fsync does. It does nothing where a sync
+                          of the file stores the name, or where a loss of power may take the file */
 };
 
 /* How an effect ended. One that was done only in part has failed. */
@@ -360,6 +363,17 @@ int64_t hound_to_f64(const int32_t *samples, size_t count, uint16_t bits, double
 int64_t hound_from_f64(const double *samples, size_t count, uint16_t bits, int32_t *out, size_t capacity,
                        uint64_t *clipped) HOUND_NONNULL;
 
+/* Converts floats as hound_from_f32 and hound_from_f64 do, each with noise that is added before it is rounded: so what
+   the rounding changes is noise, too, and no distortion. `state` begins as any number, which is the seed, and becomes
+   the one for the samples after these: the same seed gives the same samples, in however many calls.
+   The noise of a sample comes from the next number of the generator SplitMix64. It is the upper 32 bits of that less
+   the lower 32, divided by 2^32, in steps of the integers: so it is triangular, and less than a step. The sum is a
+   double, which is rounded once before it becomes an integer. */
+int64_t hound_dither_f32(const float *samples, size_t count, uint16_t bits, uint64_t *state, int32_t *out,
+                         size_t capacity, uint64_t *clipped) HOUND_NONNULL;
+int64_t hound_dither_f64(const double *samples, size_t count, uint16_t bits, uint64_t *state, int32_t *out,
+                         size_t capacity, uint64_t *clipped) HOUND_NONNULL;
+
 /* Converts the floats of a file to doubles, which are the same numbers; and doubles to the nearest floats, of two the
    even one, where `infinite` counts the finite doubles that become infinite. Each returns how many. */
 int64_t hound_f32_to_f64(const float *samples, size_t count, double *out, size_t capacity) HOUND_NONNULL;
@@ -370,9 +384,10 @@ int64_t hound_f64_to_f32(const double *samples, size_t count, float *out, size_t
    effects a checkpoint makes the header count them. Between checkpoints the header counts those of the last one, and
    a repair finds the others that are there; where frames have one byte it takes a pad byte that isn't counted yet for
    one.
-   A program begins a recorder, and then, as often as it likes, requests a block or a checkpoint, and performs all
-   effects until there is none. After each that is reported fewer are left: a checkpoint has at most eight, a block at
-   most eleven. A block that failed is cut off, and the next request begins with a checkpoint. */
+   A program begins a file (hound_beginning) and a recorder, and performs all effects until there is none. Then, as
+   often as it likes, it requests a block or a checkpoint, and does the same. After each effect that is reported fewer
+   are left: a checkpoint has at most eight, a block at most eleven. A block that failed is cut off, and the next
+   request begins with a checkpoint. */
 typedef struct {
     hound_effect effect;
     uint64_t data_start;                    /* how many bytes are before the first sample */
@@ -382,8 +397,15 @@ typedef struct {
     uint16_t health, phase, has_rest, unused; /* for the calls */
 } hound_recorder;
 
-/* Begins a recorder of a new file, whose header the caller has written: hound_header gives it for 0 samples. Returns 0
-   or an error. */
+/* How a new file begins: the effect with this number, from 0 on. Returns 1, or 0 where no effect has this number, or an
+   error, and then `effect` stays. A program performs one after the other, and begins the recorder after the last:
+     for (number = 0; (code = hound_beginning(&spec, number, &effect)) == 1 && perform(&effect); number++) {}
+   Where one of them fails nothing is recorded: the program begins again, or removes the file if it has made it. They
+   sync the folder and the file, which is cut off at its first byte, and then write the header in two parts. */
+int32_t hound_beginning(const hound_spec *spec, uint32_t number, hound_effect *effect) HOUND_NONNULL;
+
+/* Begins a recorder of a new file. A checkpoint of no samples is under way, so the effects that hound_recorder_next
+   requests store the header; a request that is made before takes its place. Returns 0 or an error. */
 int32_t hound_recorder_begin(const hound_spec *spec, hound_recorder *recorder) HOUND_NONNULL;
 
 /* What a recorder of a file that exists may do. */

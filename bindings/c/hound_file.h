@@ -77,6 +77,7 @@ static inline void hound_file_arguments(int *count, char ***arguments) {
     }
     if (words) *count = all, *arguments = words;
 }
+static inline int hound_file_separates(char letter) { return letter == '/' || letter == '\\' || letter == ':'; }
 static inline int hound_file_remove(const char *path) {
     wchar_t room[HOUND_FILE_LETTERS];
     const wchar_t *wide = hound_file_wide(path, room);
@@ -125,7 +126,7 @@ static inline int hound_file_lock(int descriptor) {
 }
 /* Standard input or output has bytes, and not lines. */
 static inline void hound_file_set_binary(int descriptor) { _setmode(descriptor, _O_BINARY); }
-static inline int64_t hound_file_next(int descriptor, void *out, size_t count) {
+static inline int64_t hound_file_get_next(int descriptor, void *out, size_t count) {
     return _read(descriptor, out, (unsigned)count);
 }
 static inline void hound_file_wait(int descriptor) { (void)descriptor; }
@@ -148,6 +149,7 @@ static inline int64_t hound_file_put(int descriptor, const void *bytes, size_t c
     return hound_file_check(descriptor) < 0 ? -1 : pwrite(descriptor, bytes, count, (off_t)place);
 }
 static inline void hound_file_arguments(int *count, char ***arguments) { (void)count, (void)arguments; }
+static inline int hound_file_separates(char letter) { return letter == '/'; }
 static inline int hound_file_remove(const char *path) { return remove(path); }
 /* Where a standard stream is closed, `open` returns its number, and what is meant for that would be in the file. So the
    file gets a higher one. A pipe isn't waited for. */
@@ -197,7 +199,9 @@ static inline int hound_file_is_at(int descriptor, const char *path) {
 }
 static inline int hound_file_lock(int descriptor) { return flock(descriptor, LOCK_EX | LOCK_NB); }
 static inline void hound_file_set_binary(int descriptor) { (void)descriptor; }
-static inline int64_t hound_file_next(int descriptor, void *out, size_t count) { return read(descriptor, out, count); }
+static inline int64_t hound_file_get_next(int descriptor, void *out, size_t count) {
+    return read(descriptor, out, count);
+}
 static inline void hound_file_wait(int descriptor) {
     struct pollfd input;
     input.fd = descriptor, input.events = POLLIN;
@@ -351,9 +355,9 @@ static inline int32_t hound_file_give_up(hound_file *file, const char *path, int
     return code;
 }
 
-/* Opens a file for this program alone, by the flags of `open`, and makes its name durable. Where another file was
-   renamed to the path before the lock, that one is opened. Some systems number a file anew each time, so that none
-   seems to be at its path: there is a last attempt. */
+/* Opens a file for this program alone, by the flags of `open`. Where another file was renamed to the path before the
+   lock, that one is opened. Some systems number a file anew each time, so that none seems to be at its path: there is a
+   last attempt. */
 static inline int32_t hound_file_open(hound_file *file, const char *path, int flags, int is_durable, uint64_t *length) {
     int is_regular = 1, is_there = 0, attempts, is_made;
     file->descriptor = -1, file->is_durable = is_durable, file->has_rest = 0, file->fault = 0;
@@ -368,31 +372,44 @@ static inline int32_t hound_file_open(hound_file *file, const char *path, int fl
     is_made = file->descriptor >= 0 && flags & O_EXCL && file->fault != EWOULDBLOCK;
     if (file->fault == 0 && hound_file_find(file->descriptor, length, &is_regular) < 0) file->fault = errno;
     else if (!is_regular) file->fault = ESPIPE;
-    else if (file->fault == 0 && is_durable
-             && (hound_file_sync(file->descriptor) < 0 || hound_file_sync_folder(path) < 0))
-        file->fault = errno;
     return file->fault ? hound_file_give_up(file, path, is_made, HOUND_NOT_PERFORMED) : 0;
 }
 
 /* As is_emptied: the file may exist without bytes, as a recorder leaves it that is killed before its header. */
 enum { HOUND_FILE_IF_EMPTY = 2 };
 
+/* Performs an effect on a file at a path, and reports it: whether that was done. */
+static inline int hound_file_perform_at(hound_file *file, const char *path, hound_effect *effect) {
+    if (effect->kind != HOUND_SYNC_FOLDER) return hound_file_perform(file, effect, NULL);
+    if (file->is_durable && hound_file_sync_folder(path) < 0) file->fault = errno;
+    effect->report = file->fault ? HOUND_FAILED : HOUND_DONE;
+    return !file->fault;
+}
+
+/* Performs the effects with which a file begins, and those of the checkpoint after them. */
+static inline int32_t hound_file_begin(hound_file *file, const char *path, const hound_spec *spec) {
+    hound_effect effect;
+    uint32_t number = 0;
+    int32_t code;
+    while ((code = hound_beginning(spec, number, &effect)) == 1) {
+        if (!hound_file_perform_at(file, path, &effect)) return HOUND_NOT_PERFORMED;
+        number++;
+    }
+    return code < 0 ? code : hound_file_finish(file, NULL);
+}
+
 /* Begins a recording in a new file; one that exists is an error (EEXIST), or is emptied. */
 static inline int32_t hound_file_create(hound_file *file, const char *path, const hound_spec *spec, int is_durable,
                                         int is_emptied) {
-    uint8_t header[HOUND_HEADER_BYTES];
     uint64_t held;
-    int64_t length = hound_header(spec, 0, header, sizeof header);
-    int32_t code = length < 0 ? (int32_t)length : hound_recorder_begin(spec, &file->recorder);
+    int32_t code = hound_recorder_begin(spec, &file->recorder);
     int flags = O_RDWR | O_CREAT | (is_emptied ? 0 : O_EXCL);
     file->descriptor = -1, file->fault = 0, file->counted = 0, file->kind = HOUND_KIND_UNKNOWN;
     if (code == 0) code = hound_file_open(file, path, flags, is_durable, &held);
     if (code < 0) return code;
-    if (is_emptied == HOUND_FILE_IF_EMPTY && held > 0) file->fault = EEXIST;
-    else if (hound_file_cut(file->descriptor, 0) < 0
-             || hound_file_write_at(file->descriptor, header, (size_t)length, 0) < 0)
-        file->fault = errno;
-    return file->fault ? hound_file_give_up(file, path, !is_emptied, HOUND_NOT_PERFORMED) : 0;
+    if (is_emptied == HOUND_FILE_IF_EMPTY && held > 0) file->fault = EEXIST, code = HOUND_NOT_PERFORMED;
+    else code = hound_file_begin(file, path, spec);
+    return code < 0 ? hound_file_give_up(file, path, !is_emptied, code) : 0;
 }
 
 /* Continues the recording in a file, as hound_recorder_resume does with what is allowed: nothing of it changes yet. */
@@ -401,6 +418,10 @@ static inline int32_t hound_file_append(hound_file *file, const char *path, uint
     uint64_t length = 0;
     int32_t code = hound_file_open(file, path, O_RDWR, is_durable, &length);
     if (code < 0) return code;
+    if (is_durable && (hound_file_sync(file->descriptor) < 0 || hound_file_sync_folder(path) < 0)) {
+        file->fault = errno;
+        return hound_file_give_up(file, path, 0, HOUND_NOT_PERFORMED);
+    }
     code = hound_file_examine(file, length, HOUND_FIND_DAMAGE, 0, found);
     if (code == 0) code = hound_recorder_resume(found, allowed, &file->recorder);
     file->counted = found->data_length;
@@ -453,6 +474,45 @@ static inline int32_t hound_file_close(hound_file *file) {
     return code;
 }
 
+/* The name of a further file of a recording, as take-002.wav is the second one of take.wav, in a room of so many bytes:
+   0, or -1 where it is too small. */
+static inline int hound_file_part(const char *path, unsigned number, char *out, size_t size) {
+    const char *name = path, *ending, *at;
+    int length;
+    for (at = path; *at; at++)
+        if (hound_file_separates(*at)) name = at + 1;
+    ending = strrchr(name, '.');
+    if (!ending || ending == name) ending = at;
+    length = snprintf(out, size, "%.*s-%03u%s", (int)(ending - path), path, number, ending);
+    return length < 0 || (size_t)length >= size ? -1 : 0;
+}
+
+/* How many frames have room in a file that is to have so many at most. Before a block of more call hound_file_next. */
+static inline uint64_t hound_file_frames_left(const hound_file *file, uint64_t most) {
+    const hound_recorder *recorder = &file->recorder;
+    uint64_t frame = (uint64_t)recorder->bytes_per_sample * recorder->channels;
+    uint64_t held = frame > 0 ? recorder->data_length / frame : 0;
+    uint64_t left = (uint64_t)hound_recorder_frames_left(recorder);
+    if (held >= most) return 0;
+    return left < most - held ? left : most - held;
+}
+
+/* Continues a recording in a next file, of the same spec. That one is made, begun and locked before this one gets its
+   last checkpoint and is closed. Where this fails, as where a file of that name is there (EEXIST), it leaves no new
+   one, and the file is as after any call that failed: all that was written is in it, and it can be written to or
+   closed. Where only the system's close fails, the new file is the one that is recorded to. */
+static inline int32_t hound_file_next(hound_file *file, const char *path, const hound_spec *spec) {
+    hound_file next;
+    int32_t code = hound_file_create(&next, path, spec, file->is_durable, 0), closed;
+    if (code < 0) return file->fault = next.fault, code;
+    code = hound_file_checkpoint(file);
+    if (code < 0) return hound_file_give_up(&next, path, 1, code);
+    closed = hound_file_close_at(file->descriptor);
+    next.fault = closed < 0 ? errno : 0;
+    *file = next;
+    return closed < 0 ? HOUND_NOT_PERFORMED : 0;
+}
+
 /* Repairs the file at a path by these flags of `open`: with O_RDONLY 1 means that it would be written. */
 static inline int32_t hound_file_repair_by(hound_file *file, const char *path, int flags, uint32_t mode,
                                            hound_repair_t *found) {
@@ -476,7 +536,7 @@ static inline size_t hound_file_take(int descriptor, uint8_t *out, size_t count,
     size_t done = 0;
     *fault = 0;
     while (done < count) {
-        int64_t more = hound_file_next(descriptor, out + done, hound_file_piece(count - done));
+        int64_t more = hound_file_get_next(descriptor, out + done, hound_file_piece(count - done));
         if (more == 0) break;
         if (more > 0) done += (size_t)more;
         else if (errno == EAGAIN || errno == EWOULDBLOCK)

@@ -2,10 +2,12 @@
    arecord. After every so many frames a checkpoint makes the header count all samples, and prints how many they are. If
    the program is killed, the file has those. A file that exists is rejected; --append continues after all that it
    holds, and begins one that is missing, or without bytes, as a kill before the header leaves it; --overwrite empties
-   it. No other program that asks for a lock (flock; LockFileEx on Windows), as repair.c does, writes it meanwhile. With
-   --durable a sync is an fsync (_commit): then the file has its checkpoints after a loss of power, too, but Windows may
-   lose the name of a new one. Without it a sync does nothing, since what was written is with the system. After an error
-   the program continues, and prints how many samples were lost; why, it says on standard error.
+   it. With --split a file has at most so many frames, and never more than have room: take.wav is continued in
+   take-002.wav, take-003.wav and so on, none of which may exist. No other program that asks for a lock (flock;
+   LockFileEx on Windows), as repair.c does, writes it meanwhile. With --durable a sync is an fsync (_commit): then the
+   file has its checkpoints after a loss of power, too, but Windows may lose the name of a new one. Without it a sync
+   does nothing, since what was written is with the system. After an error the program continues, and prints how many
+   samples were lost; why, it says on standard error. It ends at the name of a next file that exists.
      cc -Ibindings/c bindings/c/record.c bindings/lib/x86_64-linux/libhound_c.a -o record
      arecord -t raw -f S16_LE -r 48000 -c 2 | ./record take.wav 48000 2 16 240000 --durable */
 #include "hound_file.h"
@@ -13,11 +15,14 @@
 
 static hound_file file;
 static int is_whole = 1;
+static unsigned parts = 1;    /* how many files the recording has */
+static unsigned long before; /* how many samples are in those before this one */
 
 static void complain(const char *why) { fprintf(stderr, "record: %s\n", why), is_whole = 0; }
 static void stop(const char *why) { complain(why), exit(1); }
 static unsigned long samples_in(uint32_t bytes) { return bytes / file.recorder.bytes_per_sample; }
-static unsigned long recorded(void) { return samples_in(file.recorder.data_length); }
+static unsigned long recorded(void) { return before + samples_in(file.recorder.data_length); }
+static size_t least(uint64_t a, uint64_t b) { return (size_t)(a < b ? a : b); }
 
 /* What a call returned; why it failed is said, if the system did. */
 static int32_t said(int32_t code) {
@@ -26,22 +31,49 @@ static int32_t said(int32_t code) {
     return code;
 }
 
+/* The name of the next file. */
+static const char *next_name(const char *path) {
+    static char name[1 << 15];
+    if (hound_file_part(path, parts + 1, name, sizeof name) < 0) stop("the path is too long");
+    return name;
+}
+
+/* Whether a file is at a path. */
+static int is_there(const char *path) {
+    int descriptor = hound_file_open_at(path, O_RDONLY);
+    if (descriptor >= 0) hound_file_close_at(descriptor);
+    return descriptor >= 0;
+}
+
+/* Continues in the next file. */
+static int32_t go_on(const char *path, const hound_spec *spec) {
+    int older = file.descriptor;
+    unsigned long held = recorded();
+    int32_t code = hound_file_next(&file, next_name(path), spec);
+    if (file.descriptor != older) parts++, before = held;
+    return code;
+}
+
 int main(int argc, char **argv) {
     static uint8_t block[1 << 17];
     char room[HOUND_FILE_SENTENCE];
     hound_repair_t found;
-    static const char usage[] = "usage: record FILE RATE CHANNELS BITS FRAMES [--durable] [--append | --overwrite]";
-    uint64_t numbers[4] = {0}, most[4] = {UINT32_MAX, UINT16_MAX, 32, UINT32_MAX};
-    int is_durable = 0, is_appended = 0, is_overwritten = 0, fault;
+    static const char usage[] = "usage: record FILE RATE CHANNELS BITS FRAMES [--durable] [--append | --overwrite]"
+                                " [--split FRAMES]";
+    uint64_t numbers[4] = {0}, most[4] = {UINT32_MAX, UINT16_MAX, 32, UINT32_MAX}, split = 0, has_room;
+    int is_durable = 0, is_appended = 0, is_overwritten = 0, is_split = 0, is_taken = 0, fault;
     hound_file_arguments(&argc, &argv);
     for (int i = 2; i < argc; i++) {
         if (i >= 6 && !strcmp(argv[i], "--durable")) is_durable = 1;
         else if (i >= 6 && !strcmp(argv[i], "--append")) is_appended = 1;
         else if (i >= 6 && !strcmp(argv[i], "--overwrite")) is_overwritten = 1;
+        else if (i >= 6 && i + 1 < argc && !strcmp(argv[i], "--split"))
+            is_split = 1, split = strtoull(argv[++i], NULL, 10);
         else if (i >= 6 || (numbers[i - 2] = strtoull(argv[i], NULL, 10)) > most[i - 2]) argc = 0;
     }
     uint64_t every = numbers[3], left = every; /* until the next checkpoint */
-    if (argc < 6 || every == 0 || (is_appended && is_overwritten)) stop(usage);
+    if (argc < 6 || every == 0 || (is_appended && (is_overwritten || is_split)) || is_split != (split > 0)) stop(usage);
+    if (is_split && is_there(next_name(argv[1]))) stop("the second file exists: remove or rename it");
     hound_spec spec = {(uint32_t)numbers[0], (uint16_t)numbers[1], (uint16_t)numbers[2],
                        (uint16_t)((numbers[2] + 7) / 8), HOUND_INT};
     int32_t code = is_appended ? hound_file_continue(&file, argv[1], &spec, is_durable, &found)
@@ -56,18 +88,21 @@ int main(int argc, char **argv) {
 
     size_t frame = (size_t)spec.bytes_per_sample * spec.channels, count, wanted, torn;
     do {
-        wanted = left < sizeof block / frame ? (size_t)left : sizeof block / frame;
+        has_room = is_split ? hound_file_frames_left(&file, split) : UINT64_MAX;
+        wanted = least(least(left, sizeof block / frame), has_room > 0 ? has_room : split);
         count = hound_file_take(0, block, wanted * frame, &fault);
         if (fault) complain(strerror(fault));
         torn = count % frame, count /= frame;
-        code = said(hound_file_write(&file, block, (uint64_t)count * spec.channels));
+        code = count > 0 && has_room == 0 ? said(go_on(argv[1], &spec)) : 0;
+        is_taken = code < 0 && file.fault == EEXIST;
+        if (code == 0) code = said(hound_file_write(&file, block, (uint64_t)count * spec.channels));
         if (code < 0) printf("lost %lu samples after %lu\n", (unsigned long)(count * spec.channels), recorded());
         if (file.has_rest) complain("a part of a block that was lost stays in the file");
         if ((left -= count) > 0) continue;
         left = every;
         if (said(hound_file_checkpoint(&file)) == 0) printf("%lu\n", recorded());
         fflush(stdout);
-    } while (count == wanted && code != HOUND_TOO_LONG && code != HOUND_SYNC_FAILED);
+    } while (count == wanted && code != HOUND_TOO_LONG && code != HOUND_SYNC_FAILED && !is_taken);
     if (torn > 0) complain("the input ends within a frame, which isn't recorded");
     if (code == HOUND_TOO_LONG) complain("the file is as long as its header can count");
     if (said(hound_file_close(&file)) < 0)

@@ -94,6 +94,13 @@ export interface Format {
 export interface Clipping {
   /** It is called with how many samples are clipped, if any are; without it `console.warn` says so. */
   onClipped?: (count: number) => void;
+  /** Whether each gets triangular noise of at most one step before it is rounded. */
+  dither?: boolean;
+  /**
+   * The seed of this noise, an integer from 0 on; 1 without it. The same one gives the same samples, also by the
+   * packages for other languages. Of a recorder it is that of the first block with noise.
+   */
+  seed?: number;
 }
 
 // The names of errors, made from hound.h by scripts/make_interface.
@@ -217,11 +224,16 @@ export function findDamageInFile(path: string | URL): Promise<Damage>;
 /**
  * Records a new file at a path, in Node, in the place of one that is there; with `exclusive` that is an error. With
  * `durable` the samples of a checkpoint survive a loss of power, without it a kill. Node has no locks.
+ *
+ * With `split` a file has at most so many frames (`Infinity`: as many as have room), and a block that has no room is
+ * written to a next one, whole: after take.wav to take-002.wav, take-003.wav and so on, each of which mustn't be there.
+ * The next file is made and begun before the one before it is ended. Where that fails `write` is the error, and the
+ * recorder is as before. A block that is larger than a file may be is written as several.
  */
 export function record(
   path: string | URL,
   format: Format & { bitsPerSample: number },
-  options?: { durable?: boolean; exclusive?: boolean },
+  options?: { durable?: boolean; exclusive?: boolean; split?: number },
 ): Promise<Recorder>;
 
 /** Records after the frames of a file at a path, in Node. What `append` rejects is an error. */
@@ -235,8 +247,11 @@ export function appendTo(path: string | URL, options?: { durable?: boolean }): P
  */
 export interface Recorder {
   readonly spec: Readonly<Spec>;
-  /** How many frames have room after those that are written, for a program that continues in another file. */
+  /** How many frames have room after those that are written, for a program that continues in another file; with
+      `split`, how many this file still takes. */
   readonly framesLeft: number;
+  /** With `split`, the files of the recording, the last of which is written; else none. */
+  readonly paths: (string | URL)[];
   /** Writes whole frames, as they are at the call. Floats are scaled where the file has integers. */
   write(samples: Samples, options?: Clipping): Promise<void>;
   /** Makes a checkpoint: the header counts all frames that are written. */

@@ -118,7 +118,7 @@ function checked(code) {
 // The constants, and where fields are, made from hound.h by scripts/make_interface.
 const VERSION = 512;
 const [INT, FLOAT, EFFECT_BYTES, DONE, FAILED] = [0, 1, 40, 1, 2];
-const [READ, WRITE, WRITE_BLOCK, SYNC, CUT] = [1, 2, 3, 4, 5];
+const [READ, WRITE, WRITE_BLOCK, SYNC, CUT, SYNC_FOLDER] = [1, 2, 3, 4, 5, 6];
 const [FIND_DAMAGE, REPAIR, REPAIR_TO_END, MAKE_CANONICAL, OVERWRITE] = [0, 1, 2, 3, 2];
 const [KIND_UNKNOWN, KIND_FLOAT64] = [65536, 65545];
 const LAYOUT = {
@@ -143,10 +143,13 @@ const FRONT = 4096;
 const BLOCK = 1 << 16;
 const BLOCK_BYTES = 8 * BLOCK;
 // Where arguments are in the memory of the instance, from its start on: small ones in a page, then two blocks.
-const [SPEC, MACHINE, FOUND, HEADER, FIRST, SECOND] = [0, 16, 192, 256, PAGE, PAGE + BLOCK_BYTES];
+const [SPEC, MACHINE, FOUND, NOISE, HEADER, FIRST, SECOND] = [0, 16, 192, 240, 256, PAGE, PAGE + BLOCK_BYTES];
 
 // Which argument of a call has 32 bits.
-const WORDS = { repairer_begin: 1, recorder_resume: 1, to_f32: 2, from_f32: 2, to_f64: 2, from_f64: 2 };
+const WORDS = {
+  beginning: 1, repairer_begin: 1, recorder_resume: 1, to_f32: 2, from_f32: 2, to_f64: 2, from_f64: 2, dither_f32: 2,
+  dither_f64: 2,
+};
 
 /** An instance of the module, and so much memory of it. */
 class Memory {
@@ -455,11 +458,27 @@ function decode(type, spec, bytes) {
   return arrayAt(type, FIRST, count);
 }
 
+/** The noise that is added to floats before they become integers, if it is requested: the state of its generator. */
+function noiseOf({ dither = false, seed = 1 }) {
+  if (typeof dither !== "boolean") throw new TypeError(`dither is ${String(dither)}, and not a boolean`);
+  const state = BigInt(integer("seed", seed, 0, Number.MAX_SAFE_INTEGER));
+  return dither ? { state } : undefined;
+}
+
+function checkNoise(noise, type, spec) {
+  if (noise && (!type.isFloat || spec.isFloat)) throw new TypeError("dither is for floats that become integers");
+}
+
 /** Converts the first samples of a type to what is stored, in the memory of the instance, and returns how many were
-    clipped. A finite one that would be infinite is an error. */
-function convert(type, spec, count) {
+    clipped. A finite one that would be infinite is an error. The state of the noise becomes that for the next ones. */
+function convert(type, spec, count, noise) {
   if (spec.isFloat) {
     checked(shared.call("f64_to_f32", shared.at(FIRST), count, shared.at(SECOND), count, shared.at(FOUND)));
+  } else if (noise) {
+    shared.view.setBigUint64(NOISE, noise.state, true);
+    const places = [shared.at(NOISE), shared.at(SECOND), count, shared.at(FOUND)];
+    checked(shared.call("dither_" + type.call, shared.at(FIRST), count, spec.bitsPerSample, ...places));
+    noise.state = shared.view.getBigUint64(NOISE, true);
   } else {
     const places = [shared.at(SECOND), count, shared.at(FOUND)];
     checked(shared.call("from_" + type.call, shared.at(FIRST), count, spec.bitsPerSample, ...places));
@@ -470,10 +489,10 @@ function convert(type, spec, count) {
 }
 
 /** Encodes so many given samples from a number on into an array, and returns how many were clipped. */
-function encodeBlock(given, spec, first, count, out) {
+function encodeBlock(given, spec, first, count, out, noise) {
   const { type } = given, stored = storedAs(type, spec);
   interleave(given, first, arrayAt(type, FIRST, count));
-  const clipped = type === stored ? 0 : convert(type, spec, count);
+  const clipped = type === stored ? 0 : convert(type, spec, count, noise);
   const [from, to] = type === stored ? [FIRST, SECOND] : [SECOND, FIRST];
   checked(shared.call("encode_" + stored.call, shared.at(SPEC), shared.at(from), count, shared.at(to), out.length));
   out.set(shared.bytes.subarray(to, to + out.length));
@@ -525,23 +544,24 @@ function widthOf(type, spec) {
 }
 
 /** Encodes the given samples into the part of an array from a place on, and returns how many were clipped. */
-function encode(given, spec, out, place, width) {
+function encode(given, spec, out, place, width, noise) {
+  checkNoise(noise, given.type, spec);
   const step = given.channels ? Math.floor(BLOCK / given.channels) * given.channels : BLOCK;
   let clipped = 0;
   shared.putSpec(spec);
   for (let first = 0; first < given.count; first += step) {
     const count = Math.min(step, given.count - first), start = place + first * width;
-    clipped += encodeBlock(given, spec, first, count, out.subarray(start, start + count * width));
+    clipped += encodeBlock(given, spec, first, count, out.subarray(start, start + count * width), noise);
   }
   return clipped;
 }
 
 /** The containers of the given samples, and how many samples were clipped. */
-function encoded(given, spec) {
+function encoded(given, spec, noise) {
   // Where there are samples, the calls that encode them say whether their type is written.
   const width = given.count > 0 ? spec.bytesPerSample : widthOf(given.type, spec);
   const data = new Uint8Array(given.count * width);
-  return { data, clipped: encode(given, spec, data, 0, width) };
+  return { data, clipped: encode(given, spec, data, 0, width, noise) };
 }
 
 function warn(clipped) {
@@ -570,9 +590,12 @@ function headerOf(spec, samples) {
   return shared.bytes.slice(HEADER, HEADER + length);
 }
 
-/** Makes the file of these samples. `bitsPerSample` is the width of the samples unless it is given. */
-export async function write(samples, { onClipped = warn, ...format } = {}) {
+/** Makes the file of these samples. `bitsPerSample` is the width of the samples unless it is given. With `dither`
+    floats that become integers get triangular noise of at most one step before they are rounded, by a generator of this
+    `seed`. */
+export async function write(samples, { onClipped = warn, dither, seed, ...format } = {}) {
   let given = taken(samples);
+  const noise = noiseOf({ dither, seed });
   const spec = specFor(given.type, { ...format, channels: format.channels ?? given.channels });
   checkChannels(given.channels, spec.channels);
   if (!shared) {
@@ -583,7 +606,7 @@ export async function write(samples, { onClipped = warn, ...format } = {}) {
   const size = checked(shared.call("size", shared.at(SPEC), given.count)), header = headerOf(spec, given.count);
   const width = widthOf(given.type, spec), file = new Uint8Array(size);
   file.set(header);
-  const clipped = encode(given, spec, file, header.length, width);
+  const clipped = encode(given, spec, file, header.length, width, noise);
   if (clipped > 0) onClipped(clipped);
   return file;
 }
@@ -783,8 +806,13 @@ class Recorder {
   #handle;
   #machine;
   #durable;
+  #noise;
   #last = Promise.resolve();
+  #requests = 0;
   #closing;
+  #most; // How many frames a file has at most, where the recording continues in a next one.
+  #paths = []; // The files of such a recording.
+  #next; // What makes the next one, and removes it.
 
   constructor(handle, durable, { recorder, spec }) {
     this.#handle = handle;
@@ -793,25 +821,83 @@ class Recorder {
     this.spec = Object.freeze(spec);
   }
 
-  /** How many frames have room after those that are written. */
-  get framesLeft() {
-    return Number(this.#machine.call("recorder_frames_left", shared.at(MACHINE)));
+  /** A file that is recorded, once what its recorder begins with is performed. */
+  static async begin(handle, durable, given) {
+    const recorder = new Recorder(handle, durable, given);
+    await recorder.#performAll();
+    return recorder;
   }
 
-  /** Writes whole frames after the last ones. After a write that failed it makes a checkpoint first. */
-  async write(samples, { onClipped = warn } = {}) {
+  /** Lets the recording at a path continue in a next file after so many frames, or as many as have room. */
+  static split(recorder, frames, path, next) {
+    recorder.#most = Math.min(frames, recorder.framesLeft);
+    recorder.#paths.push(path);
+    recorder.#next = next;
+    return recorder;
+  }
+
+  /** With `split`, the files of the recording, the last of which is written. */
+  get paths() {
+    return [...this.#paths];
+  }
+
+  get #frameBytes() {
+    return this.spec.channels * this.spec.bytesPerSample;
+  }
+
+  /** How many frames have room after those that are written: with `split`, how many this file still takes. */
+  get framesLeft() {
+    const left = Number(this.#machine.call("recorder_frames_left", shared.at(MACHINE)));
+    if (this.#most === undefined) return left;
+    const held = this.#machine.view.getUint32(LAYOUT.recorder.dataLength, true) / this.#frameBytes;
+    return Math.min(left, Math.max(this.#most - held, 0));
+  }
+
+  /** Writes whole frames after the last ones. After a write that failed it makes a checkpoint first. The seed of
+      `dither` is that of the first block that has it. */
+  async write(samples, { onClipped = warn, dither, seed } = {}) {
     this.#checkOpen();
-    const given = taken(samples);
+    const given = taken(samples), first = noiseOf({ dither, seed });
     checkChannels(given.channels, this.spec.channels);
-    const { data, clipped } = encoded(given, this.spec);
+    const { data, clipped } = encoded(given, this.spec, first && (this.#noise ??= first));
     if (clipped > 0) onClipped(clipped);
-    await this.#queue(() => this.#perform("recorder_write", data, given.count));
+    const isSplit = this.#most !== undefined && given.count % this.spec.channels === 0;
+    return this.#queue(() => isSplit ? this.#writeInFiles(data) : this.#perform("recorder_write", data, given.count));
+  }
+
+  /** Writes whole frames, in a next file where they have no room in this one. A block that is larger than a file may be
+      is written as several. */
+  async #writeInFiles(data) {
+    const { channels } = this.spec, size = this.#frameBytes, frames = data.length / size;
+    for (let first = 0; first === 0 || first < frames;) {
+      const room = frames <= this.#most ? frames : this.framesLeft || this.#most;
+      const part = data.subarray(first * size, (first + room) * size), written = part.length / size;
+      if (written > this.framesLeft) await this.#continue();
+      await this.#perform("recorder_write", part, written * channels);
+      first += Math.max(written, 1);
+    }
+  }
+
+  /** Continues in the next file, which is made and begun before this one is ended. */
+  async #continue() {
+    const path = pathOfPart(this.#paths[0], this.#paths.length + 1), { begin, remove } = this.#next;
+    const following = await begin(path);
+    try {
+      await this.#perform("recorder_checkpoint");
+    } catch (error) {
+      await following.#handle.close().then(() => remove(path)).catch(() => {});
+      throw error;
+    }
+    const older = this.#handle;
+    [this.#handle, this.#machine] = [following.#handle, following.#machine];
+    this.#paths.push(path);
+    await older.close();
   }
 
   /** Makes a checkpoint: the header counts all frames that are written. */
   async flush() {
     this.#checkOpen();
-    await this.#queue(() => this.#perform("recorder_checkpoint"));
+    return this.#queue(() => this.#perform("recorder_checkpoint"));
   }
 
   /** Makes a checkpoint and closes the file, after an error, too. */
@@ -824,21 +910,28 @@ class Recorder {
     if (this.#closing) throw new Error("the recorder is closed");
   }
 
+  /** Does this after all that was requested before, or at once where that is done. */
   #queue(task) {
-    const done = this.#last.then(task);
-    this.#last = done.catch(() => {});
+    const done = this.#requests > 0 ? this.#last.then(task) : task(), end = () => { this.#requests--; };
+    this.#requests++;
+    this.#last = done.then(end, end);
     return done;
   }
 
-  /** Performs all effects of a request. What fails is reported as failed, and is the error if the recorder says so. */
+  /** Performs all effects of a request. */
   async #perform(request, block, ...numbers) {
+    checked(this.#machine.call(request, shared.at(MACHINE), ...numbers));
+    await this.#performAll(block);
+  }
+
+  /** Performs what is requested. What fails is reported as failed, and is the error if the recorder says so. */
+  async #performAll(block) {
     const machine = this.#machine;
     let fault, code;
-    checked(machine.call(request, shared.at(MACHINE), ...numbers));
     while ((code = machine.call("recorder_next", shared.at(MACHINE))) === 1) {
       try {
-        const { effect } = machine;
-        machine.report(effect, await performOn(this.#handle, this.#durable, effect, block));
+        const { effect } = machine, performed = performOn(this.#handle, this.#durable, effect, block);
+        machine.report(effect, performed && await performed);
       } catch (error) {
         fault ??= error;
         machine.fail();
@@ -852,7 +945,7 @@ class Recorder {
 async function recorderOf(path, flags, durable, prepare) {
   const fs = await files(), handle = await fs.open(path, flags);
   try {
-    return new Recorder(handle, durable, await prepare(handle, () => syncFolder(fs, path)));
+    return await Recorder.begin(handle, durable, await prepare(handle, () => durable && syncFolder(fs, path)));
   } catch (error) {
     await handle.close();
     throw error;
@@ -866,18 +959,62 @@ async function syncFolder({ open, realpath }, path) {
   await folder.sync().finally(() => folder.close());
 }
 
-/** Records to a file at a path, in Node. A file that is there is emptied; with `exclusive` it is an error. */
-export async function record(path, format, { durable = false, exclusive = false } = {}) {
+/** Performs the effects with which a file begins. */
+async function beginOn(handle, durable, syncName, spec) {
+  const machine = new Machine("effect");
+  for (let number = 0; ; number++) {
+    shared.putSpec(spec);
+    if (checked(machine.call("beginning", shared.at(SPEC), number, shared.at(MACHINE))) === 0) return;
+    const { effect } = machine;
+    await (effect.kind === SYNC_FOLDER ? syncName() : performOn(handle, durable, effect));
+  }
+}
+
+/** The path of a further file of a recording, as take-002.wav is the second one of take.wav. */
+function pathOfPart(path, number) {
+  if (path instanceof URL) return Object.assign(new URL(path), { pathname: pathOfPart(path.pathname, number) });
+  const [, stem, ending = ""] = /^(.*?)((?<=[^/\\])\.[^./\\]*)?$/s.exec(path);
+  return `${stem}-${String(number).padStart(3, "0")}${ending}`;
+}
+
+/** An error where a file is at a path, also a link to none. */
+async function checkPart({ lstat }, path) {
+  const isThere = await lstat(path).then(() => true, ({ code }) => code !== "ENOENT");
+  if (isThere) throw Object.assign(new Error(`EEXIST: file already exists, '${path}'`), { code: "EEXIST", path });
+}
+
+/**
+ * Records to a file at a path, in Node. A file that is there is emptied; with `exclusive` it is an error.
+ *
+ * With `split` a file has at most so many frames, and never more than have room. The recording of take.wav continues in
+ * take-002.wav, take-003.wav and so on, each of which mustn't be there: of the second one that is looked at first, of
+ * each before the file before it is ended.
+ */
+export async function record(path, format, { split, ...how } = {}) {
+  if (split === undefined) return recordOne(path, format, how);
+  if (split !== Infinity) integer("split", split, 1, Number.MAX_SAFE_INTEGER);
+  const fs = await files(), first = path instanceof URL ? path : String(path), remove = (name) => fs.unlink(name);
+  const begin = async (name) => {
+    await checkPart(fs, name);
+    return recordOne(name, format, { ...how, exclusive: true }).catch(async (error) => {
+      if (error.code !== "EEXIST") await remove(name).catch(() => {});
+      throw error;
+    });
+  };
+  await checkPart(fs, pathOfPart(first, 2));
+  return Recorder.split(await recordOne(path, format, how), split, first, { begin, remove });
+}
+
+/** Records to one file. */
+async function recordOne(path, format, { durable = false, exclusive = false } = {}) {
   const spec = specFor({}, format ?? {}), recorder = new Machine("recorder");
-  const { constants } = await files(), header = headerOf(spec, 0);
+  const { constants } = await files();
+  shared.putSpec(spec);
   checked(recorder.call("recorder_begin", shared.at(SPEC), shared.at(MACHINE)));
   spec.bytesPerSample = widthOf(spec.isFloat ? TYPES.float32 : TYPES.int32, spec);
   const flags = constants.O_RDWR | constants.O_CREAT | (exclusive ? constants.O_EXCL : 0);
   return recorderOf(path, flags, durable, async (handle, syncName) => {
-    if (durable) await syncName();
-    await handle.truncate(0);
-    if (durable) await handle.sync();
-    await writeAt(handle, header, 0);
+    await beginOn(handle, durable, syncName, spec);
     return { recorder, spec };
   });
 }
@@ -885,7 +1022,8 @@ export async function record(path, format, { durable = false, exclusive = false 
 /** Continues a recording at a path, in Node, after the frames of the file. What `append` rejects is an error. */
 export async function appendTo(path, { durable = false } = {}) {
   return recorderOf(path, "r+", durable, async (handle, syncName) => {
-    if (durable) await handle.sync().then(syncName);
+    if (durable) await handle.sync();
+    await syncName();
     return resumed((await handle.stat()).size, (effect) => performOn(handle, durable, effect), 0);
   });
 }
@@ -916,13 +1054,15 @@ function join(parts) {
  *
  * A recording that was cut off is an error, and so are chunks or a tag after the data, unless they may be overwritten.
  */
-export async function append(file, samples, { overwrite = false, onClipped = warn } = {}) {
+export async function append(file, samples, { overwrite = false, onClipped = warn, dither, seed } = {}) {
   const given = fileOf(file), block = copyOf(taken(samples)), isBlob = given instanceof Blob;
+  const noise = noiseOf({ dither, seed });
   await ready();
   const { recorder: before, spec, parts = [given] } =
     made.get(given) ?? await resumed(sizeOf(given), readerOf(given), overwrite ? OVERWRITE : 0);
   checkChannels(block.channels, spec.channels);
-  const recorder = new Machine("recorder"), overlay = new Overlay(parts), { data, clipped } = encoded(block, spec);
+  const recorder = new Machine("recorder"), overlay = new Overlay(parts);
+  const { data, clipped } = encoded(block, spec, noise);
   recorder.bytes.set(before.bytes);
   checked(recorder.call("recorder_write", shared.at(MACHINE), block.count));
   performOver(overlay, recorder, isBlob ? new Blob([data]) : data);

@@ -1,6 +1,6 @@
 /* The functions of hound.h in C99 (and C++11), for computers that bindings/lib has no library for.
    scripts/portable/convert.py makes this file from the proved module hound_c.wasm, whose sha256 is
-   71f535f448a2b0ae245a28ec2e60050cabcea5dd7bbb591995c1680d594e3fc7: don't edit it.
+   6418914d72752718820b190eeb90c26c5cacb1bf76792a1c1b55290abedb32cf: don't edit it.
      cc -O3 -c bindings/c/hound_c.c
 
    Numbers are the module's: an i32 is a uint32_t, an i64 or an address a uint64_t, and an address is
@@ -96,7 +96,8 @@ enum {
     HOUND_WRITE,
     HOUND_WRITE_BLOCK,
     HOUND_SYNC,
-    HOUND_CUT
+    HOUND_CUT,
+    HOUND_SYNC_FOLDER
 };
 enum { HOUND_PENDING, HOUND_DONE, HOUND_FAILED };
 enum { HOUND_EFFECT_BYTES = 40 };
@@ -180,6 +181,8 @@ int64_t hound_to_f32(const int32_t *samples, size_t count, uint16_t bits, float 
 int64_t hound_from_f32(const float *samples, size_t count, uint16_t bits, int32_t *out, size_t capacity, uint64_t *clipped) HOUND_NONNULL;
 int64_t hound_to_f64(const int32_t *samples, size_t count, uint16_t bits, double *out, size_t capacity) HOUND_NONNULL;
 int64_t hound_from_f64(const double *samples, size_t count, uint16_t bits, int32_t *out, size_t capacity, uint64_t *clipped) HOUND_NONNULL;
+int64_t hound_dither_f32(const float *samples, size_t count, uint16_t bits, uint64_t *state, int32_t *out, size_t capacity, uint64_t *clipped) HOUND_NONNULL;
+int64_t hound_dither_f64(const double *samples, size_t count, uint16_t bits, uint64_t *state, int32_t *out, size_t capacity, uint64_t *clipped) HOUND_NONNULL;
 int64_t hound_f32_to_f64(const float *samples, size_t count, double *out, size_t capacity) HOUND_NONNULL;
 int64_t hound_f64_to_f32(const double *samples, size_t count, float *out, size_t capacity, uint64_t *infinite) HOUND_NONNULL;
 typedef struct {
@@ -190,6 +193,7 @@ typedef struct {
     uint16_t bytes_per_sample, channels;
     uint16_t health, phase, has_rest, unused;
 } hound_recorder;
+int32_t hound_beginning(const hound_spec *spec, uint32_t number, hound_effect *effect) HOUND_NONNULL;
 int32_t hound_recorder_begin(const hound_spec *spec, hound_recorder *recorder) HOUND_NONNULL;
 enum {
     HOUND_MEND = 1,
@@ -357,15 +361,15 @@ static void f10_write_data_at(uint64_t l0, uint64_t l1, uint64_t l2, uint64_t l3
 static void f11_check_samples(uint64_t sp, uint64_t l0, uint64_t l1, uint64_t l2, uint64_t l3);
 static void f12_check_containers(uint64_t l0, uint64_t l1, uint64_t l2, uint32_t l3, uint32_t l4);
 static void f13_write_data_at(uint64_t l0, uint64_t l1, uint64_t l2, uint64_t l3, uint32_t l4, uint32_t l5, uint32_t l6);
-static uint64_t f14_decode_front(uint64_t l0, uint64_t l1, uint64_t l2, uint64_t l3, uint64_t l4);
+static void f14_header_of(uint64_t sp, uint64_t l0, uint64_t l1, uint32_t l2, uint32_t l3);
 static uint64_t f15_decode_front(uint64_t l0, uint64_t l1, uint64_t l2, uint64_t l3, uint64_t l4);
 static uint64_t f16_decode_front(uint64_t l0, uint64_t l1, uint64_t l2, uint64_t l3, uint64_t l4);
-static void f17_check_containers(uint64_t l0, uint64_t l1, uint32_t l2, uint32_t l3);
-static void f18_find_damage_in_bytes(uint64_t sp, uint64_t l0, uint64_t l1, uint64_t l2, uint32_t l3);
-static void f19_take_asked(uint64_t sp, uint64_t l0, uint64_t l1, uint32_t l2, uint64_t l3, uint64_t l4, uint64_t l5);
-static void f20_measured(uint64_t sp, uint64_t l0, uint64_t l1, uint64_t l2);
-static void f21_double_to_int(uint64_t l0, double l1, uint32_t l2);
-static void f22_put_header(uint64_t sp, uint64_t l0, uint32_t l1, uint32_t l2, uint64_t l3);
+static uint64_t f17_decode_front(uint64_t l0, uint64_t l1, uint64_t l2, uint64_t l3, uint64_t l4);
+static uint64_t f18_nearest_to_distant(double l0);
+static void f19_check_containers(uint64_t l0, uint64_t l1, uint32_t l2, uint32_t l3);
+static void f20_find_damage_in_bytes(uint64_t sp, uint64_t l0, uint64_t l1, uint64_t l2, uint32_t l3);
+static void f21_take_asked(uint64_t sp, uint64_t l0, uint64_t l1, uint32_t l2, uint64_t l3, uint64_t l4, uint64_t l5);
+static void f22_measured(uint64_t sp, uint64_t l0, uint64_t l1, uint64_t l2);
 static void f23_settle(uint64_t sp, uint64_t l0, uint64_t l1, uint32_t l2);
 static void f24_effect(uint64_t l0, uint64_t l1, uint32_t l2);
 static void f25_next_effect(uint64_t sp, uint64_t l0, uint64_t l1, uint32_t l2);
@@ -374,53 +378,56 @@ static void f27_repairer_for_c(uint64_t sp, uint64_t l0, uint64_t l1, uint64_t l
 static uint64_t f29_hound_append_f32(uint64_t sp, uint64_t l0, uint64_t l1, uint64_t l2, uint64_t l3, uint64_t l4);
 static uint64_t f31_hound_append_i16(uint64_t sp, uint64_t l0, uint64_t l1, uint64_t l2, uint64_t l3, uint64_t l4);
 static uint64_t f33_hound_append_i32(uint64_t sp, uint64_t l0, uint64_t l1, uint64_t l2, uint64_t l3, uint64_t l4);
-static uint64_t f35_hound_container_16(uint32_t l0);
-static uint64_t f37_hound_container_24(uint32_t l0);
-static uint64_t f39_hound_container_32(uint32_t l0);
-static uint64_t f41_hound_container_8(uint32_t l0);
-static uint64_t f43_hound_decode_f32(uint64_t sp, uint64_t l0, uint64_t l1, uint64_t l2, uint64_t l3, uint64_t l4);
-static uint64_t f45_hound_decode_i16(uint64_t sp, uint64_t l0, uint64_t l1, uint64_t l2, uint64_t l3, uint64_t l4);
-static uint64_t f47_hound_decode_i32(uint64_t sp, uint64_t l0, uint64_t l1, uint64_t l2, uint64_t l3, uint64_t l4);
-static uint64_t f49_hound_decode_i8(uint64_t l0, uint64_t l1, uint64_t l2, uint64_t l3, uint64_t l4);
-static uint64_t f51_hound_encode_f32(uint64_t l0, uint64_t l1, uint64_t l2, uint64_t l3, uint64_t l4);
-static uint64_t f53_hound_encode_i16(uint64_t sp, uint64_t l0, uint64_t l1, uint64_t l2, uint64_t l3, uint64_t l4);
-static uint64_t f55_hound_encode_i32(uint64_t sp, uint64_t l0, uint64_t l1, uint64_t l2, uint64_t l3, uint64_t l4);
-static uint64_t f57_hound_encode_i8(uint64_t sp, uint64_t l0, uint64_t l1, uint64_t l2, uint64_t l3, uint64_t l4);
-static uint64_t f59_hound_f32_to_f64(uint64_t l0, uint64_t l1, uint64_t l2, uint64_t l3);
-static uint64_t f61_hound_f64_to_f32(uint64_t l0, uint64_t l1, uint64_t l2, uint64_t l3, uint64_t l4);
-static uint32_t f63_hound_find_damage(uint64_t sp, uint64_t l0, uint64_t l1, uint64_t l2);
-static uint64_t f65_hound_from_f32(uint64_t sp, uint64_t l0, uint64_t l1, uint32_t l2, uint64_t l3, uint64_t l4, uint64_t l5);
-static uint64_t f67_hound_from_f64(uint64_t sp, uint64_t l0, uint64_t l1, uint32_t l2, uint64_t l3, uint64_t l4, uint64_t l5);
-static uint64_t f69_hound_guess_data(uint64_t l0, uint64_t l1);
-static uint64_t f71_hound_header(uint64_t sp, uint64_t l0, uint64_t l1, uint64_t l2, uint64_t l3);
-static uint32_t f73_hound_info(uint64_t sp, uint64_t l0, uint64_t l1, uint64_t l2);
-static uint32_t f75_hound_kind(uint64_t l0, uint64_t l1);
-static uint64_t f77_hound_read_f32(uint64_t sp, uint64_t l0, uint64_t l1, uint64_t l2, uint64_t l3, uint64_t l4);
-static uint64_t f79_hound_read_i16(uint64_t sp, uint64_t l0, uint64_t l1, uint64_t l2, uint64_t l3, uint64_t l4);
-static uint64_t f81_hound_read_i32(uint64_t sp, uint64_t l0, uint64_t l1, uint64_t l2, uint64_t l3, uint64_t l4);
-static uint32_t f83_hound_recorder_begin(uint64_t l0, uint64_t l1);
-static void f85_hound_recorder_checkpoint(uint64_t sp, uint64_t l0);
-static uint64_t f87_hound_recorder_frames_left(uint64_t l0);
-static uint32_t f89_hound_recorder_next(uint64_t sp, uint64_t l0);
-static uint32_t f91_hound_recorder_resume(uint64_t l0, uint32_t l1, uint64_t l2);
-static uint32_t f93_hound_recorder_write(uint64_t sp, uint64_t l0, uint64_t l1);
-static uint64_t f95_hound_repair(uint64_t sp, uint64_t l0, uint64_t l1, uint64_t l2, uint64_t l3);
-static uint64_t f97_hound_repair_to_end(uint64_t sp, uint64_t l0, uint64_t l1, uint64_t l2, uint64_t l3);
-static void f99_hound_repairer_begin(uint64_t l0, uint32_t l1, uint64_t l2);
-static uint32_t f101_hound_repairer_next(uint64_t sp, uint64_t l0, uint64_t l1);
-static uint64_t f103_hound_size(uint64_t l0, uint64_t l1);
-static uint64_t f105_hound_sizes(uint64_t l0, uint64_t l1, uint64_t l2, uint64_t l3, uint64_t l4);
-static uint64_t f107_hound_to_f32(uint64_t sp, uint64_t l0, uint64_t l1, uint32_t l2, uint64_t l3, uint64_t l4);
-static uint64_t f109_hound_to_f64(uint64_t l0, uint64_t l1, uint32_t l2, uint64_t l3, uint64_t l4);
-static uint32_t f111_hound_value_16(uint32_t l0);
-static uint32_t f113_hound_value_24(uint32_t l0);
-static uint32_t f117_hound_value_8(uint32_t l0);
-static uint32_t f121_hound_walk_next(uint64_t sp, uint64_t l0, uint64_t l1);
-static uint32_t f123_hound_walk_to_end(uint64_t sp, uint64_t l0, uint64_t l1);
-static uint64_t f125_hound_whole_frames(uint64_t l0, uint64_t l1);
-static uint64_t f127_hound_write_f32(uint64_t sp, uint64_t l0, uint64_t l1, uint64_t l2, uint64_t l3, uint64_t l4);
-static uint64_t f129_hound_write_i16(uint64_t sp, uint64_t l0, uint64_t l1, uint64_t l2, uint64_t l3, uint64_t l4);
-static uint64_t f131_hound_write_i32(uint64_t sp, uint64_t l0, uint64_t l1, uint64_t l2, uint64_t l3, uint64_t l4);
+static uint32_t f35_hound_beginning(uint64_t sp, uint64_t l0, uint32_t l1, uint64_t l2);
+static uint64_t f37_hound_container_16(uint32_t l0);
+static uint64_t f39_hound_container_24(uint32_t l0);
+static uint64_t f41_hound_container_32(uint32_t l0);
+static uint64_t f43_hound_container_8(uint32_t l0);
+static uint64_t f45_hound_decode_f32(uint64_t sp, uint64_t l0, uint64_t l1, uint64_t l2, uint64_t l3, uint64_t l4);
+static uint64_t f47_hound_decode_i16(uint64_t sp, uint64_t l0, uint64_t l1, uint64_t l2, uint64_t l3, uint64_t l4);
+static uint64_t f49_hound_decode_i32(uint64_t sp, uint64_t l0, uint64_t l1, uint64_t l2, uint64_t l3, uint64_t l4);
+static uint64_t f51_hound_decode_i8(uint64_t l0, uint64_t l1, uint64_t l2, uint64_t l3, uint64_t l4);
+static uint64_t f53_hound_dither_f32(uint64_t l0, uint64_t l1, uint32_t l2, uint64_t l3, uint64_t l4, uint64_t l5, uint64_t l6);
+static uint64_t f55_hound_dither_f64(uint64_t l0, uint64_t l1, uint32_t l2, uint64_t l3, uint64_t l4, uint64_t l5, uint64_t l6);
+static uint64_t f57_hound_encode_f32(uint64_t l0, uint64_t l1, uint64_t l2, uint64_t l3, uint64_t l4);
+static uint64_t f59_hound_encode_i16(uint64_t sp, uint64_t l0, uint64_t l1, uint64_t l2, uint64_t l3, uint64_t l4);
+static uint64_t f61_hound_encode_i32(uint64_t sp, uint64_t l0, uint64_t l1, uint64_t l2, uint64_t l3, uint64_t l4);
+static uint64_t f63_hound_encode_i8(uint64_t sp, uint64_t l0, uint64_t l1, uint64_t l2, uint64_t l3, uint64_t l4);
+static uint64_t f65_hound_f32_to_f64(uint64_t l0, uint64_t l1, uint64_t l2, uint64_t l3);
+static uint64_t f67_hound_f64_to_f32(uint64_t l0, uint64_t l1, uint64_t l2, uint64_t l3, uint64_t l4);
+static uint32_t f69_hound_find_damage(uint64_t sp, uint64_t l0, uint64_t l1, uint64_t l2);
+static uint64_t f71_hound_from_f32(uint64_t l0, uint64_t l1, uint32_t l2, uint64_t l3, uint64_t l4, uint64_t l5);
+static uint64_t f73_hound_from_f64(uint64_t l0, uint64_t l1, uint32_t l2, uint64_t l3, uint64_t l4, uint64_t l5);
+static uint64_t f75_hound_guess_data(uint64_t l0, uint64_t l1);
+static uint64_t f77_hound_header(uint64_t sp, uint64_t l0, uint64_t l1, uint64_t l2, uint64_t l3);
+static uint32_t f79_hound_info(uint64_t sp, uint64_t l0, uint64_t l1, uint64_t l2);
+static uint32_t f81_hound_kind(uint64_t l0, uint64_t l1);
+static uint64_t f83_hound_read_f32(uint64_t sp, uint64_t l0, uint64_t l1, uint64_t l2, uint64_t l3, uint64_t l4);
+static uint64_t f85_hound_read_i16(uint64_t sp, uint64_t l0, uint64_t l1, uint64_t l2, uint64_t l3, uint64_t l4);
+static uint64_t f87_hound_read_i32(uint64_t sp, uint64_t l0, uint64_t l1, uint64_t l2, uint64_t l3, uint64_t l4);
+static uint32_t f89_hound_recorder_begin(uint64_t l0, uint64_t l1);
+static void f91_hound_recorder_checkpoint(uint64_t sp, uint64_t l0);
+static uint64_t f93_hound_recorder_frames_left(uint64_t l0);
+static uint32_t f95_hound_recorder_next(uint64_t sp, uint64_t l0);
+static uint32_t f97_hound_recorder_resume(uint64_t l0, uint32_t l1, uint64_t l2);
+static uint32_t f99_hound_recorder_write(uint64_t sp, uint64_t l0, uint64_t l1);
+static uint64_t f101_hound_repair(uint64_t sp, uint64_t l0, uint64_t l1, uint64_t l2, uint64_t l3);
+static uint64_t f103_hound_repair_to_end(uint64_t sp, uint64_t l0, uint64_t l1, uint64_t l2, uint64_t l3);
+static void f105_hound_repairer_begin(uint64_t l0, uint32_t l1, uint64_t l2);
+static uint32_t f107_hound_repairer_next(uint64_t sp, uint64_t l0, uint64_t l1);
+static uint64_t f109_hound_size(uint64_t l0, uint64_t l1);
+static uint64_t f111_hound_sizes(uint64_t l0, uint64_t l1, uint64_t l2, uint64_t l3, uint64_t l4);
+static uint64_t f113_hound_to_f32(uint64_t sp, uint64_t l0, uint64_t l1, uint32_t l2, uint64_t l3, uint64_t l4);
+static uint64_t f115_hound_to_f64(uint64_t l0, uint64_t l1, uint32_t l2, uint64_t l3, uint64_t l4);
+static uint32_t f117_hound_value_16(uint32_t l0);
+static uint32_t f119_hound_value_24(uint32_t l0);
+static uint32_t f123_hound_value_8(uint32_t l0);
+static uint32_t f127_hound_walk_next(uint64_t sp, uint64_t l0, uint64_t l1);
+static uint32_t f129_hound_walk_to_end(uint64_t sp, uint64_t l0, uint64_t l1);
+static uint64_t f131_hound_whole_frames(uint64_t l0, uint64_t l1);
+static uint64_t f133_hound_write_f32(uint64_t sp, uint64_t l0, uint64_t l1, uint64_t l2, uint64_t l3, uint64_t l4);
+static uint64_t f135_hound_write_i16(uint64_t sp, uint64_t l0, uint64_t l1, uint64_t l2, uint64_t l3, uint64_t l4);
+static uint64_t f137_hound_write_i32(uint64_t sp, uint64_t l0, uint64_t l1, uint64_t l2, uint64_t l3, uint64_t l4);
 
 /* hound_slices::head::find_samples */
 static void f3_find_samples(uint64_t sp, uint64_t l0, uint64_t l1, uint64_t l2) {
@@ -2531,8 +2538,84 @@ L31:;
     TRAP();
 }
 
+/* hound_spec::header::header_of */
+static void f14_header_of(uint64_t sp, uint64_t l0, uint64_t l1, uint32_t l2, uint32_t l3) {
+    uint32_t l5 = 0, l6 = 0, l7 = 0, l8 = 0, l9 = 0;
+    uint64_t l4 = 0, l10 = 0;
+    l4 = sp - 80ull;
+    l5 = load16(l1 + 12);
+    l6 = load8(l1 + 10);
+    l7 = load16(l1 + 8);
+    l8 = load32(l1 + 4);
+    l9 = load16(l1);
+    FILL(l4, 0u, 80ull);
+    store64(l4 + 8, 0x20746d6645564157ull);
+    store32(l4 + 4, l2);
+    store32(l4, 0x46464952u);
+    if (l9 > 2u) goto L3;
+    if ((l7 & 65535u) > 16u) goto L3;
+    l1 = l4 + 36ull;
+    store16(l4 + 34, l7);
+    store16(l4 + 22, l9);
+    store16(l4 + 20, 1u);
+    store32(l4 + 16, 16u);
+    l9 = l5 * l9;
+    store16(l4 + 32, l9);
+    store32(l4 + 24, l8);
+    store32(l4 + 28, l9 * l8);
+    l10 = 44ull;
+    goto L2;
+L3:;
+    l1 = l4 + 60ull;
+    store16(l4 + 38, l7);
+    store16(l4 + 36, 22u);
+    store16(l4 + 20, 65534u);
+    store32(l4 + 16, 40u);
+    store16(l4 + 34, l5 << 3);
+    l7 = l5 * l9;
+    store16(l4 + 32, l7);
+    store32(l4 + 24, l8);
+    store32(l4 + 28, l7 * l8);
+    store16(l4 + 22, l9);
+    store32(l4 + 40, (0xffffffffu << (((l9 < 18u ? l9 : 18u) & 31))) ^ 0xffffffffu);
+    store64(l4 + 72, 44ull);
+    l10 = l4 + 44ull;
+    if ((l6 & 255u) != 1u) goto L5;
+    if ((l10 - DATA(16)) > 15ull) goto L6;
+    store32(l4 + 45, 0u);
+    store8(l4 + 44, 1u);
+    store8(l4 + 49, 0u);
+    store16(l4 + 58, 29083u);
+    store64(l4 + 50, 0x3800aa0000800010ull);
+    goto L4;
+L6:;
+    store64(l10 + 8, load64(DATA(24)));
+    store64(l10, load64(DATA(16)));
+    goto L4;
+L5:;
+    if ((l10 - DATA(32)) > 15ull) goto L7;
+    store32(l4 + 45, 0u);
+    store8(l4 + 44, 3u);
+    store8(l4 + 49, 0u);
+    store16(l4 + 58, 29083u);
+    store64(l4 + 50, 0x3800aa0000800010ull);
+    goto L4;
+L7:;
+    store64(l10 + 8, load64(DATA(40)));
+    store64(l10, load64(DATA(32)));
+L4:;
+    l10 = 68ull;
+L2:;
+    store32(l1, 0x61746164u);
+    store32(l1 + 4ull, l3);
+    store64(l4 + 72, l10);
+    MOVE(l0, l4, 80ull);
+    return;
+    TRAP();
+}
+
 /* hound_slices::reading::decode_front::<#18fde003a4914511> */
-static uint64_t f14_decode_front(uint64_t l0, uint64_t l1, uint64_t l2, uint64_t l3, uint64_t l4) {
+static uint64_t f15_decode_front(uint64_t l0, uint64_t l1, uint64_t l2, uint64_t l3, uint64_t l4) {
     uint32_t l5 = 0, l6 = 0;
     uint64_t l7 = 0, l8 = 0, l9 = 0, l10 = 0, l11 = 0, l12 = 0, l13 = 0;
     l5 = load16(l0 + 12);
@@ -2741,7 +2824,7 @@ L1:;
 }
 
 /* hound_slices::reading::decode_front::<#104eb55a617bfe4c> */
-static uint64_t f15_decode_front(uint64_t l0, uint64_t l1, uint64_t l2, uint64_t l3, uint64_t l4) {
+static uint64_t f16_decode_front(uint64_t l0, uint64_t l1, uint64_t l2, uint64_t l3, uint64_t l4) {
     uint32_t l5 = 0, l6 = 0;
     uint64_t l7 = 0, l8 = 0, l9 = 0, l10 = 0, l11 = 0;
     l5 = load16(l0 + 12);
@@ -2916,7 +2999,7 @@ L1:;
 }
 
 /* hound_slices::reading::decode_front::<#1876b2b199bdb8fa> */
-static uint64_t f16_decode_front(uint64_t l0, uint64_t l1, uint64_t l2, uint64_t l3, uint64_t l4) {
+static uint64_t f17_decode_front(uint64_t l0, uint64_t l1, uint64_t l2, uint64_t l3, uint64_t l4) {
     uint32_t l5 = 0, l6 = 0;
     uint64_t l7 = 0, l8 = 0, l9 = 0, l10 = 0;
     l5 = load16(l0 + 12);
@@ -3086,8 +3169,53 @@ L1:;
     TRAP();
 }
 
+/* hound_sample::scale::nearest_to_distant */
+static uint64_t f18_nearest_to_distant(double l0) {
+    uint64_t l4 = 0, l5 = 0, l6 = 0;
+    double l1 = 0, l2 = 0, l3 = 0;
+    l1 = l0;
+    l2 = 0.0;
+    l1 = l1 < l2 ? neg_f64(l0) : (l1 == l2 ? (0.0) : l0);
+    if (!(l1 < (4503599627370496.0))) goto L2;
+    l1 = (l1 + (4503599627370496.0)) + (-4503599627370496.0);
+    l3 = l1;
+    if (s64(bits_of(l0)) > s64(0xffffffffffffffffull)) goto L3;
+    l0 = l3 < l2 ? l1 : (l3 == l2 ? (-0.0) : neg_f64(l1));
+    goto L2;
+L3:;
+    l0 = l3 < l2 ? neg_f64(l1) : (l3 == l2 ? (0.0) : l1);
+L2:;
+    l2 = l0;
+    if (!((9.223372036854776e+18) <= l2)) goto L4;
+    return 0x7fffffffffffffffull;
+L4:;
+    if (!((-9.223372036854776e+18) <= l2)) goto L5;
+    l1 = 1.0;
+    if (!(l1 <= l2)) goto L6;
+    l4 = bits_of(l0);
+    l5 = (l4 & 0xfffffffffffffull) | 0x10000000000000ull;
+    l6 = l4 >> 52;
+    return l4 < 0x4340000000000000ull ? (l5 >> (((1075ull - l6) & 63))) : (l5 << (((l6 - 1075ull) & 63)));
+L6:;
+    if (l2 <= (-1.0)) goto L7;
+    return 0ull;
+L7:;
+    l4 = 0ull;
+    l0 = neg_f64(l0);
+    if (!(l1 <= l0)) goto L8;
+    l4 = bits_of(l0);
+    l5 = (l4 & 0xfffffffffffffull) | 0x10000000000000ull;
+    l6 = l4 >> 52;
+    l4 = l4 < 0x4340000000000000ull ? (l5 >> (((1075ull - l6) & 63))) : (l5 << (((l6 - 1075ull) & 63)));
+L8:;
+    return 0ull - l4;
+L5:;
+    return l2 != l2 ? 0ull : 0x8000000000000000ull;
+    TRAP();
+}
+
 /* hound_sample::slices::check_containers::<#7088c02983699aa1> */
-static void f17_check_containers(uint64_t l0, uint64_t l1, uint32_t l2, uint32_t l3) {
+static void f19_check_containers(uint64_t l0, uint64_t l1, uint32_t l2, uint32_t l3) {
     uint32_t l4 = 0, l5 = 0, l6 = 0, l7 = 0;
     if (l1 == 0) goto L2;
     l4 = l3 & 65535u;
@@ -3132,7 +3260,7 @@ L1:;
 }
 
 /* hound_repair::bytes::find_damage_in_bytes */
-static void f18_find_damage_in_bytes(uint64_t sp, uint64_t l0, uint64_t l1, uint64_t l2, uint32_t l3) {
+static void f20_find_damage_in_bytes(uint64_t sp, uint64_t l0, uint64_t l1, uint64_t l2, uint32_t l3) {
     uint32_t l6 = 0, l13 = 0;
     uint64_t l4 = 0, l5 = 0, l7 = 0, l8 = 0, l9 = 0, l10 = 0, l11 = 0, l12 = 0, l14 = 0;
     l4 = sp - 160ull;
@@ -3201,7 +3329,7 @@ L6:;
     l7 = l8;
 L5:;
     l5 = l2 - l7;
-    f19_take_asked(sp, l4 + 8ull, l2, l3, l4 + 96ull, l1 + (l2 < l7 ? l2 : l7), l2 > l7 ? (l14 < l5 ? l14 : l5) : 0ull);
+    f21_take_asked(sp, l4 + 8ull, l2, l3, l4 + 96ull, l1 + (l2 < l7 ? l2 : l7), l2 > l7 ? (l14 < l5 ? l14 : l5) : 0ull);
     if (load8(l4 + 8) != 0) goto L13;
     l6 = load8(l4 + 80);
     l5 = load64(l4 + 72);
@@ -3243,7 +3371,7 @@ L1:;
 }
 
 /* hound_repair::steps::take_asked */
-static void f19_take_asked(uint64_t sp, uint64_t l0, uint64_t l1, uint32_t l2, uint64_t l3, uint64_t l4, uint64_t l5) {
+static void f21_take_asked(uint64_t sp, uint64_t l0, uint64_t l1, uint32_t l2, uint64_t l3, uint64_t l4, uint64_t l5) {
     uint32_t l7 = 0, l8 = 0, l11 = 0, l12 = 0, l17 = 0, l18 = 0, l19 = 0, l20 = 0, l21 = 0, l22 = 0, l29 = 0, l30 = 0, l31 = 0, l32 = 0, l33 = 0, l34 = 0, t1, t2, t3, t4;
     uint64_t l6 = 0, l9 = 0, l10 = 0, l13 = 0, l14 = 0, l15 = 0, l16 = 0, l23 = 0, l24 = 0, l25 = 0, l26 = 0, l27 = 0, l28 = 0;
     l6 = sp - 528ull;
@@ -3488,7 +3616,7 @@ L16:;
     store32(l6 + 272, l12);
     store64(l6 + 264, l13);
     store64(l6 + 256, l14);
-    f20_measured(sp, l6 + 296ull, l1, l6 + 256ull);
+    f22_measured(sp, l6 + 296ull, l1, l6 + 256ull);
     if (load8(l6 + 296) != 0) goto L39;
     if (l5 > 3ull) goto L40;
     l8 = 0u;
@@ -3600,7 +3728,7 @@ L15:;
     store32(l6 + 152, l12);
     store64(l6 + 144, l13);
     store64(l6 + 136, l14);
-    f20_measured(sp, l6 + 176ull, l1, l6 + 136ull);
+    f22_measured(sp, l6 + 176ull, l1, l6 + 136ull);
     if (load8(l6 + 176) != 0) goto L48;
     l3 = (uint64_t)load8(l6 + 255ull);
     l10 = (uint64_t)load16(l6 + 253ull);
@@ -3848,7 +3976,7 @@ L14:;
     store32(l6 + 16, l12);
     store64(l6 + 8, l13);
     store64(l6, l14);
-    f20_measured(sp, l6 + 40ull, l1, l6);
+    f22_measured(sp, l6 + 40ull, l1, l6);
     if (load8(l6 + 40) != 0) goto L66;
     l3 = l6 + 105ull;
     l9 = load64(l6 + 112);
@@ -3952,7 +4080,7 @@ L1:;
 }
 
 /* hound_repair::steps::measured */
-static void f20_measured(uint64_t sp, uint64_t l0, uint64_t l1, uint64_t l2) {
+static void f22_measured(uint64_t sp, uint64_t l0, uint64_t l1, uint64_t l2) {
     uint32_t l4 = 0, l5 = 0, l8 = 0, l9 = 0, l10 = 0, l11 = 0, l12 = 0, l13 = 0, l14 = 0, l15 = 0;
     uint64_t l3 = 0, l6 = 0, l7 = 0, l16 = 0, l17 = 0, l18 = 0, l19 = 0;
     l3 = sp - 16ull;
@@ -4039,177 +4167,6 @@ L8:;
     FILL(l0 + 8ull, 0u, 72ull);
     return;
 L1:;
-    TRAP();
-}
-
-/* hound_sample::scale::double_to_int */
-static void f21_double_to_int(uint64_t l0, double l1, uint32_t l2) {
-    uint64_t l3 = 0, l5 = 0, l6 = 0;
-    double l4 = 0, l7 = 0, l8 = 0, l9 = 0;
-    l2 = 1u << ((((l2 - 1u) & 65535u) & 31));
-    l1 = l1 * ((double)l2);
-    l3 = bits_of(l1);
-    l4 = l1;
-    l5 = l4 != l4 ? 0x7ff8000000000000ull : l3;
-    l6 = l5 & 0x7fffffffffffffffull;
-    if (l6 < 0x7ff0000000000000ull) goto L4;
-    l7 = 4503599627370496.0;
-    goto L2;
-L4:;
-    l8 = f64_of(l6);
-    l9 = l8;
-    l7 = 4503599627370496.0;
-    if (!(l9 < l7)) goto L2;
-    l1 = 0.0;
-    l4 = l9 < l1 ? neg_f64(l8) : (l9 == l1 ? (0.0) : l8);
-    if (!(l4 < l7)) goto L5;
-    l4 = (l4 + (4503599627370496.0)) + (-4503599627370496.0);
-    l8 = l4;
-    l8 = l8 < l1 ? neg_f64(l4) : (l8 == l1 ? (0.0) : l4);
-L5:;
-    l6 = (1ull - ((l5 >> 62) & 2ull)) * trunc64(l8);
-    goto L1;
-    TRAP();
-L2:;
-    l8 = 0.0;
-    l4 = l4 < l8 ? neg_f64(l1) : (l4 == l8 ? (0.0) : l1);
-    if (!(l4 < l7)) goto L6;
-    l1 = (l4 + (4503599627370496.0)) + (-4503599627370496.0);
-    l4 = l1;
-    if (s64(l3) > s64(0xffffffffffffffffull)) goto L7;
-    l1 = l4 < l8 ? l1 : (l4 == l8 ? (-0.0) : neg_f64(l1));
-    goto L6;
-L7:;
-    l1 = l4 < l8 ? neg_f64(l1) : (l4 == l8 ? (0.0) : l1);
-L6:;
-    l4 = l1;
-    if (!((9.223372036854776e+18) <= l4)) goto L8;
-    l6 = 0x7fffffffffffffffull;
-    goto L1;
-L8:;
-    if (!((-9.223372036854776e+18) <= l4)) goto L9;
-    l8 = 1.0;
-    if (!(l8 <= l4)) goto L10;
-    l6 = bits_of(l1);
-    l3 = (l6 & 0xfffffffffffffull) | 0x10000000000000ull;
-    l5 = l6 >> 52;
-    l6 = l6 < 0x4340000000000000ull ? (l3 >> (((1075ull - l5) & 63))) : (l3 << (((l5 - 1075ull) & 63)));
-    goto L1;
-L10:;
-    if (l4 <= (-1.0)) goto L11;
-    l6 = 0ull;
-    goto L1;
-L11:;
-    l6 = 0ull;
-    l1 = neg_f64(l1);
-    if (!(l8 <= l1)) goto L12;
-    l6 = bits_of(l1);
-    l3 = (l6 & 0xfffffffffffffull) | 0x10000000000000ull;
-    l5 = l6 >> 52;
-    l6 = l6 < 0x4340000000000000ull ? (l3 >> (((1075ull - l5) & 63))) : (l3 << (((l5 - 1075ull) & 63)));
-L12:;
-    l6 = 0ull - l6;
-    goto L1;
-L9:;
-    l6 = l4 != l4 ? 0ull : 0x8000000000000000ull;
-L1:;
-    l3 = (uint64_t)l2;
-    l5 = 0ull - l3;
-    l3 = l3 - 1ull;
-    l3 = s64(l6) < s64(l5) ? l5 : (s64(l3) < s64(l6) ? l3 : l6);
-    store32(l0, (uint32_t)(l3));
-    store8(l0 + 4, (uint32_t)(l3 != l6));
-}
-
-/* hound_slices::writing::put_header */
-static void f22_put_header(uint64_t sp, uint64_t l0, uint32_t l1, uint32_t l2, uint64_t l3) {
-    uint32_t l5 = 0, l6 = 0, l7 = 0, l8 = 0, l9 = 0;
-    uint64_t l4 = 0, l10 = 0;
-    l4 = sp - 240ull;
-    sp = l4;
-    l5 = load16(l0 + 12);
-    l6 = load8(l0 + 10);
-    l7 = load16(l0 + 8);
-    l8 = load32(l0 + 4);
-    l9 = load16(l0);
-    store64(l4 + 224, 0ull);
-    store64(l4 + 216, 0ull);
-    store64(l4 + 208, 0ull);
-    store64(l4 + 200, 0ull);
-    store64(l4 + 192, 0ull);
-    store64(l4 + 184, 0ull);
-    store64(l4 + 176, 0ull);
-    store64(l4 + 168, 0x20746d6645564157ull);
-    store32(l4 + 164, l1);
-    store32(l4 + 160, 0x46464952u);
-    if (l9 > 2u) goto L3;
-    if ((l7 & 65535u) > 16u) goto L3;
-    l0 = l4 + 196ull;
-    store16(l4 + 194, l7);
-    store16(l4 + 182, l9);
-    store16(l4 + 180, 1u);
-    store32(l4 + 176, 16u);
-    l9 = l5 * l9;
-    store16(l4 + 192, l9);
-    store32(l4 + 184, l8);
-    store32(l4 + 188, l9 * l8);
-    l10 = 44ull;
-    goto L2;
-L3:;
-    l0 = l4 + 220ull;
-    store16(l4 + 198, l7);
-    store16(l4 + 196, 22u);
-    store16(l4 + 180, 65534u);
-    store32(l4 + 176, 40u);
-    store16(l4 + 194, l5 << 3);
-    l7 = l5 * l9;
-    store16(l4 + 192, l7);
-    store32(l4 + 184, l8);
-    store32(l4 + 188, l7 * l8);
-    store16(l4 + 182, l9);
-    store32(l4 + 200, (0xffffffffu << (((l9 < 18u ? l9 : 18u) & 31))) ^ 0xffffffffu);
-    store64(l4 + 232, 44ull);
-    l10 = (l4 + 160ull) + 44ull;
-    if ((l6 & 255u) != 1u) goto L5;
-    if ((l10 - DATA(16)) > 15ull) goto L6;
-    store32(l4 + 205, 0u);
-    store8(l4 + 204, 1u);
-    store8(l4 + 219, 113u);
-    store16(l4 + 217, 39736u);
-    store16(l4 + 214, 43520u);
-    store8(l4 + 212, 128u);
-    store16(l4 + 209, 4096u);
-    goto L4;
-L6:;
-    store64(l10 + 8, load64(DATA(24)));
-    store64(l10, load64(DATA(16)));
-    goto L4;
-L5:;
-    if ((l10 - DATA(32)) > 15ull) goto L7;
-    store32(l4 + 205, 0u);
-    store8(l4 + 204, 3u);
-    store8(l4 + 219, 113u);
-    store16(l4 + 217, 39736u);
-    store16(l4 + 214, 43520u);
-    store8(l4 + 212, 128u);
-    store16(l4 + 209, 4096u);
-    goto L4;
-L7:;
-    store64(l10 + 8, load64(DATA(40)));
-    store64(l10, load64(DATA(32)));
-L4:;
-    l10 = 68ull;
-L2:;
-    store32(l0 + 4ull, l2);
-    store32(l0, 0x61746164u);
-    store64(l4 + 232, l10);
-    MOVE(l4, l4 + 160ull, 80ull);
-    MOVE(l4 + 80ull, l4, 80ull);
-    l0 = load64(l4 + 152);
-    if (l0 == 0) goto L8;
-    MOVE(l3, l4 + 80ull, l0);
-L8:;
-    return;
     TRAP();
 }
 
@@ -4562,7 +4519,7 @@ static void f26_repair_file(uint64_t sp, uint64_t l0, uint64_t l1, uint64_t l2, 
     store64(l0 + 8ull, 0ull);
     goto L2;
 L3:;
-    f18_find_damage_in_bytes(sp, l6, l1, l3, l4);
+    f20_find_damage_in_bytes(sp, l6, l1, l3, l4);
     if (load8(l6) != 0) goto L7;
     l7 = load32(l6 + 68);
     l8 = load32(l6 + 64);
@@ -5307,28 +5264,156 @@ L1:;
     return l2;
 }
 
+/* rattle::export hound_beginning */
+static uint32_t f35_hound_beginning(uint64_t sp, uint64_t l0, uint32_t l1, uint64_t l2) {
+    uint32_t l4 = 0, l5 = 0, l6 = 0, l7 = 0, l8 = 0, l9 = 0, l10 = 0;
+    uint64_t l3 = 0, l11 = 0, l12 = 0;
+    l3 = sp - 144ull;
+    sp = l3;
+    l4 = load16(l0 + 10);
+    l5 = load16(l0 + 6);
+    l6 = load16(l0 + 8);
+    if (l6 != 0) goto L2;
+    l6 = ((l5 & 65528u) >> 3) + (uint32_t)((l5 & 7u) != 0u);
+L2:;
+    l7 = 1u;
+    l4 = l4 & 65535u;
+    l8 = l4 > 1u ? 0u : l5;
+    if (l4 != 0) goto L4;
+    l9 = l5 & 65535u;
+    if (((uint32_t)(l9 == 8u) & (uint32_t)(l6 == 1u)) != 0) goto L5;
+    if (((uint32_t)(l9 == 16u) & (uint32_t)(l6 == 2u)) != 0) goto L5;
+    l7 = (uint32_t)((l5 & 65535u) == 24u) & (uint32_t)(((l6 - 3u) & 65535u) < 2u);
+L5:;
+    l7 = l7 | ((uint32_t)((l5 & 65535u) == 32u) & (uint32_t)((l6 & 65535u) == 4u));
+    goto L3;
+L4:;
+    l7 = (uint32_t)((l8 & 65535u) == 32u) & (uint32_t)(l6 == 4u);
+L3:;
+    l5 = 0xfffffffbu;
+    if (l7 == 0) goto L6;
+    l7 = load16(l0 + 4);
+    if (l7 == 0) goto L6;
+    l9 = load32(l0);
+    if (l9 == 0) goto L6;
+    l10 = l6 * l7;
+    if (l10 > 65535u) goto L6;
+    if (((uint32_t)((((uint64_t)l10) * ((uint64_t)l9)) >> 32)) != 0u) goto L6;
+    l0 = 0ull;
+    switch (l1) {
+    case 0: goto L10;
+    case 1: goto L11;
+    case 2: goto L12;
+    case 3: goto L13;
+    case 4: goto L14;
+    default: goto L15;
+    }
+L15:;
+    l0 = 0ull;
+    store64(l3 + 136, 0ull);
+    store64(l3 + 128, 0ull);
+    store64(l3 + 120, 0ull);
+    store64(l3 + 112, 0ull);
+    store64(l3 + 104, 0ull);
+    l5 = 0u;
+    l6 = 0u;
+    l4 = 0u;
+    goto L7;
+L14:;
+    l0 = 40ull;
+L13:;
+    store16(l3 + 102, 0u);
+    store16(l3 + 100, l6);
+    store8(l3 + 99, 0u);
+    store8(l3 + 98, (uint32_t)(l4 == 0));
+    store16(l3 + 96, l8);
+    store32(l3 + 92, l9);
+    store16(l3 + 90, 0u);
+    store16(l3 + 88, l7);
+    FILL(l3 + 8ull, 0u, 80ull);
+    f14_header_of(sp, l3 + 8ull, l3 + 88ull, 0u, 0u);
+    store64(l3 + 104, 0ull);
+    store64(l3 + 112, 0ull);
+    store64(l3 + 120, 0ull);
+    store64(l3 + 128, 0ull);
+    store64(l3 + 136, 0ull);
+    l11 = load64(l3 + 80);
+    l12 = l0 < l11 ? l0 : l11;
+    l11 = l11 - l12;
+    l11 = l11 < 40ull ? l11 : 40ull;
+    if (l11 == 0) goto L16;
+    MOVE(l3 + 104ull, (l3 + 8ull) + l12, l11);
+L16:;
+    l6 = (uint32_t)l11;
+    l4 = 2u;
+    goto L8;
+L12:;
+    l0 = 0ull;
+    store64(l3 + 136, 0ull);
+    store64(l3 + 128, 0ull);
+    store64(l3 + 120, 0ull);
+    store64(l3 + 112, 0ull);
+    store64(l3 + 104, 0ull);
+    l4 = 4u;
+    goto L9;
+L11:;
+    l0 = 0ull;
+    store64(l3 + 136, 0ull);
+    store64(l3 + 128, 0ull);
+    store64(l3 + 120, 0ull);
+    store64(l3 + 112, 0ull);
+    store64(l3 + 104, 0ull);
+    l4 = 5u;
+    goto L9;
+L10:;
+    l0 = 0ull;
+    store64(l3 + 136, 0ull);
+    store64(l3 + 128, 0ull);
+    store64(l3 + 120, 0ull);
+    store64(l3 + 112, 0ull);
+    store64(l3 + 104, 0ull);
+    l4 = 6u;
+L9:;
+    l6 = 0u;
+L8:;
+    l5 = 1u;
+L7:;
+    store16(l2 + 14, 0u);
+    store16(l2 + 12, l4);
+    store32(l2 + 8, l6);
+    store64(l2, l0);
+    store64(l2 + 16, load64(l3 + 104));
+    store64(l2 + 24, load64(l3 + 112));
+    store64(l2 + 32, load64(l3 + 120));
+    store64(l2 + 40, load64(l3 + 128));
+    store64(l2 + 48, load64(l3 + 136));
+L6:;
+    return l5;
+    TRAP();
+}
+
 /* rattle::export hound_container_16 */
-static uint64_t f35_hound_container_16(uint32_t l0) {
+static uint64_t f37_hound_container_16(uint32_t l0) {
     return (l0 + 32768u) < 0x10000u ? ((uint64_t)(l0 & 65535u)) : 0xfffffffffffffffcull;
 }
 
 /* rattle::export hound_container_24 */
-static uint64_t f37_hound_container_24(uint32_t l0) {
+static uint64_t f39_hound_container_24(uint32_t l0) {
     return (l0 + 0x800000u) < 0x1000000u ? ((uint64_t)(l0 & 0xffffffu)) : 0xfffffffffffffffcull;
 }
 
 /* rattle::export hound_container_32 */
-static uint64_t f39_hound_container_32(uint32_t l0) {
+static uint64_t f41_hound_container_32(uint32_t l0) {
     return (uint64_t)l0;
 }
 
 /* rattle::export hound_container_8 */
-static uint64_t f41_hound_container_8(uint32_t l0) {
+static uint64_t f43_hound_container_8(uint32_t l0) {
     return (l0 + 128u) < 256u ? ((uint64_t)((l0 & 255u) ^ 128u)) : 0xfffffffffffffffcull;
 }
 
 /* rattle::export hound_decode_f32 */
-static uint64_t f43_hound_decode_f32(uint64_t sp, uint64_t l0, uint64_t l1, uint64_t l2, uint64_t l3, uint64_t l4) {
+static uint64_t f45_hound_decode_f32(uint64_t sp, uint64_t l0, uint64_t l1, uint64_t l2, uint64_t l3, uint64_t l4) {
     uint32_t l6 = 0, l7 = 0, l8 = 0, l9 = 0, l10 = 0;
     uint64_t l5 = 0, t1;
     l5 = sp - 16ull;
@@ -5359,7 +5444,7 @@ L6:;
 L5:;
     if ((l7 & 65535u) != 32u) goto L2;
     if (l10 != 4u) goto L2;
-    t1 = f14_decode_front(l5, l1 + (l1 == 0 ? 4096ull : 0ull), l2, l3 + (l3 == 0 ? 4096ull : 0ull), l4);
+    t1 = f15_decode_front(l5, l1 + (l1 == 0 ? 4096ull : 0ull), l2, l3 + (l3 == 0 ? 4096ull : 0ull), l4);
     l0 = t1;
     goto L1;
     TRAP();
@@ -5370,7 +5455,7 @@ L1:;
 }
 
 /* rattle::export hound_decode_i16 */
-static uint64_t f45_hound_decode_i16(uint64_t sp, uint64_t l0, uint64_t l1, uint64_t l2, uint64_t l3, uint64_t l4) {
+static uint64_t f47_hound_decode_i16(uint64_t sp, uint64_t l0, uint64_t l1, uint64_t l2, uint64_t l3, uint64_t l4) {
     uint32_t l6 = 0, l7 = 0, l8 = 0, l9 = 0, l10 = 0;
     uint64_t l5 = 0, t1;
     l5 = sp - 16ull;
@@ -5402,7 +5487,7 @@ L5:;
     if (((uint32_t)(l6 == 8u) & (uint32_t)(l10 == 1u)) != 0) goto L7;
     if (((uint32_t)(l6 == 16u) & (uint32_t)(l10 == 2u)) == 0) goto L2;
 L7:;
-    t1 = f15_decode_front(l5, l1 + (l1 == 0 ? 4096ull : 0ull), l2, l3 + (l3 == 0 ? 4096ull : 0ull), l4);
+    t1 = f16_decode_front(l5, l1 + (l1 == 0 ? 4096ull : 0ull), l2, l3 + (l3 == 0 ? 4096ull : 0ull), l4);
     l0 = t1;
     goto L1;
     TRAP();
@@ -5413,7 +5498,7 @@ L1:;
 }
 
 /* rattle::export hound_decode_i32 */
-static uint64_t f47_hound_decode_i32(uint64_t sp, uint64_t l0, uint64_t l1, uint64_t l2, uint64_t l3, uint64_t l4) {
+static uint64_t f49_hound_decode_i32(uint64_t sp, uint64_t l0, uint64_t l1, uint64_t l2, uint64_t l3, uint64_t l4) {
     uint32_t l6 = 0, l7 = 0, l8 = 0, l9 = 0, l10 = 0;
     uint64_t l5 = 0, t1;
     l5 = sp - 16ull;
@@ -5444,7 +5529,7 @@ L4:;
     if (((uint32_t)(l7 == 24u) & (uint32_t)(l10 > 2u)) != 0) goto L6;
     if (((uint32_t)(l7 == 32u) & (uint32_t)(l10 == 4u)) == 0) goto L5;
 L6:;
-    t1 = f16_decode_front(l5, l1 + (l1 == 0 ? 4096ull : 0ull), l2, l3 + (l3 == 0 ? 4096ull : 0ull), l4);
+    t1 = f17_decode_front(l5, l1 + (l1 == 0 ? 4096ull : 0ull), l2, l3 + (l3 == 0 ? 4096ull : 0ull), l4);
     l0 = t1;
     goto L1;
 L5:;
@@ -5458,7 +5543,7 @@ L1:;
 }
 
 /* rattle::export hound_decode_i8 */
-static uint64_t f49_hound_decode_i8(uint64_t l0, uint64_t l1, uint64_t l2, uint64_t l3, uint64_t l4) {
+static uint64_t f51_hound_decode_i8(uint64_t l0, uint64_t l1, uint64_t l2, uint64_t l3, uint64_t l4) {
     uint32_t l5 = 0, l6 = 0, l7 = 0;
     uint64_t l8 = 0, l9 = 0, l10 = 0, l11 = 0, l12 = 0, l13 = 0, l14 = 0;
     l5 = load16(l0 + 10);
@@ -5513,8 +5598,125 @@ L5:;
     TRAP();
 }
 
+/* rattle::export hound_dither_f32 */
+static uint64_t f53_hound_dither_f32(uint64_t l0, uint64_t l1, uint32_t l2, uint64_t l3, uint64_t l4, uint64_t l5, uint64_t l6) {
+    uint64_t l8 = 0, l9 = 0, l11 = 0, l12 = 0, l16 = 0, l20 = 0, t2;
+    float l17 = 0;
+    double l10 = 0, l13 = 0, l14 = 0, l15 = 0, l18 = 0, l19 = 0, t1;
+    if (((l2 - 33u) & 65535u) >= 65504u) goto L2;
+    return 0xfffffffffffffffbull;
+L2:;
+    if (l5 >= l1) goto L3;
+    return 0xfffffffffffffff7ull;
+L3:;
+    l8 = load64(l3);
+    if (!(l1 == 0)) goto L5;
+    l9 = 0ull;
+    goto L4;
+L5:;
+    l4 = l4 + (l4 == 0 ? 4096ull : 0ull);
+    l0 = l0 + (l0 == 0 ? 4096ull : 0ull);
+    l5 = 1ull << (((((uint64_t)(l2 + 31u)) & 65535ull) & 63));
+    l10 = ((double)(l5 & 0xffffffffull)) + (((double)(l5 >> 32)) * (4294967296.0));
+    l2 = 1u << ((((l2 - 1u) & 65535u) & 31));
+    l5 = (uint64_t)l2;
+    l11 = l5 - 1ull;
+    l9 = 0ull;
+    l12 = 0ull - l5;
+    l13 = (double)l2;
+    l14 = 2251799813685248.0;
+    l15 = (-2251799813685248.0);
+    l16 = l1;
+L6:;
+    l17 = load_f32(l0);
+    t1 = (double)l17;
+    l8 = l8 - 7046029254386353131ull;
+    l5 = ((l8 >> 30) ^ l8) * 0xbf58476d1ce4e5b9ull;
+    l5 = ((l5 >> 27) ^ l5) * 0x94d049bb133111ebull;
+    l5 = (l5 >> 31) ^ l5;
+    l18 = l13 * ((l17 != l17 ? f64_of(0x7ff8000000000000ull) : t1) + (((double)s64(((l5 >> 32) - (l5 & 0xffffffffull)))) / l10));
+    l19 = l18;
+    if (!(l15 < l19)) goto L8;
+    if (!(l19 < l14)) goto L8;
+    l5 = (trunc64((l18 + (6755399441055744.0)))) - 6755399441055744ull;
+    goto L7;
+L8:;
+    t2 = f18_nearest_to_distant(l18);
+    l5 = t2;
+L7:;
+    l20 = s64(l5) < s64(l12) ? l12 : (s64(l11) < s64(l5) ? l11 : l5);
+    store32(l4, (uint32_t)(l20));
+    l9 = l9 + ((uint64_t)(uint32_t)(l20 != l5));
+    l0 = l0 + 4ull;
+    l4 = l4 + 4ull;
+    l16 = l16 - 1ull;
+    if (l16 != 0ull) goto L6;
+L4:;
+    store64(l3, l8);
+    store64(l6, l9);
+    return l1;
+    TRAP();
+}
+
+/* rattle::export hound_dither_f64 */
+static uint64_t f55_hound_dither_f64(uint64_t l0, uint64_t l1, uint32_t l2, uint64_t l3, uint64_t l4, uint64_t l5, uint64_t l6) {
+    uint64_t l8 = 0, l9 = 0, l11 = 0, l12 = 0, l16 = 0, l19 = 0, t1;
+    double l10 = 0, l13 = 0, l14 = 0, l15 = 0, l17 = 0, l18 = 0;
+    if (((l2 - 33u) & 65535u) >= 65504u) goto L2;
+    return 0xfffffffffffffffbull;
+L2:;
+    if (l5 >= l1) goto L3;
+    return 0xfffffffffffffff7ull;
+L3:;
+    l8 = load64(l3);
+    if (!(l1 == 0)) goto L5;
+    l9 = 0ull;
+    goto L4;
+L5:;
+    l4 = l4 + (l4 == 0 ? 4096ull : 0ull);
+    l0 = l0 + (l0 == 0 ? 4096ull : 0ull);
+    l5 = 1ull << (((((uint64_t)(l2 + 31u)) & 65535ull) & 63));
+    l10 = ((double)(l5 & 0xffffffffull)) + (((double)(l5 >> 32)) * (4294967296.0));
+    l2 = 1u << ((((l2 - 1u) & 65535u) & 31));
+    l5 = (uint64_t)l2;
+    l11 = l5 - 1ull;
+    l9 = 0ull;
+    l12 = 0ull - l5;
+    l13 = (double)l2;
+    l14 = 2251799813685248.0;
+    l15 = (-2251799813685248.0);
+    l16 = l1;
+L6:;
+    l8 = l8 - 7046029254386353131ull;
+    l5 = ((l8 >> 30) ^ l8) * 0xbf58476d1ce4e5b9ull;
+    l5 = ((l5 >> 27) ^ l5) * 0x94d049bb133111ebull;
+    l5 = (l5 >> 31) ^ l5;
+    l17 = l13 * (load_f64(l0) + (((double)s64(((l5 >> 32) - (l5 & 0xffffffffull)))) / l10));
+    l18 = l17;
+    if (!(l15 < l18)) goto L8;
+    if (!(l18 < l14)) goto L8;
+    l5 = (trunc64((l17 + (6755399441055744.0)))) - 6755399441055744ull;
+    goto L7;
+L8:;
+    t1 = f18_nearest_to_distant(l17);
+    l5 = t1;
+L7:;
+    l19 = s64(l5) < s64(l12) ? l12 : (s64(l11) < s64(l5) ? l11 : l5);
+    store32(l4, (uint32_t)(l19));
+    l9 = l9 + ((uint64_t)(uint32_t)(l19 != l5));
+    l0 = l0 + 8ull;
+    l4 = l4 + 4ull;
+    l16 = l16 - 1ull;
+    if (l16 != 0ull) goto L6;
+L4:;
+    store64(l3, l8);
+    store64(l6, l9);
+    return l1;
+    TRAP();
+}
+
 /* rattle::export hound_encode_f32 */
-static uint64_t f51_hound_encode_f32(uint64_t l0, uint64_t l1, uint64_t l2, uint64_t l3, uint64_t l4) {
+static uint64_t f57_hound_encode_f32(uint64_t l0, uint64_t l1, uint64_t l2, uint64_t l3, uint64_t l4) {
     uint32_t l5 = 0, l6 = 0, l7 = 0;
     uint64_t l8 = 0, l9 = 0, l10 = 0, l11 = 0, l12 = 0, l13 = 0, l14 = 0, l15 = 0;
     l5 = load16(l0 + 10);
@@ -5575,7 +5777,7 @@ L4:;
 }
 
 /* rattle::export hound_encode_i16 */
-static uint64_t f53_hound_encode_i16(uint64_t sp, uint64_t l0, uint64_t l1, uint64_t l2, uint64_t l3, uint64_t l4) {
+static uint64_t f59_hound_encode_i16(uint64_t sp, uint64_t l0, uint64_t l1, uint64_t l2, uint64_t l3, uint64_t l4) {
     uint32_t l6 = 0, l7 = 0, l8 = 0, l9 = 0, l10 = 0, l16 = 0;
     uint64_t l5 = 0, l11 = 0, l12 = 0, l13 = 0, l14 = 0, l15 = 0;
     l5 = sp - 32ull;
@@ -5875,7 +6077,7 @@ L1:;
 }
 
 /* rattle::export hound_encode_i32 */
-static uint64_t f55_hound_encode_i32(uint64_t sp, uint64_t l0, uint64_t l1, uint64_t l2, uint64_t l3, uint64_t l4) {
+static uint64_t f61_hound_encode_i32(uint64_t sp, uint64_t l0, uint64_t l1, uint64_t l2, uint64_t l3, uint64_t l4) {
     uint32_t l8 = 0, l9 = 0, l10 = 0, l11 = 0, l12 = 0, l20 = 0;
     uint64_t l5 = 0, l6 = 0, l7 = 0, l13 = 0, l14 = 0, l15 = 0, l16 = 0, l17 = 0, l18 = 0, l19 = 0;
     l5 = sp - 32ull;
@@ -6170,7 +6372,7 @@ L1:;
 }
 
 /* rattle::export hound_encode_i8 */
-static uint64_t f57_hound_encode_i8(uint64_t sp, uint64_t l0, uint64_t l1, uint64_t l2, uint64_t l3, uint64_t l4) {
+static uint64_t f63_hound_encode_i8(uint64_t sp, uint64_t l0, uint64_t l1, uint64_t l2, uint64_t l3, uint64_t l4) {
     uint32_t l7 = 0, l8 = 0, l9 = 0, l10 = 0, l11 = 0, l12 = 0, l13 = 0, l14 = 0;
     uint64_t l5 = 0, l6 = 0, l15 = 0, l16 = 0, l17 = 0, l18 = 0, l19 = 0, l20 = 0;
     l5 = sp - 16ull;
@@ -6248,7 +6450,7 @@ L18:;
 L16:;
     if (l14 != 0) goto L8;
 L15:;
-    f17_check_containers(l6 + 8ull, l2, l8, l9);
+    f19_check_containers(l6 + 8ull, l2, l8, l9);
     if (load8(l6 + 8) != 0) goto L3;
 L8:;
     l16 = ((uint64_t)l9) & 65535ull;
@@ -6520,7 +6722,7 @@ L1:;
 }
 
 /* rattle::export hound_f32_to_f64 */
-static uint64_t f59_hound_f32_to_f64(uint64_t l0, uint64_t l1, uint64_t l2, uint64_t l3) {
+static uint64_t f65_hound_f32_to_f64(uint64_t l0, uint64_t l1, uint64_t l2, uint64_t l3) {
     uint64_t l4 = 0, l5 = 0, l6 = 0, l7 = 0;
     float l8 = 0;
     double t1, t2, t3;
@@ -6561,7 +6763,7 @@ L4:;
 }
 
 /* rattle::export hound_f64_to_f32 */
-static uint64_t f61_hound_f64_to_f32(uint64_t l0, uint64_t l1, uint64_t l2, uint64_t l3, uint64_t l4) {
+static uint64_t f67_hound_f64_to_f32(uint64_t l0, uint64_t l1, uint64_t l2, uint64_t l3, uint64_t l4) {
     uint64_t l5 = 0, l8 = 0, l12 = 0, l13 = 0, l14 = 0, l15 = 0, l16 = 0, l17 = 0;
     float l6 = 0, l11 = 0;
     double l7 = 0, l9 = 0, l10 = 0;
@@ -6639,13 +6841,13 @@ L2:;
 }
 
 /* rattle::export hound_find_damage */
-static uint32_t f63_hound_find_damage(uint64_t sp, uint64_t l0, uint64_t l1, uint64_t l2) {
+static uint32_t f69_hound_find_damage(uint64_t sp, uint64_t l0, uint64_t l1, uint64_t l2) {
     uint32_t l4 = 0, l5 = 0, l6 = 0, l7 = 0, l8 = 0, l9 = 0, l10 = 0, l11 = 0, l12 = 0, l13 = 0;
     uint64_t l3 = 0;
     l3 = sp - 80ull;
     sp = l3;
     FILL(l3, 0u, 80ull);
-    f18_find_damage_in_bytes(sp, l3, l0 + (l0 == 0 ? 4096ull : 0ull), l1, 0u);
+    f20_find_damage_in_bytes(sp, l3, l0 + (l0 == 0 ? 4096ull : 0ull), l1, 0u);
     if (load8(l3) != 0) goto L2;
     l4 = load16(l3 + 20);
     l5 = load16(l3 + 8);
@@ -6713,85 +6915,108 @@ L1:;
 }
 
 /* rattle::export hound_from_f32 */
-static uint64_t f65_hound_from_f32(uint64_t sp, uint64_t l0, uint64_t l1, uint32_t l2, uint64_t l3, uint64_t l4, uint64_t l5) {
-    uint64_t l6 = 0, l7 = 0, l9 = 0;
-    float l8 = 0;
-    double t1;
-    l6 = sp - 16ull;
-    sp = l6;
-    if (((l2 - 33u) & 65535u) >= 65504u) goto L3;
-    l1 = 0xfffffffffffffffbull;
-    goto L2;
-L3:;
-    if (l4 >= l1) goto L4;
-    l1 = 0xfffffffffffffff7ull;
-    goto L2;
-L4:;
-    if (!(l1 == 0)) goto L6;
-    l0 = 0ull;
-    goto L5;
-L6:;
-    l4 = l3 + (l3 == 0 ? 4096ull : 0ull);
-    l3 = l0 + (l0 == 0 ? 4096ull : 0ull);
-    l7 = l1;
-    l0 = 0ull;
-L7:;
-    l8 = load_f32(l3);
-    t1 = (double)l8;
-    f21_double_to_int(l6 + 8ull, l8 != l8 ? f64_of(0x7ff8000000000000ull) : t1, l2);
-    l9 = (uint64_t)load8(l6 + 12);
-    store32(l4, load32(l6 + 8));
-    l3 = l3 + 4ull;
-    l4 = l4 + 4ull;
-    l0 = l0 + (l9 & 1ull);
-    l7 = l7 - 1ull;
-    if (l7 != 0ull) goto L7;
-L5:;
-    store64(l5, l0);
+static uint64_t f71_hound_from_f32(uint64_t l0, uint64_t l1, uint32_t l2, uint64_t l3, uint64_t l4, uint64_t l5) {
+    uint64_t l7 = 0, l8 = 0, l9 = 0, l13 = 0, l17 = 0, t2;
+    float l14 = 0;
+    double l10 = 0, l11 = 0, l12 = 0, l15 = 0, l16 = 0, t1;
+    if (((l2 - 33u) & 65535u) >= 65504u) goto L2;
+    return 0xfffffffffffffffbull;
 L2:;
+    if (l4 >= l1) goto L3;
+    return 0xfffffffffffffff7ull;
+L3:;
+    if (!(l1 == 0)) goto L5;
+    l7 = 0ull;
+    goto L4;
+L5:;
+    l3 = l3 + (l3 == 0 ? 4096ull : 0ull);
+    l0 = l0 + (l0 == 0 ? 4096ull : 0ull);
+    l2 = 1u << ((((l2 - 1u) & 65535u) & 31));
+    l4 = (uint64_t)l2;
+    l8 = l4 - 1ull;
+    l7 = 0ull;
+    l9 = 0ull - l4;
+    l10 = (double)l2;
+    l11 = 2251799813685248.0;
+    l12 = (-2251799813685248.0);
+    l13 = l1;
+L6:;
+    l14 = load_f32(l0);
+    t1 = (double)l14;
+    l15 = l10 * (l14 != l14 ? f64_of(0x7ff8000000000000ull) : t1);
+    l16 = l15;
+    if (!(l12 < l16)) goto L8;
+    if (!(l16 < l11)) goto L8;
+    l4 = (trunc64((l15 + (6755399441055744.0)))) - 6755399441055744ull;
+    goto L7;
+L8:;
+    t2 = f18_nearest_to_distant(l15);
+    l4 = t2;
+L7:;
+    l17 = s64(l4) < s64(l9) ? l9 : (s64(l8) < s64(l4) ? l8 : l4);
+    store32(l3, (uint32_t)(l17));
+    l7 = l7 + ((uint64_t)(uint32_t)(l17 != l4));
+    l0 = l0 + 4ull;
+    l3 = l3 + 4ull;
+    l13 = l13 - 1ull;
+    if (l13 != 0ull) goto L6;
+L4:;
+    store64(l5, l7);
     return l1;
     TRAP();
 }
 
 /* rattle::export hound_from_f64 */
-static uint64_t f67_hound_from_f64(uint64_t sp, uint64_t l0, uint64_t l1, uint32_t l2, uint64_t l3, uint64_t l4, uint64_t l5) {
-    uint64_t l6 = 0, l7 = 0, l8 = 0;
-    l6 = sp - 16ull;
-    sp = l6;
-    if (((l2 - 33u) & 65535u) >= 65504u) goto L3;
-    l1 = 0xfffffffffffffffbull;
-    goto L2;
-L3:;
-    if (l4 >= l1) goto L4;
-    l1 = 0xfffffffffffffff7ull;
-    goto L2;
-L4:;
-    if (!(l1 == 0)) goto L6;
-    l0 = 0ull;
-    goto L5;
-L6:;
-    l4 = l3 + (l3 == 0 ? 4096ull : 0ull);
-    l3 = l0 + (l0 == 0 ? 4096ull : 0ull);
-    l7 = l1;
-    l0 = 0ull;
-L7:;
-    f21_double_to_int(l6 + 8ull, load_f64(l3), l2);
-    l8 = (uint64_t)load8(l6 + 12);
-    store32(l4, load32(l6 + 8));
-    l3 = l3 + 8ull;
-    l4 = l4 + 4ull;
-    l0 = l0 + (l8 & 1ull);
-    l7 = l7 - 1ull;
-    if (l7 != 0ull) goto L7;
-L5:;
-    store64(l5, l0);
+static uint64_t f73_hound_from_f64(uint64_t l0, uint64_t l1, uint32_t l2, uint64_t l3, uint64_t l4, uint64_t l5) {
+    uint64_t l7 = 0, l8 = 0, l9 = 0, l13 = 0, l16 = 0, t1;
+    double l10 = 0, l11 = 0, l12 = 0, l14 = 0, l15 = 0;
+    if (((l2 - 33u) & 65535u) >= 65504u) goto L2;
+    return 0xfffffffffffffffbull;
 L2:;
+    if (l4 >= l1) goto L3;
+    return 0xfffffffffffffff7ull;
+L3:;
+    if (!(l1 == 0)) goto L5;
+    l7 = 0ull;
+    goto L4;
+L5:;
+    l3 = l3 + (l3 == 0 ? 4096ull : 0ull);
+    l0 = l0 + (l0 == 0 ? 4096ull : 0ull);
+    l2 = 1u << ((((l2 - 1u) & 65535u) & 31));
+    l4 = (uint64_t)l2;
+    l8 = l4 - 1ull;
+    l7 = 0ull;
+    l9 = 0ull - l4;
+    l10 = (double)l2;
+    l11 = 2251799813685248.0;
+    l12 = (-2251799813685248.0);
+    l13 = l1;
+L6:;
+    l14 = l10 * load_f64(l0);
+    l15 = l14;
+    if (!(l12 < l15)) goto L8;
+    if (!(l15 < l11)) goto L8;
+    l4 = (trunc64((l14 + (6755399441055744.0)))) - 6755399441055744ull;
+    goto L7;
+L8:;
+    t1 = f18_nearest_to_distant(l14);
+    l4 = t1;
+L7:;
+    l16 = s64(l4) < s64(l9) ? l9 : (s64(l8) < s64(l4) ? l8 : l4);
+    store32(l3, (uint32_t)(l16));
+    l7 = l7 + ((uint64_t)(uint32_t)(l16 != l4));
+    l0 = l0 + 8ull;
+    l3 = l3 + 4ull;
+    l13 = l13 - 1ull;
+    if (l13 != 0ull) goto L6;
+L4:;
+    store64(l5, l7);
     return l1;
     TRAP();
 }
 
 /* rattle::export hound_guess_data */
-static uint64_t f69_hound_guess_data(uint64_t l0, uint64_t l1) {
+static uint64_t f75_hound_guess_data(uint64_t l0, uint64_t l1) {
     uint64_t l2 = 0, l3 = 0;
     l2 = 0xfffffffffffffff4ull;
     l3 = l1 - 7ull;
@@ -6812,75 +7037,78 @@ L1:;
 }
 
 /* rattle::export hound_header */
-static uint64_t f71_hound_header(uint64_t sp, uint64_t l0, uint64_t l1, uint64_t l2, uint64_t l3) {
-    uint32_t l5 = 0, l6 = 0, l7 = 0, l8 = 0, l9 = 0, l10 = 0;
-    uint64_t l4 = 0, l11 = 0;
-    l4 = sp - 16ull;
+static uint64_t f77_hound_header(uint64_t sp, uint64_t l0, uint64_t l1, uint64_t l2, uint64_t l3) {
+    uint32_t l6 = 0, l7 = 0, l8 = 0, l9 = 0, l10 = 0, l11 = 0;
+    uint64_t l4 = 0, l5 = 0, l12 = 0;
+    l4 = sp - 96ull;
     sp = l4;
-    l5 = load16(l0 + 10);
-    l6 = load16(l0 + 6);
-    l7 = load16(l0 + 8);
-    if (l7 != 0) goto L4;
-    l7 = ((l6 & 65528u) >> 3) + (uint32_t)((l6 & 7u) != 0u);
-L4:;
-    l8 = 1u;
-    l5 = l5 & 65535u;
-    l9 = l5 > 1u ? 0u : l6;
-    if (l5 != 0) goto L6;
-    l10 = l6 & 65535u;
-    if (((uint32_t)(l10 == 8u) & (uint32_t)(l7 == 1u)) != 0) goto L7;
-    if (((uint32_t)(l10 == 16u) & (uint32_t)(l7 == 2u)) != 0) goto L7;
-    l8 = (uint32_t)((l6 & 65535u) == 24u) & (uint32_t)(((l7 - 3u) & 65535u) < 2u);
-L7:;
-    l6 = l8 | ((uint32_t)((l6 & 65535u) == 32u) & (uint32_t)((l7 & 65535u) == 4u));
-    goto L5;
-L6:;
-    l6 = (uint32_t)((l9 & 65535u) == 32u) & (uint32_t)(l7 == 4u);
-L5:;
-    if (l6 == 0) goto L2;
-    l6 = load16(l0 + 4);
-    if (l6 == 0) goto L2;
-    l8 = load32(l0);
-    if (l8 == 0) goto L2;
-    l10 = l7 * l6;
-    if (l10 > 65535u) goto L2;
-    if (((uint32_t)((((uint64_t)l10) * ((uint64_t)l8)) >> 32)) != 0u) goto L2;
-    if (l1 > 0xffffffffull) goto L10;
-    if ((rem32(((uint32_t)l1), l6)) != 0) goto L9;
-    l1 = l1 * ((uint64_t)l7);
-    if (l1 > 0xffffffffull) goto L10;
-    l0 = l6 < 3u ? ((l9 & 65535u) < 17u ? 44ull : 68ull) : 68ull;
-    l11 = (l0 + l1) + (l1 & 1ull);
-    if ((l11 - 8ull) > 0xffffffffull) goto L10;
-    if (l3 < l0) goto L8;
-    store16(l4 + 14, 0u);
-    store16(l4 + 12, l7);
-    store8(l4 + 11, 0u);
-    store8(l4 + 10, (uint32_t)(l5 == 0));
-    store16(l4 + 8, l9);
-    store32(l4 + 4, l8);
-    store16(l4 + 2, 0u);
-    store16(l4, l6);
-    f22_put_header(sp, l4, ((uint32_t)l11) - 8u, (uint32_t)l1, l2 + (l2 == 0 ? 4096ull : 0ull));
-    goto L1;
-L10:;
-    l0 = 0xfffffffffffffff9ull;
-    goto L1;
-L9:;
-    l0 = 0xfffffffffffffff8ull;
-    goto L1;
-L8:;
-    l0 = 0xfffffffffffffff7ull;
-    goto L1;
-    TRAP();
+    l5 = l4;
+    l6 = load16(l0 + 10);
+    l7 = load16(l0 + 6);
+    l8 = load16(l0 + 8);
+    if (l8 != 0) goto L2;
+    l8 = ((l7 & 65528u) >> 3) + (uint32_t)((l7 & 7u) != 0u);
 L2:;
-    l0 = 0xfffffffffffffffbull;
-L1:;
-    return l0;
+    l9 = 1u;
+    l6 = l6 & 65535u;
+    l10 = l6 > 1u ? 0u : l7;
+    if (l6 != 0) goto L4;
+    l11 = l7 & 65535u;
+    if (((uint32_t)(l11 == 8u) & (uint32_t)(l8 == 1u)) != 0) goto L5;
+    if (((uint32_t)(l11 == 16u) & (uint32_t)(l8 == 2u)) != 0) goto L5;
+    l9 = (uint32_t)((l7 & 65535u) == 24u) & (uint32_t)(((l8 - 3u) & 65535u) < 2u);
+L5:;
+    l7 = l9 | ((uint32_t)((l7 & 65535u) == 32u) & (uint32_t)((l8 & 65535u) == 4u));
+    goto L3;
+L4:;
+    l7 = (uint32_t)((l10 & 65535u) == 32u) & (uint32_t)(l8 == 4u);
+L3:;
+    l4 = 0xfffffffffffffffbull;
+    if (l7 == 0) goto L6;
+    l7 = load16(l0 + 4);
+    if (l7 == 0) goto L6;
+    l9 = load32(l0);
+    if (l9 == 0) goto L6;
+    l11 = l8 * l7;
+    if (l11 > 65535u) goto L6;
+    if (((uint32_t)((((uint64_t)l11) * ((uint64_t)l9)) >> 32)) != 0u) goto L6;
+    l4 = 0xfffffffffffffff9ull;
+    if (l1 > 0xffffffffull) goto L6;
+    if ((rem32(((uint32_t)l1), l7)) == 0) goto L7;
+    l4 = 0xfffffffffffffff8ull;
+    goto L6;
+L7:;
+    l0 = l1 * ((uint64_t)l8);
+    if (l0 > 0xffffffffull) goto L6;
+    l1 = l7 < 3u ? ((l10 & 65535u) < 17u ? 44ull : 68ull) : 68ull;
+    l12 = (l1 + l0) + (l0 & 1ull);
+    if ((l12 - 8ull) > 0xffffffffull) goto L6;
+    if (l3 >= l1) goto L8;
+    l4 = 0xfffffffffffffff7ull;
+    goto L6;
+L8:;
+    store16(l5 + 94, 0u);
+    store16(l5 + 92, l8);
+    store8(l5 + 91, 0u);
+    store8(l5 + 90, (uint32_t)(l6 == 0));
+    store16(l5 + 88, l10);
+    store32(l5 + 84, l9);
+    store16(l5 + 82, 0u);
+    store16(l5 + 80, l7);
+    FILL(l5, 0u, 80ull);
+    f14_header_of(sp, l5, l5 + 80ull, ((uint32_t)l12) - 8u, (uint32_t)l0);
+    l0 = load64(l5 + 72);
+    if (l0 == 0) goto L9;
+    MOVE(l2 + (l2 == 0 ? 4096ull : 0ull), l5, l0);
+L9:;
+    l4 = l1;
+L6:;
+    return l4;
+    TRAP();
 }
 
 /* rattle::export hound_info */
-static uint32_t f73_hound_info(uint64_t sp, uint64_t l0, uint64_t l1, uint64_t l2) {
+static uint32_t f79_hound_info(uint64_t sp, uint64_t l0, uint64_t l1, uint64_t l2) {
     uint32_t l4 = 0, l5 = 0;
     uint64_t l3 = 0;
     l3 = sp - 48ull;
@@ -6959,7 +7187,7 @@ L1:;
 }
 
 /* rattle::export hound_kind */
-static uint32_t f75_hound_kind(uint64_t l0, uint64_t l1) {
+static uint32_t f81_hound_kind(uint64_t l0, uint64_t l1) {
     uint32_t l2 = 0, l3 = 0, l4 = 0, l5 = 0, l6 = 0, l7 = 0;
     uint64_t l8 = 0, l9 = 0, l10 = 0;
     l2 = 0x10000u;
@@ -7049,7 +7277,7 @@ L2:;
 }
 
 /* rattle::export hound_read_f32 */
-static uint64_t f77_hound_read_f32(uint64_t sp, uint64_t l0, uint64_t l1, uint64_t l2, uint64_t l3, uint64_t l4) {
+static uint64_t f83_hound_read_f32(uint64_t sp, uint64_t l0, uint64_t l1, uint64_t l2, uint64_t l3, uint64_t l4) {
     uint32_t l7 = 0, l8 = 0;
     uint64_t l5 = 0, l6 = 0, l9 = 0, l10 = 0, t1;
     l5 = sp - 48ull;
@@ -7081,7 +7309,7 @@ L12:;
     l10 = load64(l5 + 32);
     l0 = (l1 - l10) >> 2;
     if (l0 <= l2) goto L8;
-    t1 = f14_decode_front(l5 + 8ull, (l6 + l10) + (l2 << 2), ((l0 < l9 ? l0 : l9) - l2) << 2, l3 + (l3 == 0 ? 4096ull : 0ull), l4);
+    t1 = f15_decode_front(l5 + 8ull, (l6 + l10) + (l2 << 2), ((l0 < l9 ? l0 : l9) - l2) << 2, l3 + (l3 == 0 ? 4096ull : 0ull), l4);
     l0 = t1;
     goto L1;
 L11:;
@@ -7141,7 +7369,7 @@ L1:;
 }
 
 /* rattle::export hound_read_i16 */
-static uint64_t f79_hound_read_i16(uint64_t sp, uint64_t l0, uint64_t l1, uint64_t l2, uint64_t l3, uint64_t l4) {
+static uint64_t f85_hound_read_i16(uint64_t sp, uint64_t l0, uint64_t l1, uint64_t l2, uint64_t l3, uint64_t l4) {
     uint32_t l7 = 0, l8 = 0, l9 = 0;
     uint64_t l5 = 0, l6 = 0, l10 = 0, l11 = 0, t1;
     l5 = sp - 48ull;
@@ -7177,7 +7405,7 @@ L14:;
     l0 = ((uint64_t)l8) & 65535ull;
     l1 = div64((l1 - l11), l0);
     if (l1 <= l2) goto L8;
-    t1 = f15_decode_front(l5 + 8ull, (l6 + l11) + (l2 * l0), ((l1 < l10 ? l1 : l10) - l2) * l0, l3 + (l3 == 0 ? 4096ull : 0ull), l4);
+    t1 = f16_decode_front(l5 + 8ull, (l6 + l11) + (l2 * l0), ((l1 < l10 ? l1 : l10) - l2) * l0, l3 + (l3 == 0 ? 4096ull : 0ull), l4);
     l0 = t1;
     goto L1;
 L11:;
@@ -7237,7 +7465,7 @@ L1:;
 }
 
 /* rattle::export hound_read_i32 */
-static uint64_t f81_hound_read_i32(uint64_t sp, uint64_t l0, uint64_t l1, uint64_t l2, uint64_t l3, uint64_t l4) {
+static uint64_t f87_hound_read_i32(uint64_t sp, uint64_t l0, uint64_t l1, uint64_t l2, uint64_t l3, uint64_t l4) {
     uint32_t l7 = 0, l8 = 0, l9 = 0, l12 = 0;
     uint64_t l5 = 0, l6 = 0, l10 = 0, l11 = 0, t1;
     l5 = sp - 48ull;
@@ -7273,7 +7501,7 @@ L13:;
     l0 = ((uint64_t)l8) & 65535ull;
     l1 = div64((l1 - l11), l0);
     if (l1 <= l2) goto L8;
-    t1 = f16_decode_front(l5 + 8ull, (l6 + l11) + (l2 * l0), ((l1 < l10 ? l1 : l10) - l2) * l0, l3 + (l3 == 0 ? 4096ull : 0ull), l4);
+    t1 = f17_decode_front(l5 + 8ull, (l6 + l11) + (l2 * l0), ((l1 < l10 ? l1 : l10) - l2) * l0, l3 + (l3 == 0 ? 4096ull : 0ull), l4);
     l0 = t1;
     goto L1;
 L12:;
@@ -7337,7 +7565,7 @@ L1:;
 }
 
 /* rattle::export hound_recorder_begin */
-static uint32_t f83_hound_recorder_begin(uint64_t l0, uint64_t l1) {
+static uint32_t f89_hound_recorder_begin(uint64_t l0, uint64_t l1) {
     uint32_t l2 = 0, l3 = 0, l4 = 0, l5 = 0, l6 = 0, l7 = 0;
     l2 = load16(l0 + 10);
     l3 = load16(l0 + 6);
@@ -7375,7 +7603,7 @@ L3:;
     store64(l1 + 16, 0ull);
     store64(l1 + 8, 0ull);
     store64(l1, 0ull);
-    store64(l1 + 80, 0ull);
+    store64(l1 + 80, 0x10000ull);
     store16(l1 + 78, l3);
     store16(l1 + 76, l4);
     l2 = 0u;
@@ -7388,7 +7616,7 @@ L6:;
 }
 
 /* rattle::export hound_recorder_checkpoint */
-static void f85_hound_recorder_checkpoint(uint64_t sp, uint64_t l0) {
+static void f91_hound_recorder_checkpoint(uint64_t sp, uint64_t l0) {
     uint32_t l2 = 0, l3 = 0, l4 = 0, l5 = 0, l6 = 0, l7 = 0, l9 = 0, l10 = 0;
     uint64_t l1 = 0, l8 = 0;
     l1 = sp - 48ull;
@@ -7474,7 +7702,7 @@ L1:;
 }
 
 /* rattle::export hound_recorder_frames_left */
-static uint64_t f87_hound_recorder_frames_left(uint64_t l0) {
+static uint64_t f93_hound_recorder_frames_left(uint64_t l0) {
     uint64_t l1 = 0, l2 = 0, l3 = 0;
     l1 = 0ull;
     l2 = load64(l0 + 56ull);
@@ -7490,7 +7718,7 @@ L2:;
 }
 
 /* rattle::export hound_recorder_next */
-static uint32_t f89_hound_recorder_next(uint64_t sp, uint64_t l0) {
+static uint32_t f95_hound_recorder_next(uint64_t sp, uint64_t l0) {
     uint32_t l2 = 0, l3 = 0, l4 = 0, l5 = 0, l6 = 0, l7 = 0, l9 = 0, l10 = 0, l12 = 0, l13 = 0, l15 = 0, l16 = 0, l17 = 0, l18 = 0, l19 = 0, l20 = 0;
     uint64_t l1 = 0, l8 = 0, l11 = 0, l14 = 0, l21 = 0, l22 = 0, l23 = 0;
     l1 = sp - 128ull;
@@ -7829,7 +8057,7 @@ L37:;
 }
 
 /* rattle::export hound_recorder_resume */
-static uint32_t f91_hound_recorder_resume(uint64_t l0, uint32_t l1, uint64_t l2) {
+static uint32_t f97_hound_recorder_resume(uint64_t l0, uint32_t l1, uint64_t l2) {
     uint32_t l3 = 0, l4 = 0, l5 = 0, l9 = 0, l11 = 0, l13 = 0, l14 = 0;
     uint64_t l6 = 0, l7 = 0, l8 = 0, l10 = 0, l12 = 0;
     l3 = load16(l0 + 6);
@@ -7931,7 +8159,7 @@ L1:;
 }
 
 /* rattle::export hound_recorder_write */
-static uint32_t f93_hound_recorder_write(uint64_t sp, uint64_t l0, uint64_t l1) {
+static uint32_t f99_hound_recorder_write(uint64_t sp, uint64_t l0, uint64_t l1) {
     uint32_t l3 = 0, l4 = 0, l5 = 0, l6 = 0, l7 = 0, l8 = 0, l10 = 0, l11 = 0, l13 = 0, l14 = 0;
     uint64_t l2 = 0, l9 = 0, l12 = 0;
     l2 = sp - 48ull;
@@ -8063,7 +8291,7 @@ L15:;
 }
 
 /* rattle::export hound_repair */
-static uint64_t f95_hound_repair(uint64_t sp, uint64_t l0, uint64_t l1, uint64_t l2, uint64_t l3) {
+static uint64_t f101_hound_repair(uint64_t sp, uint64_t l0, uint64_t l1, uint64_t l2, uint64_t l3) {
     uint32_t l5 = 0;
     uint64_t l4 = 0;
     l4 = sp - 16ull;
@@ -8131,7 +8359,7 @@ L1:;
 }
 
 /* rattle::export hound_repair_to_end */
-static uint64_t f97_hound_repair_to_end(uint64_t sp, uint64_t l0, uint64_t l1, uint64_t l2, uint64_t l3) {
+static uint64_t f103_hound_repair_to_end(uint64_t sp, uint64_t l0, uint64_t l1, uint64_t l2, uint64_t l3) {
     uint32_t l5 = 0;
     uint64_t l4 = 0;
     l4 = sp - 16ull;
@@ -8199,7 +8427,7 @@ L1:;
 }
 
 /* rattle::export hound_repairer_begin */
-static void f99_hound_repairer_begin(uint64_t l0, uint32_t l1, uint64_t l2) {
+static void f105_hound_repairer_begin(uint64_t l0, uint32_t l1, uint64_t l2) {
     store64(l2 + 48, 0ull);
     store64(l2 + 40, 0ull);
     store64(l2 + 32, 0ull);
@@ -8219,7 +8447,7 @@ static void f99_hound_repairer_begin(uint64_t l0, uint32_t l1, uint64_t l2) {
 }
 
 /* rattle::export hound_repairer_next */
-static uint32_t f101_hound_repairer_next(uint64_t sp, uint64_t l0, uint64_t l1) {
+static uint32_t f107_hound_repairer_next(uint64_t sp, uint64_t l0, uint64_t l1) {
     uint32_t l5 = 0, l6 = 0, l7 = 0, l8 = 0, l9 = 0, l10 = 0, l11 = 0, l12 = 0, l13 = 0, l14 = 0, l16 = 0, l17 = 0, l18 = 0, l19 = 0, l20 = 0, l21 = 0, l22 = 0, l24 = 0, l25 = 0, l26 = 0, l27 = 0, l28 = 0, l29 = 0, l31 = 0, l32 = 0, l33 = 0, l34 = 0, l35 = 0, l36 = 0, l37 = 0, l38 = 0, l39 = 0, l40 = 0, l41 = 0, l42 = 0, l43 = 0, l44 = 0;
     uint64_t l2 = 0, l3 = 0, l4 = 0, l15 = 0, l23 = 0, l30 = 0, l45 = 0, l46 = 0, l47 = 0, l48 = 0, l49 = 0, l50 = 0, l51 = 0;
     l2 = sp - 1216ull;
@@ -8653,7 +8881,7 @@ L50:;
     store64(l2 + 1160, (((uint64_t)l21) << 32) | ((uint64_t)l20));
     FILL(l2 + 1064ull, 0u, 88ull);
     l15 = (uint64_t)(l32 < 40u ? l32 : 40u);
-    f19_take_asked(sp, l2 + 1064ull, l3, l31, l2 + 1152ull, l2 + 720ull, l23 < l15 ? l23 : l15);
+    f21_take_asked(sp, l2 + 1064ull, l3, l31, l2 + 1152ull, l2 + 720ull, l23 < l15 ? l23 : l15);
     if (load8(l2 + 1064) != 0) goto L42;
     l30 = ((uint64_t)load32(l2 + 1081)) | ((((uint64_t)load8(l2 + 1087ull)) << 48) | (((uint64_t)load16(l2 + 1085ull)) << 32));
     l13 = load8(l2 + 1080);
@@ -8797,7 +9025,7 @@ L48:;
     store64(l2 + 1040, (((uint64_t)l22) << 32) | ((uint64_t)l10));
     store64(l2 + 1032, (((uint64_t)l21) << 32) | ((uint64_t)l20));
     store64(l2 + 1024, (((uint64_t)l19) << 32) | l4);
-    f20_measured(sp, l2 + 904ull, l3, l2 + 1024ull);
+    f22_measured(sp, l2 + 904ull, l3, l2 + 1024ull);
     if (load8(l2 + 904) != 0) goto L44;
     l6 = 0u;
     l10 = load32(l2 + 964);
@@ -8997,7 +9225,7 @@ L45:;
     store64(l2 + 1000, (((uint64_t)l22) << 32) | ((uint64_t)l10));
     store64(l2 + 992, (((uint64_t)l21) << 32) | ((uint64_t)l20));
     store64(l2 + 984, (((uint64_t)l19) << 32) | l4);
-    f20_measured(sp, l2 + 824ull, l3, l2 + 984ull);
+    f22_measured(sp, l2 + 824ull, l3, l2 + 984ull);
     if (load8(l2 + 824) != 0) goto L43;
     l5 = 1u;
     l16 = 2u;
@@ -9246,7 +9474,7 @@ L1:;
 }
 
 /* rattle::export hound_size */
-static uint64_t f103_hound_size(uint64_t l0, uint64_t l1) {
+static uint64_t f109_hound_size(uint64_t l0, uint64_t l1) {
     uint32_t l2 = 0, l3 = 0, l4 = 0, l5 = 0, l6 = 0;
     uint64_t l7 = 0;
     l2 = load16(l0 + 10);
@@ -9297,7 +9525,7 @@ L6:;
 }
 
 /* rattle::export hound_sizes */
-static uint64_t f105_hound_sizes(uint64_t l0, uint64_t l1, uint64_t l2, uint64_t l3, uint64_t l4) {
+static uint64_t f111_hound_sizes(uint64_t l0, uint64_t l1, uint64_t l2, uint64_t l3, uint64_t l4) {
     uint32_t l5 = 0, l6 = 0, l7 = 0, l8 = 0, l9 = 0;
     l5 = load16(l0 + 10);
     l6 = load16(l0 + 6);
@@ -9348,43 +9576,99 @@ L3:;
 }
 
 /* rattle::export hound_to_f32 */
-static uint64_t f107_hound_to_f32(uint64_t sp, uint64_t l0, uint64_t l1, uint32_t l2, uint64_t l3, uint64_t l4) {
-    uint32_t l8 = 0;
-    uint64_t l5 = 0;
-    float l6 = 0, l7 = 0;
+static uint64_t f113_hound_to_f32(uint64_t sp, uint64_t l0, uint64_t l1, uint32_t l2, uint64_t l3, uint64_t l4) {
+    uint32_t l7 = 0, l9 = 0, l12 = 0, t1, t2, t3, t4;
+    uint64_t l5 = 0, l6 = 0, l8 = 0, l10 = 0, l11 = 0;
+    float l13 = 0, l14 = 0;
     l5 = sp - 16ull;
-    if (((l2 - 33u) & 65535u) >= 65504u) goto L2;
+    if (((l2 - 33u) & 65535u) >= 65504u) goto L3;
     return 0xfffffffffffffffbull;
-L2:;
-    if (l4 >= l1) goto L3;
-    return 0xfffffffffffffff7ull;
 L3:;
-    if (!(l1 == 0)) goto L4;
-    return 0ull;
+    if (l4 >= l1) goto L4;
+    return 0xfffffffffffffff7ull;
 L4:;
-    l4 = l3 + (l3 == 0 ? 4096ull : 0ull);
-    l3 = l0 + (l0 == 0 ? 4096ull : 0ull);
-    l2 = 1u << ((((l2 - 1u) & 65535u) & 31));
-    l6 = ((float)(l2 & 65535u)) + (((float)(l2 >> 16)) * (65536.0f));
-    l7 = neg_f32(l6);
-    l0 = l1;
+    if (!(l1 == 0)) goto L5;
+    return 0ull;
 L5:;
-    l2 = load32(l3);
-    store_f32(l5 + 12, l7);
-    store_f32(l5 + 8, l6);
-    l8 = shr_s32(l2, 31);
-    l8 = (l2 ^ l8) - l8;
-    store_f32(l4, (((float)(l8 & 65535u)) + (((float)(l8 >> 16)) * (65536.0f))) / (load_f32((l5 + 8ull) + ((uint64_t)((l2 >> 29) & 4u)))));
-    l3 = l3 + 4ull;
+    l6 = l3 == 0 ? 4096ull : 0ull;
+    l0 = l0 + (l0 == 0 ? 4096ull : 0ull);
+    l7 = (uint32_t)((l1 - 1ull) == 0);
+    if (l7 == 0) goto L8;
+    l8 = 0ull;
+    l9 = 0u;
+    goto L7;
+L8:;
+    l10 = l1 & 1ull;
+    l11 = l1 & 0xfffffffffffffffeull;
+    l8 = 0ull;
+    l9 = 0u;
+    l4 = l0;
+L9:;
+    l12 = load32(l4);
+    t1 = l12;
+    l12 = shr_s32(l12, 31);
+    t2 = l9 | (uint32_t)(((t1 ^ l12) - l12) > 0x1000000u);
+    l9 = load32(l4 + 4ull);
+    t3 = l9;
+    l9 = shr_s32(l9, 31);
+    l9 = t2 | (uint32_t)(((t3 ^ l9) - l9) > 0x1000000u);
+    l4 = l4 + 8ull;
+    l8 = l8 + 2ull;
+    if (l11 != l8) goto L9;
+    if (l10 == 0) goto L6;
+L7:;
+    l12 = load32(l0 + (l8 << 2));
+    t4 = l12;
+    l12 = shr_s32(l12, 31);
+    l9 = l9 | (uint32_t)(((t4 ^ l12) - l12) > 0x1000000u);
+L6:;
+    l4 = l3 + l6;
+    l12 = 1u << ((((l2 - 1u) & 65535u) & 31));
+    l13 = ((float)(l12 & 65535u)) + (((float)(l12 >> 16)) * (65536.0f));
+    if ((l9 & 1u) != 0) goto L10;
+    if (l7 == 0) goto L12;
+    l11 = 0ull;
+    goto L11;
+L12:;
+    l6 = l1 & 1ull;
+    l3 = l1 & 0xfffffffffffffffeull;
+    l11 = 0ull;
+    l5 = l4;
+    l8 = l0;
+L13:;
+    store_f32(l5, ((float)s32(load32(l8))) / l13);
+    store_f32(l5 + 4ull, ((float)s32(load32(l8 + 4ull))) / l13);
+    l5 = l5 + 8ull;
+    l8 = l8 + 8ull;
+    l11 = l11 + 2ull;
+    if (l3 != l11) goto L13;
+    if (l6 == 0) goto L1;
+L11:;
+    l5 = l11 << 2;
+    store_f32(l4 + l5, ((float)s32(load32(l0 + l5))) / l13);
+    goto L1;
+L10:;
+    l14 = neg_f32(l13);
+    l8 = l1;
+L14:;
+    l9 = load32(l0);
+    store_f32(l5 + 12, l14);
+    store_f32(l5 + 8, l13);
+    l12 = shr_s32(l9, 31);
+    l12 = (l9 ^ l12) - l12;
+    store_f32(l4, (((float)(l12 & 65535u)) + (((float)(l12 >> 16)) * (65536.0f))) / (load_f32((l5 + 8ull) + ((uint64_t)((l9 >> 29) & 4u)))));
+    l0 = l0 + 4ull;
     l4 = l4 + 4ull;
-    l0 = l0 - 1ull;
-    if (!(l0 == 0)) goto L5;
-    return l1;
+    l8 = l8 - 1ull;
+    if (!(l8 == 0)) goto L14;
+    goto L1;
     TRAP();
+L1:;
+    return l1;
 }
 
 /* rattle::export hound_to_f64 */
-static uint64_t f109_hound_to_f64(uint64_t l0, uint64_t l1, uint32_t l2, uint64_t l3, uint64_t l4) {
+static uint64_t f115_hound_to_f64(uint64_t l0, uint64_t l1, uint32_t l2, uint64_t l3, uint64_t l4) {
     uint64_t l5 = 0, l6 = 0, l8 = 0, l9 = 0;
     double l7 = 0;
     if (((l2 - 33u) & 65535u) >= 65504u) goto L2;
@@ -9422,22 +9706,22 @@ L5:;
 }
 
 /* rattle::export hound_value_16 */
-static uint32_t f111_hound_value_16(uint32_t l0) {
+static uint32_t f117_hound_value_16(uint32_t l0) {
     return extend16(l0);
 }
 
 /* rattle::export hound_value_24 */
-static uint32_t f113_hound_value_24(uint32_t l0) {
+static uint32_t f119_hound_value_24(uint32_t l0) {
     return ((shr_s32((l0 << 8), 8)) & 0xffff0000u) | (l0 & 65535u);
 }
 
 /* rattle::export hound_value_8 */
-static uint32_t f117_hound_value_8(uint32_t l0) {
+static uint32_t f123_hound_value_8(uint32_t l0) {
     return extend8(l0) ^ 0xffffff80u;
 }
 
 /* rattle::export hound_walk_next */
-static uint32_t f121_hound_walk_next(uint64_t sp, uint64_t l0, uint64_t l1) {
+static uint32_t f127_hound_walk_next(uint64_t sp, uint64_t l0, uint64_t l1) {
     uint32_t l4 = 0, l5 = 0, l6 = 0, l7 = 0, l8 = 0, l9 = 0, l10 = 0, l11 = 0, l12 = 0, l13 = 0, l14 = 0, l15 = 0, l16 = 0, l17 = 0, l18 = 0, t1, t2, t3, t4;
     uint64_t l2 = 0, l3 = 0, l19 = 0;
     l2 = sp - 128ull;
@@ -9806,7 +10090,7 @@ L1:;
 }
 
 /* rattle::export hound_walk_to_end */
-static uint32_t f123_hound_walk_to_end(uint64_t sp, uint64_t l0, uint64_t l1) {
+static uint32_t f129_hound_walk_to_end(uint64_t sp, uint64_t l0, uint64_t l1) {
     uint32_t l4 = 0, l5 = 0, l6 = 0, l7 = 0, l8 = 0, l9 = 0, l10 = 0, l11 = 0, l12 = 0, l13 = 0, l14 = 0, l15 = 0, l16 = 0, l17 = 0, l18 = 0, l20 = 0, l21 = 0, t1, t2, t3, t4;
     uint64_t l2 = 0, l3 = 0, l19 = 0;
     l2 = sp - 128ull;
@@ -10167,7 +10451,7 @@ L1:;
 }
 
 /* rattle::export hound_whole_frames */
-static uint64_t f125_hound_whole_frames(uint64_t l0, uint64_t l1) {
+static uint64_t f131_hound_whole_frames(uint64_t l0, uint64_t l1) {
     uint32_t l2 = 0, l3 = 0;
     l2 = load16(l0 + 4);
     l3 = load16(l0 + 8);
@@ -10188,71 +10472,82 @@ L1:;
 }
 
 /* rattle::export hound_write_f32 */
-static uint64_t f127_hound_write_f32(uint64_t sp, uint64_t l0, uint64_t l1, uint64_t l2, uint64_t l3, uint64_t l4) {
-    uint32_t l6 = 0, l7 = 0, l8 = 0, l9 = 0, l10 = 0, l11 = 0, l12 = 0, l13 = 0, l14 = 0;
+static uint64_t f133_hound_write_f32(uint64_t sp, uint64_t l0, uint64_t l1, uint64_t l2, uint64_t l3, uint64_t l4) {
+    uint32_t l6 = 0, l7 = 0, l8 = 0, l9 = 0, l10 = 0, l11 = 0, l12 = 0, l13 = 0, l14 = 0, t1;
     uint64_t l5 = 0, l15 = 0, l16 = 0, l17 = 0, l18 = 0, l19 = 0, l20 = 0, l21 = 0, l22 = 0;
-    l5 = sp - 16ull;
+    l5 = sp - 96ull;
     sp = l5;
     l6 = load16(l0 + 10);
-    l7 = load16(l0 + 8);
-    l8 = load16(l0 + 6);
+    l7 = load16(l0 + 6);
+    l8 = load16(l0 + 8);
+    if (l8 != 0) goto L2;
+    l8 = ((l7 & 65528u) >> 3) + (uint32_t)((l7 & 7u) != 0u);
+L2:;
     l9 = load16(l0 + 4);
     l10 = load32(l0);
-    store64(l5 + 8, 0x400000020ull);
-    if (l7 != 0) goto L4;
-    l7 = ((l8 & 65528u) >> 3) + (uint32_t)((l8 & 7u) != 0u);
-L4:;
     l11 = 1u;
     l12 = l6 & 65535u;
-    l13 = l12 > 1u ? 0u : l8;
-    if (l12 != 0) goto L6;
-    l14 = l8 & 65535u;
-    if (((uint32_t)(l14 == 8u) & (uint32_t)(l7 == 1u)) != 0) goto L7;
-    if (((uint32_t)(l14 == 16u) & (uint32_t)(l7 == 2u)) != 0) goto L7;
-    l11 = (uint32_t)((l8 & 65535u) == 24u) & (uint32_t)(((l7 - 3u) & 65535u) < 2u);
-L7:;
-    l8 = l11 | ((uint32_t)((l8 & 65535u) == 32u) & (uint32_t)((l7 & 65535u) == 4u));
-    goto L5;
-L6:;
-    l8 = (uint32_t)((l13 & 65535u) == 32u) & (uint32_t)(l7 == 4u);
+    l13 = l12 > 1u ? 0u : l7;
+    if (l12 != 0) goto L4;
+    l14 = l7 & 65535u;
+    if (((uint32_t)(l14 == 8u) & (uint32_t)(l8 == 1u)) != 0) goto L5;
+    if (((uint32_t)(l14 == 16u) & (uint32_t)(l8 == 2u)) != 0) goto L5;
+    l11 = (uint32_t)((l7 & 65535u) == 24u) & (uint32_t)(((l8 - 3u) & 65535u) < 2u);
 L5:;
-    if (l8 == 0) goto L2;
-    if (l9 == 0) goto L2;
-    if (l10 == 0) goto L2;
-    l8 = l7 * l9;
-    if (l8 > 65535u) goto L2;
-    if (((uint32_t)((((uint64_t)l8) * ((uint64_t)l10)) >> 32)) != 0u) goto L2;
-    if ((l6 & 65535u) != 0) goto L8;
-    l0 = 0xfffffffffffffffdull;
-    goto L1;
-L8:;
-    if ((l13 & 65535u) != 32u) goto L2;
-    if (l7 != 4u) goto L2;
-    if (l2 > 0xffffffffull) goto L11;
-    if ((rem32(((uint32_t)l2), l9)) != 0) goto L10;
-    if (l2 > 0x3ffffff0ull) goto L11;
+    l7 = l11 | ((uint32_t)((l7 & 65535u) == 32u) & (uint32_t)((l8 & 65535u) == 4u));
+    goto L3;
+L4:;
+    l7 = (uint32_t)((l13 & 65535u) == 32u) & (uint32_t)(l8 == 4u);
+L3:;
+    t1 = ((l7 ^ 1u) | (uint32_t)((l9 & 65535u) == 0)) | (uint32_t)(l10 == 0);
+    l7 = l8 * l9;
+    l7 = (t1 | (uint32_t)(l7 > 65535u)) | (uint32_t)(((uint32_t)((((uint64_t)l7) * ((uint64_t)l10)) >> 32)) != 0u);
+    l0 = l7 != 0 ? 0xfffffffffffffffbull : 0xfffffffffffffffdull;
+    if ((l6 & 65535u) == 0) goto L6;
+    if (l7 != 0) goto L6;
+    l0 = 0xfffffffffffffffbull;
+    if ((l13 & 65535u) != 32u) goto L6;
+    if (l8 != 4u) goto L6;
+    l0 = 0xfffffffffffffff9ull;
+    if (l2 > 0xffffffffull) goto L6;
+    if ((rem32(((uint32_t)l2), l9)) == 0) goto L7;
+    l0 = 0xfffffffffffffff8ull;
+    goto L6;
+L7:;
+    if (l2 > 0x3ffffff0ull) goto L6;
     l15 = l2 << 2;
     l0 = l15 + 68ull;
-    if (l4 < l0) goto L9;
-    store8(l5 + 10, (uint32_t)(l12 == 0));
-    store32(l5 + 4, l10);
-    store16(l5 + 2, 0u);
-    store16(l5, l9);
+    if (l4 >= l0) goto L8;
+    l0 = 0xfffffffffffffff7ull;
+    goto L6;
+L8:;
     l16 = l3 == 0 ? 4096ull : 0ull;
     l17 = l3 + l16;
-    f22_put_header(sp, l5, ((uint32_t)l0) - 8u, (uint32_t)l15, l17);
-    if (l2 == 0) goto L1;
+    store32(l5 + 92, 4u);
+    store8(l5 + 91, 0u);
+    store8(l5 + 90, (uint32_t)(l12 == 0));
+    store16(l5 + 88, 32u);
+    store32(l5 + 84, l10);
+    store16(l5 + 82, 0u);
+    store16(l5 + 80, l9);
+    FILL(l5, 0u, 80ull);
+    f14_header_of(sp, l5, l5 + 80ull, ((uint32_t)l0) - 8u, (uint32_t)l15);
+    l4 = load64(l5 + 72);
+    if (l4 == 0) goto L9;
+    MOVE(l17, l5, l4);
+L9:;
+    if (l2 == 0) goto L6;
     l18 = l1 == 0 ? 4096ull : 0ull;
     l19 = l2 & 3ull;
     l4 = 0ull;
     l20 = 0ull;
-    if (l2 < 4ull) goto L12;
+    if (l2 < 4ull) goto L10;
     l21 = l1 + l18;
     l2 = (l2 >> 2) & 0xfffffffull;
     l20 = l2 << 2;
     l22 = l2 << 4;
     l4 = 0ull;
-L13:;
+L11:;
     l2 = l17 + l4;
     l15 = l21 + l4;
     store32(l2 + 68ull, load32(l15));
@@ -10260,39 +10555,27 @@ L13:;
     store32(l2 + 76ull, load32(l15 + 8ull));
     store32(l2 + 80ull, load32(l15 + 12ull));
     l4 = l4 + 16ull;
-    if (l22 != l4) goto L13;
-    if (l19 == 0) goto L1;
-L12:;
+    if (l22 != l4) goto L11;
+    if (l19 == 0) goto L6;
+L10:;
     l2 = l1 + (l18 + (l20 << 2));
     l3 = ((l16 + l4) + l3) + 68ull;
-L14:;
+L12:;
     store32(l3, load32(l2));
     l2 = l2 + 4ull;
     l3 = l3 + 4ull;
     l19 = l19 - 1ull;
-    if (l19 != 0ull) goto L14;
-    goto L1;
-L11:;
-    l0 = 0xfffffffffffffff9ull;
-    goto L1;
-L10:;
-    l0 = 0xfffffffffffffff8ull;
-    goto L1;
-L9:;
-    l0 = 0xfffffffffffffff7ull;
-    goto L1;
-    TRAP();
-L2:;
-    l0 = 0xfffffffffffffffbull;
-L1:;
+    if (l19 != 0ull) goto L12;
+L6:;
     return l0;
+    TRAP();
 }
 
 /* rattle::export hound_write_i16 */
-static uint64_t f129_hound_write_i16(uint64_t sp, uint64_t l0, uint64_t l1, uint64_t l2, uint64_t l3, uint64_t l4) {
+static uint64_t f135_hound_write_i16(uint64_t sp, uint64_t l0, uint64_t l1, uint64_t l2, uint64_t l3, uint64_t l4) {
     uint32_t l6 = 0, l7 = 0, l8 = 0, l9 = 0, l10 = 0, l11 = 0, l12 = 0, l13 = 0;
     uint64_t l5 = 0, l14 = 0, l15 = 0;
-    l5 = sp - 32ull;
+    l5 = sp - 112ull;
     sp = l5;
     l6 = load16(l0 + 10);
     l7 = load16(l0 + 8);
@@ -10343,6 +10626,7 @@ L5:;
     l0 = (l15 + l14) + (l14 & 1ull);
     if ((l0 - 8ull) > 0xffffffffull) goto L11;
     if (l4 < l0) goto L9;
+    l3 = l3 + (l3 == 0 ? 4096ull : 0ull);
     store16(l5 + 30, 0u);
     store16(l5 + 28, l7);
     store8(l5 + 27, 0u);
@@ -10351,9 +10635,13 @@ L5:;
     store32(l5 + 20, l10);
     store16(l5 + 18, 0u);
     store16(l5 + 16, l9);
+    FILL(l5 + 32ull, 0u, 80ull);
     l8 = (uint32_t)l14;
-    l3 = l3 + (l3 == 0 ? 4096ull : 0ull);
-    f22_put_header(sp, l5 + 16ull, ((uint32_t)l0) - 8u, l8, l3);
+    f14_header_of(sp, l5 + 32ull, l5 + 16ull, ((uint32_t)l0) - 8u, l8);
+    l4 = load64(l5 + 104);
+    if (l4 == 0) goto L15;
+    MOVE(l3, l5 + 32ull, l4);
+L15:;
     f10_write_data_at(l3, l15, l1, l2, l12, l7, l8);
     goto L1;
 L14:;
@@ -10361,7 +10649,7 @@ L14:;
     l0 = 0xfffffffffffffffdull;
     switch ((uint32_t)((uint64_t)load8(l5 + 13))) {
     case 1: goto L1;
-    case 2: goto L15;
+    case 2: goto L16;
     case 3: goto L13;
     case 4: goto L12;
     case 5: goto L11;
@@ -10369,22 +10657,22 @@ L14:;
     case 7: goto L9;
     case 8: goto L8;
     case 9: goto L2;
-    default: goto L16;
+    default: goto L17;
     }
-L16:;
+L17:;
     l0 = 0xffffffffffffffffull;
     switch (l7) {
-    case 1: goto L17;
-    case 2: goto L18;
+    case 1: goto L18;
+    case 2: goto L19;
     default: goto L1;
     }
-L18:;
+L19:;
     l0 = 0xfffffffffffffffeull;
     goto L1;
-L17:;
+L18:;
     l0 = 0xfffffffffffffff6ull - ((uint64_t)load8(l5 + 15));
     goto L1;
-L15:;
+L16:;
     l0 = 0xfffffffffffffffcull;
     goto L1;
 L13:;
@@ -10413,10 +10701,10 @@ L1:;
 }
 
 /* rattle::export hound_write_i32 */
-static uint64_t f131_hound_write_i32(uint64_t sp, uint64_t l0, uint64_t l1, uint64_t l2, uint64_t l3, uint64_t l4) {
+static uint64_t f137_hound_write_i32(uint64_t sp, uint64_t l0, uint64_t l1, uint64_t l2, uint64_t l3, uint64_t l4) {
     uint32_t l6 = 0, l7 = 0, l8 = 0, l9 = 0, l10 = 0, l11 = 0, l12 = 0, l13 = 0;
     uint64_t l5 = 0, l14 = 0, l15 = 0;
-    l5 = sp - 32ull;
+    l5 = sp - 112ull;
     sp = l5;
     l6 = load16(l0 + 10);
     l7 = load16(l0 + 8);
@@ -10467,6 +10755,7 @@ L5:;
     l0 = (l15 + l14) + (l14 & 1ull);
     if ((l0 - 8ull) > 0xffffffffull) goto L11;
     if (l4 < l0) goto L9;
+    l3 = l3 + (l3 == 0 ? 4096ull : 0ull);
     store16(l5 + 30, 0u);
     store16(l5 + 28, l7);
     store8(l5 + 27, 0u);
@@ -10475,9 +10764,13 @@ L5:;
     store32(l5 + 20, l10);
     store16(l5 + 18, 0u);
     store16(l5 + 16, l9);
+    FILL(l5 + 32ull, 0u, 80ull);
     l8 = (uint32_t)l14;
-    l3 = l3 + (l3 == 0 ? 4096ull : 0ull);
-    f22_put_header(sp, l5 + 16ull, ((uint32_t)l0) - 8u, l8, l3);
+    f14_header_of(sp, l5 + 32ull, l5 + 16ull, ((uint32_t)l0) - 8u, l8);
+    l4 = load64(l5 + 104);
+    if (l4 == 0) goto L15;
+    MOVE(l3, l5 + 32ull, l4);
+L15:;
     f13_write_data_at(l3, l15, l1, l2, l12, l7, l8);
     goto L1;
 L14:;
@@ -10485,7 +10778,7 @@ L14:;
     l0 = 0xfffffffffffffffdull;
     switch ((uint32_t)((uint64_t)load8(l5 + 13))) {
     case 1: goto L1;
-    case 2: goto L15;
+    case 2: goto L16;
     case 3: goto L13;
     case 4: goto L12;
     case 5: goto L11;
@@ -10493,22 +10786,22 @@ L14:;
     case 7: goto L9;
     case 8: goto L8;
     case 9: goto L2;
-    default: goto L16;
+    default: goto L17;
     }
-L16:;
+L17:;
     l0 = 0xffffffffffffffffull;
     switch (l7) {
-    case 1: goto L17;
-    case 2: goto L18;
+    case 1: goto L18;
+    case 2: goto L19;
     default: goto L1;
     }
-L18:;
+L19:;
     l0 = 0xfffffffffffffffeull;
     goto L1;
-L17:;
+L18:;
     l0 = 0xfffffffffffffff6ull - ((uint64_t)load8(l5 + 15));
     goto L1;
-L15:;
+L16:;
     l0 = 0xfffffffffffffffcull;
     goto L1;
 L13:;
@@ -10542,72 +10835,72 @@ int32_t hound_version(void) {
 
 int32_t hound_info(const uint8_t *file, size_t length, hound_info_t *info) {
     STACK(544);
-    return s32(f73_hound_info(sp, (uint64_t)(uintptr_t)file, length, (uint64_t)(uintptr_t)info));
+    return s32(f79_hound_info(sp, (uint64_t)(uintptr_t)file, length, (uint64_t)(uintptr_t)info));
 }
 
 int32_t hound_walk_next(hound_walk *walk, hound_info_t *info) {
     STACK(416);
-    return s32(f121_hound_walk_next(sp, (uint64_t)(uintptr_t)walk, (uint64_t)(uintptr_t)info));
+    return s32(f127_hound_walk_next(sp, (uint64_t)(uintptr_t)walk, (uint64_t)(uintptr_t)info));
 }
 
 int32_t hound_walk_to_end(hound_walk *walk, hound_info_t *info) {
     STACK(416);
-    return s32(f123_hound_walk_to_end(sp, (uint64_t)(uintptr_t)walk, (uint64_t)(uintptr_t)info));
+    return s32(f129_hound_walk_to_end(sp, (uint64_t)(uintptr_t)walk, (uint64_t)(uintptr_t)info));
 }
 
 int64_t hound_whole_frames(const hound_spec *spec, uint64_t length) {
-    return s64(f125_hound_whole_frames((uint64_t)(uintptr_t)spec, length));
+    return s64(f131_hound_whole_frames((uint64_t)(uintptr_t)spec, length));
 }
 
 int64_t hound_guess_data(const uint8_t *file, size_t length) {
-    return s64(f69_hound_guess_data((uint64_t)(uintptr_t)file, length));
+    return s64(f75_hound_guess_data((uint64_t)(uintptr_t)file, length));
 }
 
 int32_t hound_kind(const uint8_t *file, size_t length) {
-    return s32(f75_hound_kind((uint64_t)(uintptr_t)file, length));
+    return s32(f81_hound_kind((uint64_t)(uintptr_t)file, length));
 }
 
 int64_t hound_read_i16(const uint8_t *file, size_t length, uint64_t first, int16_t *out, size_t count) {
     STACK(544);
-    return s64(f79_hound_read_i16(sp, (uint64_t)(uintptr_t)file, length, first, (uint64_t)(uintptr_t)out, count));
+    return s64(f85_hound_read_i16(sp, (uint64_t)(uintptr_t)file, length, first, (uint64_t)(uintptr_t)out, count));
 }
 
 int64_t hound_read_i32(const uint8_t *file, size_t length, uint64_t first, int32_t *out, size_t count) {
     STACK(544);
-    return s64(f81_hound_read_i32(sp, (uint64_t)(uintptr_t)file, length, first, (uint64_t)(uintptr_t)out, count));
+    return s64(f87_hound_read_i32(sp, (uint64_t)(uintptr_t)file, length, first, (uint64_t)(uintptr_t)out, count));
 }
 
 int64_t hound_read_f32(const uint8_t *file, size_t length, uint64_t first, float *out, size_t count) {
     STACK(544);
-    return s64(f77_hound_read_f32(sp, (uint64_t)(uintptr_t)file, length, first, (uint64_t)(uintptr_t)out, count));
+    return s64(f83_hound_read_f32(sp, (uint64_t)(uintptr_t)file, length, first, (uint64_t)(uintptr_t)out, count));
 }
 
 int64_t hound_size(const hound_spec *spec, uint64_t samples) {
-    return s64(f103_hound_size((uint64_t)(uintptr_t)spec, samples));
+    return s64(f109_hound_size((uint64_t)(uintptr_t)spec, samples));
 }
 
 int64_t hound_header(const hound_spec *spec, uint64_t samples, uint8_t *out, size_t capacity) {
-    STACK(256);
-    return s64(f71_hound_header(sp, (uint64_t)(uintptr_t)spec, samples, (uint64_t)(uintptr_t)out, capacity));
+    STACK(176);
+    return s64(f77_hound_header(sp, (uint64_t)(uintptr_t)spec, samples, (uint64_t)(uintptr_t)out, capacity));
 }
 
 int64_t hound_sizes(const hound_spec *spec, uint64_t data_start, uint64_t samples, uint8_t *out, size_t capacity) {
-    return s64(f105_hound_sizes((uint64_t)(uintptr_t)spec, data_start, samples, (uint64_t)(uintptr_t)out, capacity));
+    return s64(f111_hound_sizes((uint64_t)(uintptr_t)spec, data_start, samples, (uint64_t)(uintptr_t)out, capacity));
 }
 
 int64_t hound_write_i16(const hound_spec *spec, const int16_t *samples, size_t count, uint8_t *out, size_t capacity) {
-    STACK(272);
-    return s64(f129_hound_write_i16(sp, (uint64_t)(uintptr_t)spec, (uint64_t)(uintptr_t)samples, count, (uint64_t)(uintptr_t)out, capacity));
+    STACK(192);
+    return s64(f135_hound_write_i16(sp, (uint64_t)(uintptr_t)spec, (uint64_t)(uintptr_t)samples, count, (uint64_t)(uintptr_t)out, capacity));
 }
 
 int64_t hound_write_i32(const hound_spec *spec, const int32_t *samples, size_t count, uint8_t *out, size_t capacity) {
-    STACK(272);
-    return s64(f131_hound_write_i32(sp, (uint64_t)(uintptr_t)spec, (uint64_t)(uintptr_t)samples, count, (uint64_t)(uintptr_t)out, capacity));
+    STACK(192);
+    return s64(f137_hound_write_i32(sp, (uint64_t)(uintptr_t)spec, (uint64_t)(uintptr_t)samples, count, (uint64_t)(uintptr_t)out, capacity));
 }
 
 int64_t hound_write_f32(const hound_spec *spec, const float *samples, size_t count, uint8_t *out, size_t capacity) {
-    STACK(256);
-    return s64(f127_hound_write_f32(sp, (uint64_t)(uintptr_t)spec, (uint64_t)(uintptr_t)samples, count, (uint64_t)(uintptr_t)out, capacity));
+    STACK(176);
+    return s64(f133_hound_write_f32(sp, (uint64_t)(uintptr_t)spec, (uint64_t)(uintptr_t)samples, count, (uint64_t)(uintptr_t)out, capacity));
 }
 
 int64_t hound_append_i16(uint8_t *file, size_t capacity, size_t used, const int16_t *samples, size_t count) {
@@ -10627,76 +10920,76 @@ int64_t hound_append_f32(uint8_t *file, size_t capacity, size_t used, const floa
 
 int64_t hound_repair(uint8_t *file, size_t capacity, size_t used, hound_repair_t *found) {
     STACK(1072);
-    return s64(f95_hound_repair(sp, (uint64_t)(uintptr_t)file, capacity, used, (uint64_t)(uintptr_t)found));
+    return s64(f101_hound_repair(sp, (uint64_t)(uintptr_t)file, capacity, used, (uint64_t)(uintptr_t)found));
 }
 
 int64_t hound_repair_to_end(uint8_t *file, size_t capacity, size_t used, hound_repair_t *found) {
     STACK(1072);
-    return s64(f97_hound_repair_to_end(sp, (uint64_t)(uintptr_t)file, capacity, used, (uint64_t)(uintptr_t)found));
+    return s64(f103_hound_repair_to_end(sp, (uint64_t)(uintptr_t)file, capacity, used, (uint64_t)(uintptr_t)found));
 }
 
 int32_t hound_find_damage(const uint8_t *file, size_t length, hound_repair_t *found) {
     STACK(1056);
-    return s32(f63_hound_find_damage(sp, (uint64_t)(uintptr_t)file, length, (uint64_t)(uintptr_t)found));
+    return s32(f69_hound_find_damage(sp, (uint64_t)(uintptr_t)file, length, (uint64_t)(uintptr_t)found));
 }
 
 void hound_repairer_begin(uint64_t length, uint32_t mode, hound_repairer *repairer) {
-    f99_hound_repairer_begin(length, (uint32_t)mode, (uint64_t)(uintptr_t)repairer);
+    f105_hound_repairer_begin(length, (uint32_t)mode, (uint64_t)(uintptr_t)repairer);
 }
 
 int32_t hound_repairer_next(hound_repairer *repairer, hound_repair_t *found) {
     STACK(2032);
-    return s32(f101_hound_repairer_next(sp, (uint64_t)(uintptr_t)repairer, (uint64_t)(uintptr_t)found));
+    return s32(f107_hound_repairer_next(sp, (uint64_t)(uintptr_t)repairer, (uint64_t)(uintptr_t)found));
 }
 
 int64_t hound_decode_i8(const hound_spec *spec, const uint8_t *bytes, size_t length, int8_t *out, size_t count) {
-    return s64(f49_hound_decode_i8((uint64_t)(uintptr_t)spec, (uint64_t)(uintptr_t)bytes, length, (uint64_t)(uintptr_t)out, count));
+    return s64(f51_hound_decode_i8((uint64_t)(uintptr_t)spec, (uint64_t)(uintptr_t)bytes, length, (uint64_t)(uintptr_t)out, count));
 }
 
 int64_t hound_decode_i16(const hound_spec *spec, const uint8_t *bytes, size_t length, int16_t *out, size_t count) {
     STACK(16);
-    return s64(f45_hound_decode_i16(sp, (uint64_t)(uintptr_t)spec, (uint64_t)(uintptr_t)bytes, length, (uint64_t)(uintptr_t)out, count));
+    return s64(f47_hound_decode_i16(sp, (uint64_t)(uintptr_t)spec, (uint64_t)(uintptr_t)bytes, length, (uint64_t)(uintptr_t)out, count));
 }
 
 int64_t hound_decode_i32(const hound_spec *spec, const uint8_t *bytes, size_t length, int32_t *out, size_t count) {
     STACK(16);
-    return s64(f47_hound_decode_i32(sp, (uint64_t)(uintptr_t)spec, (uint64_t)(uintptr_t)bytes, length, (uint64_t)(uintptr_t)out, count));
+    return s64(f49_hound_decode_i32(sp, (uint64_t)(uintptr_t)spec, (uint64_t)(uintptr_t)bytes, length, (uint64_t)(uintptr_t)out, count));
 }
 
 int64_t hound_decode_f32(const hound_spec *spec, const uint8_t *bytes, size_t length, float *out, size_t count) {
     STACK(16);
-    return s64(f43_hound_decode_f32(sp, (uint64_t)(uintptr_t)spec, (uint64_t)(uintptr_t)bytes, length, (uint64_t)(uintptr_t)out, count));
+    return s64(f45_hound_decode_f32(sp, (uint64_t)(uintptr_t)spec, (uint64_t)(uintptr_t)bytes, length, (uint64_t)(uintptr_t)out, count));
 }
 
 int64_t hound_encode_i8(const hound_spec *spec, const int8_t *samples, size_t count, uint8_t *out, size_t capacity) {
     STACK(16);
-    return s64(f57_hound_encode_i8(sp, (uint64_t)(uintptr_t)spec, (uint64_t)(uintptr_t)samples, count, (uint64_t)(uintptr_t)out, capacity));
+    return s64(f63_hound_encode_i8(sp, (uint64_t)(uintptr_t)spec, (uint64_t)(uintptr_t)samples, count, (uint64_t)(uintptr_t)out, capacity));
 }
 
 int64_t hound_encode_i16(const hound_spec *spec, const int16_t *samples, size_t count, uint8_t *out, size_t capacity) {
     STACK(48);
-    return s64(f53_hound_encode_i16(sp, (uint64_t)(uintptr_t)spec, (uint64_t)(uintptr_t)samples, count, (uint64_t)(uintptr_t)out, capacity));
+    return s64(f59_hound_encode_i16(sp, (uint64_t)(uintptr_t)spec, (uint64_t)(uintptr_t)samples, count, (uint64_t)(uintptr_t)out, capacity));
 }
 
 int64_t hound_encode_i32(const hound_spec *spec, const int32_t *samples, size_t count, uint8_t *out, size_t capacity) {
     STACK(48);
-    return s64(f55_hound_encode_i32(sp, (uint64_t)(uintptr_t)spec, (uint64_t)(uintptr_t)samples, count, (uint64_t)(uintptr_t)out, capacity));
+    return s64(f61_hound_encode_i32(sp, (uint64_t)(uintptr_t)spec, (uint64_t)(uintptr_t)samples, count, (uint64_t)(uintptr_t)out, capacity));
 }
 
 int64_t hound_encode_f32(const hound_spec *spec, const float *samples, size_t count, uint8_t *out, size_t capacity) {
-    return s64(f51_hound_encode_f32((uint64_t)(uintptr_t)spec, (uint64_t)(uintptr_t)samples, count, (uint64_t)(uintptr_t)out, capacity));
+    return s64(f57_hound_encode_f32((uint64_t)(uintptr_t)spec, (uint64_t)(uintptr_t)samples, count, (uint64_t)(uintptr_t)out, capacity));
 }
 
 int32_t hound_value_8(uint32_t container) {
-    return s32(f117_hound_value_8((uint32_t)container));
+    return s32(f123_hound_value_8((uint32_t)container));
 }
 
 int32_t hound_value_16(uint32_t container) {
-    return s32(f111_hound_value_16((uint32_t)container));
+    return s32(f117_hound_value_16((uint32_t)container));
 }
 
 int32_t hound_value_24(uint32_t container) {
-    return s32(f113_hound_value_24((uint32_t)container));
+    return s32(f119_hound_value_24((uint32_t)container));
 }
 
 int32_t hound_value_32(uint32_t container) {
@@ -10704,71 +10997,82 @@ int32_t hound_value_32(uint32_t container) {
 }
 
 int64_t hound_container_8(int32_t value) {
-    return s64(f41_hound_container_8((uint32_t)value));
+    return s64(f43_hound_container_8((uint32_t)value));
 }
 
 int64_t hound_container_16(int32_t value) {
-    return s64(f35_hound_container_16((uint32_t)value));
+    return s64(f37_hound_container_16((uint32_t)value));
 }
 
 int64_t hound_container_24(int32_t value) {
-    return s64(f37_hound_container_24((uint32_t)value));
+    return s64(f39_hound_container_24((uint32_t)value));
 }
 
 int64_t hound_container_32(int32_t value) {
-    return s64(f39_hound_container_32((uint32_t)value));
+    return s64(f41_hound_container_32((uint32_t)value));
 }
 
 int64_t hound_to_f32(const int32_t *samples, size_t count, uint16_t bits, float *out, size_t capacity) {
     STACK(16);
-    return s64(f107_hound_to_f32(sp, (uint64_t)(uintptr_t)samples, count, (uint32_t)bits, (uint64_t)(uintptr_t)out, capacity));
+    return s64(f113_hound_to_f32(sp, (uint64_t)(uintptr_t)samples, count, (uint32_t)bits, (uint64_t)(uintptr_t)out, capacity));
 }
 
 int64_t hound_from_f32(const float *samples, size_t count, uint16_t bits, int32_t *out, size_t capacity, uint64_t *clipped) {
-    STACK(16);
-    return s64(f65_hound_from_f32(sp, (uint64_t)(uintptr_t)samples, count, (uint32_t)bits, (uint64_t)(uintptr_t)out, capacity, (uint64_t)(uintptr_t)clipped));
+    return s64(f71_hound_from_f32((uint64_t)(uintptr_t)samples, count, (uint32_t)bits, (uint64_t)(uintptr_t)out, capacity, (uint64_t)(uintptr_t)clipped));
 }
 
 int64_t hound_to_f64(const int32_t *samples, size_t count, uint16_t bits, double *out, size_t capacity) {
-    return s64(f109_hound_to_f64((uint64_t)(uintptr_t)samples, count, (uint32_t)bits, (uint64_t)(uintptr_t)out, capacity));
+    return s64(f115_hound_to_f64((uint64_t)(uintptr_t)samples, count, (uint32_t)bits, (uint64_t)(uintptr_t)out, capacity));
 }
 
 int64_t hound_from_f64(const double *samples, size_t count, uint16_t bits, int32_t *out, size_t capacity, uint64_t *clipped) {
-    STACK(16);
-    return s64(f67_hound_from_f64(sp, (uint64_t)(uintptr_t)samples, count, (uint32_t)bits, (uint64_t)(uintptr_t)out, capacity, (uint64_t)(uintptr_t)clipped));
+    return s64(f73_hound_from_f64((uint64_t)(uintptr_t)samples, count, (uint32_t)bits, (uint64_t)(uintptr_t)out, capacity, (uint64_t)(uintptr_t)clipped));
+}
+
+int64_t hound_dither_f32(const float *samples, size_t count, uint16_t bits, uint64_t *state, int32_t *out, size_t capacity, uint64_t *clipped) {
+    return s64(f53_hound_dither_f32((uint64_t)(uintptr_t)samples, count, (uint32_t)bits, (uint64_t)(uintptr_t)state, (uint64_t)(uintptr_t)out, capacity, (uint64_t)(uintptr_t)clipped));
+}
+
+int64_t hound_dither_f64(const double *samples, size_t count, uint16_t bits, uint64_t *state, int32_t *out, size_t capacity, uint64_t *clipped) {
+    return s64(f55_hound_dither_f64((uint64_t)(uintptr_t)samples, count, (uint32_t)bits, (uint64_t)(uintptr_t)state, (uint64_t)(uintptr_t)out, capacity, (uint64_t)(uintptr_t)clipped));
 }
 
 int64_t hound_f32_to_f64(const float *samples, size_t count, double *out, size_t capacity) {
-    return s64(f59_hound_f32_to_f64((uint64_t)(uintptr_t)samples, count, (uint64_t)(uintptr_t)out, capacity));
+    return s64(f65_hound_f32_to_f64((uint64_t)(uintptr_t)samples, count, (uint64_t)(uintptr_t)out, capacity));
 }
 
 int64_t hound_f64_to_f32(const double *samples, size_t count, float *out, size_t capacity, uint64_t *infinite) {
-    return s64(f61_hound_f64_to_f32((uint64_t)(uintptr_t)samples, count, (uint64_t)(uintptr_t)out, capacity, (uint64_t)(uintptr_t)infinite));
+    return s64(f67_hound_f64_to_f32((uint64_t)(uintptr_t)samples, count, (uint64_t)(uintptr_t)out, capacity, (uint64_t)(uintptr_t)infinite));
+}
+
+int32_t hound_beginning(const hound_spec *spec, uint32_t number, hound_effect *effect) {
+    STACK(224);
+    return s32(f35_hound_beginning(sp, (uint64_t)(uintptr_t)spec, (uint32_t)number, (uint64_t)(uintptr_t)effect));
 }
 
 int32_t hound_recorder_begin(const hound_spec *spec, hound_recorder *recorder) {
-    return s32(f83_hound_recorder_begin((uint64_t)(uintptr_t)spec, (uint64_t)(uintptr_t)recorder));
+    return s32(f89_hound_recorder_begin((uint64_t)(uintptr_t)spec, (uint64_t)(uintptr_t)recorder));
 }
 
 int32_t hound_recorder_resume(const hound_repair_t *found, uint32_t allowed, hound_recorder *recorder) {
-    return s32(f91_hound_recorder_resume((uint64_t)(uintptr_t)found, (uint32_t)allowed, (uint64_t)(uintptr_t)recorder));
+    return s32(f97_hound_recorder_resume((uint64_t)(uintptr_t)found, (uint32_t)allowed, (uint64_t)(uintptr_t)recorder));
 }
 
 int32_t hound_recorder_write(hound_recorder *recorder, uint64_t samples) {
     STACK(224);
-    return s32(f93_hound_recorder_write(sp, (uint64_t)(uintptr_t)recorder, samples));
+    return s32(f99_hound_recorder_write(sp, (uint64_t)(uintptr_t)recorder, samples));
 }
 
 void hound_recorder_checkpoint(hound_recorder *recorder) {
     STACK(224);
-    f85_hound_recorder_checkpoint(sp, (uint64_t)(uintptr_t)recorder);
+    f91_hound_recorder_checkpoint(sp, (uint64_t)(uintptr_t)recorder);
 }
 
 int64_t hound_recorder_frames_left(const hound_recorder *recorder) {
-    return s64(f87_hound_recorder_frames_left((uint64_t)(uintptr_t)recorder));
+    return s64(f93_hound_recorder_frames_left((uint64_t)(uintptr_t)recorder));
 }
 
 int32_t hound_recorder_next(hound_recorder *recorder) {
     STACK(304);
-    return s32(f89_hound_recorder_next(sp, (uint64_t)(uintptr_t)recorder));
+    return s32(f95_hound_recorder_next(sp, (uint64_t)(uintptr_t)recorder));
 }

@@ -34,6 +34,12 @@ static int64_t call(const char *name, const uint64_t *a) {
     if (!strcmp(name, "to_f64")) return hound_to_f64(AT(int32_t, 0), a[1], (uint16_t)a[2], AT(double, 3), a[4]);
     if (!strcmp(name, "from_f64"))
         return hound_from_f64(AT(double, 0), a[1], (uint16_t)a[2], AT(int32_t, 3), a[4], AT(uint64_t, 5));
+    if (!strcmp(name, "dither_f32"))
+        return hound_dither_f32(AT(float, 0), a[1], (uint16_t)a[2], AT(uint64_t, 3), AT(int32_t, 4), a[5],
+                                AT(uint64_t, 6));
+    if (!strcmp(name, "dither_f64"))
+        return hound_dither_f64(AT(double, 0), a[1], (uint16_t)a[2], AT(uint64_t, 3), AT(int32_t, 4), a[5],
+                                AT(uint64_t, 6));
     if (!strcmp(name, "f32_to_f64")) return hound_f32_to_f64(AT(float, 0), a[1], AT(double, 2), a[3]);
     if (!strcmp(name, "f64_to_f32")) return hound_f64_to_f32(AT(double, 0), a[1], AT(float, 2), a[3], AT(uint64_t, 4));
     if (!strcmp(name, "container_8")) return hound_container_8((int32_t)a[0]);
@@ -44,6 +50,7 @@ static int64_t call(const char *name, const uint64_t *a) {
     if (!strcmp(name, "value_16")) return hound_value_16((uint32_t)a[0]);
     if (!strcmp(name, "value_24")) return hound_value_24((uint32_t)a[0]);
     if (!strcmp(name, "value_32")) return hound_value_32((uint32_t)a[0]);
+    if (!strcmp(name, "beginning")) return hound_beginning(AT(hound_spec, 0), (uint32_t)a[1], AT(hound_effect, 2));
     if (!strcmp(name, "recorder_begin")) return hound_recorder_begin(AT(hound_spec, 0), AT(hound_recorder, 1));
     if (!strcmp(name, "recorder_resume"))
         return hound_recorder_resume(AT(hound_repair_t, 0), (uint32_t)a[1], AT(hound_recorder, 2));
@@ -89,8 +96,8 @@ int main(void) {
             for (size_t i = 0; hex[2 * i]; i++) before[i] = (uint8_t)(digit(hex[2 * i]) << 4 | digit(hex[2 * i + 1]));
             continue;
         }
-        uint64_t arguments[6] = {0};
-        for (int i = 0; i < 6 && (word = strtok(NULL, " \n")); i++)
+        uint64_t arguments[7] = {0};
+        for (int i = 0; i < 7 && (word = strtok(NULL, " \n")); i++)
             arguments[i] =
                 (*word == '@' ? (uintptr_t)memory : 0) + strtoull(word + (*word == '@' || *word == '#'), NULL, 10);
         memcpy(memory, before, size);

@@ -490,6 +490,40 @@ static void scales_of_doubles(void) {
     must(out[0] == 1 / 128.0 && back[0] == 0 && clipped == 77, "an error scales no double");
 }
 
+/* Noise: what is expected was computed with fractions. A file that is written in parts is the same. */
+static void dithers(void) {
+    const double doubles[13] = {0, 0, 0, 0, 0, 0, 2.5 / 32768, -2.5 / 32768, 0.5, 1, -1, 32767 / 32768.0, -1.5};
+    const int32_t integers[13] = {0, 0, 0, 0, 0, 0, 3, -2, 16384, 32767, -32768, 32767, -32768};
+    const int32_t others[13] = {1, 0, 0, 0, 0, 0, 3, -3, 16385, 32767, -32768, 32767, -32768};
+    const float floats[4] = {0.1f, -0.3f, 0.7f, 1};
+    const int32_t wide[4] = {838861, -2516582, 5872025, 8388607};
+    int32_t out[14];
+    uint64_t state = 1, clipped = 77;
+    memset(out, 9, sizeof out);
+    must(hound_dither_f64(doubles, 13, 16, &state, out, 14, &clipped) == 13 && !memcmp(out, integers, sizeof integers)
+             && clipped == 3 && out[13] == 0x09090909 && state == 635340061525167378u,
+         "doubles with noise");
+    state = UINT64_MAX;
+    must(hound_dither_f64(doubles, 7, 16, &state, out, 14, &clipped) == 7 && clipped == 0
+             && hound_dither_f64(doubles + 7, 6, 16, &state, out + 7, 6, &clipped) == 6
+             && !memcmp(out, others, sizeof others) && clipped == 2 && state == 635340061525167376u,
+         "doubles with noise, in parts");
+    state = 1;
+    must(hound_dither_f32(floats, 4, 24, &state, out, 14, &clipped) == 4 && !memcmp(out, wide, sizeof wide)
+             && clipped == 1 && state == 8709371129873690709u,
+         "floats with noise");
+    const uint32_t nan = 0x7fc00001;
+    float number;
+    memcpy(&number, &nan, sizeof number);
+    must(hound_dither_f32(&number, 1, 8, &state, out, 14, &clipped) == 1 && out[0] == 0 && clipped == 0,
+         "no number with noise");
+    state = clipped = 77;
+    must(hound_dither_f32(floats, 4, 24, &state, out, 3, &clipped) == HOUND_NO_ROOM
+             && hound_dither_f64(doubles, 13, 33, &state, out, 14, &clipped) == HOUND_NOT_WRITABLE && state == 77
+             && clipped == 77 && out[0] == 0 && out[1] == wide[1],
+         "an error takes no noise");
+}
+
 /* Floats as doubles and back: ties go to the even one, the largest are infinite from half a step above them on. */
 static void widths_of_floats(void) {
     const float floats[4] = {0.1f, -0.0f, 3.4028234663852886e38f, 1.401298464324817e-45f};
@@ -579,6 +613,27 @@ static void ends(hound_recorder *recorder, int32_t code, const char *what) {
     must(hound_recorder_next(recorder) == code && recorder->effect.kind == HOUND_NOTHING, what);
 }
 
+/* Begins a file: its effects are compared, and performed on this one. The header is that of a file without samples, but
+   for the RIFF size, which is 0, too. */
+static void begins(const hound_spec *spec, size_t start, uint8_t *file) {
+    uint8_t header[HOUND_HEADER_BYTES] = {0};
+    hound_effect wanted[] = {effect_of(HOUND_SYNC_FOLDER, 0, 0, 0), effect_of(HOUND_CUT, 0, 0, 0),
+                             effect_of(HOUND_SYNC, 0, 0, 0), effect_of(HOUND_WRITE, 0, HOUND_EFFECT_BYTES, 0),
+                             effect_of(HOUND_WRITE, HOUND_EFFECT_BYTES, (uint32_t)start - HOUND_EFFECT_BYTES, 0),
+                             effect_of(HOUND_NOTHING, 0, 0, 0)};
+    must(hound_header(spec, 0, header, sizeof header) == (int64_t)start, "a header");
+    put32(header + 4, 0);
+    memcpy(wanted[3].bytes, header, HOUND_EFFECT_BYTES);
+    memcpy(wanted[4].bytes, header + HOUND_EFFECT_BYTES, start - HOUND_EFFECT_BYTES);
+    for (uint32_t i = 0; i < 6; i++) {
+        hound_effect effect;
+        memset(&effect, 9, sizeof effect);
+        must(hound_beginning(spec, i, &effect) == (i < 5), "how many effects begin a file");
+        must(!memcmp(&effect, &wanted[i], sizeof effect), "an effect with which a file begins");
+        if (effect.kind == HOUND_WRITE) memcpy(file + effect.place, effect.bytes, effect.length);
+    }
+}
+
 static void recorders(void) {
     for (int kind = 0; kind < KINDS; kind++) for (int fails = -1; fails < 6; fails++) {
         hound_spec spec = spec_of(kind, 1);
@@ -590,8 +645,9 @@ static void recorders(void) {
         memset(file, 0, sizeof file);
         must(hound_recorder_begin(&spec, &recorder) == 0 && recorder.data_start == start && recorder.data_length == 0,
              "a recorder of a new file");
-        ends(&recorder, 0, "nothing is requested of a new recorder");
-        must(hound_header(&spec, 0, file, sizeof file) == (int64_t)start, "its header");
+        begins(&spec, start, file);
+        checkpoint(&recorder, file, 0, -1);
+        ends(&recorder, 0, "nothing is requested once the header is stored");
         for (size_t n = 0, held = 0; held + n <= 4; held += n++) {
             hound_effect block = effect_of(HOUND_WRITE_BLOCK, start + held * width, (uint32_t)(n * width), 0);
             hound_effect cut = effect_of(HOUND_CUT, start + held * width, 0, 0);
@@ -679,6 +735,12 @@ static void no_recorders(void) {
     memset(&recorder, 9, sizeof recorder);
     before = recorder;
     must(hound_recorder_begin(&none, &recorder) == HOUND_NOT_WRITABLE, "a recorder of 12 bits");
+    for (uint32_t i = 0; i < 7; i++) {
+        hound_effect effect, before;
+        memset(&effect, 9, sizeof effect), memset(&before, 9, sizeof before);
+        must(hound_beginning(&none, i, &effect) == HOUND_NOT_WRITABLE && !memcmp(&effect, &before, sizeof effect),
+             "a file of 12 bits doesn't begin");
+    }
     found.data_length = 6;
     must(hound_recorder_resume(&found, 0, &recorder) == HOUND_UNFINISHED_FRAME, "a recorder after half a frame");
     found.data_length = 4294967292, found.length = UINT64_MAX;
@@ -1005,6 +1067,7 @@ int main(void) {
     containers_of();
     scales();
     scales_of_doubles();
+    dithers();
     widths_of_floats();
     sizes_of_none();
     recorders();

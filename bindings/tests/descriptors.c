@@ -9,7 +9,7 @@
 static int is_newer;
 static int32_t next_effect(hound_repairer *repairer, hound_repair_t *found) {
     int32_t code = hound_repairer_next(repairer, found);
-    if (code == 1 && is_newer) repairer->effect.kind = HOUND_CUT + 1;
+    if (code == 1 && is_newer) repairer->effect.kind = HOUND_SYNC_FOLDER + 1;
     return code;
 }
 #define hound_repairer_next next_effect
@@ -71,7 +71,7 @@ static void open_to_append(const char *path) {
 }
 
 static void unknown_effect(const char *path) {
-    static const uint16_t kinds[] = {HOUND_NOTHING, HOUND_CUT + 1, UINT16_MAX};
+    static const uint16_t kinds[] = {HOUND_NOTHING, HOUND_SYNC_FOLDER + 1, UINT16_MAX};
     uint8_t bytes[HOUND_HEADER_BYTES + sizeof LIST];
     size_t length = make(path, bytes), all, i;
     for (i = 0; i < sizeof kinds / sizeof *kinds; i++) {

@@ -1,12 +1,14 @@
 /* Recorders and repairers over a simulated disk, through hound.h alone. Each recording has a random spec, a file that
-   is new or that another program left, and random blocks and checkpoints. The disk tears writes, fails, loses reports
-   and fails syncs. Then the program is killed at a random effect, or the power is lost, after which any part of what
-   wasn't synced is there. What is left is recorded further or repaired; a repair is killed, too, and done again.
+   is new or that another program left, which may be emptied, and random blocks and checkpoints. The disk tears writes,
+   fails, loses reports and fails syncs. Then the program is killed at a random effect, or the power is lost, after
+   which any part of what wasn't synced is there. What is left is recorded further or repaired; a repair is killed, too,
+   and done again.
 
    After each of these the file is read by a reader of this test's own, which knows the format and nothing of the
    library:
    - The header counts no more samples than the file holds, and exactly the first ones that were accepted.
-   - What a checkpoint counted is there after a kill, and in a durable recording also after a loss of power.
+   - What a checkpoint counted is there after a kill, and in a durable recording also after a loss of power. So is the
+     header, once the effects are done with which a file and its recorder begin.
    - A repair counts all whole frames of the file, and changes nothing else.
    - A request ends within as many effects as hound.h promises, and an effect without a report comes again.
 
@@ -50,7 +52,7 @@ typedef struct {
     uint8_t bytes[ROOM]; /* 0 from the length on */
 } contents;
 typedef struct {
-    int is_cut;
+    int is_cut, is_one; /* it is stored as a whole, or not at all */
     uint64_t place;
     size_t length, from; /* of its bytes in `waiting` */
 } change;
@@ -59,6 +61,7 @@ static change changes[CHANGES]; /* those that aren't stored yet */
 static uint8_t waiting[ROOM];
 static size_t change_count, waiting_count;
 static int is_durable; /* a sync stores; else it does nothing, and the power stays */
+static uint64_t start; /* of the data; 0 without a header */
 /* Whether a write of the data length stopped within its four bytes: in the file as it is read, or in one that a loss of
    power may leave. */
 static int is_torn, may_be_torn;
@@ -73,8 +76,8 @@ static void copy_file(contents *to, const contents *from) {
     memcpy(to->bytes, from->bytes, (size_t)from->length), to->length = from->length;
 }
 
-/* Stores the changes that wait: all of them, or any part. The file's length, a first header and the four bytes of a
-   size are each stored as a whole; of other bytes any sectors are, which may be as small as a byte. */
+/* Stores the changes that wait: all of them, or any part. The file's length, each part of a first header and the four
+   bytes of a size are each stored as a whole; of other bytes any sectors are, which may be as small as a byte. */
 static void store(int is_all) {
     static const uint32_t sectors[] = {1, 2, 16, 64, 512, 4096};
     uint32_t sector = sectors[some(6)], chance = some(5); /* so many of four are stored */
@@ -83,9 +86,9 @@ static void store(int is_all) {
     for (size_t i = 0; i < change_count; i++) {
         const change *c = &changes[i];
         uint64_t end = c->place + c->length;
-        int is_stored = 0, is_one = c->length <= 4 || c->place == 0;
+        int is_stored = 0;
         for (size_t j = 0; j < c->length; j++) {
-            if (j == 0 || (!is_one && (c->place + j) % sector == 0)) is_stored = some(4) < chance;
+            if (j == 0 || (!c->is_one && (c->place + j) % sector == 0)) is_stored = some(4) < chance;
             if (is_stored) stored.bytes[c->place + j] = waiting[c->from + j];
         }
         if (some(4) >= chance) continue; /* the length stays */
@@ -99,7 +102,7 @@ static void store(int is_all) {
 static void let_wait(int is_cut, uint64_t place, const uint8_t *bytes, size_t length) {
     if (!is_durable) return;
     if (change_count == CHANGES || waiting_count + length > ROOM) store(1); /* as a system does by itself */
-    change c = {is_cut, place, length, waiting_count};
+    change c = {is_cut, length <= 4 || start == 0, place, length, waiting_count};
     changes[change_count++] = c;
     memcpy(waiting + waiting_count, bytes, length), waiting_count += length;
 }
@@ -121,6 +124,10 @@ typedef struct {
     uint32_t riff, counted, frame;
     uint64_t start;
 } reading;
+/* Whether the content of a fmt chunk is all there: some of its last bytes may be lost, and then they are 0. */
+static int is_fmt(const uint8_t *b) {
+    return le16(b + 14) > 0 && (le16(b) != 0xfffe || (le16(b + 16) >= 22 && le16(b + 18) > 0));
+}
 static reading read_header(const contents *file) {
     reading found = {0, 0, 0, 0, 0};
     const uint8_t *b = file->bytes;
@@ -132,7 +139,8 @@ static reading read_header(const contents *file) {
             found.start = at + 8, found.counted = length, found.is_read = found.frame > 0;
             return found;
         }
-        if (!memcmp(b + at, "fmt ", 4) && length >= 16 && at + 24 <= file->length) found.frame = le16(b + at + 20);
+        if (!memcmp(b + at, "fmt ", 4) && length >= 16 && at + 8 + length <= file->length && is_fmt(b + at + 8))
+            found.frame = le16(b + at + 20);
         at += 8 + (uint64_t)length + length % 2;
     }
     return found;
@@ -147,7 +155,6 @@ static int has_header(const contents *file) {
 /* What has to be true of the recording. */
 static hound_spec spec;
 static uint32_t frame;         /* how many bytes it has */
-static uint64_t start;         /* of the data; 0 without a header */
 static uint8_t accepted[ROOM]; /* the bytes of the samples that were */
 static uint64_t accepted_count, promised; /* how many these are, and how many of them a checkpoint counted */
 static int64_t found_count; /* what another program's header counts, where that is too much or a torn frame; else -1 */
@@ -155,6 +162,8 @@ static int is_too_much;     /* it is more than the file holds */
 static int may_follow;      /* a cut failed, so bytes may follow the data */
 static int has_riff;        /* the RIFF size counted what the data length counts */
 static int has_lost, had_header; /* whether something was lost, and whether a header was stored before */
+static int is_emptying; /* what was there may come back, since the file that was cut off isn't synced yet */
+static int has_begun;   /* all effects are done with which the file and its recorder begin */
 
 /* Loses the power, and has it back; or the system drops what it couldn't store. */
 static void lose(void) {
@@ -194,8 +203,10 @@ static damage damage_of(const contents *file, int is_to_end) {
 /* Looks at the file after a kill, a loss of power, or an Ok. */
 static void check_file(void) {
     reading header = read_header(&now);
+    if (is_emptying) return;
     if (!has_header(&now)) {
         must(has_lost ? !had_header && promised == 0 : start == 0, "a file that had a header has one");
+        must(!has_begun, "a file that was begun has a header");
         return;
     }
     must(header.frame == frame && (start == 0 || header.start == start), "the header is that of the recording");
@@ -264,6 +275,9 @@ static int is_done_wrong(const hound_effect *effect, const uint8_t *bytes) {
     int is_size = effect->kind == HOUND_WRITE && effect->length == 4;
     int is_riff = is_size && effect->place == 4, is_data = is_size && !is_riff;
     if (!fault) return 0;
+    if (start == 0)
+        return (effect->kind == HOUND_CUT && has("a file isn't emptied"))
+               || (effect->kind == HOUND_SYNC && has("a file isn't synced once it is emptied"));
     switch (effect->kind) {
     case HOUND_SYNC:
         if (has("a repair writes the data length first") && are_sizes_written && until_kill != 1) perform_late();
@@ -293,7 +307,8 @@ static uint16_t wrong_report(const hound_effect *effect) {
 
 /* Performs an effect, or as many of its bytes. */
 static void perform_part(const hound_effect *effect, const uint8_t *bytes, size_t length) {
-    int is_all = length == effect->length, is_size = effect->kind == HOUND_WRITE && effect->length == 4;
+    int is_all = length == effect->length, is_size = start > 0 && effect->kind == HOUND_WRITE && effect->length == 4;
+    if (effect->kind == HOUND_SYNC_FOLDER) return; /* This disk always has the file's name. */
     if (effect->kind == HOUND_SYNC) {
         if (is_durable) store(1);
         are_sizes_written = 0, has_synced = 1;
@@ -322,7 +337,7 @@ static int perform_read(hound_effect *effect) {
 /* Performs an effect, as far as the disk lets it, and reports it. */
 static int perform(hound_effect *effect) {
     const uint8_t *bytes = effect->kind == HOUND_WRITE_BLOCK ? block : effect->bytes;
-    int is_sync = effect->kind == HOUND_SYNC, is_cut = effect->kind == HOUND_CUT;
+    int is_sync = effect->kind == HOUND_SYNC || effect->kind == HOUND_SYNC_FOLDER, is_cut = effect->kind == HOUND_CUT;
     effects++;
     if (effect->kind == HOUND_READ) return perform_read(effect);
     must(is_sync || is_cut || effect->kind == HOUND_WRITE || effect->kind == HOUND_WRITE_BLOCK, "an effect of hound.h");
@@ -566,7 +581,7 @@ static void make_file(void) {
                        k == 5 ? HOUND_FLOAT : HOUND_INT};
     spec = made, frame = (uint32_t)spec.channels * widths[k];
     cut(&now, 0), cut(&stored, 0);
-    change_count = waiting_count = 0, are_sizes_written = 0;
+    change_count = waiting_count = 0, are_sizes_written = 0, is_emptying = has_begun = 0;
     accepted_count = promised = 0, found_count = -1, is_torn = may_be_torn = may_follow = has_riff = 0, start = 0;
     is_durable = some(3) > 0;
     if (one_in(2)) return; /* a new one */
@@ -598,21 +613,30 @@ static void make_file(void) {
     copy_file(&stored, &now);
 }
 
-/* Writes the header of a new recording, unless the program is killed there. */
+/* Begins a new recording, in the place of what is there, up to an effect that fails. What has no report is performed
+   again. */
 static int32_t begin(void) {
-    uint8_t header[HOUND_HEADER_BYTES];
-    int64_t length = hound_header(&spec, 0, header, sizeof header);
-    must(length > 0 && hound_recorder_begin(&spec, &recorder) == 0, "a recording is begun");
-    cut_at(0), start = 0, accepted_count = promised = 0, may_follow = 0;
-    if (one_in(10)) {
-        write_at(0, header, some((uint32_t)length));
-        return WAS_KILLED;
+    hound_effect effect;
+    uint32_t step = 0;
+    int32_t code;
+    is_emptying |= now.length > 0;
+    start = 0, accepted_count = promised = 0, found_count = -1, is_torn = may_be_torn = may_follow = has_riff = 0;
+    has_begun = 0;
+    must(hound_recorder_begin(&spec, &recorder) == 0, "a recorder begins");
+    while ((code = hound_beginning(&spec, step, &effect)) == 1) {
+        must(step < 5, "a file begins with as many effects as hound.h promises");
+        must(effect.kind != HOUND_WRITE || effect.place + effect.length <= recorder.data_start, "a header is written");
+        if (perform(&effect) == IS_KILLED || effect.report == HOUND_FAILED) return WAS_KILLED;
+        if (effect.kind == HOUND_SYNC && effect.report == HOUND_DONE) is_emptying = 0;
+        step += effect.report == HOUND_DONE;
     }
-    write_at(0, header, (size_t)length);
-    start = (uint64_t)length;
-    must(recorder.data_start == start, "the data begin after the header");
-    if (is_durable && one_in(2)) store(1);
-    return 0;
+    must(code == 0 && step > 0, "a file begins");
+    must(has_header(&now) && now.length == recorder.data_start, "a file that begins has a header, and no more");
+    start = recorder.data_start;
+    if (has("a header isn't synced")) return has_begun = 1, 0;
+    code = record(8);
+    if (code == 0) has_begun = 1, check_checkpoint();
+    return code;
 }
 
 /* Continues a recording, if that is allowed. */
@@ -658,7 +682,8 @@ static void record_once(void) {
         until_kill = one_in(6) ? 0 : 1 + some(one_in(2) ? 12 : 60);
         has_lost = 0, late.kind = HOUND_NOTHING;
         if (!has_header(&now)) start = 0, accepted_count = promised = 0, is_torn = 0;
-        int32_t code = start == 0 ? begin() : resume(some(3) ? HOUND_MEND | (some(2) ? HOUND_OVERWRITE : 0) : some(4));
+        int is_new = start == 0 || is_emptying || one_in(20);
+        int32_t code = is_new ? begin() : resume(some(3) ? HOUND_MEND | (some(2) ? HOUND_OVERWRITE : 0) : some(4));
         int is_recorded = code == 0;
         if (is_recorded) code = record_blocks();
         kills += code == WAS_KILLED;
@@ -667,7 +692,7 @@ static void record_once(void) {
             lose(), losses++;
             check_file();
         }
-        if (has_header(&now) && one_in(is_recorded ? 3 : 2)) repair_until_done(HOUND_REPAIR + some(3));
+        if (has_header(&now) && !is_emptying && one_in(is_recorded ? 3 : 2)) repair_until_done(HOUND_REPAIR + some(3));
     }
 }
 

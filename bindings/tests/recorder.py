@@ -1,8 +1,8 @@
 #!/usr/bin/env python3
 """Tries what bindings/c/record.c does at the edges of a recording: files that exist, a folder that can't be synced, two
 programs on one file, one that is replaced, an output that nobody reads, standard streams that are closed, an input
-without bytes yet or that ends within a frame, disks that are full, and files that can't be appended to. Each of its
-wrong versions has to be found.
+without bytes yet or that ends within a frame, disks that are full, files that can't be appended to, and recordings in
+parts. Each of its wrong versions has to be found.
 
 usage: recorder.py     (with cc; as root it also tries a folder that can't be read, and a disk that fills up)"""
 import functools
@@ -40,10 +40,7 @@ WRONG = {
         "give_up(file, path, is_made, HOUND_NOT_PERFORMED)",
         "give_up(file, path, 0, HOUND_NOT_PERFORMED)",
     ),
-    "a file without a header stays": (
-        "give_up(file, path, !is_emptied, HOUND_NOT_PERFORMED)",
-        "give_up(file, path, 0, HOUND_NOT_PERFORMED)",
-    ),
+    "a file without a header stays": ("give_up(file, path, !is_emptied, code)", "give_up(file, path, 0, code)"),
     "no lock": ("flock(descriptor, LOCK_EX | LOCK_NB)", "0"),
     "an output that nobody reads ends it": ("signal(SIGPIPE, SIG_IGN);", ""),
     "an input without bytes yet is at its end": ("errno == EAGAIN || errno == EWOULDBLOCK", "0"),
@@ -77,12 +74,21 @@ WRONG = {
         "case HOUND_CUT: is_done = 1;",
     ),
     "a report is taken for done": (
-        "effect->report = is_done ? HOUND_DONE : HOUND_FAILED;",
-        "effect->report = HOUND_DONE;",
+        "file->fault == 0) file->fault = errno;\n    effect->report = is_done ? HOUND_DONE : HOUND_FAILED;",
+        "file->fault == 0) file->fault = errno;\n    effect->report = HOUND_DONE;",
     ),
     "a recording that was cut off is overwritten": ("HOUND_MEND, is_durable", "HOUND_OVERWRITE, is_durable"),
     "an empty file isn't begun anew": ("if (code == HOUND_ENDED || ", "if ("),
     "a file with a part of a header is emptied": ("is_emptied == HOUND_FILE_IF_EMPTY && held > 0", "0"),
+    "a part that exists is emptied": ("spec, file->is_durable, 0), closed;", "spec, file->is_durable, 1), closed;"),
+    "a part is ended without its last checkpoint": (
+        "    code = hound_file_checkpoint(file);\n    if (code < 0) return hound_file_give_up(&next",
+        "    if (code < 0) return hound_file_give_up(&next",
+    ),
+    "a part that isn't recorded to stays": ("give_up(&next, path, 1, code)", "give_up(&next, path, 0, code)"),
+    "a part has a frame more": ("? left : most - held;", "? left : most - held + 1;"),
+    "the samples of parts before aren't counted": ("parts++, before = held;", "parts++;"),
+    "the name of the second part isn't looked at first": ("if (is_split && is_there(", "if (0 && is_there("),
     "chunks after the data are overwritten": ("HOUND_MEND, is_durable", "HOUND_MEND | HOUND_OVERWRITE, is_durable"),
 }
 
@@ -279,6 +285,16 @@ def failing(path, injected):
     return ["strace", "-qq", "-o", "/dev/null", "-P", path, "-e", f"trace={call}", "-e", f"inject={injected}"]
 
 
+def writes_of(words, path, data=DATA):
+    """How many writes a program makes to a file, which is removed again."""
+    log = os.path.join(os.path.dirname(path), "log")
+    run(["strace", "-qq", "-o", log, "-P", path, "-e", "trace=pwrite64", *words], data)
+    count = len(contents_of(log).splitlines())
+    for name in os.listdir(os.path.dirname(path)):
+        os.remove(os.path.join(os.path.dirname(path), name))
+    return count
+
+
 def limit(length):
     """No file may be longer."""
 
@@ -310,11 +326,19 @@ def failing_cut(record, path):
 
 def failing_header(record, path):
     """No size of the header can be written after the first checkpoint, as on a disk that fails."""
-    ran = run([*failing(path, "pwrite64:error=EIO:when=6+"), record, path, *SHAPE])
+    begun = writes_of([record, path, *SHAPE], path, DATA[:400])
+    ran = run([*failing(path, f"pwrite64:error=EIO:when={begun + 1}+"), record, path, *SHAPE])
     counted = counted_in(path)
     is_said = b"record: Input/output error\n" in ran.stderr
     expect("why samples aren't counted isn't said", ran.returncode == 1 and is_said)
     expect("how many are counted isn't said", b"record: the header counts only %d samples" % counted in ran.stderr)
+
+
+def file_without_a_number(record, path):
+    """The system can't say which file it is that was made."""
+    ran = run([*failing(path, "%fstat:error=EIO"), record, path, *SHAPE])
+    expect("the error isn't said", is_rejected(ran, b"Input/output error"))
+    expect("a file that isn't recorded to is left", not os.path.exists(path))
 
 
 def killed_before_the_header(record, path):
@@ -370,7 +394,94 @@ def not_appended(record, path):
     expect("a pipe isn't left", stat.S_ISFIFO(os.stat(path).st_mode))
 
 
+def parts_at(path):
+    """The files of a recording."""
+    folder, stem = os.path.dirname(path), path[: -len(".wav")]
+    names = [path, *(f"{stem}-{number:03}.wav" for number in range(2, 1 + len(os.listdir(folder))))]
+    expect("other files are there", {os.path.basename(name) for name in names} == set(os.listdir(folder)))
+    return names
+
+
+def counted_in_parts(path):
+    """How many frames each part counts, and the samples of all; each has a header of 44 bytes."""
+    counts, data = [], b""
+    for name in parts_at(path):
+        contents = contents_of(name)
+        expect("a part has no header", len(contents) >= 44)
+        (length,) = struct.unpack("<I", contents[40:44])
+        counts.append(length // 4)
+        data += contents[44 : 44 + length]
+    return counts, data
+
+
+def accepted_by(ran):
+    """The samples that a recorder of two channels of 16 bits doesn't say to have lost; and that it lost some."""
+    data, lost = DATA, 0
+    for line in ran.stdout.splitlines():
+        words = line.split()
+        if words[0] == b"lost":
+            count, place = 2 * int(words[1]), 2 * int(words[4])
+            data, lost = data[:place] + data[place + count :], lost + count
+    expect("what is lost isn't said", lost > 0)
+    return data
+
+
+def in_parts(record, path):
+    for words in [], ["--durable"]:
+        ran = run([record, path, *SHAPE, "--split", "300", *words])
+        expect("it fails", ran.returncode == 0)
+        expect("it isn't recorded in parts", counted_in_parts(path) == ([300, 300, 300, 100], DATA))
+        said = [*(b"%d" % count for count in range(200, 2001, 200)), b"recorded 2000 samples"]
+        expect("it doesn't say how many samples all parts have", ran.stdout.splitlines() == said)
+        for name in parts_at(path):
+            os.remove(name)
+    run([record, path, *SHAPE, "--split", "500"])
+    expect("there is an empty part", counted_in_parts(path) == ([500, 500], DATA))
+    for words in [], ["0"], ["5", "--append"]:
+        ran = run([record, path, *SHAPE, "--split", *words])
+        expect("a wrong number is taken", is_rejected(ran, b"usage"))
+
+
+def part_that_exists(record, path):
+    for number, sentence, counts in (2, b"the second file exists", []), (3, b"File exists", [300, 300]):
+        name = f"{path[:-4]}-00{number}.wav"
+        with open(name, "wb") as file:
+            file.write(b"mine")
+        ran = run([record, path, *SHAPE, "--split", "300"])
+        expect("it isn't said", ran.returncode == 1 and ran.stderr.startswith(b"record: " + sentence))
+        expect("a part that exists is changed", contents_of(name) == b"mine")
+        os.remove(name)
+        found = counted_in_parts(path) if counts else (counts, b"")
+        expect("the parts before it lack samples", found == (counts, DATA[: 4 * sum(counts)]))
+        expect("it began", bool(counts) or not os.listdir(os.path.dirname(path)))
+
+
+def part_that_can_t_be_ended(record, path):
+    """The last write to the first part fails, in its last checkpoint: the block after it is lost, and the next one
+    isn't."""
+    words = [record, path, *SHAPE[:-1], "1000", "--split", "100"]
+    ran = run([*failing(path, f"pwrite64:error=EIO:when={writes_of(words, path)}"), *words])
+    expect("the error isn't said", ran.returncode == 1 and b"record: Input/output error\n" in ran.stderr)
+    expect("the parts have other samples", counted_in_parts(path) == ([100] * 9, accepted_by(ran)))
+
+
+def part_that_has_no_room(record, path):
+    """The second part can't be made while the disk is full: none is left, and the first one is whole."""
+    ran = run([record, path, *SHAPE, "--split", "100"], preexec_fn=limit(444))
+    expect("it isn't recorded", ran.returncode == 0 and counted_in_parts(path) == ([100] * 10, DATA))
+    for name in parts_at(path):
+        os.remove(name)
+    second = f"{path[:-4]}-002.wav"
+    ran = run([*failing(second, "pwrite64:error=ENOSPC:when=1"), record, path, *SHAPE, "--split", "100"])
+    expect("the part isn't made again", counted_in_parts(path) == ([100] * 9, accepted_by(ran)))
+    expect("it isn't said", ran.returncode == 1 and b"record: No space left on device\n" in ran.stderr)
+
+
 CHECKS = [
+    in_parts,
+    part_that_exists,
+    part_that_can_t_be_ended,
+    part_that_has_no_room,
     exists,
     folder_without_leave,
     two_programs,
@@ -382,6 +493,7 @@ CHECKS = [
     full_disk,
     failing_cut,
     failing_header,
+    file_without_a_number,
     killed_before_the_header,
     another_spec,
     not_appended,

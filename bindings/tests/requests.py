@@ -132,6 +132,7 @@ def requests(file, some):
                 yield f"value_{width} #{some.choice((0, half, some.randrange(2**32)))}"
                 edges = -half, half - 1, max(-half - 1, -(2**31)), min(half, 2**31 - 1)
                 yield f"container_{width} #{some.choice((*edges, some.randrange(-half, half)))}"
+            yield f"beginning @{SPEC} #{some.randrange(7)} @{FOUND}"
             yield f"recorder_begin @{SPEC} @{FOUND}"
             yield f"recorder_resume @{INFO} #{some.randrange(5)} @{FOUND}"
             yield f"recorder_write @{FOUND} {some.choice((few, few, 2**31, 2**64 - 1))}"
@@ -181,8 +182,10 @@ def conversions(some):
         room = some.choice((half, half - 1))
         if samples is floats:
             yield f"f32_to_f64 @{SAMPLES} {half} @{OUT} {room}"
+            yield f"dither_f32 @{SAMPLES} {half} #{some.choice((8, 16, 24, 0))} @{FOUND + 8} @{OUT} {room} @{FOUND}"
         else:
             yield f"from_f64 @{SAMPLES} {half} #{some.choice((8, 16, 24, 32, 1, 0, 33))} @{OUT} {room} @{FOUND}"
+            yield f"dither_f64 @{SAMPLES} {half} #{some.choice((16, 24, 32, 33))} @{FOUND + 8} @{OUT} {room} @{FOUND}"
             yield f"f64_to_f32 @{SAMPLES} {half} @{OUT} {room} @{FOUND}"
 
 

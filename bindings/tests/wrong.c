@@ -112,6 +112,24 @@ REAL(int64_t, from_f64,
     return n;
 }
 
+REAL(int64_t, dither_f32, (const float *samples, size_t count, uint16_t bits, uint64_t *state, int32_t *out,
+                           size_t capacity, uint64_t *clipped)) {
+    uint64_t seed = *state;
+    int64_t n = __real_hound_dither_f32(samples, count, bits, state, out, capacity, clipped);
+    if (n >= 0 && has("each block has the same noise")) *state = seed;
+    return n;
+}
+
+REAL(int64_t, dither_f64, (const double *samples, size_t count, uint16_t bits, uint64_t *state, int32_t *out,
+                           size_t capacity, uint64_t *clipped)) {
+    if (has("doubles without noise")) {
+        int64_t n = __real_hound_from_f64(samples, count, bits, out, capacity, clipped);
+        *state += n > 0 ? 0x9e3779b97f4a7c15 * (uint64_t)n : 0;
+        return n;
+    }
+    return __real_hound_dither_f64(samples, count, bits, state, out, capacity, clipped);
+}
+
 REAL(int64_t, f32_to_f64, (const float *samples, size_t count, double *out, size_t capacity)) {
     int64_t n = __real_hound_f32_to_f64(samples, count, out, capacity);
     for (int64_t i = 0; i < n; i++) if (has("small floats are zeros") && samples[i] < 1e-38f) out[i] = 0;
@@ -172,6 +190,14 @@ REAL(int32_t, recorder_resume, (const hound_repair_t *found, uint32_t allowed, h
                                                 allowed, recorder);
     if (code == 0 && has("appending from the first sample")) recorder->data_length = 0;
     if (code == 0 && has("what follows stays")) recorder->has_rest = 0;
+    return code;
+}
+
+REAL(int32_t, beginning, (const hound_spec *spec, uint32_t number, hound_effect *effect)) {
+    uint32_t late = has("a file is emptied before its folder is synced") && number < 2 ? 1 - number : number;
+    int32_t code = __real_hound_beginning(spec, late, effect);
+    if (code == 1 && effect->kind == HOUND_WRITE && effect->place == 0 && has("a new header counts a RIFF size"))
+        effect->bytes[4] = 36;
     return code;
 }
 

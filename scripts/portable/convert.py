@@ -64,9 +64,24 @@ def take_frame_out(function):
     elif after[:2] == [(I64_CONST, 16), I64_LT_S]:  # A test alone: a trap if sp < 16.
         need(after[2][0] == BR_IF, "a test branches to a trap")
         del code[at : at + 4]
+    elif after[0][0] == LOCAL_TEE and after[1:3] == [(I64_CONST, 16), I64_LT_S]:
+        # The same, and `sp` is set to what it was.
+        need(after[3][0] == BR_IF, "a test branches to a trap")
+        take_sets_out(code, after[0][1])
+        del code[at : at + 5]
     else:
         take_frame(function, at)
     need(code.count(GET_SP) == (function.frame > 0) and code.count(SET_SP) <= 1, "the stack has no other use")
+
+
+def take_sets_out(code, local):
+    """Without what sets `sp` to a local that keeps it."""
+    while SET_SP in code:
+        place = code.index(SET_SP)
+        need(code[place - 1] == (LOCAL_GET, local), "sp is set to what it was")
+        del code[place - 1 : place + 1]
+    uses = [one for one in code if one[0] in (LOCAL_GET, LOCAL_SET, LOCAL_TEE) and one[1] == local]
+    need(uses == [(LOCAL_TEE, local)], "what keeps sp has no other use")
 
 
 def take_frame(function, at):
@@ -87,7 +102,7 @@ def take_frame(function, at):
     need(is_test, "a test branches to a trap")
     code[test : test + 4] = [(LOCAL_SET, local)]
     is_set = any(one in ((LOCAL_SET, local), (LOCAL_TEE, local)) for one in code[test + 1 :])
-    need(not is_set, "the address of a frame stays")
+    need(not (is_taken and is_set), "the address of a frame stays until it is given back")
     ends = [place for place in range(test, len(code)) if code[place] == SET_SP]
     need(len(ends) == is_taken, "a frame is given back in one place")
     for end in ends:

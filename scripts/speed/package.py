@@ -1,9 +1,12 @@
 """Runs a case of the Python package beside soundfile, for scripts/speed/measure.
 
-usage: package.py CASE COUNT FOLDER     prints the best nanoseconds a sample of both, of seven runs in turn
+usage: package.py CASE COUNT FOLDER     prints the best nanoseconds a sample of both, of seven runs in turn, as the
+time that the thread has had, since the machine may be busy
 
 Samples have 16 bits, two channels, and values that no processor guesses. Each run makes, and reads or writes, a whole
-file; of `blocks` in pieces of so many frames."""
+file; of `blocks` in pieces of so many frames. Whole files are read as arrays of numpy, which soundfile returns, too; of
+`array` as an `array.array`. Both read the same file, since the system keeps what was written in few
+calls in larger pieces."""
 import os
 import sys
 import time
@@ -18,7 +21,8 @@ def main():
     _, call, form = case.split("_", 2)
     path, other = os.path.join(folder, "ours.wav"), os.path.join(folder, "other.wav")
     samples = numpy.random.default_rng(1).integers(-32768, 32768, (count // 2, 2), "int16")
-    dtype = form if "blocks" not in form else "int16"
+    dtype = "int16" if "blocks" in form or "array" in form else form
+    wanted = dtype if "array" in form else numpy.dtype(dtype)
     if dtype != "int16":
         samples = (samples / 32768).astype(dtype)
     step = int(form.split("_")[1]) if "blocks" in form else len(samples)
@@ -40,15 +44,15 @@ def main():
 
     def read():
         if "blocks" not in form:
-            return hound.read(path, dtype=dtype)
+            return hound.read(path, dtype=wanted)
         with hound.open(path) as reader:
             while len(reader.read(step)):
                 pass
 
     def read_other():
         if "blocks" not in form:
-            return soundfile.read(other, dtype=dtype)
-        with soundfile.SoundFile(other) as reader:
+            return soundfile.read(path, dtype=dtype)
+        with soundfile.SoundFile(path) as reader:
             while len(reader.read(step, "int16")):
                 pass
 
@@ -57,9 +61,9 @@ def main():
     best = [float("inf")] * 2
     for _ in range(7):
         for i, one in enumerate(calls):
-            start = time.perf_counter_ns()
+            start = time.thread_time_ns()
             one()
-            best[i] = min(best[i], time.perf_counter_ns() - start)
+            best[i] = min(best[i], time.thread_time_ns() - start)
     if hound.read(path) != hound.read(other):
         sys.exit(f"{case}: the samples differ")
     print(*(f"{took / count:.3f}" for took in best))

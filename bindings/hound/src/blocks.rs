@@ -19,6 +19,7 @@
 //! # Ok::<(), hound::Error>(())
 //! ```
 use crate::{Result, Sample, WavReader, WavWriter};
+pub use hound_bindings::Scaled;
 use std::io::{Read, Seek, Write};
 
 /// Reads blocks.
@@ -27,9 +28,9 @@ pub trait ReadSamples: sealed::Sealed {
     /// item that an iterator would give next, which then counts as read, or Ok at the end of the file.
     fn read_samples<S: Sample>(&mut self, samples: &mut [S]) -> (usize, Result<()>);
 
-    /// The same as floats, of any file: integers are divided by 2^(bits - 1), so that their full scale is 1, and floats
-    /// keep their bits.
-    fn read_scaled(&mut self, samples: &mut [f32]) -> (usize, Result<()>);
+    /// The same as floats, `f32` or `f64`, of any file: integers are divided by 2^(bits - 1), so that their full scale
+    /// is 1, and floats are the same numbers, as `f32` with their bits.
+    fn read_scaled<F: Scaled>(&mut self, samples: &mut [F]) -> (usize, Result<()>);
 }
 
 /// Writes blocks.
@@ -42,9 +43,10 @@ pub trait WriteSamples: sealed::Sealed {
     /// [`repair_file`](crate::repair_file) would take it for samples.
     fn write_samples<S: Sample + Copy>(&mut self, samples: &[S]) -> Result<()>;
 
-    /// The same of floats, to any file, and returns how many were clipped: for integers each is multiplied by 2^(bits -
-    /// 1) and rounded to the nearest one, of two the even one, and a NaN is 0; as floats they keep their bits.
-    fn write_scaled(&mut self, samples: &[f32]) -> Result<u64>;
+    /// The same of floats, `f32` or `f64`, to any file, and returns how many were clipped: for integers each is
+    /// multiplied by 2^(bits - 1) and rounded to the nearest one, of two the even one, and a NaN is 0. As floats an
+    /// `f32` keeps its bits, and an `f64` becomes the nearest one, but a finite one that would be infinite is an error.
+    fn write_scaled<F: Scaled>(&mut self, samples: &[F]) -> Result<u64>;
 }
 
 impl<R: Read> ReadSamples for WavReader<R> {
@@ -52,7 +54,7 @@ impl<R: Read> ReadSamples for WavReader<R> {
         self.read_into(samples)
     }
 
-    fn read_scaled(&mut self, samples: &mut [f32]) -> (usize, Result<()>) {
+    fn read_scaled<F: Scaled>(&mut self, samples: &mut [F]) -> (usize, Result<()>) {
         self.read_scaled_into(samples)
     }
 }
@@ -62,7 +64,7 @@ impl<W: Write + Seek> WriteSamples for WavWriter<W> {
         self.core.write_samples(samples)
     }
 
-    fn write_scaled(&mut self, samples: &[f32]) -> Result<u64> {
+    fn write_scaled<F: Scaled>(&mut self, samples: &[F]) -> Result<u64> {
         self.core.write_scaled(samples)
     }
 }

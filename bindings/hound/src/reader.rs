@@ -153,16 +153,20 @@ impl<R: Read> WavReader<R> {
     }
 
     // What `ReadSamples` does with floats.
-    pub(crate) fn read_scaled_into(&mut self, samples: &mut [f32]) -> (usize, Result<()>) {
-        if self.spec.sample_format == SampleFormat::Float {
-            return self.read_into(samples);
-        }
-        let (mut integers, mut count) = ([0; BLOCK / 4], 0);
-        for block in samples.chunks_mut(integers.len()) {
-            let (more, result) = self.read_into(&mut integers[..block.len()]);
-            if more > 0 {
-                assert_eq!(proved::to_f32(&integers[..more], self.spec.bits_per_sample, block), Ok(more));
-            }
+    pub(crate) fn read_scaled_into<F: proved::Scaled>(&mut self, samples: &mut [F]) -> (usize, Result<()>) {
+        let (mut integers, mut floats, mut count) = ([0; BLOCK / 4], [0.0; BLOCK / 4], 0);
+        for block in samples.chunks_mut(BLOCK / 4) {
+            let (more, result) = if self.spec.sample_format == SampleFormat::Float {
+                let (more, result) = self.read_into(&mut floats[..block.len()]);
+                assert_eq!(F::of_floats(&floats[..more], block), Ok(more));
+                (more, result)
+            } else {
+                let (more, result) = self.read_into(&mut integers[..block.len()]);
+                if more > 0 {
+                    assert_eq!(F::of_integers(&integers[..more], self.spec.bits_per_sample, block), Ok(more));
+                }
+                (more, result)
+            };
             count += more;
             if more < block.len() {
                 return (count, result);

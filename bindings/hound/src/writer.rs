@@ -192,7 +192,7 @@ impl<W: Write + Seek> Core<W> {
         }
     }
 
-    pub(crate) fn write_scaled(&mut self, samples: &[f32]) -> Result<u64> {
+    pub(crate) fn write_scaled<F: proved::Scaled>(&mut self, samples: &[F]) -> Result<u64> {
         let mut clipped = 0;
         self.write_coded(self.spec_ex.spec.sample_format, samples.len(), |spec, bytes| {
             proved::encode_scaled(spec, samples, bytes).map(|(length, count)| {
@@ -296,10 +296,9 @@ impl<W: Write + Seek> WavWriter<W> {
     }
 
     fn begin(mut writer: W, spec: &proved::Spec) -> Result<WavWriter<W>> {
-        let (mut header, recorder) = ([0; proved::HEADER_BYTES], Recorder::begin(spec)?);
-        let length = proved::header_to(spec, 0, &mut header)?;
-        writer.write_all(&header[..length])?;
-        Ok(WavWriter::at(Medium::new(writer, Some(length as u64)), spec, recorder))
+        let recorder = Recorder::begin(spec)?;
+        let length = write_header(&mut writer, spec)?;
+        Ok(WavWriter::at(Medium::new(writer, Some(length)), spec, recorder))
     }
 
     fn at(medium: Medium<W>, spec: &proved::Spec, recorder: Recorder) -> WavWriter<W> {
@@ -426,7 +425,7 @@ impl WavWriter<io::BufWriter<fs::File>> {
     /// Creates a file, over one that there was, and writes its header: when this returns, the file is a WAV file
     /// without samples. A file that there was stays as it is where the spec can't be written.
     pub fn create<P: AsRef<path::Path>>(filename: P, spec: WavSpec) -> Result<WavWriter<io::BufWriter<fs::File>>> {
-        WavWriter::over(|| fs::File::create(filename), spec, false)
+        WavWriter::over(|| fs::File::create(filename), spec)
     }
 
     /// Appends to a file as `new_append` does: call [`repair_file`](crate::repair_file) first, always, and append
@@ -453,12 +452,13 @@ impl WavWriter<io::BufWriter<fs::File>> {
         filename: P,
         spec: WavSpec,
     ) -> Result<WavWriter<io::BufWriter<fs::File>>> {
-        let open = || {
-            let file = open_alone(fs::OpenOptions::new().write(true).create(true).truncate(false), filename.as_ref())?;
-            file.set_len(0)?;
-            file.sync_all().map(|()| file)
-        };
-        WavWriter::over(open, spec, true)
+        let spec = spec.into();
+        let mut recorder = Recorder::begin(&spec)?;
+        let file = open_alone(fs::OpenOptions::new().write(true).create(true).truncate(false), filename.as_ref())?;
+        let mut medium = Medium::of_file(file, Some(0), true);
+        for_each_beginning(&spec, |effect| effect.perform(&mut medium, &[]))?;
+        recorder.run(&mut medium, &[])??;
+        Ok(WavWriter::at(medium, &spec, recorder))
     }
 
     /// Appends to a file as [`append`](WavWriter::append) does, so that it survives a loss of power (own). When
@@ -478,21 +478,41 @@ impl WavWriter<io::BufWriter<fs::File>> {
     }
 
     // Writes the header of a new file, which isn't opened if the spec can't be written.
-    fn over(
-        open: impl FnOnce() -> io::Result<fs::File>,
-        spec: WavSpec,
-        is_durable: bool,
-    ) -> Result<WavWriter<io::BufWriter<fs::File>>> {
+    fn over(open: impl FnOnce() -> io::Result<fs::File>, spec: WavSpec) -> Result<WavWriter<io::BufWriter<fs::File>>> {
         let spec = spec.into();
-        let (mut header, recorder) = ([0; proved::HEADER_BYTES], Recorder::begin(&spec)?);
-        let length = proved::header_to(&spec, 0, &mut header)?;
+        let recorder = Recorder::begin(&spec)?;
         let mut file = open()?;
-        file.write_all(&header[..length])?;
-        if is_durable {
-            file.sync_data()?;
-        }
-        Ok(WavWriter::at(Medium::of_file(file, Some(length as u64), is_durable), &spec, recorder))
+        let length = write_header(&mut file, &spec)?;
+        Ok(WavWriter::at(Medium::of_file(file, Some(length), false), &spec, recorder))
     }
+}
+
+// Does this with each effect with which a file begins.
+fn for_each_beginning(
+    spec: &proved::Spec,
+    mut perform: impl FnMut(&mut proved::Effect) -> io::Result<()>,
+) -> Result<()> {
+    let mut number = 0;
+    while let Some(mut effect) = proved::beginning(spec, number)? {
+        perform(&mut effect)?;
+        number += 1;
+    }
+    Ok(())
+}
+
+// Writes the header of a new file by one call, as hound does, to a writer that is at its beginning, and returns its
+// length.
+fn write_header<W: Write>(writer: &mut W, spec: &proved::Spec) -> Result<u64> {
+    let (mut header, mut length) = ([0; proved::HEADER_BYTES], 0);
+    for_each_beginning(spec, |effect| {
+        if effect.kind() == proved::Kind::Write {
+            header[length..][..effect.length()].copy_from_slice(effect.bytes());
+            length += effect.length();
+        }
+        Ok(())
+    })?;
+    writer.write_all(&header[..length])?;
+    Ok(length as u64)
 }
 
 // A recorder of a file as hound appends to it: after the samples that the header counts, over all that follows them.

@@ -121,7 +121,7 @@ fn floats_are_scaled_where_a_file_has_integers() {
         let mut file = Cursor::new(Vec::new());
         let mut writer = WavWriter::new_with_spec_ex(&mut file, spec_ex).unwrap();
         writer.write_sample(integers[0]).unwrap();
-        assert_eq!((writer.write_scaled(&floats[1..4000]).unwrap(), writer.write_scaled(&[]).unwrap()), (0, 0));
+        assert_eq!((writer.write_scaled(&floats[1..4000]).unwrap(), writer.write_scaled::<f32>(&[]).unwrap()), (0, 0));
         assert_eq!(writer.write_scaled(&[&floats[4000..], &[2.0, f32::NAN]].concat()).unwrap(), 1);
         writer.finalize().unwrap();
         file.rewind().unwrap();
@@ -148,6 +148,29 @@ fn floats_are_scaled_where_a_file_has_integers() {
     let mut out = [0.0; 3];
     assert!(matches!(WavReader::new(file).unwrap().read_scaled(&mut out), (2, Ok(()))));
     assert_eq!(out.map(f32::to_bits), [0x4020_0000, 0x7fc1_2345, 0]);
+}
+
+#[test]
+fn doubles_are_scaled_too() {
+    let spec = WavSpec { bits_per_sample: 32, ..MONO };
+    let integers: Vec<i32> = (0..5001).map(|number| (number * 858_993i64 - 2_147_483_647) as i32).collect();
+    let doubles: Vec<f64> = integers.iter().map(|number| f64::from(*number) / 2_147_483_648.0).collect();
+    let mut file = Cursor::new(Vec::new());
+    let mut writer = WavWriter::new(&mut file, spec).unwrap();
+    assert_eq!((writer.write_scaled(&doubles).unwrap(), writer.write_scaled(&[-1.0, 1.0]).unwrap()), (0, 1));
+    writer.finalize().unwrap();
+    file.rewind().unwrap();
+    let (mut reader, mut out) = (WavReader::new(&mut file).unwrap(), vec![9.0; 5004]);
+    assert!(matches!(reader.read_scaled(&mut out), (5003, Ok(()))));
+    assert!(out[..5001] == doubles[..] && out[5001] == -1.0 && out[5003] == 9.0);
+    let (mut file, mut out) = (Cursor::new(Vec::new()), [0.0f64; 2]);
+    let mut writer = WavWriter::new(&mut file, FLOATS).unwrap();
+    assert!(matches!(writer.write_scaled(&[0.5, 1e39]), Err(Error::TooWide)));
+    assert_eq!(writer.write_scaled(&[0.1, f64::INFINITY]).unwrap(), 0);
+    writer.finalize().unwrap();
+    file.rewind().unwrap();
+    assert!(matches!(WavReader::new(file).unwrap().read_scaled(&mut out), (2, Ok(()))));
+    assert_eq!(out, [f64::from(0.1f32), f64::INFINITY]);
 }
 
 #[test]
@@ -209,7 +232,9 @@ fn a_sample_of_the_other_format_is_taken_by_its_bits_or_unsupported() {
 fn a_new_file_has_its_header_at_once() {
     let path = Path::new("header");
     mem::forget(WavWriter::create(&path, MONO).unwrap());
-    assert_eq!(fs::read(&path).unwrap(), written::<i16>(MONO, &[]));
+    let mut header = written::<i16>(MONO, &[]);
+    header[4..8].fill(0); // The RIFF size is 0 until the first `flush`, as that of hound is.
+    assert_eq!(fs::read(&path).unwrap(), header);
     fs::write(&path, "longer than a header, which is emptied before the new one is written").unwrap();
     let writer = WavWriter::create_durable(&path, FLOATS).unwrap();
     assert_eq!(fs::read(&path).unwrap(), written::<f32>(FLOATS, &[]));

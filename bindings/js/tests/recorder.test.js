@@ -5,7 +5,7 @@ import { spawn, spawnSync } from "node:child_process";
 import fs from "node:fs/promises";
 import os from "node:os";
 import path from "node:path";
-import { HoundError, append, appendTo, info, read, record, repairFile } from "../hound.js";
+import { HoundError, append, appendTo, info, read, record, repairFile, write } from "../hound.js";
 
 const SPEC = { sampleRate: 8000, channels: 2, bitsPerSample: 16 };
 const COMMAND = new URL("../command.js", import.meta.url).pathname;
@@ -61,6 +61,59 @@ test("calls at once are performed in their order, with the samples of the call",
   assert.deepEqual(await content(), fileOf(Array.from({ length: 50 }, (_, i) => block(i))));
 });
 
+/** The path of a part of the recording. */
+const partAt = (number) => number === 1 ? take : path.join(folder, `take-00${number}.wav`);
+const partsOf = (count) => Promise.all(Array.from({ length: count }, (_, i) => fs.readFile(partAt(i + 1))));
+const removeParts = () => Promise.all([2, 3, 4, 5].map((number) => fs.rm(partAt(number), { force: true })));
+
+test("a recording continues in a next file, with a block that has no room, or the frames of a larger one", async () => {
+  const sizes = [4, 4, 4, 9, 25], parts = [8, 4, 10, 10, 10, 4], all = Int16Array.from({ length: 92 }, (_, i) => i);
+  for (const [where, durable] of [[take, false], [new URL(`file://${take}`), true]]) {
+    let done = 0;
+    const recorder = await record(where, SPEC, { split: 10, durable });
+    const calls = sizes.map((count) => recorder.write(all.subarray(2 * done, 2 * (done += count))));
+    await Promise.all([...calls, recorder.close()]);
+    assert.deepEqual(recorder.paths.map((name) => name.pathname ?? name), [1, 2, 3, 4, 5, 6].map(partAt));
+    done = 0;
+    for (const [i, file] of (await partsOf(6)).entries()) {
+      assert.deepEqual(file, fileOf([all.subarray(2 * done, 2 * (done += parts[i]))]));
+    }
+    await removeParts();
+    await fs.rm(partAt(6));
+  }
+  const plain = await record(take, SPEC), most = plain.framesLeft;
+  await plain.close();
+  const recorder = await record(take, SPEC, { split: Infinity });
+  assert.deepEqual([recorder.framesLeft, plain.paths], [most, []]);
+  await recorder.close();
+  for (const split of [0, -1, 1.5]) await assert.rejects(record(take, SPEC, { split }), RangeError);
+});
+
+test("a next file that is there is an error, before the file before it is ended", async () => {
+  await fs.writeFile(partAt(2), "mine");
+  await assert.rejects(record(take, SPEC, { split: 4 }), { code: "EEXIST" });
+  await removeParts();
+  const recorder = await record(take, SPEC, { split: 4 });
+  await recorder.write(block(1));
+  await fs.writeFile(partAt(2), "mine");
+  for (let i = 0; i < 2; i++) await assert.rejects(recorder.write(block(2)), { code: "EEXIST", path: partAt(2) });
+  assert.equal((await info(await content())).frames, 0);
+  await recorder.write(block(3).subarray(0, 2));
+  await recorder.close();
+  assert.deepEqual(await content(), fileOf([block(1), block(3).subarray(0, 2)]));
+  assert.equal(String(await fs.readFile(partAt(2))), "mine");
+  await removeParts();
+});
+
+test("blocks with noise are a file with noise", async () => {
+  const samples = Float64Array.from({ length: 200 }, (_, i) => i / 300), options = { dither: true, seed: 9 };
+  const recorder = await record(take, SPEC);
+  for (let i = 0; i < 200; i += 40) await recorder.write(samples.subarray(i, i + 40), options);
+  await assert.rejects(recorder.write(block(1), options), { message: "dither is for floats that become integers" });
+  await recorder.close();
+  assert.deepEqual(new Uint8Array(await content()), await write(samples, { ...SPEC, ...options }));
+});
+
 test("arguments and files that can't be recorded to", async () => {
   await fs.writeFile(take, "older");
   await assert.rejects(record(take, { sampleRate: 8000 }), { name: "TypeError", message: /^bitsPerSample / });
@@ -111,6 +164,41 @@ async function system(t, made, during) {
   await during().finally(() => mocks.forEach(({ mock }) => mock.restore()));
 }
 
+test("each call of the system fails where a recording continues in a next file", async (t) => {
+  const some = (count, first) => Int16Array.from({ length: 2 * count }, (_, i) => first + i);
+  for (const durable of [false, true]) for (const once of [true, false]) {
+    let at = 0, failed = true;
+    for (; failed; at++) {
+      let made = 0, isOn = false, isDone = true;
+      failed = false;
+      await removeParts();
+      await system(t, (name, real, given) => {
+        if (isOn && name !== "stat" && (made++ === at || (made > at && !once))) {
+          failed = true;
+          return Promise.reject(new Error("a fault"));
+        }
+        return real(...given);
+      }, async () => {
+        const recorder = await record(take, SPEC, { split: 4, durable });
+        await recorder.write(some(3, 1));
+        isOn = true;
+        await recorder.write(some(3, 20)).catch(() => (isDone = false));
+        isOn = false;
+        assert.equal((await fs.readdir(folder)).length, recorder.paths.length, `${durable} ${at}`);
+        const isAlive = await recorder.write(some(4, 40)).then(() => true, () => false);
+        assert.equal(isAlive || durable, true);
+        await recorder.close().catch((error) => assert.equal([error.code, isAlive].join(), "SYNC_FAILED,false"));
+        if (!isAlive) return;
+        const files = await Promise.all(recorder.paths.map((name) => fs.readFile(name)));
+        const found = (await Promise.all(files.map((file) => read(file)))).flatMap((samples) => [...samples]);
+        assert.deepEqual(found, [...some(3, 1), ...isDone ? some(3, 20) : [], ...some(4, 40)], `${durable} ${at}`);
+      });
+    }
+    assert.ok(at > 4);
+  }
+  await removeParts();
+});
+
 test("what is durable is synced before the header counts it, and what was written in part is continued", async (t) => {
   for (const durable of [false, true]) {
     const calls = [], kinds = () => calls.filter((name, i) => name !== calls[i - 1]).join();
@@ -121,7 +209,8 @@ test("what is durable is synced before the header counts it, and what was writte
     }, async () => {
       const recorder = await record(take, SPEC, { durable });
       // The first sync is the folder's.
-      assert.equal(kinds(), durable ? "sync,truncate,sync,header" : "truncate,header");
+      const begun = durable ? /^sync,stat,(truncate,)?sync,header,sync,header,sync$/ : /^stat,(truncate,)?header$/;
+      assert.match(kinds(), begun);
       calls.length = 0;
       await recorder.write(block(1));
       await recorder.flush();

@@ -7,7 +7,7 @@ import path from "node:path";
 import { append, appendTo, findDamage, info, read, record, repair, repairFile, write } from "../hound.js";
 
 // What hound.h has: where the kind and the report of an effect are, and the numbers of a report and of kinds.
-const [KIND, REPORT, DONE, READ, WRITE, WRITE_BLOCK, SYNC, CUT] = [12, 14, 1, 1, 2, 3, 4, 5];
+const [KIND, REPORT, DONE, READ, WRITE, WRITE_BLOCK, SYNC, CUT, SYNC_FOLDER] = [12, 14, 1, 1, 2, 3, 4, 5, 6];
 const SPEC = { sampleRate: 8000, bitsPerSample: 16 };
 // The kind of which effects get another one, and which.
 let from, to;
@@ -15,9 +15,11 @@ let from, to;
 const { instantiate } = WebAssembly;
 WebAssembly.instantiate = async (module) => {
   const { exports } = await instantiate(module), changed = { ...exports };
-  for (const name of ["hound_walk_next", "hound_walk_to_end", "hound_repairer_next", "hound_recorder_next"]) {
+  const names = ["walk_next", "walk_to_end", "repairer_next", "recorder_next", "beginning"];
+  for (const name of names.map((name) => "hound_" + name)) {
     changed[name] = (...places) => {
-      const effect = new DataView(exports.memory.buffer, Number(places[0])), kind = () => effect.getUint16(KIND, true);
+      const place = Number(places[name === "hound_beginning" ? 2 : 0]);
+      const effect = new DataView(exports.memory.buffer, place), kind = () => effect.getUint16(KIND, true);
       const isDone = effect.getUint16(REPORT, true) === DONE;
       assert.ok(from === undefined || kind() !== to || !isDone, "it is reported as done");
       const code = exports[name](...places);
@@ -30,7 +32,7 @@ WebAssembly.instantiate = async (module) => {
 
 /** Makes a call while effects of a kind are of others that aren't known. */
 async function fails(kind, call) {
-  for (const other of [CUT + 1, 0xffff]) {
+  for (const other of [SYNC_FOLDER + 1, 0xffff]) {
     [from, to] = [kind, other];
     await assert.rejects(call(), /the WebAssembly module requests what this hound\.js can't do/, `${kind}: ${call}`);
     from = undefined;
@@ -61,9 +63,12 @@ test("over files at a path", async () => {
   for (const kind of [READ, WRITE, SYNC]) await fails(kind, () => repairFile(take));
   await fails(READ, () => appendTo(take));
   assert.ok((await fs.readFile(take)).equals(cut));
+  for (const kind of [SYNC_FOLDER, CUT, SYNC, WRITE]) await fails(kind, () => record(take, SPEC));
   for (const [kind, frames] of [[WRITE_BLOCK, 0], [WRITE, 1], [SYNC, 0]]) {
     await fails(kind, async () => {
+      from = undefined;
       const recorder = await record(take, SPEC);
+      from = kind;
       try {
         await recorder.write(one);
         await recorder.flush();

@@ -505,7 +505,7 @@ class _InMemory:
             return _check_header(code, lambda: _front_of(*self._place))
 
         with room.place(count) as (place, _):
-            count = conversion.filled(place, count, room.dtype, spec, kind, take)
+            count = room.fill(place, count, spec, kind, take)
         if 0 < count < channels:
             raise HoundError(Cause.TRUNCATED)
         return room.result(count // channels * channels, always_2d)
@@ -762,7 +762,7 @@ def write(
         with conversion.Given(samples) as given:
             spec = _spec_for(given, rate, channels, bits, bytes_per_sample, like)
             length = _checked(_size(ctypes.byref(spec), given.count))
-            with _replaced(path, durable) as part, streams._create(part, spec, False, True, dither) as writer:
+            with _replaced(path, durable) as part, streams._begun(part, spec, False, True, dither) as writer:
                 writer._end_with(given, durable)
         return length
 

@@ -6,6 +6,7 @@ import contextlib
 import io
 import json
 import os
+import re
 import select
 import shlex
 import signal
@@ -199,9 +200,12 @@ def _say_what_is_counted(name: str, chunks: Optional[lost.Chunks]) -> None:
 
 
 def _info(options: argparse.Namespace) -> int:
+    shown: List[hound.Info] = []
+
     def show(name: str) -> bool:
         info, found = _found(name)
         chunks = _chunks_counted(name, found)
+        shown.append(info if found is None else found.info)
         if options.json:
             more = {} if found is None else {"state": _STATES[found.state], "frames_held": found.frames}
             if found is not None:
@@ -213,7 +217,11 @@ def _info(options: argparse.Namespace) -> int:
             _say_what_is_counted(name, chunks)
         return found is None or found.state != hound.State.CUT_OFF
 
-    return _each(_files_of(options.files), show, _failure(options))
+    status = _each(_files_of(options.files), show, _failure(options))
+    if len(shown) > 1 and not options.json:
+        frames, seconds = sum(info.frames for info in shown), sum(info.duration for info in shown)
+        _say(f"{len(shown)} files: {frames} frames, {seconds:.3f} s")
+    return status
 
 
 def _failure(options: argparse.Namespace) -> Callable[[str, str], None]:
@@ -398,6 +406,50 @@ def _convert(options: argparse.Namespace) -> int:
     return 0 if is_whole else 1
 
 
+# join
+
+
+def _whole(name: str) -> hound.Info:
+    """What the header of a file says; an error where it doesn't count all that the file holds."""
+    info = hound.info(name)
+    if hound.find_damage(name).state == hound.State.CUT_OFF:
+        raise ValueError(f"{name}: the recording was cut off: hound-wav repair")
+    return info
+
+
+def _form_of_all(names: List[str]) -> hound.Info:
+    """What the samples of all these files are, and how many frames they have; an error where they aren't alike."""
+    infos = [_whole(name) for name in names]
+    for name, info in zip(names, infos):
+        if info[:4] != infos[0][:4]:
+            raise ValueError(f"{name} has another form, {_form(info)}, than {names[0]}, {_form(infos[0])}")
+    return infos[0]._replace(frames=sum(info.frames for info in infos))
+
+
+def _check_order(names: List[str]) -> None:
+    """An error where the first file of a recording comes after its second one, as by the shell's take*.wav."""
+    for place, name in enumerate(names):
+        second = streams._part_name(name, 2)
+        if second in names[:place]:
+            raise _Wrong(f"{name} comes before {second}: name it first")
+
+
+def _join(options: argparse.Namespace) -> int:
+    if os.path.exists(options.target) and not options.overwrite:
+        raise _Wrong(f"{options.target} exists: --overwrite replaces it")
+    _check_order(options.files)
+    form = _form_of_all(options.files)
+    with hound._replaced(options.target, options.durable) as part:
+        with hound.create(part, like=form, exclusive=True, durable=options.durable) as writer:
+            if form.frames > writer.frames_left:
+                raise hound.HoundError(hound.Cause.TOO_LONG)
+            for name in options.files:
+                with hound.open(name) as reader:
+                    for block in _blocks(name, reader, None):
+                        writer.write(block)
+    return 0
+
+
 # record
 
 
@@ -437,7 +489,9 @@ def _recorded(writer: hound.Writer, every: float) -> int:
                 last, counted = time.monotonic(), writer.tell()
             if not _has_input(last + every - time.monotonic()):
                 continue
-            piece = os.read(sys.stdin.fileno(), _BLOCK)
+            # With --split a file has exactly so many frames, however the samples come.
+            room = (writer.frames_left or _BLOCK) * size - len(held)
+            piece = os.read(sys.stdin.fileno(), min(_BLOCK, room))
             if not piece:
                 break
             held += piece
@@ -452,6 +506,8 @@ def _recorded(writer: hound.Writer, every: float) -> int:
 def _opened_to_record(options: argparse.Namespace) -> hound.Writer:
     given = options.rate, options.channels, options.bits
     if options.append:
+        if options.split:
+            raise _Wrong("--split is for a new recording: --append continues one file")
         if options.overwrite:
             raise _Wrong("a file is continued, or emptied: --append, or --overwrite")
         if any(given) or options.float:
@@ -460,7 +516,11 @@ def _opened_to_record(options: argparse.Namespace) -> hound.Writer:
     if not all(given):
         raise _Wrong("--rate, --channels and --bits are needed, or --append")
     more = {"durable": options.durable, "is_float": options.float, "exclusive": not options.overwrite}
-    return hound.create(options.target, *given, **more)
+    if options.split:
+        return hound.create(options.target, *given, **more, split=options.split(hound.Info(*given, options.float)))
+    writer = hound.create(options.target, *given, **more)
+    writer._split(sys.maxsize)  # The second file is looked for where the first one has no more room.
+    return writer
 
 
 def _record(options: argparse.Namespace) -> int:
@@ -469,7 +529,8 @@ def _record(options: argparse.Namespace) -> int:
         with writer:
             left = _recorded(writer, options.checkpoint)
     finally:
-        is_read = _say_what_is_kept(options.target)  # Also where a write failed, whose error is said, too.
+        # Also where a write failed, whose error is said, too.
+        is_read = all([_say_what_is_kept(os.fspath(path)) for path in writer.paths])
     if left:
         _complain(f"the last {left} bytes are no whole frame")
     return 1 if left or not is_read else 0
@@ -523,6 +584,32 @@ def _seconds(text: str) -> float:
         if 0 < float(text) < 1e6:
             return float(text)
     raise argparse.ArgumentTypeError(f"{text} is no time")
+
+
+# What a number of --split counts, as how many frames of a form: bytes of a file with its header, or times.
+_UNITS: Dict[str, Callable[[int, hound.Info], int]] = {
+    "": lambda count, form: count,
+    "MiB": lambda count, form: _frames_in(count << 20, form),
+    "GiB": lambda count, form: _frames_in(count << 30, form),
+    "s": lambda count, form: count * form.sample_rate,
+    "min": lambda count, form: count * 60 * form.sample_rate,
+    "h": lambda count, form: count * 3600 * form.sample_rate,
+}
+
+
+def _frames_in(length: int, form: hound.Info) -> int:
+    """How many frames a file of so many bytes has at most."""
+    spec = conversion.spec_like(form)
+    return (length - hound._HEADER_BYTES) // int(form.channels * spec.bytes_per_sample)
+
+
+def _split(text: str) -> Callable[[hound.Info], int]:
+    """How many frames each file has at most, by the form of the recording."""
+    parts = re.fullmatch("([0-9]{1,15})([A-Za-z]*)", text)
+    if not parts or parts[2] not in _UNITS or int(parts[1]) == 0:
+        raise argparse.ArgumentTypeError(f"{text} is neither a number of frames, nor one of MiB, GiB, s, min or h")
+    count, unit = int(parts[1]), parts[2]
+    return lambda form: _UNITS[unit](count, form)
 
 
 def _parser() -> argparse.ArgumentParser:
@@ -582,6 +669,12 @@ def _parser() -> argparse.ArgumentParser:
     add("--overwrite", help="replace OUT if it is there", **flag)
     add("--durable", help="sync what is written", **flag)
 
+    add = command("join", _join, "write the samples of files, one after the other, to a new one")
+    add("files", nargs="+", metavar="IN", type=_file, help="whole files of the same rate, channels and bits")
+    add("target", metavar="OUT", type=_file, help="gets its name when it is whole")
+    add("--overwrite", help="replace OUT if it is there", **flag)
+    add("--durable", help="sync what is written", **flag)
+
     words = "record raw samples from standard input, as the file stores them: little-endian, those of 8 bits unsigned"
     add = command("record", _record, words)
     words = "has all samples up to the last checkpoint if the program is killed; Ctrl-C ends it well"
@@ -594,6 +687,11 @@ def _parser() -> argparse.ArgumentParser:
     add("--overwrite", help="empty OUT if it is there", **flag)
     add("--durable", help="sync each checkpoint", **flag)
     add("--checkpoint", type=_seconds, default=1.0, metavar="SECONDS", help="make one so often (1)")
+    words = (
+        "continue in NAME-002.wav, NAME-003.wav and so on, which mustn't be there, after so many frames, or as much as "
+        "2GiB, 600MiB, 1h, 10min or 30s; without it a new recording does so where a file has no more room (4 GiB)"
+    )
+    add("--split", type=_split, metavar="LENGTH", help=words)
     return parser
 
 

@@ -1,9 +1,9 @@
 """Samples as callers give and take them: their types, and floats whose full scale is 1."""
 import array
 import contextlib
+import copy
 import ctypes
 import os
-import random
 import sys
 import warnings
 from typing import Any, Callable, ContextManager, Iterator, NamedTuple, Optional, Tuple
@@ -11,8 +11,8 @@ from typing import Any, Callable, ContextManager, Iterator, NamedTuple, Optional
 from . import _POINTER, _SIZE, _SPARE, Cause, HoundError, Info, _checked, _function, _integer, _Spec
 
 __all__ = [
-    "BLOCK", "CODES", "Given", "Room", "Scale", "TYPES", "Take", "address", "check_columns", "filled", "form_of",
-    "is_converted", "kind_of", "noise_of", "spec_like", "type_of", "warn_caller", "width_of",
+    "BLOCK", "CODES", "Given", "Room", "Scale", "TYPES", "Take", "address", "are_containers", "check_columns",
+    "form_of", "is_converted", "kind_of", "noise_of", "spec_like", "type_of", "warn_caller", "width_of",
 ]  # fmt: skip
 
 
@@ -52,6 +52,10 @@ _FROM_SCALED = {
     name: _function(call, _POINTER, _SIZE, ctypes.c_uint16, _POINTER, _SIZE, _POINTER)
     for name, call in (("float32", "from_f32"), ("float64", "from_f64"))
 }
+_DITHER = {
+    name: _function(call, _POINTER, _SIZE, ctypes.c_uint16, _POINTER, _POINTER, _SIZE, _POINTER)
+    for name, call in (("float32", "dither_f32"), ("float64", "dither_f64"))
+}
 _f32_to_f64 = _function("f32_to_f64", _POINTER, _SIZE, _POINTER, _SIZE)
 _f64_to_f32 = _function("f64_to_f32", _POINTER, _SIZE, _POINTER, _SIZE, _POINTER)
 
@@ -89,7 +93,7 @@ def _start(samples: "array.array[Any]") -> int:
 
 def form_of(view: memoryview, name: str, taken: str) -> Tuple[str, Optional[int]]:
     """The type of samples, and how many columns they have if they have two dimensions."""
-    dtype = _FORMATS.get((view.format.lstrip("@=<"), view.itemsize))
+    dtype = _FORMATS.get((view.format, view.itemsize)) or _FORMATS.get((view.format.lstrip("@=<"), view.itemsize))
     if dtype is None:
         raise TypeError(f"{name} has the format '{view.format}': {taken}, in this machine's byte order")
     if view.ndim not in (1, 2):
@@ -157,6 +161,15 @@ def is_converted(dtype: str, kind: str) -> bool:
     return CODES[kind] != TYPES[dtype].code
 
 
+def are_containers(dtype: str, spec: _Spec) -> bool:
+    """Whether the samples of a type are the containers of a file as they are, so that what decodes and encodes them
+    copies them only: those of 8 bits aren't, since they have no sign in a file."""
+    width = _WIDTHS[dtype]
+    is_number = spec.bits_per_sample == 8 * width and spec.bytes_per_sample in (0, width) and width > 1
+    is_same = dtype in _LIBRARYS and (dtype == "float32") == bool(spec.sample_format)
+    return is_number and is_same and sys.byteorder == "little"
+
+
 def _convert(part: "array.array[Any]", count: int, dtype: str, spec: _Spec, out: Any) -> None:
     """Stores the first samples that the library decoded at an address, in another type."""
     if _is_scaled(dtype, spec):
@@ -167,24 +180,18 @@ def _convert(part: "array.array[Any]", count: int, dtype: str, spec: _Spec, out:
         ctypes.memmove(out, part[:count].tobytes()[::2], count)  # The low bytes are those of int8.
 
 
-def filled(out: Any, count: int, dtype: str, spec: _Spec, kind: str, take: Take) -> int:
-    """Stores at most so many samples of a file in a type at an address, and returns how many. `take` decodes them by
-    calls of this kind."""
-    if not is_converted(dtype, kind):
-        return take(0, out, count)
-    part, done, some, wanted = _zeros(CODES[kind], min(BLOCK, count)), 0, 0, 0
-    while done < count and some == wanted:
-        wanted = min(BLOCK, count - done)
-        some = take(done, _start(part), wanted)
-        _convert(part, some, dtype, spec, out + done * width_of(dtype))
-        done += some
-    return done
-
-
-def _as_numpy(samples: "array.array[Any]", channels: int, always_2d: bool) -> Any:
-    """An array of numpy over the same memory: frames by channels, or of one dimension where there is one channel."""
+def _empty_of_numpy(count: int, dtype: str) -> Any:
+    """An array of numpy whose samples have no values yet."""
     numpy: Any = sys.modules["numpy"]  # It is there, since the type is one of its own.
-    flat = numpy.asarray(samples)
+    return numpy.empty(count, dtype)
+
+
+def _address_of_numpy(samples: Any) -> int:
+    return int(samples.__array_interface__["data"][0])
+
+
+def _as_numpy(flat: Any, channels: int, always_2d: bool) -> Any:
+    """The same array of numpy: frames by channels, or of one dimension where there is one channel."""
     return flat if channels == 1 and not always_2d else flat.reshape(-1, channels)
 
 
@@ -204,7 +211,9 @@ class Room:
 
     def __init__(self, buffer: Any = None, name: str = "out") -> None:
         self._view, self._name = None if buffer is None else memoryview(buffer), name
-        self._array: "array.array[Any]" = array.array("b")
+        self._array: Any = array.array("b")
+        self._part: "array.array[Any]" = array.array("b")  # What is decoded, and then converted.
+        self._next: Any = None  # The address of the next sample.
         self.most = sys.maxsize
         if self._view is not None:
             self._own_dtype, self._columns = form_of(self._view, name, READ)
@@ -236,15 +245,71 @@ class Room:
         """The address of the room for so many samples, while they are stored, and its bytes."""
         if self._view is not None:
             return address(self._view)
-        self._array = _zeros(TYPES[self.dtype].code, count)
-        return contextlib.nullcontext((_start(self._array), count * width_of(self.dtype)))
+        self._allocate(count)
+        start = _address_of_numpy(self._array) if self._is_of_numpy else _start(self._array)
+        return contextlib.nullcontext((start, count * width_of(self.dtype)))
+
+    def _allocate(self, count: int) -> None:
+        """Makes the array. One of Python has to be filled first, and one of numpy has no values yet."""
+        if self._is_of_numpy:
+            self._array = _empty_of_numpy(count, self.dtype)
+        else:
+            self._array = _zeros(TYPES[self.dtype].code, count)
+
+    def fill(self, out: Any, count: int, spec: _Spec, kind: str, take: Take) -> int:
+        """Stores at most so many samples of a file at an address, and returns how many. `take` decodes them by the
+        calls of this kind."""
+        if not is_converted(self.dtype, kind):
+            return take(0, out, count)
+        if len(self._part) < min(BLOCK, count):
+            self._part = _zeros(CODES[kind], min(BLOCK, count))
+        part = self._part
+        done, some, wanted = 0, 0, 0
+        while done < count and some == wanted:
+            wanted = min(BLOCK, count - done)
+            some = take(done, _start(part), wanted)
+            _convert(part, some, self.dtype, spec, out + done * width_of(self.dtype))
+            done += some
+        return done
+
+    def keeps_containers(self, spec: _Spec) -> bool:
+        """Whether the containers of a file are samples of this type."""
+        return are_containers(self.dtype, spec)
+
+    @contextlib.contextmanager
+    def bytes_of(self, count: int) -> Iterator[memoryview]:
+        """The bytes of the room for so many samples, while they are stored."""
+        if self._view is None:
+            self._allocate(count)
+        with memoryview(self._array if self._view is None else self._view) as view:
+            with view.cast("B") if count else memoryview(b"") as content:
+                yield content[: count * width_of(self.dtype)]
+
+    @contextlib.contextmanager
+    def opened(self, count: int) -> Iterator[None]:
+        """In this context at most so many samples are stored, one after the other."""
+        with self.place(count) as (self._next, _):
+            yield
+
+    def add(self, content: Any, count: int, spec: _Spec, decode: Any) -> None:
+        """Stores the samples of the first containers in some bytes after those before them."""
+        size = spec.bytes_per_sample
+
+        def take(first: int, place: Any, some: int) -> int:
+            return _checked(decode(ctypes.byref(spec), start + first * size, some * size, place, some))
+
+        with address(content) as (start, _):
+            self.fill(self._next, count, spec, self.kind, take)
+        self._next += count * width_of(self.dtype)
 
     def result(self, count: int, always_2d: bool) -> Any:
         """The samples, of which there are so many."""
         if self._view is not None:
             return self._view[: count // self._channels if self._columns else count]
+        if self._is_of_numpy:
+            return _as_numpy(self._array[:count], self._channels, always_2d)
         del self._array[count:]
-        return (_as_numpy if self._is_of_numpy else _shaped)(self._array, self._channels, always_2d)
+        return _shaped(self._array, self._channels, always_2d)
 
 
 def spec_like(info: Info) -> _Spec:
@@ -253,10 +318,9 @@ def spec_like(info: Info) -> _Spec:
     return _Spec(info.sample_rate, info.channels, info.bits_per_sample, width, info.is_float)
 
 
-def noise_of(dither: Any) -> Optional[random.Random]:
-    """The generator of the noise of a seed, if it isn't 0."""
-    seed = _integer("dither", dither, 0, sys.maxsize)
-    return random.Random(seed) if seed else None
+def noise_of(dither: Any) -> Optional[int]:
+    """The state of the noise of a seed, if it isn't 0."""
+    return _integer("dither", dither, 0, sys.maxsize) or None
 
 
 def warn_caller(sentence: str) -> None:
@@ -268,32 +332,32 @@ def warn_caller(sentence: str) -> None:
 
 
 class Scale:
-    """Floats whose full scale is 1 as integers of so many bits: `clipped` counts those that these don't hold. With a
-    generator each gets noise of a triangular distribution, of at most one step."""
+    """Floats whose full scale is 1 as integers of so many bits: `clipped` counts those that these don't hold. With the
+    state of some noise, which becomes that for the next ones, each gets noise of a triangular distribution, of at most
+    one step."""
 
-    def __init__(self, bits: int, noise: Optional[random.Random] = None) -> None:
-        self._bits, self._noise, self.clipped = bits, noise, 0
+    def __init__(self, bits: int, noise: Optional[int] = None) -> None:
+        self._bits, self.clipped = bits, 0
+        self._noise = None if noise is None else ctypes.c_uint64(noise)
         self._integers = _zeros("i", 0)
+
+    @property
+    def noise(self) -> Optional[int]:
+        """The state of the noise after all floats."""
+        return None if self._noise is None else self._noise.value
 
     def integers(self, dtype: str, start: Any, count: int) -> memoryview:
         """The integers of so many floats of a type at an address, until the next call."""
-        if self._noise:
-            noisy = self._noisy(dtype, start, count)
-            return self._rounded("float64", _start(noisy), count)
-        return self._rounded(dtype, start, count)
-
-    def _rounded(self, dtype: str, start: Any, count: int) -> memoryview:
         clipped = ctypes.c_uint64()
         if count > len(self._integers):
             self._integers = _zeros("i", count)
-        _checked(_FROM_SCALED[dtype](start, count, self._bits, _start(self._integers), count, ctypes.byref(clipped)))
+        out = _start(self._integers), count, ctypes.byref(clipped)
+        if self._noise is None:
+            _checked(_FROM_SCALED[dtype](start, count, self._bits, *out))
+        else:
+            _checked(_DITHER[dtype](start, count, self._bits, ctypes.byref(self._noise), *out))
         self.clipped += clipped.value
         return memoryview(self._integers)[:count]
-
-    def _noisy(self, dtype: str, start: Any, count: int) -> "array.array[float]":
-        floats: "array.array[float]" = array.array(TYPES[dtype].code, ctypes.string_at(start, count * width_of(dtype)))
-        some, step = self._noise.random, 2.0 ** (1 - self._bits)  # type: ignore[union-attr]
-        return array.array("d", [value + (some() - some()) * step for value in floats])
 
     def warn(self, count: int) -> None:
         """Warns where samples were clipped."""
@@ -351,20 +415,33 @@ class Given:
     def __exit__(self, *_: Any) -> None:
         self.view.release()
 
+    def frames(self, first: int, count: int, channels: int) -> "Given":
+        """So many frames at most, from one on, of samples that are whole frames."""
+        part, step = copy.copy(self), 1 if self.columns else channels
+        part.view = self.view[first * step : (first + count) * step]
+        part.count = part.view.nbytes // part.view.itemsize
+        return part
+
     def fits(self, spec: _Spec) -> bool:
         """Whether a file has a container for each value of this type, so that no sample is an error."""
         is_float = self.form.kind == "f32"
         is_narrow = self.dtype not in ("int64", "float64") and self.form.bits <= spec.bits_per_sample
         return _is_scaled(self.dtype, spec) or (is_narrow and is_float == bool(spec.sample_format))
 
-    def scale(self, spec: _Spec, noise: Optional[random.Random]) -> Scale:
+    def scale(self, spec: _Spec, noise: Optional[int]) -> Scale:
         """What scales the samples for a file; an error where it has other channels, or noise can't be added to them."""
         check_columns(self._name, self.columns, spec.channels)
         if _is_scaled(self.dtype, spec):
             return Scale(spec.bits_per_sample, noise)
-        if noise:
+        if noise is not None:
             raise ValueError("dither is for floats that become integers")
         return _UNSCALED
+
+    def containers(self, spec: _Spec) -> Optional[memoryview]:
+        """The bytes of the samples, where they are the containers of a file."""
+        if self.count and self.view.c_contiguous and are_containers(self.dtype, spec):
+            return self.view.cast("B")
+        return None
 
     def part(self, view: memoryview, spec: _Spec, scale: Scale) -> Tuple[str, Any]:
         """Some of the samples as the library takes them: the calls, and a buffer."""

@@ -22,11 +22,11 @@ except ImportError:
 __all__ = [
     "CUT", "DONE", "Descriptor", "FAILED", "File", "Medium", "READ", "SYNC", "Stream", "WRITE", "WRITE_BLOCK",
     "check_object", "descriptor_of", "folder_of", "opened", "perform", "piece_of", "place_of", "put", "put_here",
-    "read_at", "replace", "sync", "sync_folder", "sync_once",
+    "read_at", "read_into", "replace", "sync", "sync_folder", "sync_once",
 ]  # fmt: skip
 
 # The kinds of effects, and how one ended, made from hound.h by scripts/make_interface.
-READ, WRITE, WRITE_BLOCK, SYNC, CUT = 1, 2, 3, 4, 5
+READ, WRITE, WRITE_BLOCK, SYNC, CUT, SYNC_FOLDER = 1, 2, 3, 4, 5, 6
 DONE, FAILED = 1, 2
 # The end of what is made from hound.h.
 
@@ -35,6 +35,8 @@ _IS_LOCKED = "another program records to, appends to or repairs this file"
 _BINARY = getattr(os, "O_BINARY", 0)
 # How many bytes are read at once, so that a file which is shorter than its header says needs no memory for the rest.
 _PIECE = 1 << 20
+# How many are read at once to where they belong, which needs no memory: in few calls, since each costs something.
+_PLACED = 1 << 24
 
 
 class _Overlapped(ctypes.Structure):
@@ -71,6 +73,22 @@ def read_at(descriptor: int, count: int, place: int) -> bytes:
         pieces.append(piece)
         left -= len(piece)
     return b"".join(pieces)
+
+
+def _read_piece(descriptor: int, room: Any, place: int) -> int:
+    if hasattr(os, "preadv"):
+        return os.preadv(descriptor, (room,), place)
+    content = getattr(os, "pread", _pread)(descriptor, len(room), place)
+    room[: len(content)] = content
+    return len(content)
+
+
+def read_into(descriptor: int, room: memoryview, place: int) -> int:
+    """Fills the bytes of a buffer from a place on, and returns how many came: fewer only at the end of the file."""
+    done, length = 0, len(room)
+    while done < length and (count := _read_piece(descriptor, room[done : done + _PLACED], place + done)):
+        done += count
+    return done
 
 
 def put(descriptor: int, content: Any, place: int) -> None:
@@ -124,6 +142,8 @@ def perform(effect: Any, file: "Medium", durable: bool, block: Iterable[Any] = (
         file.cut(place)
     elif kind == SYNC:
         file.sync(durable)
+    elif kind == SYNC_FOLDER:
+        file.sync_folder(durable)
     else:
         raise NotImplementedError(f"the library requests an effect of kind {kind}: this package is older, so update it")
     effect.report = DONE
@@ -191,6 +211,9 @@ class Descriptor:
     def sync(self, durable: bool) -> None:
         if durable:
             sync(self.descriptor)
+
+    def sync_folder(self, durable: bool) -> None:
+        """Nothing, where its name isn't known."""
 
 
 def check_object(file: Any, method: str) -> None:
@@ -294,6 +317,9 @@ class Stream:
     def sync(self, durable: bool) -> None:
         _flush(self._file)
 
+    def sync_folder(self, durable: bool) -> None:
+        """Nothing: an object that is durable is an error."""
+
     def close(self, is_unlocked: bool = True) -> None:
         """Ends its use: the object stays open, and is at its end, unless it is that of another process."""
         self.is_closed = True
@@ -340,6 +366,8 @@ class File(Descriptor):
     or repairs it, and no other `File` of this program is at it. Where the system has no locks for it, it isn't
     locked."""
 
+    folder: Optional[int] = None  # The descriptor of the folder that has its name, if that is open.
+
     def __init__(self, path: Union[str, "os.PathLike[str]"], flags: int) -> None:
         self.path = path
         _check_no_pipe(path)
@@ -372,6 +400,10 @@ class File(Descriptor):
         except OSError as error:
             if error.errno == errno.EWOULDBLOCK:
                 raise BlockingIOError(errno.EWOULDBLOCK, _IS_LOCKED, os.fspath(self.path)) from None
+
+    def sync_folder(self, durable: bool) -> None:
+        if durable:
+            sync(self.folder)
 
     def _is_at_path(self) -> bool:
         with contextlib.suppress(FileNotFoundError):

@@ -19,7 +19,7 @@ from typing import (
 
 from . import (
     _FIND_DAMAGE, _FRONT_BYTES, _HEADER_BYTES, _OVERWRITE, _POINTER, _SIZE, _SPARE, _U64, Cause, Dtype, HoundError,
-    Info, Path, _check_header, _checked, _function, _info_from, _info_of_header, _integer, _name_error, _named,
+    Info, Path, _check_header, _checked, _Effect, _function, _info_from, _info_of_header, _integer, _name_error, _named,
     _Recorder, _repaired, _room_of, _Spec, _spec_of, _walk_over, _whole_frames, conversion, disk,
 )  # fmt: skip
 
@@ -105,26 +105,11 @@ class _Next(NamedTuple):
 _PIECE, _CACHED, _MOST_FRAMES = 1 << 20, 1 << 18, 1 << 46
 
 
-def _store(content: bytes, count: int, spec: _Spec, room: conversion.Room, out: Any) -> None:
-    """Stores the first samples of these bytes at an address."""
-    width = spec.bytes_per_sample
-    if not conversion.is_converted(room.dtype, room.kind):
-        _checked(_decode[room.kind](ctypes.byref(spec), content, count * width, out, count))
-        return
-    with conversion.address(content) as (start, _):
-
-        def take(first: int, place: Any, count: int) -> int:
-            begin, length = start + first * width, count * width
-            return _checked(_decode[room.kind](ctypes.byref(spec), begin, length, place, count))
-
-        conversion.filled(out, count, room.dtype, spec, room.kind, take)
-
-
 def decoded(content: bytes, count: int, spec: _Spec) -> "array.array[Any]":
     """The first samples of these bytes."""
     room = conversion.Room().bound(spec, None)
-    with room.place(count) as (out, _):
-        _store(content, count, spec, room, out)
+    with room.opened(count):
+        room.add(content, count, spec, _decode[room.kind])
     samples: "array.array[Any]" = room.result(count, False)
     return samples
 
@@ -238,28 +223,47 @@ class Reader(_OneAtATime):
         self._spec, self.info = found.spec, _info_of_header(found)
         self._most = _MOST_FRAMES if self._to_end else self.info.frames
 
-    def _pieces(self, frames: int, size: int, place: int) -> Tuple[Iterator[bytes], int]:
-        """The bytes of so many frames from a place on, and how many whole ones there are at most. They are read in
-        pieces if the system says that the file holds them all: then nothing is lost if a read fails."""
-        if self._reads_at and frames * size <= _CACHED:
-            content = os.pread(self._source.fileno(), frames * size, place)
-            if len(content) == frames * size:
-                return iter((content,)), frames
-        if self._reads_at and os.fstat(self._source.fileno()).st_size >= place + frames * size:
-            return self._read_in_pieces(frames, size, place), frames
-        content = self._fill(frames * size, place)
-        whole = _checked(_whole_frames(ctypes.byref(self._spec), len(content))) // size
-        return iter((content,)), min(whole, frames)
+    def _stored(self, frames: int, size: int, room: conversion.Room) -> Tuple[int, bytes]:
+        """How many of the next frames were stored, at most so many, and the bytes that came after them. Nothing is lost
+        if a read fails."""
+        length, place = frames * size, self.info.data_start + self._state.frame * size
+        is_small, channels = length <= _CACHED, self._spec.channels
+        if self._reads_at and (is_small or os.fstat(self._source.fileno()).st_size >= place + length):
+            count = self._stored_at(place, frames, size, room)
+            if count == frames or not is_small:  # Else the file became shorter, or holds fewer frames than it says.
+                return count, b""
+        content = self._fill(length, place)
+        count = min(_checked(_whole_frames(ctypes.byref(self._spec), len(content))) // size, frames)
+        with room.opened(count * channels):
+            room.add(content, count * channels, self._spec, _decode[room.kind])
+        return count, content[count * size :]
 
-    def _read_in_pieces(self, frames: int, size: int, place: int) -> Iterator[bytes]:
-        end, piece = place + frames * size, max(_CACHED // size, 1) * size
-        while place < end:
-            wanted = min(piece, end - place)
-            content = disk.read_at(self._source.fileno(), wanted, place)
-            yield content
-            if len(content) < wanted:
-                break  # It became shorter.
-            place += wanted
+    def _stored_at(self, place: int, frames: int, size: int, room: conversion.Room) -> int:
+        """How many of so many frames at a place were stored."""
+        channels, count = self._spec.channels, 0
+        if room.keeps_containers(self._spec):
+            with room.bytes_of(frames * channels) as content:
+                return disk.read_into(self._source.fileno(), content, place) // size
+        with room.opened(frames * channels):
+            for piece in self._pieces(place, frames * size, size):
+                whole = len(piece) // size
+                room.add(piece, whole * channels, self._spec, _decode[room.kind])
+                count += whole
+        return count
+
+    def _pieces(self, place: int, length: int, size: int) -> Iterator[Any]:
+        """So many bytes from a place on, in pieces of whole frames, each of them until the next one."""
+        source, most = self._source.fileno(), max(_CACHED // size, 1) * size
+        if length <= most:
+            yield os.pread(source, length, place)
+            return
+        piece = memoryview(bytearray(most))
+        for done in range(0, length, most):
+            wanted = min(most, length - done)
+            came = disk.read_into(source, piece[:wanted], place + done)
+            yield piece[:came]
+            if came < wanted:
+                return
 
     @_one_at_a_time
     def read(
@@ -279,13 +283,7 @@ class Reader(_OneAtATime):
         left = min(self._most - frame, room.most)
         frames = left if frames < 0 else min(frames, left)
         size = self._spec.bytes_per_sample * channels
-        pieces, most = self._pieces(frames, size, self.info.data_start + frame * size)
-        count, rest, step = 0, b"", channels * conversion.width_of(room.dtype)
-        with room.place(most * channels) as (start, _):
-            for content in pieces:
-                whole = min(len(content) // size, most - count)
-                _store(content, whole * channels, self._spec, room, start + count * step)
-                count, rest = count + whole, content[whole * size :]
+        count, rest = self._stored(frames, size, room)
         if count == 0 and frames > 0 and not self._to_end:
             raise HoundError(Cause.TRUNCATED)
         result = room.result(count * channels, always_2d)
@@ -336,7 +334,7 @@ if hasattr(os, "register_at_fork"):
 _INT = ctypes.c_int32
 _decode = {t: _function("decode_" + t, _POINTER, _POINTER, _SIZE, _POINTER, _SIZE) for t in ("i8", "i16", "i32", "f32")}
 _encode = {t: _function("encode_" + t, _POINTER, _POINTER, _SIZE, _POINTER, _SIZE) for t in ("i16", "i32", "f32")}
-_header = _function("header", _POINTER, _U64, _POINTER, _SIZE)
+_beginning = _function("beginning", _POINTER, ctypes.c_uint32, _POINTER, result=_INT)
 _recorder_begin = _function("recorder_begin", _POINTER, _POINTER, result=_INT)
 _recorder_resume = _function("recorder_resume", _POINTER, ctypes.c_uint32, _POINTER, result=_INT)
 _recorder_write = _function("recorder_write", _POINTER, _U64, result=_INT)
@@ -349,12 +347,41 @@ _REST = "so a repair may take for samples what its header doesn't count"
 
 
 class _Recording(NamedTuple):
-    """What is recorded. `synced` has one item since a sync that is the recorder's effect began, and two since it
-    succeeded. `clipped` samples were."""
+    """What is recorded, and in which file. `synced` has one item since a sync that is the recorder's effect began, and
+    two since it succeeded. `clipped` samples were. Of a recording in several files `ended` are those before this one,
+    which have so many frames. `noise` is the state of the noise of the next samples."""
 
+    file: Union[disk.File, disk.Stream]
     recorder: _Recorder
     synced: List[Any]
     clipped: int
+    ended: Tuple[Any, ...]
+    frames_before: int
+    noise: Optional[int]
+
+
+# How many bytes are written at once where they need no memory. A system keeps what is written in few calls in larger
+# pieces, so that it is read in less time, too.
+_WRITTEN = 1 << 22
+
+
+def _part_name(path: Path, number: int) -> str:
+    """The name of a further file of a recording, as take-002.wav is the second one of take.wav."""
+    stem, ending = os.path.splitext(os.fsdecode(path))
+    return f"{stem}-{number:03}{ending}"
+
+
+def _check_part(path: Path) -> None:
+    """An error where a file of this name is there, also a link to none."""
+    if os.path.lexists(path):
+        raise FileExistsError(errno.EEXIST, os.strerror(errno.EEXIST), os.fspath(path))
+
+
+def _in_pieces(content: memoryview, most: int) -> Iterable[memoryview]:
+    """The same bytes, in pieces of at most so many."""
+    if len(content) <= most:
+        return (content,)
+    return (content[first : first + most] for first in range(0, len(content), most))
 
 
 class Writer(_OneAtATime):
@@ -375,6 +402,12 @@ class Writer(_OneAtATime):
     of the same thread gets a RuntimeError. One that isn't closed is closed when it is collected or the program ends,
     with a ResourceWarning. The file is locked until then.
 
+    With `split` it continues in a next file where a block has no room, so a block is in one file, in whole frames. The
+    next file is made, begun and locked before this one is ended. Where that fails, as at a name that is there, `write`
+    is the error, and the Writer is as before: all blocks are in their files, and it can be used or closed. A block that
+    is larger than a file may be is written as several: after an error those before the failed one are there, which
+    `tell` counts.
+
     It belongs to the process that made it, since two would overwrite each other's blocks. In a forked process `write`
     and `flush` are a RuntimeError, and nothing is written or unlocked by `close`, the end of a `with` or of the
     program, or where it is collected. No copy of it can be made.
@@ -382,17 +415,22 @@ class Writer(_OneAtATime):
 
     _length = 0  # of the file when it was closed
     _has_rest = False  # A part of a block couldn't be cut off.
+    _most: Optional[int] = None  # How many frames a file has at most, where the recording continues in a next one.
+    _attempted: Optional[str] = None  # The name of the next file, once a call has begun to make it.
 
     def __init__(
         self, file: Union[disk.File, disk.Stream], spec: _Spec, recorder: _Recorder, durable: bool, dither: int
     ) -> None:
         super().__init__()
-        self._file, self._spec, self._durable, self._name = file, spec, durable, file.path
-        self._noise = conversion.noise_of(dither)
-        self._state = _Recording(recorder, [], 0)
+        self._spec, self._durable, self._name = spec, durable, file.path
+        self._state = _Recording(file, recorder, [], 0, (), 0, conversion.noise_of(dither))
         self._out = ctypes.create_string_buffer(0)
         _WRITERS[self] = file
         self._process = os.getpid()
+
+    @property
+    def _file(self) -> Union[disk.File, disk.Stream]:
+        return self._state.file  # type: ignore[no-any-return]
 
     def __enter__(self) -> "Writer":
         return self
@@ -427,20 +465,31 @@ class Writer(_OneAtATime):
 
     @property
     def info(self) -> Info:
-        """What the header says after the next checkpoint."""
+        """What the header says after the next checkpoint: with `split`, that of the file that is written."""
         recorder = self._state.recorder
-        info = _info_from(self._spec, self.tell(), recorder.data_start)
+        info = _info_from(self._spec, self._frames(), recorder.data_start)
         return info._replace(bytes_per_sample=recorder.bytes_per_sample)
 
-    def tell(self) -> int:
-        """The number of the next frame."""
+    def _frames(self) -> int:
+        """How many frames the file has that is written."""
         recorder = self._state.recorder
         return int(recorder.data_length // (recorder.bytes_per_sample * recorder.channels))
 
+    def tell(self) -> int:
+        """The number of the next frame; with `split`, of all files."""
+        return int(self._state.frames_before) + self._frames()
+
+    @property
+    def paths(self) -> List[Any]:
+        """The files of the recording: with `split` there may be several, the last of which is written."""
+        return [*self._state.ended, self._file.path]
+
     @property
     def frames_left(self) -> int:
-        """How many frames have room after those that are written, so that a program can continue in another file."""
-        return int(_recorder_frames_left(ctypes.byref(self._state.recorder)))
+        """How many frames have room after those that are written, so that a program can continue in another file; with
+        `split`, how many this file still takes."""
+        left = int(_recorder_frames_left(ctypes.byref(self._state.recorder)))
+        return left if self._most is None else min(left, max(self._most - self._frames(), 0))
 
     @_one_at_a_time
     def write(self, block: Any) -> None:
@@ -448,19 +497,105 @@ class Writer(_OneAtATime):
         first, as `flush` does."""
         self._check_open()
         with block if isinstance(block, conversion.Given) else conversion.Given(block, "block") as given:
-            scale = given.scale(self._spec, self._noise)
-            if given.count > conversion.BLOCK and given.fits(self._spec):
-                with contextlib.closing(self._encoded(given.parts(self._spec, scale))) as pieces:
-                    self._request(_recorder_write, given.count)
-                    recorder = self._perform_all(pieces)
+            if self._most is None:
+                self._write(given)
             else:
-                # Where a sample may be an error all are encoded before any is written.
-                encoded = self._encoded_at_once(given, scale)
-                self._request(_recorder_write, given.count)
-                recorder = self._perform_all(encoded)
+                self._write_in_files(given, self._most)
+
+    def _write_in_files(self, given: conversion.Given, most: int) -> None:
+        """Writes a block; or of one that is larger than a file may be what each file has room for."""
+        channels, first = self._spec.channels, 0
+        if given.count <= most * channels or given.count % channels:
+            self._write(given)
+            return
+        while first * channels < given.count:
+            self._running[1].clear()  # What is written of it stays.
+            room = self.frames_left or most
+            with given.frames(first, room, channels) as part:
+                self._write(part)
+            first += room
+
+    def _write(self, given: conversion.Given) -> None:
+        scale = given.scale(self._spec, self._state.noise)
+        containers = given.containers(self._spec)
+        if containers is not None:
+            with containers:
+                self._request_block(given.count)
+                recorder = self._perform_all(_in_pieces(containers, _WRITTEN))
+        elif given.count > conversion.BLOCK and given.fits(self._spec):
+            with contextlib.closing(self._encoded(given.parts(self._spec, scale))) as pieces:
+                self._request_block(given.count)
+                recorder = self._perform_all(pieces)
+        else:
+            # Where a sample may be an error all are encoded before any is written.
+            encoded = self._encoded_at_once(given, scale)
+            self._request_block(given.count)
+            recorder = self._perform_all(encoded)
         if scale.clipped:
             scale.warn(given.count)
-        self._finish(_Recording(recorder, [], self._state.clipped + scale.clipped))
+        clipped = self._state.clipped + scale.clipped
+        self._finish(self._state._replace(recorder=recorder, synced=[], clipped=clipped, noise=scale.noise))
+
+    def _request_block(self, count: int) -> None:
+        """Requests the write of so many samples, in a next file where they have no room in this one."""
+        frames, torn = divmod(count, self._spec.channels)
+        if self._most is not None and not torn and frames > self.frames_left:
+            self._continue()
+        self._request(_recorder_write, count)
+
+    def _split(self, frames: int) -> None:
+        """Lets the recording continue in a next file after so many frames, or as many as have room."""
+        self._most = min(frames, self.frames_left)
+
+    def _continue(self) -> None:
+        """Continues in a next file, which is made, begun and locked before this one is ended."""
+        following = self._next_file()
+        try:
+            self._checkpoint()
+        except BaseException:
+            following._file.close()
+            self._remove(following.paths[0])
+            raise
+        before = self._state
+        _WRITERS[self] = following._file
+        self._state = before._replace(
+            file=following._file,
+            recorder=following._state.recorder,
+            synced=[],
+            ended=(*before.ended, before.file.path),
+            frames_before=self.tell(),
+        )
+        self._name, had_rest, self._has_rest = following._name, self._has_rest, False
+        before.file.close()
+        if had_rest:
+            _warn_of_rest(before.file.path)
+
+    def _next_file(self) -> "Writer":
+        """The next file, with its header. A name that is there is an error, unless a call of this Writer that was cut
+        off has left a file without samples there."""
+        path = _part_name((*self._state.ended, self._file.path)[0], len(self._state.ended) + 2)
+        _WRITERS[self] = self._file  # and no other one that a call had begun
+        is_left = self._attempted == path and _is_bare(path)
+        if not is_left:
+            _check_part(path)
+        self._attempted = path
+        try:
+            following = _create(path, self._spec, self._durable, not is_left, False)
+        except (FileExistsError, BlockingIOError):
+            self._attempted = None  # It is another program's.
+            raise
+        except (OSError, HoundError):
+            self._remove(path)
+            raise
+        following._process = None  # From now on its file is that of this Writer.
+        return following
+
+    def _remove(self, path: Path) -> None:
+        """Removes the next file, which a call has made, if it can."""
+        with contextlib.suppress(OSError):
+            if _is_bare(path):
+                os.unlink(path)
+        self._attempted = None
 
     def _encoded(self, parts: Iterable[Tuple[str, Any]]) -> Generator[memoryview, None, None]:
         """The bytes of all parts, in pieces that stay in the processor's cache, each of them until the next one."""
@@ -545,7 +680,7 @@ class Writer(_OneAtATime):
 
     def _warn_of_rest(self) -> None:
         if self._has_rest:
-            conversion.warn_caller(f"{self._file.path}: the file couldn't be cut off, {_REST}")
+            _warn_of_rest(self._file.path)
 
     def _give_up(self, before: _Recording) -> None:
         """Closes the file, and cuts it off by the recorder from before a block, if the header counts what it did then.
@@ -617,6 +752,18 @@ class Writer(_OneAtATime):
             self._settled()
 
 
+def _warn_of_rest(path: Any) -> None:
+    conversion.warn_caller(f"{path}: the file couldn't be cut off, {_REST}")
+
+
+def _is_bare(path: Path) -> bool:
+    """Whether a file has no more than a header."""
+    with contextlib.suppress(OSError), io.open(path, "rb", buffering=0) as file:
+        front = file.read(_HEADER_BYTES + 1)
+        return len(front) <= _HEADER_BYTES and front[:4] == b"RIFF"[: len(front)]
+    return False
+
+
 # The Writers, and their files: so a collected cycle of both closes the Writer before its file.
 _WRITERS: "weakref.WeakKeyDictionary[Writer, Any]" = weakref.WeakKeyDictionary()
 
@@ -640,42 +787,71 @@ def create(
     exclusive: bool = False,
     like: Optional[Info] = None,
     dither: int = False,
+    split: Optional[int] = None,
 ) -> Writer:
     """A new file, in the place of one that is there: it has a header, and no frames yet. `like` has what isn't given.
 
     With `exclusive` a file that is there is a FileExistsError. It stays as it is then, and where an argument is wrong,
     the file is locked, or its folder can't be synced though it is to be durable. An object is cut off where it is; it
     can't be durable or locked.
+
+    With `split` a file has at most so many frames, and never more than have room. The recording of `take.wav` continues
+    in `take-002.wav`, `take-003.wav` and so on, each of which mustn't be there: of the second one that is looked at
+    first, of each before the file before it is ended.
     """
-    return _create(path, _spec_of(rate, channels, bits, bytes_per_sample, is_float, like), durable, exclusive, dither)
+    spec = _spec_of(rate, channels, bits, bytes_per_sample, is_float, like)
+    if split is None:
+        return _create(path, spec, durable, exclusive, dither)
+    frames = _integer("split", split, 1, sys.maxsize)
+    if not isinstance(path, (str, os.PathLike)):
+        raise ValueError("split is for files at a path")
+    _check_part(_part_name(path, 2))
+    writer = _create(path, spec, durable, exclusive, dither)
+    writer._split(frames)
+    return writer
 
 
 def _create(path: Union[Path, IO[bytes]], spec: _Spec, durable: bool, exclusive: bool, dither: int) -> Writer:
-    recorder, header = _Recorder(), ctypes.create_string_buffer(_HEADER_BYTES)
+    """A Writer of a new file, whose header is stored. Where that fails it is closed, and writes nothing more."""
+    writer = _begun(path, spec, durable, exclusive, dither)
+    try:
+        writer._perform_all()
+    except BaseException as error:
+        writer._file.close()
+        _name_error(error, writer._name)
+        raise
+    return writer
+
+
+def _begun(path: Union[Path, IO[bytes]], spec: _Spec, durable: bool, exclusive: bool, dither: int) -> Writer:
+    """A Writer of a new file, with the checkpoint requested that stores the header: another request takes its place."""
+    recorder = _Recorder()
     with _named(path):
-        length = _checked(_header(ctypes.byref(spec), 0, header, len(header)))
         _checked(_recorder_begin(ctypes.byref(spec), ctypes.byref(recorder)))
     conversion.noise_of(dither)
     if not isinstance(path, (str, os.PathLike)):
         stream = _stream_of(path, durable, "write")
-        stream.cut(0)
-        stream.put(header[:length], 0)
+        _begin(stream, spec, durable)
         return Writer(stream, spec, recorder, durable, dither)
     with disk.folder_of(path) if durable else contextlib.nullcontext() as folder:
         file = disk.File(path, os.O_WRONLY | os.O_CREAT | (os.O_EXCL if exclusive else 0))
         try:
-            if durable:
-                disk.sync(folder)
-            if os.fstat(file.descriptor).st_size:
-                os.ftruncate(file.descriptor, 0)
-            if durable:
-                disk.sync(file.descriptor)
-            disk.put(file.descriptor, header[:length], 0)
+            file.folder = folder
+            _begin(file, spec, durable)
             return Writer(file, spec, recorder, durable, dither)
         except BaseException as error:
             file.close()
             _name_error(error, path)
             raise
+
+
+def _begin(file: disk.Medium, spec: _Spec, durable: bool) -> None:
+    """Performs the effects with which a file begins."""
+    effect = _Effect()
+    for number in itertools.count():
+        if _checked(_beginning(ctypes.byref(spec), number, ctypes.byref(effect))) == 0:
+            return
+        disk.perform(effect, file, durable)
 
 
 def _stream_of(file: IO[bytes], durable: bool, method: str) -> disk.Stream:

@@ -173,7 +173,8 @@ class Command(Folder):
         said = self.run_command("info", "b.wav", status=1)
         said_of_it = b"1 channel, 16 bits, 0.001 s, cut off: 4 frames, of which the header counted 2\n"
         self.assertIn(said_of_it, said)
-        self.assertEqual(self.run_command("info", ".", status=1).count(b"\n"), 2)
+        said = self.run_command("info", ".", status=1).splitlines()
+        self.assertEqual((len(said), said[2]), (3, b"2 files: 9 frames, 0.001 s"))  # 5 and 4 at 8000 Hz
         self.leave_as("c.wav", by_hand(bytes(3), width=1))  # It lacks the pad byte.
         said = self.run_command("info", "c.wav")
         note = b"the RIFF size or the pad byte isn't as the format asks"
@@ -206,7 +207,7 @@ class Command(Folder):
         for name in names:
             self.leave_as(name, by_hand(bytes(8)))
         said = self.run_command("info", *names).splitlines()
-        self.assertEqual([line.split(b": 8000")[0] for line in said], shown)
+        self.assertEqual([line.split(b": 8000")[0] for line in said[:-1]], shown)
         lines = self.run_command("repair", ".").splitlines()[1:]
         self.assertEqual([line.split(b"./")[1] for line in lines], shown)
         for name, other in zip(names, shown):
@@ -704,9 +705,84 @@ class Command(Folder):
             os.close(outer)
             self.assertEqual((len(out), b"100% a.wav" in said), (6000, terminal))
 
+    def test_a_recording_in_parts(self):
+        """Whatever the pieces are in which the samples come, and with a checkpoint in them."""
+        data, form = bytes(range(251)) * 72, ["--rate", "1000", "--channels", "2", "--bits", "16"]  # 4,518 frames
+        names = ["a.wav", *(f"a-00{number}.wav" for number in range(2, 6))]
+        for how, frames in (["1000"], 1000), (["1s", "--durable"], 1000), (["1MiB"], 4518):
+            running = self.begun("record", "a.wav", *form, "--split", *how)
+            for place in range(0, len(data), 7001):
+                running.stdin.write(data[place : place + 7001])
+                running.stdin.flush()
+            said = running.communicate(timeout=60)[1]
+            self.assertEqual(running.returncode, 0, said)
+            count = -(-4518 // frames)
+            self.assertEqual(sorted(os.listdir(self.folder)), sorted(names[:count]))
+            for number, name in enumerate(names[:count]):
+                part = data[4 * frames * number : 4 * frames * (number + 1)]
+                self.assertEqual(self.content(name)[44:], part)
+                self.assertIn(f"{name}: 1000 Hz, 2 channels, 16 bits, {len(part) // 4} frames".encode(), said)
+            said = self.run_command("info", *names[:count]).splitlines()
+            if count > 1:
+                self.assertEqual(said[-1], f"{count} files: 4518 frames, 4.518 s".encode())
+                self.run_command("join", *names[:count], "all.wav")
+                self.assertEqual(self.content("all.wav")[44:], data)
+            for name in os.listdir(self.folder):
+                os.unlink(os.path.join(self.folder, name))
+
+    def test_a_part_that_is_there(self):
+        form = ["--rate", "1000", "--channels", "1", "--bits", "16"]
+        self.leave_as("a-002.wav", b"mine")
+        self.run_command("record", "a.wav", *form, "--split", "9", given=bytes(10), status=1)
+        self.assertEqual(self.said, b"hound-wav: a-002.wav: File exists: rename or remove it first\n")
+        self.assertEqual(os.listdir(self.folder), ["a-002.wav"])
+        self.run_command("record", "a.wav", *form, given=bytes(10))
+        os.unlink(os.path.join(self.folder, "a-002.wav"))
+        self.leave_as("a-003.wav", b"mine")
+        self.run_command("record", "a.wav", *form, "--split", "9", "--overwrite", given=bytes(100), status=1)
+        self.assertIn(b"hound-wav: a-003.wav: File exists", self.said)
+        self.assertEqual((self.content("a.wav")[44:], self.content("a-002.wav")[44:]), (bytes(18), bytes(18)))
+        self.assertEqual(self.content("a-003.wav"), b"mine")
+        for words in ["--split", "0"], ["--split", "2G"], ["--split", "-1"], ["--split", ""]:
+            self.run_command("record", "b.wav", *form, *words, status=2)
+        self.run_command("record", "a.wav", "--append", "--split", "9", status=2)
+
+    def test_join(self):
+        self.leave_as("a.wav", made_by_wave(SAMPLES))
+        self.leave_as("a-002.wav", made_by_wave(SAMPLES[:4]))
+        self.leave_as("mono.wav", made_by_wave(SAMPLES, channels=1))
+        self.leave_as("cut.wav", made_by_wave(SAMPLES)[:-4])
+        self.run_command("join", "a.wav", "a-002.wav", "a-002.wav", "b.wav")
+        self.assertEqual(self.content("b.wav"), made_by_wave(SAMPLES + SAMPLES[:4] + SAMPLES[:4]))
+        before = self.content("b.wav")
+        for words, status, said in (
+            (["a.wav", "b.wav"], 2, b"b.wav exists: --overwrite"),
+            (["a-002.wav", "a.wav", "c.wav"], 2, b"a.wav comes before a-002.wav"),
+            (["a.wav", "mono.wav", "c.wav"], 1, b"mono.wav has another form"),
+            (["a.wav", "cut.wav", "c.wav"], 1, b"cut.wav: "),
+            (["a.wav", "none.wav", "c.wav"], 1, b"none.wav: No such file"),
+        ):
+            self.run_command("join", *words, status=status)
+            self.assertIn(said, self.said)
+        self.assertEqual(self.content("b.wav"), before)
+        self.run_command("join", "b.wav", "a.wav", "b.wav", "--overwrite")
+        self.assertEqual(hound.info(os.path.join(self.folder, "b.wav")).frames, 14)
+        self.assertEqual(len(os.listdir(self.folder)), 5)
+
+    def test_a_join_that_is_too_long(self):
+        """It is an error before anything is written. The files are sparse."""
+        length = 1 << 31
+        with open(os.path.join(self.folder, "a.wav"), "wb") as file:
+            file.write(by_hand(b"", 0, width=2)[:4] + struct.pack("<I", length + 36))
+            file.write(by_hand(b"", 0, width=2)[8:40] + struct.pack("<I", length))
+            file.truncate(length + 44)
+        self.run_command("join", "a.wav", "a.wav", "b.wav", status=1)
+        self.assertIn(b"would not fit in 32 bits", self.said)
+        self.assertEqual(os.listdir(self.folder), ["a.wav"])
+
     def test_help(self):
         self.assertIn(b"status 0", self.run_command("--help"))
-        for name in "info", "repair", "cat", "convert", "record":
+        for name in "info", "repair", "cat", "convert", "join", "record":
             self.assertIn(b"usage: hound-wav " + name.encode(), self.run_command(name, "--help"))
         self.assertEqual(self.run_command("--version"), f"hound-wav {hound.__version__}\n".encode())
         self.run_command(status=2)

@@ -493,7 +493,9 @@ class Files(unittest.TestCase):
                 raise fault
 
         opened = lambda path, mode, buffering=0, **more: Faulty(path, mode, **more)
-        with mock.patch("os.pread", side_effect=fault), mock.patch("io.open", opened):
+        with mock.patch("os.pread", side_effect=fault), mock.patch("os.preadv", side_effect=fault, create=True), (
+            mock.patch("io.open", opened)
+        ):
             for call in self.calls():
                 with self.assertRaises(OSError) as caught:
                     call()
@@ -890,19 +892,49 @@ class Files(unittest.TestCase):
             self.assertEqual(reader.read(150000), samples[:300000])
             self.assertEqual(reader.read(), samples[300000:-2])
             self.fails(Cause.TRUNCATED, reader.read)
-        pread, left = os.pread, [2]
+        read_piece = hound.disk._read_piece
+        for dtype in "int16", "int32":  # One has the containers of the file, and the other one is decoded.
+            left = [2]
 
-        def shortened(descriptor, count, place):
-            left[0] -= place > 44
-            if not left[0]:
-                os.truncate(self.path, place + 101)  # The system has said that it holds all.
-            return pread(descriptor, count, place)
+            def shortened(descriptor, room, place):
+                left[0] -= place > 44
+                if not left[0]:
+                    os.truncate(self.path, place + 101)  # The system has said that it holds all.
+                return read_piece(descriptor, room, place)
 
+            self.leave(by_hand(data, channels=2))
+            pieces = mock.patch.object(hound.disk, "_PLACED", 1 << 18)
+            with mock.patch("hound_bindings.disk._read_piece", shortened), pieces, hound.open(self.path) as reader:
+                frames = 2 * (1 << 16) + 25  # Two pieces, and those of the third one that are there.
+                self.assertEqual(reader.read(dtype=dtype).tolist(), samples[: 2 * frames].tolist())
+                self.assertEqual(reader.tell(), frames)
+
+    def test_all_types_of_a_file_and_of_an_object(self):
+        """A file at a path is read to where its samples belong, and an object by pieces that are decoded."""
+        some = random.Random(11)
+        for form, tag, width in ((8, 1, 1), (16, 1, 2), (24, 1, 3), (32, 1, 4), (32, 3, 4)):
+            for count in 0, 1, 5, 4099, 150001:
+                data = some.randbytes(width * count * 2)
+                fmt = struct.pack("<IHHIIHH", 16, tag, 2, 8000, 8000 * 2 * width, 2 * width, form)
+                content = b"WAVEfmt " + fmt + b"data" + struct.pack("<I", len(data)) + data
+                content = b"RIFF" + struct.pack("<I", len(content)) + content
+                self.leave(content)
+                for dtype in None, "int8", "int16", "int32", "float32", "float64":
+                    with contextlib.suppress(HoundError):
+                        found = hound.read(io.BytesIO(content), dtype=dtype)
+                        self.assertEqual(hound.read(self.path, dtype=dtype).tobytes(), found.tobytes())
+                        self.assertEqual(len(found), 2 * count)
+                        out = array.array(found.typecode, bytes(found.itemsize * (2 * count + 3)))
+                        self.assertEqual(hound.read(self.path, dtype=dtype, out=out).tobytes(), found.tobytes())
+                        self.assertEqual(out[2 * count :].tobytes(), bytes(found.itemsize * 3))
+
+    def test_a_system_that_reads_no_buffer_at_a_place(self):
+        data, samples = self.large(2, 2, 200003)
         self.leave(by_hand(data, channels=2))
-        with mock.patch("os.pread", shortened), hound.open(self.path) as reader:
-            frames = 2 * (1 << 16) + 25  # Two pieces, and those of the third one that are there.
-            self.assertEqual(reader.read(), samples[: 2 * frames])
-            self.assertEqual(reader.tell(), frames)
+        with mock.patch.object(os, "preadv", create=True):
+            del os.preadv
+            self.assertEqual(hound.read(self.path), samples)
+            self.assertEqual(hound.read(self.path, 7, 5), samples[14:24])
 
     def test_a_read_in_pieces_that_is_interrupted(self):
         """The next read begins at the same frame."""
@@ -937,7 +969,8 @@ class Files(unittest.TestCase):
 
             with hound.create(self.path, 8000, 2, 16) as writer:
                 writer.write(small)
-                with mock.patch("os.pwrite", failing), contextlib.suppress(OSError):
+                pieces = mock.patch.object(hound.streams, "_WRITTEN", 1 << 17)
+                with pieces, mock.patch("os.pwrite", failing), contextlib.suppress(OSError):
                     writer.write(samples)
                     self.assertGreater(left[0], 0)
                     continue

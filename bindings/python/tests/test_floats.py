@@ -7,9 +7,11 @@ import io
 import itertools
 import math
 import mmap
+import operator
 import os
 import random
 import struct
+import sys
 import tempfile
 import tracemalloc
 import unittest
@@ -57,6 +59,21 @@ def silently(call):
     with warnings.catch_warnings(record=True) as caught:
         warnings.simplefilter("always")
         return call(), [(str(one.message), one.filename) for one in caught]
+
+
+def numbers_of_splitmix(state):
+    """The numbers of the generator SplitMix64."""
+    while True:
+        state = (state + 0x9E3779B97F4A7C15) % 2**64
+        mixed = (state ^ state >> 30) * 0xBF58476D1CE4E5B9 % 2**64
+        mixed = (mixed ^ mixed >> 27) * 0x94D049BB133111EB % 2**64
+        yield mixed ^ mixed >> 31
+
+
+def noises_of(seed, bits):
+    """Triangular noise of at most one step of so many bits."""
+    for number in numbers_of_splitmix(seed):
+        yield fractions.Fraction((number >> 32) - number % 2**32, 2 ** (32 + bits - 1))
 
 
 class Folder(Case):
@@ -181,6 +198,31 @@ class Floats(Folder):
         ):
             self.assertRaisesRegex(ValueError, "dither is", call)
         self.assertEqual(hound.read(self.path), first)
+
+    def test_dither_is_that_of_a_model(self):
+        """By fractions: SplitMix64, whose numbers for the seed 1234567 are published, the difference of their halves,
+        and one rounding to a double. A block that failed takes no noise."""
+        first = [6457827717110365317, 3203168211198807973, 9817491932198370423, 4593380528125082431]
+        self.assertEqual(list(itertools.islice(numbers_of_splitmix(1234567), 4)), first)
+        some = random.Random(8)
+        for bits in 8, 16, 24, 32:
+            steps = [some.randrange(-(1 << bits), 1 << bits) / 2.0**bits for _ in range(200)]
+            values = steps + [some.uniform(-1.1, 1.1) for _ in range(200)] + [0.0, -0.0, 1.0, -1.0, 1e-300, 1e300]
+            for code, seed in ("f", 1), ("d", 1), ("d", sys.maxsize):
+                samples = array.array(code, [value if code == "d" else min(value, 3e38) for value in values])
+                noisy = map(operator.add, map(fractions.Fraction, samples), noises_of(seed, bits))
+                wanted = [nearest(float(sample), bits) for sample in noisy]
+                like = Info(8000, 1, bits)
+                with warnings.catch_warnings():
+                    warnings.simplefilter("ignore")
+                    content = hound.to_bytes(samples, like=like, dither=seed)
+                    self.assertEqual(list(hound.read(content, dtype="int32")), wanted)
+                    with hound.create(self.path, like=like, dither=seed) as writer:
+                        writer.write(samples[:5])
+                        with unittest.mock.patch("os.pwrite", side_effect=OSError("full")):
+                            self.assertRaises(OSError, lambda: writer.write(samples[5:]))
+                        writer.write(samples[5:])
+                self.assertEqual(content_of(self.path), content)
 
     def test_no_copy_of_all_samples_is_made(self):
         """But for those that are written."""
@@ -502,10 +544,7 @@ class Objects(Case):
                 self.seek(0, os.SEEK_END)
                 return super().write(content)
 
-        with hound.create(Appending(), 8000, 2, 16) as writer:
-            writer.write(SAMPLES)
-            self.assertRaisesRegex(OSError, "elsewhere", writer.flush)
-            self.assertRaisesRegex(OSError, "elsewhere", writer.close)
+        self.assertRaisesRegex(OSError, "elsewhere", lambda: hound.create(Appending(), 8000, 2, 16))
         file = Appending(made_by_wave(SAMPLES))
         self.assertRaisesRegex(OSError, "elsewhere", lambda: hound.write(file, SAMPLES, 8000))
 

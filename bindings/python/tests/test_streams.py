@@ -318,25 +318,25 @@ class Streams(Case):
 
     def test_a_process_that_is_forked_in_a_read_of_another_thread(self):
         """It doesn't wait for that thread, which it hasn't got."""
-        begun, ended, pread = threading.Event(), threading.Event(), os.pread
+        begun, ended, read_into = threading.Event(), threading.Event(), hound.disk.read_into
 
         def late(*arguments):
             begun.set()
             ended.wait(60)
-            return pread(*arguments)
+            return read_into(*arguments)
 
         with tempfile.TemporaryDirectory() as folder:
             path = os.path.join(folder, "a.wav")
             hound.write(path, SAMPLES, 8000)
             with hound.open(path) as reader:
-                with unittest.mock.patch("os.pread", late):
+                with unittest.mock.patch("hound_bindings.disk.read_into", late):
                     thread = threading.Thread(target=reader.read)
                     thread.start()
                     begun.wait(60)
                     child = os.fork()
                     if not child:
                         signal.alarm(20)
-                        os.pread = pread
+                        hound.disk.read_into = read_into
                         os._exit(reader.read() != SAMPLES)
                     self.assertEqual(os.waitpid(child, 0)[1], 0)
                     ended.set()
@@ -413,6 +413,11 @@ def content_of(path):
         return file.read()
 
 
+# With which calls a durable file begins: its name is stored, and that it is empty; then its header, without the data
+# length at first, and a checkpoint.
+BEGINNING = ["sync of the folder", "sync", 0, 40, "sync", 4, 40, "sync"]
+
+
 class Calls:
     """The writes and syncs of a file, in order: the place of each write, or "sync", also of its folder. The nth of them
     fails."""
@@ -451,12 +456,55 @@ def samples_from(first, bits):
     return array.array("b", [byte - 128 for byte in content]) if bits == 8 else array.array("h", content)
 
 
+class Faults:
+    """Lets a call that writes, syncs or cuts a file off fail, and those after it, too, unless it fails once."""
+
+    NAMES = ("open", "pwrite", "fsync", "ftruncate")
+
+    def __init__(self, at, fails_once):
+        self.at, self.once, self.made, self.failed, self.patches = at, fails_once, 0, False, []
+
+    def __enter__(self):
+        for name in self.NAMES:
+            self.patches.append(unittest.mock.patch(f"os.{name}", self.failing(getattr(os, name))))
+        for patch in self.patches:
+            patch.start()
+        return self
+
+    def __exit__(self, *_):
+        for patch in self.patches:
+            patch.stop()
+
+    def failing(self, real):
+        def call(*arguments):
+            self.made += 1
+            if self.made == self.at + 1 or (self.made > self.at and not self.once):
+                self.failed = True
+                raise OSError(errno.EIO, "a fault")
+            return real(*arguments)
+
+        return call
+
+
+def succeeds(call):
+    """Whether a call returns, and doesn't fail as one of the system does, or after a sync that failed."""
+    try:
+        call()
+    except (OSError, HoundError):
+        return False
+    return True
+
+
 class Effects(Case):
     """What a library requests that is newer than the package."""
 
     def requested(self, kind):
         file = types.SimpleNamespace(
-            put=lambda *_: None, read_at=lambda *_: b"", cut=lambda *_: None, sync=lambda *_: None
+            put=lambda *_: None,
+            read_at=lambda *_: b"",
+            cut=lambda *_: None,
+            sync=lambda *_: None,
+            sync_folder=lambda *_: None,
         )
         effect = hound._Effect(kind=kind, report=0)
         hound.disk.perform(effect, file, True)
@@ -476,7 +524,7 @@ class Effects(Case):
 
     def test_an_effect_that_isn_t_known_is_never_done(self):
         def requests(machine, *_):
-            machine._obj.effect.kind = 6
+            machine._obj.effect.kind = 7
             reports.append(machine._obj.effect.report)
             return 1 if len(reports) < 3 else 0
 
@@ -576,7 +624,7 @@ class Recordings(Case):
     def test_the_order_of_a_durable_recording(self):
         with Calls() as calls, hound.create(self.path, 8000, 1, 8, durable=True) as writer:
             writer.write(array.array("b", [1]))
-        self.assertEqual(calls.made, ["sync of the folder", "sync", 0, 44, 45, "sync", 4, 40, "sync"])
+        self.assertEqual(calls.made, [*BEGINNING, 44, 45, "sync", 4, 40, "sync"])
         with Calls() as calls, hound.append_to(self.path) as writer:
             writer.write(array.array("b", [2]))
         self.assertEqual(calls.made, [45, 4, 40])
@@ -591,10 +639,10 @@ class Recordings(Case):
         with full, wrong, unittest.mock.patch("fcntl.fcntl") as control:
             with hound.create(self.path, 8000, 2, 16, durable=True) as writer:
                 writer.write(SAMPLES)
-            self.assertEqual([call[0][1] for call in control.call_args_list], [51] * 4)
+            self.assertEqual([call[0][1] for call in control.call_args_list], [51] * 6)
             hound.append(self.path, SAMPLES, durable=True)
             hound.write(self.path, SAMPLES, 8000, durable=True)
-            self.assertEqual([call[0][1] for call in control.call_args_list], [51] * 10)
+            self.assertEqual([call[0][1] for call in control.call_args_list], [51] * 12)
             control.side_effect = OSError(errno.EIO, "a fault")
             writer = hound.append_to(self.path)
             writer._durable = True
@@ -603,7 +651,7 @@ class Recordings(Case):
 
     def test_calls_that_fail(self):
         """A write that fails loses only its block, a checkpoint is made again, and a sync that failed ends all."""
-        for nth in range(4, 40):  # the first three calls begin the file
+        for nth in range(1 + len(BEGINNING), 50):
             written, has_ended = [], False
             with Calls(nth) as calls:
                 writer = hound.create(self.path, 8000, 1, 24, durable=True)
@@ -1147,6 +1195,163 @@ class Recordings(Case):
         tracemalloc.stop()
         self.assertEqual(os.path.getsize(self.path), 44 + 513 * (2 << 16))
         self.assertLess(peak, 8 << 20)
+
+
+class Parts(Case):
+    """Recordings that continue in a next file."""
+
+    def setUp(self):
+        folder = tempfile.TemporaryDirectory(dir="/dev/shm" if os.path.isdir("/dev/shm") else None)
+        self.addCleanup(folder.cleanup)
+        self.folder, self.path = folder.name, os.path.join(folder.name, "a.wav")
+
+    def named(self, number):
+        return self.path if number == 1 else os.path.join(self.folder, f"a-00{number}.wav")
+
+    def contents(self):
+        """Those of all files, each of which is the one before it with a larger number."""
+        count = len(os.listdir(self.folder))
+        return [content_of(self.named(number)) for number in range(1, count + 1)]
+
+    def empty(self):
+        for name in os.listdir(self.folder):
+            os.unlink(os.path.join(self.folder, name))
+
+    def test_a_block_goes_whole_into_the_next_file(self):
+        blocks = [4, 4, 4, 9, 1, 0, 1, 25, 3]
+        parts = [8, 4, 10, 10, 10, 9]  # A block of 25 frames is larger than a file of 10.
+        samples = array.array("h", range(2 * sum(blocks)))
+        for durable in False, True:
+            with hound.create(self.path, 8000, 2, 16, split=10, durable=durable) as writer:
+                done = 0
+                for count in blocks:
+                    writer.write(samples[2 * done : 2 * (done + count)])
+                    done += count
+                    self.assertEqual(writer.tell(), done)
+                self.assertEqual((writer.frames_left, writer.info.frames), (1, 9))
+                self.assertEqual(writer.paths, [self.named(number) for number in range(1, 7)])
+            wanted = []
+            for count in parts:
+                wanted.append(made_by_wave(samples[: 2 * count]))
+                samples = samples[2 * count :] + samples[: 2 * count]
+            self.assertEqual(self.contents(), wanted)
+            self.empty()
+
+    def test_rows_of_frames(self):
+        rows = memoryview(SAMPLES.tobytes()).cast("h", [5, 2])
+        with hound.create(self.path, 8000, 2, 16, split=2) as writer:
+            writer.write(rows)
+        self.assertEqual(self.contents(), [made_by_wave(SAMPLES[i : i + 4]) for i in (0, 4, 8)])
+
+    def test_as_many_as_have_room(self):
+        for split in 1 << 40, (1 << 32) // 4:
+            with hound.create(self.path, 8000, 2, 16, split=split) as writer:
+                self.assertEqual(writer.frames_left, 4294967259 // 4)  # The RIFF size counts the pad byte, too.
+
+    def test_a_file_that_is_full(self):
+        """The first file is sparse: a test can't write 4 GiB."""
+        writer = hound.create(self.path, 8000, 2, 16, split=1 << 40)
+        writer._state.recorder.data_length = 4294967259 // 4 * 4 - 8
+        for first in 0, 2, 4, 6:
+            writer.write(SAMPLES[first : first + 2])
+        writer.close()
+        self.assertEqual([hound.info(path).frames for path in writer.paths], [4294967259 // 4, 2])
+        self.assertEqual(hound.read(self.path, start=4294967259 // 4 - 2), SAMPLES[:4])
+        self.assertEqual(content_of(self.named(2)), made_by_wave(SAMPLES[4:8]))
+
+    def test_arguments(self):
+        for split in 0, -1:
+            self.assertRaises(ValueError, lambda: hound.create(self.path, 8000, 2, 16, split=split))
+        self.assertRaises(TypeError, lambda: hound.create(self.path, 8000, 2, 16, split=1.5))
+        self.assertRaises(ValueError, lambda: hound.create(io.BytesIO(), 8000, 2, 16, split=5))
+        self.assertEqual(os.listdir(self.folder), [])
+        os.symlink("nowhere", self.named(2))
+        self.assertRaises(FileExistsError, lambda: hound.create(self.path, 8000, 2, 16, split=5))
+        self.assertEqual(os.listdir(self.folder), ["a-002.wav"])
+
+    def test_a_name_that_is_there(self):
+        """It is found before the file before it is ended, which takes what still has room."""
+        with hound.create(self.path, 8000, 2, 16, split=3) as writer:
+            writer.write(SAMPLES[:4])
+            with open(self.named(2), "wb") as other:
+                other.write(b"mine")
+            for _ in range(2):
+                with self.assertRaises(FileExistsError) as caught:
+                    writer.write(SAMPLES[4:8])
+                self.assertEqual(caught.exception.filename, self.named(2))
+                self.assertEqual(hound.info(self.path).frames, 0)
+            with unittest.mock.patch("os.path.lexists", lambda _: False):  # Another program makes it after that look.
+                self.assertRaises(FileExistsError, lambda: writer.write(SAMPLES[4:8]))
+            writer.write(SAMPLES[4:6])
+            self.assertEqual((writer.tell(), writer.paths), (3, [self.path]))
+            for content in b"mine", b"", b"RIFF":  # also one that a call of another program has begun
+                with open(self.named(2), "wb") as other:
+                    other.write(content)
+                self.assertRaises(FileExistsError, lambda: writer.write(SAMPLES[6:8]))
+                self.assertEqual(content_of(self.named(2)), content)
+        self.assertEqual(self.contents(), [made_by_wave(SAMPLES[:6]), b"RIFF"])
+
+    def test_a_call_that_fails(self):
+        """Each call of the system of a write that continues in a next file fails once, or is the last one that is
+        done; and after it the recording goes on. A block is there if its write returned."""
+        for durable, fails_once in itertools.product((False, True), (False, True)):
+            for at in itertools.count():
+                self.empty()
+                writer = hound.create(self.path, 8000, 2, 16, split=3, durable=durable)
+                writer.write(SAMPLES[:4])
+                with Faults(at, fails_once) as faults:
+                    is_done = succeeds(lambda: writer.write(SAMPLES[4:8]))
+                rest = b"".join(content_of(name)[:4] for name in writer.paths)
+                self.assertEqual(rest, b"RIFF" * len(writer.paths))
+                self.assertEqual(len(os.listdir(self.folder)), len(writer.paths), (at, durable))
+                is_ended = not succeeds(lambda: writer.write(SAMPLES[8:]))
+                self.assertFalse(is_ended and not durable)
+                is_closed = succeeds(writer.close)
+                self.assertEqual(is_closed, not is_ended)  # Nothing is done after a sync that failed.
+                if is_closed:
+                    wanted = SAMPLES[:4] + (SAMPLES[4:8] if is_done else SAMPLES[:0]) + SAMPLES[8:]
+                    found = array.array("h")
+                    for name in writer.paths:
+                        found += hound.read(name)
+                        self.assertEqual(hound.find_damage(name).state, hound.State.WHOLE)
+                    self.assertEqual(found, wanted, (at, durable, fails_once))
+                else:
+                    self.assertEqual(hound.repair(self.path).frames, 2)
+                if not faults.failed:
+                    break
+            self.assertGreater(at, 4)
+
+    def test_a_write_that_is_interrupted_at_each_bytecode(self):
+        """The next ones continue: a block is there if its write returned, whichever file it is in."""
+        for durable in False, True:
+            for at in itertools.count(1 + durable, 5 if durable else 1):
+                self.empty()
+                with warnings.catch_warnings():
+                    warnings.simplefilter("ignore", ResourceWarning)  # A file is closed when it is collected.
+                    if self.interrupted(at, durable).place is None:
+                        break
+            self.assertGreater(at, 500)
+
+    def interrupted(self, at, durable):
+        writer = hound.create(self.path, 8000, 1, 16, split=2, durable=durable)
+        writer.write(SAMPLES[:2])
+        is_done = False
+        with Interruption(at) as interruption:
+            try:
+                writer.write(SAMPLES[2:4])
+                is_done = True
+            except Interrupted:
+                pass
+        is_done |= interruption.is_at_the_end()
+        for sample in SAMPLES[4:7]:
+            writer.write(array.array("h", [sample]))
+        writer.close()
+        wanted, found = SAMPLES[:2] + (SAMPLES[2:4] if is_done else SAMPLES[:0]) + SAMPLES[4:7], array.array("h")
+        for name in writer.paths:
+            found += hound.read(name)
+            self.assertEqual(hound.find_damage(name).state, hound.State.WHOLE)
+        self.assertEqual((found, len(self.contents())), (wanted, len(writer.paths)), interruption.place)
+        return interruption
 
 
 if __name__ == "__main__":

@@ -28,7 +28,7 @@ NAMES = {
     mmap: "mmap",
 }
 # What tests use of this system that Windows hasn't, or that this file has in another way.
-UNIX = "pread|pwrite|Calls|fcntl|fork|mkfifo|set_blocking|subprocess|_folder_|synced|may_not_replace"
+UNIX = "pread|_read_piece|pwrite|Calls|fcntl|fork|mkfifo|set_blocking|subprocess|_folder_|synced|may_not_replace"
 O_BINARY = 1 << 40
 
 

@@ -17,6 +17,7 @@ with hound.create(io.BytesIO(), like=info) as writer, hound.open("a.wav") as rea
     seconds: float = info.duration
     name: str = info.frames  # type: ignore[assignment]
 hound.create("a.wav", 8000, 2, 24, True)  # type: ignore[misc]
+hound.create("a.wav", 8000, 2, 24, split="1h")  # type: ignore[arg-type]
 hound.write("a.wav", samples, 8000, 2, 24, 4)  # type: ignore[misc]
 hound.append("a.wav", samples, True)  # type: ignore[misc]
 hound.read("a.wav", 0, -1, "int16", always_2d=True)

@@ -10,8 +10,8 @@
 mod machines;
 mod scaled;
 
-pub use machines::{Allowed, Effect, Kind, Medium, Mode, Next, Recorder, Repairer, Walk};
-pub use scaled::{decode_scaled, encode_scaled, read_scaled, write_scaled};
+pub use machines::{beginning, Allowed, Effect, Kind, Medium, Mode, Next, Recorder, Repairer, Walk};
+pub use scaled::{decode_scaled, encode_scaled, read_scaled, write_scaled, Scaled};
 
 use std::time::Duration;
 use std::{error, fmt, fs, io};
@@ -180,6 +180,7 @@ mod c {
     pub const WRITE_BLOCK: u16 = 3;
     pub const SYNC: u16 = 4;
     pub const CUT: u16 = 5;
+    pub const SYNC_FOLDER: u16 = 6;
     pub const PENDING: u16 = 0;
     pub const DONE: u16 = 1;
     pub const FAILED: u16 = 2;
@@ -319,10 +320,37 @@ mod c {
             capacity: usize,
             clipped: *mut u64,
         ) -> i64;
+        pub fn hound_dither_f32(
+            samples: *const f32,
+            count: usize,
+            bits: u16,
+            state: *mut u64,
+            out: *mut i32,
+            capacity: usize,
+            clipped: *mut u64,
+        ) -> i64;
+        pub fn hound_dither_f64(
+            samples: *const f64,
+            count: usize,
+            bits: u16,
+            state: *mut u64,
+            out: *mut i32,
+            capacity: usize,
+            clipped: *mut u64,
+        ) -> i64;
+        pub fn hound_f32_to_f64(samples: *const f32, count: usize, out: *mut f64, capacity: usize) -> i64;
+        pub fn hound_f64_to_f32(
+            samples: *const f64,
+            count: usize,
+            out: *mut f32,
+            capacity: usize,
+            infinite: *mut u64,
+        ) -> i64;
         pub fn hound_repair(file: *mut u8, capacity: usize, used: usize, found: *mut Repair) -> i64;
         pub fn hound_repair_to_end(file: *mut u8, capacity: usize, used: usize, found: *mut Repair) -> i64;
         pub fn hound_repairer_begin(length: u64, mode: u32, repairer: *mut Repairer);
         pub fn hound_repairer_next(repairer: *mut Repairer, found: *mut Repair) -> i32;
+        pub fn hound_beginning(spec: *const Spec, number: u32, effect: *mut machines::Effect) -> i32;
         pub fn hound_recorder_begin(spec: *const Spec, recorder: *mut Recorder) -> i32;
         pub fn hound_recorder_resume(found: *const Repair, allowed: u32, recorder: *mut Recorder) -> i32;
         pub fn hound_recorder_write(recorder: *mut Recorder, samples: u64) -> i32;
@@ -877,6 +905,43 @@ pub fn from_f64(samples: &[f64], bits: u16, out: &mut [i32]) -> Result<u64> {
     // SAFETY: as above.
     checked(unsafe {
         c::hound_from_f64(samples.as_ptr(), samples.len(), bits, out.as_mut_ptr(), out.len(), &mut clipped)
+    })?;
+    Ok(clipped)
+}
+
+/// Widens floats to 64 bits, which are the same numbers, and returns how many.
+pub fn f32_to_f64(samples: &[f32], out: &mut [f64]) -> Result<usize> {
+    // SAFETY: as above.
+    checked(unsafe { c::hound_f32_to_f64(samples.as_ptr(), samples.len(), out.as_mut_ptr(), out.len()) })
+}
+
+/// Narrows floats to the nearest ones of 32 bits, and returns how many finite ones became infinite.
+pub fn f64_to_f32(samples: &[f64], out: &mut [f32]) -> Result<u64> {
+    let mut infinite = 0;
+    // SAFETY: as above.
+    checked(unsafe {
+        c::hound_f64_to_f32(samples.as_ptr(), samples.len(), out.as_mut_ptr(), out.len(), &mut infinite)
+    })?;
+    Ok(infinite)
+}
+
+/// Scales floats as [`from_f32`] does, each with triangular noise of at most one step, which is added before it is
+/// rounded. `state` begins as any number, the seed, and becomes the one for the samples after these.
+pub fn dither_f32(samples: &[f32], bits: u16, state: &mut u64, out: &mut [i32]) -> Result<u64> {
+    let mut clipped = 0;
+    // SAFETY: as above.
+    checked(unsafe {
+        c::hound_dither_f32(samples.as_ptr(), samples.len(), bits, state, out.as_mut_ptr(), out.len(), &mut clipped)
+    })?;
+    Ok(clipped)
+}
+
+/// Scales floats of 64 bits as [`dither_f32`] does those of 32.
+pub fn dither_f64(samples: &[f64], bits: u16, state: &mut u64, out: &mut [i32]) -> Result<u64> {
+    let mut clipped = 0;
+    // SAFETY: as above.
+    checked(unsafe {
+        c::hound_dither_f64(samples.as_ptr(), samples.len(), bits, state, out.as_mut_ptr(), out.len(), &mut clipped)
     })?;
     Ok(clipped)
 }

@@ -18,6 +18,8 @@ pub enum Kind {
     Sync,
     /// It cuts the file off, where it is longer than its place.
     Cut,
+    /// It syncs the folder that holds the file's name.
+    SyncFolder,
     /// What only a newer library requests. It has to be reported as failed.
     Unknown,
 }
@@ -41,6 +43,7 @@ impl Effect {
             c::WRITE_BLOCK => Kind::WriteBlock,
             c::SYNC => Kind::Sync,
             c::CUT => Kind::Cut,
+            c::SYNC_FOLDER => Kind::SyncFolder,
             _ => Kind::Unknown,
         }
     }
@@ -103,6 +106,7 @@ impl Effect {
                 medium.sync()
             }
             Kind::Cut => medium.cut(place),
+            Kind::SyncFolder => medium.sync_folder(),
             Kind::Unknown => Err(unknown_effect()),
         };
         match result {
@@ -192,6 +196,12 @@ pub trait Medium {
     /// Cuts the file off at a place, where it is longer.
     fn cut(&mut self, _place: u64) -> io::Result<()> {
         Err(io::ErrorKind::Unsupported.into())
+    }
+
+    /// Stores the file's name. What has no name, or doesn't know it as a [`File`](fs::File), does nothing: sync its
+    /// folder before, where a loss of power must not take the file.
+    fn sync_folder(&mut self) -> io::Result<()> {
+        Ok(())
     }
 }
 
@@ -459,7 +469,7 @@ impl Repairer {
 /// effects until there is none. A block that failed is cut off, and the next request begins with a checkpoint.
 ///
 /// ```
-/// use hound_bindings::{encode, header, Format, Medium, Recorder, Spec};
+/// use hound_bindings::{encode, Format, Medium, Recorder, Spec};
 /// use std::io;
 ///
 /// /// A file in memory.
@@ -475,11 +485,16 @@ impl Repairer {
 ///     fn sync(&mut self) -> io::Result<()> {
 ///         Ok(())
 ///     }
+///     fn cut(&mut self, place: u64) -> io::Result<()> {
+///         self.0.truncate(place as usize);
+///         Ok(())
+///     }
 /// }
 ///
 /// # fn main() -> Result<(), Box<dyn std::error::Error>> {
 /// let spec = Spec { sample_rate: 8000, channels: 1, bits_per_sample: 8, bytes_per_sample: 1, format: Format::Int };
-/// let (mut file, mut recorder) = (Bytes(header(&spec, 0)?), Recorder::begin(&spec)?);
+/// let mut file = Bytes(Vec::new());
+/// let mut recorder = Recorder::create(&spec, &mut file)??;
 /// let (samples, mut block) = ([3i8, -2, 5], [0; 3]);
 /// encode(&spec, &samples, &mut block)?;
 /// recorder.write(3)?;
@@ -492,6 +507,14 @@ impl Repairer {
 /// ```
 #[derive(Clone, Debug)]
 pub struct Recorder(c::Recorder);
+
+/// The effect with this number, from 0 on, with which a new file of this spec begins; none after the last.
+/// [`Recorder::create`] performs all of them.
+pub fn beginning(spec: &Spec, number: u32) -> Result<Option<Effect>> {
+    let mut effect = Effect::default();
+    let code = checked(unsafe { c::hound_beginning(&spec.to_c(), number, &mut effect) }.into())?;
+    Ok((code == 1).then_some(effect))
+}
 
 /// What a recorder of a file that exists may do. Nothing by default.
 #[derive(Clone, Copy, Debug, Default, PartialEq, Eq)]
@@ -512,11 +535,31 @@ impl Machine for Recorder {
 }
 
 impl Recorder {
-    /// A recorder of a new file, of which the header for 0 samples is written.
+    /// A recorder of a new file that is begun: all effects of [`beginning`] are done. A checkpoint of no samples is
+    /// requested, which stores the header; another request takes its place.
     pub fn begin(spec: &Spec) -> Result<Recorder> {
         let mut recorder = c::Recorder::default();
         checked(unsafe { c::hound_recorder_begin(&spec.to_c(), &mut recorder) }.into())?;
         Ok(Recorder(recorder))
+    }
+
+    /// Begins a new file on a medium, which is emptied, and returns its recorder once the header is stored. The outer
+    /// result is the medium's; after an error nothing is recorded, so the program begins again, or removes the file if
+    /// it has made it.
+    pub fn create<M: Medium + ?Sized>(spec: &Spec, medium: &mut M) -> io::Result<Result<Recorder>> {
+        let mut recorder = match Recorder::begin(spec) {
+            Ok(recorder) => recorder,
+            Err(error) => return Ok(Err(error)),
+        };
+        for number in 0.. {
+            match beginning(spec, number) {
+                Ok(Some(mut effect)) => effect.perform(medium, &[])?,
+                Ok(None) => break,
+                Err(error) => return Ok(Err(error)),
+            }
+        }
+        let stored = recorder.run(medium, &[])?;
+        Ok(stored.map(|()| recorder))
     }
 
     /// A recorder of a file as a repairer of [`Mode::FindDamage`], or [`find_damage`](crate::find_damage), found it.
@@ -600,7 +643,7 @@ mod tests {
     fn an_unknown_effect_is_an_error() {
         struct Nothing;
         impl Medium for Nothing {}
-        for kind in [c::CUT + 1, u16::MAX] {
+        for kind in [c::SYNC_FOLDER + 1, u16::MAX] {
             let mut newer = Newer(Effect(c::Effect { kind, length: 4, ..c::Effect::default() }));
             assert!(newer.0.take_from(&mut &[0; 4][..], &mut 0).is_err());
             assert_eq!((newer.0.kind(), newer.0 .0.report), (Kind::Unknown, c::PENDING));

@@ -1,10 +1,10 @@
 //! The calls over small files.
 use hound_bindings::{
     append_to, container_16, container_24, container_32, container_8, decode, decode_scaled, encode, encode_scaled,
-    find_damage, from_f32, from_f64, guess_data, header, info, kind, read, read_into, read_scaled, repair,
-    repair_to_end, size, sizes, to_f32, to_f64, value_16, value_24, value_32, value_8, whole_frames, write,
-    write_scaled, write_to, Allowed, Container, Error, Format, Kind, Medium, Mode, Next, Recorder, Repairer, Spec,
-    State, Walk, ERRORS,
+    dither_f32, dither_f64, find_damage, from_f32, from_f64, guess_data, header, info, kind, read, read_into,
+    read_scaled, repair, repair_to_end, size, sizes, to_f32, to_f64, value_16, value_24, value_32, value_8,
+    whole_frames, write, write_scaled, write_to, Allowed, Container, Error, Format, Kind, Medium, Mode, Next,
+    Recorder, Repairer, Spec, State, Walk, ERRORS,
 };
 use std::panic::{catch_unwind, AssertUnwindSafe};
 use std::path::{Path, PathBuf};
@@ -355,6 +355,30 @@ fn integers_are_read_and_written_as_floats() {
 }
 
 #[test]
+fn doubles_are_read_and_written() {
+    let spec = Spec { bits_per_sample: 32, ..SPEC };
+    let integers: Vec<i32> = (0..3001).map(|number| (number * 1_431_655i64 - 2_147_483_647) as i32).collect();
+    let doubles: Vec<f64> = integers.iter().map(|number| f64::from(*number) / 2_147_483_648.0).collect();
+    let (file, mut out) = (write(&spec, &integers).unwrap(), vec![9.0; 3002]);
+    assert_eq!((read_scaled(&file, 2, &mut out), write_scaled(&spec, &doubles)), (Ok(2999), Ok((file.clone(), 0))));
+    assert!(out[..2999] == doubles[2..] && out[2999..] == [9.0; 3]);
+    let data = &file[info(&file).unwrap().data_start as usize..];
+    let mut bytes = vec![7; data.len()];
+    assert_eq!(decode_scaled(&spec, data, &mut out), Ok(3001));
+    assert_eq!((out[..3001] == doubles[..], encode_scaled(&spec, &doubles, &mut bytes)), (true, Ok((data.len(), 0))));
+    assert!(bytes == data);
+    // In a file of floats the nearest ones, and no finite one that would be infinite.
+    let floats = Spec { bits_per_sample: 32, format: Format::Float, ..SPEC };
+    let (file, _) = write_scaled(&floats, &[0.1f64, f64::INFINITY, -1e-50]).unwrap();
+    assert_eq!((read_scaled(&file, 0, &mut out), &out[..3]), (Ok(3), &[f64::from(0.1f32), f64::INFINITY, -0.0][..]));
+    let mut bytes = [7; 8192];
+    let mut wide = vec![0.5; 2000];
+    wide[1999] = 1e39;
+    assert_eq!((encode_scaled(&floats, &wide, &mut bytes), bytes), (Err(Error::TooWide), [7; 8192]));
+    assert_eq!(write_scaled(&floats, &wide), Err(Error::TooWide));
+}
+
+#[test]
 fn what_no_integer_holds_is_clipped_and_counted() {
     let mut loud = vec![0.25; 1500];
     loud.extend([1.0, -1.0, -1.5, f32::NAN, 0.5f32.powi(16), 1.5 * 0.5f32.powi(15)]);
@@ -392,7 +416,7 @@ fn a_file_that_lacks_samples_is_read_as_floats_up_to_them() {
     let mut out = [9.0; 2000];
     assert_eq!((read_scaled(&file[..44 + 2 * 1024 + 1], 0, &mut out), out[1023], out[1024]), (Ok(1024), 0.5, 9.0));
     assert_eq!(read_scaled(&file[..44], 0, &mut out), Err(Error::Truncated));
-    assert_eq!(read_scaled(b"RIFX", 0, &mut []), Err(Error::NoRiffTag));
+    assert_eq!(read_scaled::<f32>(b"RIFX", 0, &mut []), Err(Error::NoRiffTag));
 }
 
 #[test]
@@ -541,6 +565,29 @@ fn doubles_have_integers_of_32_bits() {
         assert_eq!(from_f64(&[1.0], bits, &mut [0]), Err(Error::NotWritable));
     }
     assert_eq!((to_f64(&[1], 8, &mut []), from_f64(&[1.0], 8, &mut [])), (Err(Error::NoRoom), Err(Error::NoRoom)));
+}
+
+// What is expected was computed with fractions.
+#[test]
+fn floats_with_noise() {
+    let doubles =
+        [0.0, 0.0, 0.0, 0.0, 0.0, 0.0, 2.5 / 32768.0, -2.5 / 32768.0, 0.5, 1.0, -1.0, 32767.0 / 32768.0, -1.5];
+    let (mut state, mut out) = (1, [9; 14]);
+    assert_eq!(dither_f64(&doubles, 16, &mut state, &mut out), Ok(3));
+    assert_eq!(out, [0, 0, 0, 0, 0, 0, 3, -2, 16384, 32767, -32768, 32767, -32768, 9]);
+    assert_eq!(state, 635_340_061_525_167_378);
+    let mut parts = 1;
+    assert_eq!(dither_f64(&doubles[..5], 16, &mut parts, &mut out), Ok(0));
+    assert_eq!(dither_f64(&doubles[5..], 16, &mut parts, &mut out), Ok(3));
+    assert_eq!((parts, &out[..8]), (state, &[0, 3, -2, 16384, 32767, -32768, 32767, -32768][..]));
+    let mut state = 1;
+    assert_eq!(dither_f32(&[0.1, -0.3, 0.7, 1.0], 24, &mut state, &mut out), Ok(1));
+    assert_eq!((state, &out[..4]), (8_709_371_129_873_690_709, &[838_861, -2_516_582, 5_872_025, 8_388_607][..]));
+    for bits in [0, 33] {
+        assert_eq!(dither_f32(&[1.0], bits, &mut state, &mut [0]), Err(Error::NotWritable));
+    }
+    assert_eq!(dither_f64(&[1.0], 8, &mut state, &mut []), Err(Error::NoRoom));
+    assert_eq!(state, 8_709_371_129_873_690_709);
 }
 
 #[test]

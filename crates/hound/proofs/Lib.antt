@@ -14,6 +14,7 @@ pub mod Recorders
 pub mod Mended
 pub mod Whole
 pub mod Batching
+pub mod Begun
 pub mod WholeSessions
 mod InUse
 pub mod Ending

@@ -20,10 +20,11 @@ pub use Rattle.hound_walk.specs.declared.cause.Cause.{Cause}
 pub use Rattle.hound_walk.specs.declared.cause.HeadError.{HeadError}
 pub use Rattle.hound_walk.specs.declared.cause.Reason.{Reason}
 pub use Rattle.hound_walk.specs.declared.chunks.FileHead.{FileHead}
-pub use Rattle.hound_reader.specs.{AnswersNext, AnswersRead, AnswersReadMany, AreContainers, AreItems, CountsTaken, GivesItem, GivesItems, GivesItemsOfBytes, HasGiven, HasGiven-prop, HasSoundCounts, HasWholeFrames, IsNext, ReaderState, ReadsBlock, TookBytes, meaning_at, over_bytes, rejection_at, requested, samples_left, taken_without, AnswersSamples, FindsSamples, IsNotOpened, OpensSource, LendsNext, TakesNext, lender, lent_reader, taken_reader, Follows, HasSought, IsAtCount, IsMeaningOf, IsWhereCounted, PassesItem, ReadsInPlace, Recounts, Seeks, bytes_before, container_at, count_after, samples_before, way_to}
-pub use Rattle.hound_writer.specs.{AcceptAnswer, Accepts, AcceptsBytes, AcceptsEach, Adds, AddsAtEach, AddsToFile, AreI16, FitAnswer, IsIoError, IsPublishing, IsStored, OnPublished, OnRejected, StaysStored, StaysTrue, UnlessFailed, container_in, containers_in, faults_reported, i16_bytes, if_marked, mark_of, one, sample_bytes, whole_containers, AnswersAppend, AppendAnswer, AppendFault, Appends, FailsCheck, FollowsData, HasOneAppendAnswer, IsAppendFault, IsFileError, IsMediumError, IsNotAppended, NamesFault, PutsNothing, appendable, by_bytes, faulty, too_long, IsSameFile, WritesToBatch, batch_bytes, batch_lender, batch_writer, remaining, Begins, BeginsFile, HasBegun, IsNotBegun, PutsHeader, CountsAtMost, GoesAtEach, GoesOut, GoesToFile, HasSize, IsConsistent, IsLimit, IsPatched, IsPublishResult, Patches, PatchesAtEach, PutsAt, StaysAround, after_out, all_out, as_error, memory_bytes, of_fields, AreKnown, Asked, Begun, Call, Does, Ends, Extends, HadData, HasSameCalls, IsKnown, IsSeen, Known, Lead, LeftBy, Opens, RecordedBy, Seen, appended, asked_by_all, found_in, handed_in, made, mark_seen, marked, new_file, publish, result_seen, returned, start_of, unseen, with_memory, write, AreFrames, ChangesSizesOnly, Counts, Ghosts, HasHeader, HasRoom, HasSameSamples, IsBegun, IsCounted, IsPadded, IsSixteen, IsSound, IsValid, IsWhole, ReadsFirst, SameButSizes, WriterState, accepted_bytes, accepted_samples, block_length, data_end, data_length, field, padded_end, sample_count, Checkpoints, Finishes, IsHalfPublished, IsOldOrNew, IsOutside, LeavesWriter, OncePutBefore, Publishes, PublishesAtEach, PublishesTo, PutsFrom, PutsLast, ReadsAs, place_after, Log, Performed, Performs, checkpoint, log_kind, nth, pad_effects, size_effects, AppendsRecorder, BeginsRecorder, HasData, HasFailed, HasNoData, HasRoomFor, IsAlive, IsClear, LeavesRoom, NextEffect, advanced, effects_of, is_sound, length_with, recorder_of, ContinuesAfter, Resumes, ResumesAfter, ends_whole, found_frame, kept_as, kept_length, rest_follows, resumed_recorder, Abandons, Advances, AsksForBlock, AsksForCheckpoint, CutsOff, EffectEnds, EndsEffect, GivesUp, GoesOn, HadNothing, HandsOut, HasBlock, HasCleaned, HasCut, HasEffect, HasEnded, HasNothing, HasPerformed, HasSaved, HasStopped, HasWritten, IsDue, IsSaving, MaySave, Saves, SavesFirst, Settles, TakesBlock, ThenGoesOn, after_block, cuts_next, doubted, end_of, end_place, given_up, AgreeTo, Directed, HasPlace, HasRoomTo, InStep, IsCutOff, IsIdle, IsOrdered, IsRecorderOf, IsSynced, Opened, Resumed, block_known, cut_known, resumed_file, writer_of, IsSaid, Repeats, written_first}
+pub use Rattle.hound_reader.specs.{AnswersNext, AnswersRead, AnswersReadMany, AreContainers, AreItems, CountsTaken, GivesItem, GivesItems, GivesItemsOfBytes, HasGiven, HasGiven-prop, HasSoundCounts, HasWholeFrames, IsNext, ReaderState, ReadsBlock, TookBytes, block_bytes, further, meaning_at, over_bytes, rejection_at, requested, samples_left, taken_without, AnswersSamples, FindsSamples, IsNotOpened, OpensSource, LendsNext, TakesNext, lender, lent_reader, taken_reader, Follows, HasSought, IsAtCount, IsMeaningOf, IsWhereCounted, PassesItem, ReadsInPlace, Recounts, Seeks, bytes_before, container_at, count_after, samples_before, way_to, AreFirstSamples, IsCauseOf, IsCutAfter, IsReasonOf, EndsEarly, GetsAll, GetsBlock, IsGetError, PassesBytes}
+pub use Rattle.hound_writer.specs.{AcceptAnswer, Accepts, AcceptsBytes, AcceptsEach, Adds, AddsAtEach, AddsToFile, AreI16, FitAnswer, IsIoError, IsPublishing, IsStored, OnPublished, OnRejected, StaysStored, StaysTrue, UnlessFailed, container_in, containers_in, faults_reported, i16_bytes, if_marked, mark_of, one, sample_bytes, whole_containers, AnswersAppend, AppendAnswer, AppendFault, Appends, FailsCheck, FollowsData, HasOneAppendAnswer, IsAppendFault, IsFileError, IsMediumError, IsNotAppended, NamesFault, PutsNothing, appendable, by_bytes, faulty, too_long, IsSameFile, WritesToBatch, batch_bytes, batch_lender, batch_writer, remaining, Begins, BeginsFile, BeginsWith, DoesBeginning, DoesBeginnings, HasBegun, IsNotBegun, PutsHeader, at_beginning, beginning, header_part, CountsAtMost, GoesAtEach, GoesOut, GoesToFile, HasSize, IsConsistent, IsLimit, IsPatched, IsPublishResult, Patches, PatchesAtEach, PutsAt, StaysAround, after_out, all_out, as_error, memory_bytes, of_fields, AreKnown, Asked, Begun, Call, Does, Ends, Extends, HadData, HasSameCalls, IsKnown, IsSeen, Known, Lead, LeftBy, Opens, RecordedBy, Seen, appended, asked_by_all, found_in, handed_in, made, mark_seen, marked, new_file, publish, result_seen, returned, start_of, unseen, with_memory, write, AreFrames, ChangesSizesOnly, Counts, Ghosts, HasHeader, HasRoom, HasSameSamples, IsBegun, IsCounted, IsPadded, IsSixteen, IsSound, IsValid, IsWhole, ReadsFirst, SameButSizes, WriterState, accepted_bytes, accepted_samples, block_length, data_end, data_length, field, padded_end, sample_count, Checkpoints, Finishes, IsHalfPublished, IsOldOrNew, IsOutside, LeavesWriter, OncePutBefore, Publishes, PublishesAtEach, PublishesTo, PutsFrom, PutsLast, ReadsAs, place_after, Log, Performed, Performs, checkpoint, log_kind, nth, pad_effects, size_effects, AppendsRecorder, BeginsRecorder, HasData, HasFailed, HasNoData, HasRoomFor, IsAlive, IsClear, LeavesRoom, NextEffect, advanced, effects_of, is_sound, length_with, recorder_of, ContinuesAfter, Resumes, ResumesAfter, ends_whole, found_frame, kept_as, kept_length, rest_follows, resumed_recorder, Abandons, Advances, AsksForBlock, AsksForCheckpoint, CutsOff, EffectEnds, EndsEffect, GivesUp, GoesOn, HadNothing, HandsOut, HasBlock, HasCleaned, HasCut, HasEffect, HasEnded, HasNothing, HasPerformed, HasSaved, HasStopped, HasWritten, IsDue, IsSaving, MaySave, Saves, SavesFirst, Settles, TakesBlock, ThenGoesOn, after_block, cuts_next, doubted, end_of, end_place, given_up, AgreeTo, Directed, HasPlace, HasRoomTo, InStep, IsCutOff, IsIdle, IsOrdered, IsRecorderOf, IsSynced, Opened, Resumed, block_known, cut_known, resumed_file, writer_of, IsSaid, Repeats, written_first}
 unfoldable pub use Rattle.hound_writer.specs.{head_fault, Left, Recorded, with_sizes}
 pub use Rattle.hound_writer.specs.declared.effects.Action.{Action}
+pub use Rattle.hound_writer.specs.declared.effects.BeginningEffect.{BeginningEffect}
 pub use Rattle.hound_writer.specs.declared.effects.Effect.{Effect}
 pub use Rattle.hound_writer.specs.declared.effects.Report.{Report}
 pub use Rattle.hound_writer.specs.declared.recorder.Health.{Health}

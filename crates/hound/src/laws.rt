@@ -6,10 +6,10 @@ ghost use Rattle.hound_spec.specs.declared.error.Error.{Error};
 ghost use Rattle.hound_spec.specs.declared.spec.WavSpecEx.{WavSpecEx};
 ghost use Rattle.hound_spec.specs.{canonical, data_start, riff_size};
 ghost use Rattle.hound_number.specs.{mix};
-ghost use Rattle.hound_medium.specs.{MediumState, WhereKeeps, WhereTells, moment};
+ghost use Rattle.hound_medium.specs.{MediumState, WhereKeeps, WhereTells, moment, overlay};
 ghost use Rattle.hound_durable.specs.{Ascends, SurvivesLoss, place_of};
 ghost use Rattle.hound_sample.specs.{Rejection, int_container};
-ghost use Rattle.hound_writer.specs.{Advances, mark_of, AcceptAnswer, AcceptsBytes, ChangesSizesOnly, appended, AcceptsEach, i16_bytes, AreKnown, Asked, Begun, Call, IsKnown, Known, Lead, Left, Recorded, returned, sample_count, asked_by_all, found_in, made, marked, new_file, publish, start_of, IsSameFile, Finishes, WriterState, IsWhole, accepted_samples, data_length, IsSound, CountsAtMost, LeavesWriter, PutsAt, ReadsAs, field, Log, Performed, handed_in, log_kind, Directed, IsSynced, AgreeTo, Counts, end_of, IsCutOff, Resumes, effects_of, writer_of};
+ghost use Rattle.hound_writer.specs.{Advances, mark_of, AcceptAnswer, AcceptsBytes, ChangesSizesOnly, appended, AcceptsEach, i16_bytes, AreKnown, Asked, Begun, Call, IsKnown, Known, Lead, Left, Recorded, returned, sample_count, asked_by_all, found_in, made, marked, new_file, publish, start_of, IsSameFile, Finishes, WriterState, IsWhole, accepted_samples, data_length, IsSound, CountsAtMost, LeavesWriter, PutsAt, ReadsAs, field, Log, Performed, handed_in, log_kind, Directed, IsSynced, AgreeTo, Counts, end_of, IsCutOff, DoesBeginnings, Resumes, beginning, effects_of, writer_of};
 ghost use Rattle.hound_writer.specs.declared.recorder.Recorder.{Recorder};
 ghost use Rattle.hound_writer.specs.declared.resuming.FoundFile.{FoundFile};
 ghost use Rattle.hound_writer.specs.declared.effects.Action.{Action};
@@ -227,10 +227,18 @@ pub fn what_a_loss_leaves<M: Medium>()
 /// a loss of power leaves of it, where it agrees up to there with what one could leave without the cut
 /// (`cut_survives`).
 ///
+/// Within the beginning of a file that had no bytes, whatever has failed, a loss of power leaves at most its header, in
+/// which the data length is 0 (`begun`).
+///
 /// Of a recording that was cut off, and is mended, a loss of power within the first checkpoint leaves a file that
 /// counts no more than the samples that its recorder keeps, if the file was synced before. These are all, or as many
 /// as its header counted, unless only some bytes of the data length are new (`mended`).
 pub fn a_recording_is_kept()
+    ensures begun { (s : WavSpecEx) (old new : MediumState) (result : Result Unit IoFault)
+        → overlay old.start old.past ≡ [] → DoesBeginnings true s beginning result old new
+        → (sector : ℕ) (left : List ℕ)
+        → SurvivesLoss sector new.start new.past new.flushed (length new.past) left
+        → (length left ≤ data_start s) × (field (data_start s - 4) left ≡ 0) }
     ensures kept { (s : WavSpecEx) (file : Begun) (known : List Known) (r : Recorder) (m : MediumState)
         → Directed s file known r m → r.number ≡ 0
         → (log : Log) × (log.state ≡ m) × Kept log_kind s file known log }

@@ -11,7 +11,9 @@
 //! checkpoint, and `finalize`. A whole run as one call: [`run_session`], [`run_sessions`].
 //!
 //! To read one: [`WavReader`] (`open`, or `new` over any reader), `samples` or `into_samples`,
-//! `read_samples` for many at once, `seek`; [`read_wave_header`] for only the first twelve bytes.
+//! `read_samples` for many at once, `seek`; [`read_wave_header`] for only the first twelve bytes. Over
+//! bytes in memory `from_bytes` and `decode_samples`, over a [`Source`] `try_new` and `try_read_samples`
+//! say by contract why each `IoError` comes.
 //!
 //! To mend a file whose recording was cut off: [`repair_file`], or [`repair`] in any medium;
 //! [`find_damage_in_file`] and [`find_damage`] only look; [`repair_file_to_end`] and
@@ -58,9 +60,9 @@
 //! them the result is `TooWide`.
 //!
 //! What a file is: [`WavSpec`], [`WavSpecEx`], [`SampleFormat`]; what a sample is: [`Sample`], for
-//! `i8`, `i16`, `i32`, [`FloatBits`] and types of your own; why a call failed: [`Error`]. What
-//! takes memory takes an `alloc`, which is `rt.alloc()`, and what opens a file takes `rt`, which
-//! `main` gets.
+//! `i8`, `i16`, `i32`, [`FloatBits`] and types of your own; the first four are [`Decode`], too. Why a call
+//! failed: [`Error`]. What takes memory takes an `alloc`, which is `rt.alloc()`, and what opens a file takes
+//! `rt`, which `main` gets.
 //!
 //! Memory to write into and to read from: [`Tape`]; the same with every byte written recorded, and
 //! faults on request: [`Journal`]. The traits that these and files have:
@@ -89,14 +91,16 @@ pub use hound_repair::{
     find_damage_in_file, repair, repair_file, repair_file_to_end, repair_to_end,
 };
 pub use hound_sample::{
-    FloatBits, Sample, change_bits, float_to_int, i16s_are_kept, int_to_float, integers_come_back,
+    Decode, FloatBits, Sample, change_bits, float_to_int, i16s_are_kept, int_to_float,
+    integers_come_back,
 };
 pub use hound_spec::{Error, Result, SampleFormat, WavSpec, WavSpecEx, header_of};
 pub use hound_walk::{one_answer, read_wave_header, written_is_head};
 pub use hound_writer::{
-    Action, Effect, FoundFile, Health, Phase, Recorder, RecorderError, RepairState, Report,
-    SampleWriter16, WavWriter, a_block_is_its_samples, a_cut_is_ignored, a_recorder_directs,
-    an_effect_may_be_repeated, one_append_answer, put_all_at,
+    Action, BeginningEffect, Effect, FoundFile, Health, Phase, Recorder, RecorderError,
+    RepairState, Report, SampleWriter16, WavWriter, a_block_is_its_samples, a_cut_is_ignored,
+    a_recorder_directs, an_effect_may_be_repeated, beginning_effect, one_append_answer, part_from,
+    put_all_at,
 };
 pub use laws::{
     a_batch_is_its_values, a_checkpoint_holds, a_recording_is_kept,

@@ -15,24 +15,25 @@ ghost use Rattle.hound_sample.specs.{double_of_int, float_of_int, int_container,
 ghost use Rattle.hound_spec.specs.declared.spec.SampleFormat.TheVariants.{Float, Int};
 ghost use Rattle.hound_walk.specs.declared.cause.Cause.{Cause};
 ghost use Rattle.hound_writer.specs.{Advances, AsksForBlock, AsksForCheckpoint, BeginsRecorder, LeavesRoom, Resumes};
-ghost use Rattle.hound_slices.specs.{AppendsInPlace, BeginsForC, BeginsRepairer, CountsWhole, Decodes, Encodes, FindsInFile, GivesHeader, GivesSizes, GuessesData, IsDamageError, IsExplicit, IsKind, MakesContainer, NarrowsFloats, ReadsInto, Records, RepairsFile, Returns, ScalesToFloats, ScalesToIntegers, Sizes, StepsRepairer, TakesPart, WidensFloats, WritesFile, effect_of, error_code, found_file, mends, overwrites, recorder_of, report_of, spec_from_c};
+ghost use Rattle.hound_slices.specs.{AppendsInPlace, BeginsForC, BeginsRepairer, CountsWhole, Decodes, Encodes, FindsInFile, GivesBeginning, GivesHeader, GivesSizes, GuessesData, IsDamageError, IsExplicit, IsKind, MakesContainer, NarrowsFloats, ReadsInto, Records, RepairsFile, Returns, ScalesToFloats, ScalesToIntegers, Sizes, StepsRepairer, TakesNumbers, TakesPart, WidensFloats, WritesFile, effect_of, error_code, found_file, mends, overwrites, recorder_of, report_of, spec_from_c, with_noise};
 ghost use Rattle.hound_slices.specs.declared.error.CallError.{CallError as AnyError};
 ghost use Rattle.hound_slices.specs.declared.error.CallError.TheVariants.{Head};
 
 use hound_repair::Task;
 use hound_sample::FloatBits;
 use hound_slices::{
-    CallError, HoundInfo, HoundRecorder, HoundRepair, HoundRepairer, HoundSpec, HoundWalk,
-    append_block, begin_repairer, code_of, code_of_error, container_of_8, container_of_16,
-    container_of_24, container_of_32, decode_block, encode_block, file_kind, file_size,
-    find_file_damage, find_samples, found_file, guess_data, info_for_c, mends, narrow_floats,
-    overwrites, read_block, recorder_for_c, recorder_of, repair_file, report_of,
-    scale_doubles_to_integers, scale_to_doubles, scale_to_floats, scale_to_integers, spec_from_c,
-    step_repairer, step_walk, value_of_8, value_of_16, value_of_24, value_of_32, whole_frames,
-    widen_floats, write_file, write_header, write_sizes,
+    CallError, HoundEffect, HoundInfo, HoundRecorder, HoundRepair, HoundRepairer, HoundSpec,
+    HoundWalk, append_block, begin_repairer, beginning_for_c, code_of, code_of_error,
+    container_of_8, container_of_16, container_of_24, container_of_32, decode_block,
+    dither_doubles, dither_floats, encode_block, file_kind, file_size, find_file_damage,
+    find_samples, found_file, guess_data, info_for_c, mends, narrow_floats, overwrites, read_block,
+    recorder_for_c, recorder_of, repair_file, report_of, scale_doubles_to_integers,
+    scale_to_doubles, scale_to_floats, scale_to_integers, spec_from_c, step_repairer, step_walk,
+    value_of_8, value_of_16, value_of_24, value_of_32, whole_frames, widen_floats, write_file,
+    write_header, write_sizes,
 };
 use hound_spec::SampleFormat;
-use hound_writer::Recorder;
+use hound_writer::{Recorder, beginning_effect};
 
 /// What is before the data: 0, or why it can't be read.
 #[unsafe(no_mangle)]
@@ -433,6 +434,38 @@ pub extern "C" fn hound_from_f64(
     code_of(scale_doubles_to_integers(samples, bits, out, clipped))
 }
 
+/// The same with noise, whose state becomes that for the next floats.
+#[unsafe(no_mangle)]
+pub extern "C" fn hound_dither_f32(
+    samples: &[f32],
+    bits: u16,
+    state: &mut u64,
+    out: &mut [i32],
+    clipped: &mut u64,
+) -> i64
+    ensures scales { Returns result (ScalesToIntegers bits (with_noise bits state.old samples.now)
+        out.old out.new clipped.old clipped.new) }
+    ensures takes { Returns result (TakesNumbers samples.now state.old state.new) }
+{
+    code_of(dither_floats(samples, bits, state, out, clipped))
+}
+
+/// The same of floats of 64 bits.
+#[unsafe(no_mangle)]
+pub extern "C" fn hound_dither_f64(
+    samples: &[f64],
+    bits: u16,
+    state: &mut u64,
+    out: &mut [i32],
+    clipped: &mut u64,
+) -> i64
+    ensures scales { Returns result (ScalesToIntegers bits (with_noise bits state.old samples.now)
+        out.old out.new clipped.old clipped.new) }
+    ensures takes { Returns result (TakesNumbers samples.now state.old state.new) }
+{
+    code_of(dither_doubles(samples, bits, state, out, clipped))
+}
+
 /// Widens floats to 64 bits, which changes none.
 #[unsafe(no_mangle)]
 pub extern "C" fn hound_f32_to_f64(samples: &[f32], out: &mut [f64]) -> i64
@@ -449,7 +482,23 @@ pub extern "C" fn hound_f64_to_f32(samples: &[f64], out: &mut [f32], infinite: &
     code_of(narrow_floats(samples, out, infinite))
 }
 
-/// Begins to record a new file, whose header the caller has written.
+/// The effect with this number, from 0, with which a new file begins: 1, or 0 after the last.
+#[unsafe(no_mangle)]
+pub extern "C" fn hound_beginning(spec: &HoundSpec, number: u32, effect: &mut HoundEffect) -> i32
+    ensures { Records result option_len
+        (GivesBeginning (spec_from_c spec.now) number effect.old effect.new) }
+{
+    let spec_ex = spec_from_c(*spec);
+    match beginning_effect(spec_ex, number) {
+        Ok(next) => {
+            *effect = beginning_for_c(spec_ex, next);
+            if next.is_some() { 1 } else { 0 }
+        }
+        Err(error) => code_of_error(CallError::Recorder(error)),
+    }
+}
+
+/// Begins to record a new file, which the caller has begun.
 #[unsafe(no_mangle)]
 pub extern "C" fn hound_recorder_begin(spec: &HoundSpec, recorder: &mut HoundRecorder) -> i32
     ensures { Records result (λ _. 0) (λ begun. BeginsRecorder (spec_from_c spec.now) begun

@@ -1,10 +1,10 @@
 // The functions of `callers` and `reading`, each run once.
-use hound::{Source, WavReader, WavWriter};
+use hound::{Decode, Source, WavReader, WavWriter};
 use hound_callers::{
-    give_up_batch, look_and_repair, open_written, publish, read_block, read_from, record_at_once,
-    reopen, sample_at, samples_of, written_and_read,
+    give_up_batch, look_and_repair, open_written, publish, read_block, read_from, read_memory,
+    record_at_once, reopen, sample_at, samples_of, written_and_read,
 };
-use hound_test_helpers::{FOUR_SAMPLES, NO_SAMPLES, empty_tape, sixteen, tape_of};
+use hound_test_helpers::{FOUR_SAMPLES, NO_SAMPLES, empty_tape, name_of, sixteen, tape_of};
 use std::alloc::Global;
 use std::test::Fail;
 
@@ -38,6 +38,33 @@ fn a_written_file_is_opened(rt: HostRuntime) -> Result<(), Fail> {
     let count = reader.len();
     let is_at_data = reader.into_inner() == [2u8, 0, 0xfd, 0xff, 5, 0, 0xf9, 0xff].as_slice();
     assert_eq!(rt; (count, is_at_data), (4, true));
+    Ok(())
+}
+
+// The name of the error for which a file in memory isn't read.
+fn why_not_read<S: Decode + Copy>(alloc: Global, bytes: &[u8], silence: S) -> &'static str {
+    match read_memory(alloc, bytes, silence) {
+        Ok(_) => "none",
+        Err(error) => name_of(error),
+    }
+}
+
+#[test]
+fn a_file_in_memory_is_read(rt: HostRuntime) -> Result<(), Fail> {
+    let alloc = rt.alloc();
+    let (spec_ex, samples) = read_memory(alloc, &FOUR_SAMPLES, 85i16)?;
+    assert!(rt;
+        samples.as_slice() == [2i16, -3, 5, -7].as_slice() && spec_ex.bytes_per_sample == 2
+    );
+    let (_, samples) = read_memory(alloc, &NO_SAMPLES, 85i8)?;
+    assert_eq!(rt; samples.len(), 0);
+    assert_eq!(rt; why_not_read(alloc, &FOUR_SAMPLES, 85i8), "TooWide");
+    assert_eq!(rt; why_not_read(alloc, &FOUR_SAMPLES[..51], 85i16), "IoError");
+    assert_eq!(rt; why_not_read(alloc, &FOUR_SAMPLES[..43], 85i16), "IoError");
+    assert_eq!(rt;
+        why_not_read(alloc, &FOUR_SAMPLES[1..], 85i16),
+        "no RIFF tag found"
+    );
     Ok(())
 }
 

@@ -3,10 +3,10 @@ use hound::{
     Durable, FoundFile, Journal, Recorder, RepairState, Step, Tape, WavReader, WavSpecEx, WavWriter,
 };
 use hound_callers::{
-    Twelve, append_blocks, append_by_effects, continue_by_effects, finish, finish_durable,
-    opened_meanwhile, pack_one, publish_and_continue, publish_durably, record, record_at_once,
-    record_batch, record_by_effects, record_checkpoints, record_in_parts, record_steps,
-    write_if_short,
+    Twelve, append_blocks, append_by_effects, begin_by_effects, continue_by_effects, finish,
+    finish_durable, opened_meanwhile, pack_one, publish_and_continue, publish_durably, record,
+    record_at_once, record_batch, record_by_effects, record_checkpoints, record_in_parts,
+    record_steps, write_if_short,
 };
 use hound_test_helpers::{FOUR_SAMPLES, empty_tape, integers, read_all, sixteen, tape_of};
 use std::alloc::Global;
@@ -181,14 +181,40 @@ fn continues_in_parts(alloc: Global) -> hound::Result<bool> {
     Ok(whole && count == 4 && failed && saved == 3)
 }
 
+// The header of a new file, as hound writes it.
+const HEADER: &[u8; 44] = b"RIFF\0\0\0\0WAVEfmt \x10\0\0\0\x01\0\x01\0\x44\xac\0\0\
+    \x88\x58\x01\0\x02\0\x10\0data\0\0\0\0";
+
+// Whether a file begins with its header, and has less of it where one of the calls fails.
+fn begins(alloc: Global) -> hound::Result<bool> {
+    let mut last = false;
+    for fail_from in 0..7u64 {
+        let mut journal = Journal::new(alloc, Vec::new(alloc))?;
+        journal.fail(fail_from, u64::MAX);
+        let has_begun = begin_by_effects(&mut journal, integers(1, 44100, 16, 2)).is_ok();
+        let bytes = journal.bytes_after(alloc, journal.taken())?;
+        if !HEADER.starts_with(&bytes) || has_begun != (bytes.len() == 44) || last && !has_begun {
+            return Ok(false);
+        }
+        last = has_begun;
+    }
+    Ok(last)
+}
+
 // Whether the blocks that were saved are read, and nothing else than samples of the blocks, wherever
 // the medium fails.
 fn keeps(alloc: Global, blocks: &[&[u8]]) -> hound::Result<bool> {
     let mut last = 0;
-    for fail_from in 2..40u64 {
+    for fail_from in 0..50u64 {
         let mut journal = Journal::new(alloc, Vec::new(alloc))?;
         journal.fail(fail_from, u64::MAX);
-        let count = record_by_effects(&mut journal, integers(1, 44100, 16, 2), blocks, &[])?;
+        let recorded = record_by_effects(&mut journal, integers(1, 44100, 16, 2), blocks, &[]);
+        let Ok(count) = recorded else {
+            if last > 0 || journal.taken() > 44 {
+                return Ok(false);
+            }
+            continue;
+        };
         let bytes = journal.bytes_after(alloc, journal.taken())?;
         let found = read_all::<i16, _>(alloc, WavReader::new(&bytes[..])?)?;
         let least = [0, 1, 3, 4][count.min(3)];
@@ -371,6 +397,7 @@ fn effects_leave_what_was_saved(rt: HostRuntime) -> Result<(), Fail> {
             44 + 8 + 3 * 8 + 2 * 2 + 3 * 4
         )?
     );
+    assert!(rt; begins(alloc)?);
     assert!(rt; keeps(alloc, blocks)?);
     assert!(rt; resumes(alloc, &FOUR_SAMPLES, blocks)?);
     // Two syncs, and then a size twice: a sync whose report is lost would have failed.

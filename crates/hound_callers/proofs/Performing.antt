@@ -2,16 +2,17 @@
 use Rattle.std.proofs.lemmas.Bool.{false≢true}
 use Rattle.std.proofs.lemmas.Grind.{flat_map-append, common_steps}
 use Rattle.std.proofs.lemmas.List.{append-nil, map-append}
-use Rattle.std.proofs.Common.{◌≡◌, ◌<◌, ◌≤◌, ◌+◌, ◌-◌, ◌*◌, ◌/◌, ◌%◌, ℕ, Bool, true, false, List, [], ◌∷◌, ◌++◌, drop, drop-cons, get_or, length, length-append, length-take, take, inl, inr, OnErr, OnOk, Result, Ok, Err, IsErr, is_ok, refl, sym, ◌∙◌, ap, subst, append_assoc, arith}
+use Rattle.std.proofs.Common.{◌≡◌, ◌<◌, ◌≤◌, ◌+◌, ◌-◌, ◌*◌, ◌/◌, ◌%◌, ℕ, Bool, true, false, List, [], ◌∷◌, ◌++◌, drop, drop-cons, get_or, length, length-take, take, inl, inr, OnErr, OnOk, Result, Ok, Err, IsErr, is_ok, refl, sym, ◌∙◌, ap, subst, append_assoc, arith}
 use Rattle.std.proofs.Math.Nat.{div-add-mod', mul-div_cancel, mul-mod_left}
 use Rattle.std.specs.Borrow.{Bor}
 use Rattle.std.specs.List.{AllByRecursion, flat_map}
 use Rattle.hound.proofs.Knowing.{accepted as accepted_of_known, lasts, length-concat, reads_all}
-use Rattle.hound.specs.{Abandons, AreBytes, AsksForBlock, Asked, Begun, Directed, KeptWithin, Known, Log, MediumState, PutsAll, placed, GivesUp, TakesBlock, given_up as given_back, Recorder, RecorderError, WavSpecEx, accepted_as_seen, accepted_by_all, field, found_in, if_marked, Repeats, length_with, log_kind, marked, overlay, publish, seen, start_of}
-use Rattle.hound.specs.declared.Phase.TheVariants.{Idle}
+use Rattle.hound.specs.{Abandons, AreBytes, AsksForBlock, Asked, Begun, Directed, KeptWithin, Known, Log, MediumState, GivesUp, TakesBlock, given_up as given_back, Recorder, RecorderError, WavSpecEx, accepted_as_seen, accepted_by_all, field, found_in, if_marked, Repeats, length_with, log_kind, marked, overlay, publish, seen, start_of}
+use Rattle.hound.specs.declared.Phase.{Phase}
+use Rattle.hound.specs.declared.Phase.TheVariants.{Idle, Saving, Requested, Writing, Cleaning}
 use Rattle.hound.specs.declared.Report.TheVariants.{Pending}
 use Rattle.hound.specs.declared.RecorderError.TheVariants.{NotWritable, UnfinishedFrame, TooLong, Truncated, CutOff, HasChunksAfterData, NeedsCheckpoint, SyncFailed}
-use Rattle.hound_callers.specs.Recorder.{IsDirected, IsReady, IsRejected, ReadsBlocks, Saves, Stops, StopsAt, StopsIn, samples_of}
+use Rattle.hound_callers.specs.Recorder.{IsDirected, IsFree, IsReady, IsRejected, ReadsBlocks, Saves, Stops, StopsAt, StopsIn, samples_of}
 use Rattle.hound_callers.specs.Recording.{published_calls}
 use Rattle.hound_callers.proofs.Publishing.{accepted, last_call}
 
@@ -31,22 +32,29 @@ whole_samples n width whole = omega (arith, div-add-mod' n width, whole)
 pub given_up : (old end : Recorder) → Abandons Pending old end → GivesUp old end
 given_up old end (mid, modelled, (same, ok), gives) = subst (λ m. GivesUp m end) same gives
 
-nothing_given : (old end : Recorder) → old.phase ≡ Idle → Abandons Pending old end → end ≡ old
-nothing_given old end idle gives =
-    let only : given_back old.phase old ≡ record old { phase = Idle } = rw idle refl in
-    given_up old end gives ∙ only ∙ (λ i. record old { phase = sym idle i })
+none_given : (phase : Phase) (r : Recorder) → IsFree phase → given_back phase r ≡ record r { phase = Idle }
+none_given Idle r free = refl
+none_given Saving r free = refl
+none_given (Requested n) r free = absurd free
+none_given (Writing n) r free = absurd free
+none_given Cleaning r free = absurd free
+
+pub nothing_given : (old end : Recorder) → IsFree old.phase → Abandons Pending old end
+    → end ≡ record old { phase = Idle }
+nothing_given old end free gives = given_up old end gives ∙ none_given old.phase old free
 
 -- a recorder that met no failure doesn't take a block
 pub not_taken : (r new : Recorder) (block : Bor (List ℕ)) (error : RecorderError)
     → length block.now % r.bytes_per_sample ≡ 0 → IsReady r
     → AsksForBlock Pending (length block.now / r.bytes_per_sample) r new (Err error)
-    → (new ≡ r) × IsRejected r block
+    → (new ≡ record r { phase = Idle }) × IsRejected r block
 not_taken r new block error whole ready (end, gives, takes) =
     by error (subst (λ x. TakesBlock (length block.now / r.bytes_per_sample) x new (Err error))
     (nothing_given r end ready.2 gives) takes)
   where
-    by : (error : RecorderError) → TakesBlock (length block.now / r.bytes_per_sample) r new (Err error)
-        → (new ≡ r) × IsRejected r block
+    by : (error : RecorderError)
+        → TakesBlock (length block.now / r.bytes_per_sample) (record r { phase = Idle }) new (Err error)
+        → (new ≡ record r { phase = Idle }) × IsRejected r block
     by SyncFailed (same, dead) = let sound = ready.1 in cc (sound, dead)
     by UnfinishedFrame (same, alive, inl none) = absurd (let some = ready.5 in omega (arith, some, none))
     by UnfinishedFrame (same, alive, inr torn) = (same, inr (inl torn))
@@ -72,10 +80,10 @@ on_err (Err e) here = here refl
 
 -- a block of which nothing was written
 pub stopped_before : (s : WavSpecEx) (file : Begun) (known : List Known) (r : Recorder) (block : Bor (List ℕ))
-    (m : MediumState) → IsRejected r block → IsReady r → IsDirected s file known r m
+    (m : MediumState) → IsRejected r block → r.number ≡ 0 → IsDirected s file known r m
     → Stops s file known block r m
-stopped_before s file known r block m rejected ready directed =
-    ([], inl (rejected, refl), ready.0, rw append-nil directed)
+stopped_before s file known r block m rejected none directed =
+    ([], inl (rejected, refl), none, rw append-nil directed)
 
 pub at_err : {T E P : Type 0} (r : Result T E) → is_ok r ≡ false → OnErr r P → P
 at_err (Ok x) err here = absurd (false≢true (sym err))
@@ -153,9 +161,3 @@ saves s file blocks n r m within keeps (more, stops, none, (once, directed, repe
           (reads_saved s file (take n blocks) r (drop n blocks) more log once kept here stops publishes
           (omega (arith, some, within, length-take n blocks))),
     )
-
--- a medium that was synced before a header was written
-pub flushed_first : {T E : Type 0} {bytes : List ℕ} {result : Result T E} (old new : MediumState) → old.flushed ≡ length old.past
-    → PutsAll true bytes result old new → new.flushed ≤ length new.past
-flushed_first {bytes = bytes} old new synced puts =
-    omega (arith, synced, puts.takes.flushed, ap length (puts.takes.past refl), length-append old.past (placed old.place (take puts.count bytes)))

@@ -2,3 +2,4 @@ pub mod Recording
 pub mod Recorder
 pub mod Twelve
 pub mod Parts
+pub mod Memory

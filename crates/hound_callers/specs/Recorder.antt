@@ -3,7 +3,7 @@ use Rattle.std.specs.Prelude.{◌≡◌, ◌⊎◌, ℕ, ◌+◌, ◌-◌, ◌*�
 use Rattle.std.specs.declared.io.Error.{Error as IoFault}
 use Rattle.std.specs.Borrow.{Bor}
 use Rattle.std.specs.List.{AllByRecursion, flat_map}
-use Rattle.hound.specs.{Action, AppendsRecorder, Counts, Kept, accepted_by_all, SurvivesLoss, accepted_samples, field, mix, FoundFile, HasData, Head, IsAlive, IsSoundSpec, LeavesWriter, Resumes, mark_of, resumed_file, writer_of, Asked, Begun, Directed, Error, Flushes, IsRejection, IsSaid, KeptWithin, Known, Log, MediumState, Performed, Phase, PutsAt, ReadsAs, Readable, Repeats, Recorder, RecorderError, Rejection, Report, Unreadable, WavSpecEx, bytes_of, effects_of, found_in, greatest_u32, if_marked, log_kind, padded, publish, riff_size, seen, start_of, whole_containers, write}
+use Rattle.hound.specs.{Action, AppendsRecorder, Counts, DoesBeginnings, Ghosts, IsIoError, IsWritable, WhereTells, beginning, data_start, Kept, accepted_by_all, SurvivesLoss, accepted_samples, field, mix, FoundFile, HasData, Head, IsAlive, IsSoundSpec, LeavesWriter, Resumes, mark_of, resumed_file, writer_of, Asked, Begun, Directed, Error, Flushes, IsRejection, IsSaid, KeptWithin, Known, Log, MediumState, Performed, Phase, PutsAt, ReadsAs, Readable, Repeats, Recorder, RecorderError, Rejection, Report, Unreadable, WavSpecEx, bytes_of, effects_of, found_in, greatest_u32, if_marked, log_kind, padded, publish, riff_size, seen, start_of, whole_containers, write}
 use Rattle.hound.specs.declared.Action.TheVariants.{Cut, Perform, Read, WriteBlock}
 use Rattle.hound.specs.declared.Effect.TheVariants.{Pad, Size, Sync}
 use Rattle.hound.specs.declared.Health.TheVariants.{Sound}
@@ -49,9 +49,15 @@ TriesAction action block report old new = (result : Result (Unit {0}) IoFault) �
 abbrev pub IsDirected : WavSpecEx → Begun → List Known → Recorder → MediumState → Type 0
 IsDirected s file known r m = (once : MediumState) × Directed s file known r once × Repeats once m
 
--- a recorder of which nothing failed, with nothing under way
+-- nothing of a block is under way
+abbrev pub IsFree : Phase → Type 0
+IsFree Idle = Unit
+IsFree Saving = Unit
+IsFree _ = ⊥
+
+-- a recorder of which nothing failed, and that has begun nothing
 abbrev pub IsReady : Recorder → Type 0
-IsReady r = (r.number ≡ 0) × (r.health ≡ Sound) × (r.phase ≡ Idle) × (r.has_rest ≡ false)
+IsReady r = (r.number ≡ 0) × (r.health ≡ Sound) × IsFree r.phase × (r.has_rest ≡ false)
     × (20 ≤ r.data_start) × (1 ≤ r.channels) × (1 ≤ r.bytes_per_sample)
 
 -- a recorder was requested a checkpoint, or, where nothing failed, a block of so many bytes
@@ -67,6 +73,19 @@ length_after _ r = r.data_length
 -- the recorder then
 abbrev pub once_done : Recorder → Recorder
 once_done r = record r { data_length = length_after r.phase r; number = 0; health = Sound; phase = Idle }
+
+-- Why a file isn't begun, and what it holds then: its spec can't be written, and the medium is as it was; or an effect
+-- of its beginning has failed.
+abbrev pub IsNotBegunBy : {M : Type 0} → Ghosts M → WavSpecEx → M → M → Error → Type 0
+IsNotBegunBy kind s old new e = ((IsWritable s → ⊥) × (e ≡ Unsupported) × (new ≡ old))
+    ⊎ (IsWritable s × IsIoError e × WhereTells kind.tells
+    ((fault : IoFault) × DoesBeginnings kind.keeps s beginning (Err fault) (kind.state old) (kind.state new)))
+
+-- a loss of power leaves no sample of a file without bytes that is being begun, and no length of one
+abbrev pub LeavesNoSample : WavSpecEx → MediumState → MediumState → Type 0
+LeavesNoSample s old new = old.contents ≡ [] → (sector : ℕ) (left : List ℕ)
+    → SurvivesLoss sector new.start new.past new.flushed (length new.past) left
+    → (length left ≤ data_start s) × (field (data_start s - 4) left ≡ 0)
 
 -- the effects of a checkpoint were performed, up to the first that failed, where this is an error
 abbrev pub PerformsAll : {T E : Type 0} → Recorder → Log → Result T E → MediumState → Type 0

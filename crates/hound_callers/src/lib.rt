@@ -18,9 +18,10 @@ pub use callers::{
 pub use editing::append_blocks;
 pub use example::record_and_read;
 pub use parts::record_in_parts;
-pub use reading::{opened_meanwhile, read_block, read_from, reopen, written_and_read};
+pub use reading::{opened_meanwhile, read_block, read_from, read_memory, reopen, written_and_read};
 pub use recorder::{
-    a_cut_recording_counts, append_by_effects, continue_by_effects, record_by_effects,
+    a_cut_recording_counts, append_by_effects, begin_by_effects, continue_by_effects,
+    record_by_effects,
 };
 pub use recording::{
     finish_durable, pack_one, publish_and_continue, publish_durably, record, record_at_once,

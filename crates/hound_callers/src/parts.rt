@@ -1,7 +1,5 @@
 // A recording that continues in a next file where one has no more room.
-ghost use Rattle.std.specs.Prelude.{◌≡◌, ◌≤◌, length, map};
-ghost use Rattle.std.specs.List.{AllByRecursion};
-ghost use Rattle.hound.specs.{IsSynced, WhereKeeps, WhereTells};
+ghost use Rattle.std.specs.Prelude.{◌≡◌, ◌≤◌, length};
 ghost use Rattle.hound_callers.specs.Parts.{AreParts, IsPart, run_within};
 
 use crate::recorder::record_by_effects;
@@ -30,11 +28,8 @@ fn record_part<M: Medium>(
     most: usize,
     lost: &[bool],
 ) -> usize
-    requires place { WhereTells M.tells ((M.state medium.old).place ≡ 0) }
-    requires synced { WhereKeeps M.tells M.keeps (IsSynced (M.state medium.old)) }
     ensures within { result ≤ length blocks.now }
-    ensures part { WhereKeeps M.tells M.keeps
-        (IsPart spec_ex most blocks.now (M.state medium.old) (M.state medium.new) result) }
+    ensures part { IsPart M.Placed spec_ex most blocks.now medium.old medium.new result }
 {
     let count = run_within(blocks, most);
     match record_by_effects(medium, spec_ex, &blocks[..count], lost) {
@@ -44,13 +39,14 @@ fn record_part<M: Medium>(
 }
 
 /// Records blocks of containers into new files, one after the other, with a checkpoint after each block, and returns
-/// how many were saved. A file takes the next blocks whole, as long as all of its own have at most so many bytes;
-/// where they would have more, where a block has no room or where a call fails, the next file takes the rest. So what
-/// the headers of the files count, one after the other, are exactly the blocks that were saved, unless a checkpoint
-/// has failed; and a loss of power costs no published sample of any. A block whose write or checkpoint failed is in
-/// the next file, and a repair of the one before may find it there, too.
+/// how many were saved. A file takes the next blocks whole, until one would make all of its own more than so many
+/// bytes, is rejected, or meets a call that fails; the next file begins with that block. So what the headers of the
+/// files count, one after the other, are exactly the blocks that were saved, unless a checkpoint has failed; and a loss
+/// of power costs no published sample of any. A block whose write or checkpoint failed is in the next file, and a
+/// repair of the one before may find it there, too.
 ///
-/// Each medium must be at 0, and synced.
+/// Each file is begun, also where no block is left for it. One takes no block only where it can't be begun
+/// ([`record_by_effects`] says what it holds then), or where its first block has no room or stops it.
 pub fn record_in_parts<M: Medium>(
     media: &mut [M],
     spec_ex: WavSpecEx,
@@ -58,11 +54,8 @@ pub fn record_in_parts<M: Medium>(
     most: usize,
     lost: &[bool],
 ) -> usize
-    requires places { AllByRecursion (λ m. WhereTells M.tells ((M.state m).place ≡ 0)) media.old }
-    requires synced { AllByRecursion (λ m. WhereKeeps M.tells M.keeps (IsSynced (M.state m))) media.old }
     ensures within { result ≤ length blocks.now }
-    ensures parts { WhereKeeps M.tells M.keeps
-        (AreParts spec_ex most blocks.now (map M.state media.old) (map M.state media.new) result) }
+    ensures parts { AreParts M.Placed spec_ex most blocks.now media.old media.new result }
 {
     let Some((first, rest)) = media.split_first_mut() else {
         return 0;

@@ -2,11 +2,12 @@
 ghost use Rattle.std.specs.Prelude.{◌≡◌, ◌⊎◌, ℕ, ◌+◌, ◌-◌, ◌*◌, ◌/◌, ◌%◌, ◌≤◌, ◌++◌, ◌∷◌, List, None, Some, Ok, Err, IsSome, IfErr, IfOk, MatchResult, drop, length, map, min, take};
 ghost use Rattle.std.specs.List.{AllByRecursion, concat};
 ghost use Rattle.hound.specs.{Begun, Call, Error, HasPublished, IsUncut, ReadsAs, ReadsBlock, Seeks, Keeps, accepted_by_all, begins_at, field, found_in, mix, moment, publish, start_of, AreContainers, GivesItems, IsEncoded, IsIoError, IsNotAppended, IsWhole, IsWritable, ReaderState, WavSpecEx, WhereTells, accepted_samples, canonical, containers, data_fault, data_start, greatest_u32, header, int_container, one_more, over_bytes, riff_size, samples_before, samples_left};
+ghost use Rattle.hound_callers.specs.Memory.{HasAllSamples, IsFaultOf};
 
 use hound::{
-    Error, Journal, Medium, Placed, Sample, SampleFormat, Source, WavReader, WavWriter,
-    a_block_is_its_items, a_checkpoint_holds, a_reader_is_where_it_counts, integers_come_back,
-    one_append_answer, written_is_head, written_is_read,
+    Decode, Error, Journal, Medium, Placed, Sample, SampleFormat, Source, WavReader, WavSpecEx,
+    WavWriter, a_block_is_its_items, a_checkpoint_holds, a_reader_is_where_it_counts,
+    integers_come_back, one_append_answer, written_is_head, written_is_read,
 };
 use std::alloc::Global;
 use std::{io, result};
@@ -134,4 +135,24 @@ pub fn opened_meanwhile(alloc: Global, journal: &Journal, k: usize) -> hound::Re
 {
     a_checkpoint_holds();
     journal.bytes_after(alloc, k)
+}
+
+/// Reads a file in memory: its spec, and all of its samples (`read`). An error is one that these bytes have, or
+/// that of the type, or there is no memory for the samples (`err`). The vector has the given sample before they come.
+pub fn read_memory<S: Decode + Copy>(
+    alloc: Global,
+    bytes: &[u8],
+    silence: S,
+) -> hound::Result<(WavSpecEx, Vec<S>)>
+    ensures read { IfOk result (λ done. HasAllSamples S.value bytes.now done.0 done.1.items) }
+    ensures err { IfErr result (λ e. IsFaultOf S.decode_rejection bytes.now e ⊎ (e ≡ Error.OutOfMemory)) }
+{
+    let mut reader = WavReader::from_bytes(bytes)?;
+    let spec_ex = reader.spec_ex();
+    // No more than the bytes could hold, and one more where the header counts more.
+    let most = bytes.len() / spec_ex.bytes_per_sample as usize + 1;
+    let mut samples = vec![in alloc; silence; most.min(reader.len() as usize)]?;
+    let (_, result) = reader.decode_samples(&mut samples);
+    result?;
+    Ok((spec_ex, samples))
 }

@@ -1,17 +1,18 @@
 // Recorders whose caller performs the effects, on a medium.
 ghost use Rattle.std.specs.Prelude.{◌≡◌, ◌⊎◌, ◌≤◌, ◌+◌, ℕ, List, [], ◌++◌, ◌∷◌, Bool, true, false, if◌then◌else◌, IfErr, IfOk, OnErr, OnOk, Result, drop, is_ok, length, slice_index_or, take};
 ghost use Rattle.std.specs.declared.io.Error.{Error as IoFault};
-ghost use Rattle.hound.specs.{Asked, Begun, Flushes, IsIoError, IsNotBegun, IsSaid, HasData, IsSynced, Known, Log, Repeats, Readable, Recorder, WavSpecEx, one_more, WhereKeeps, WhereTells, new_file, resumed_file, seen};
+ghost use Rattle.hound.specs.{Asked, Begun, DoesBeginning, DoesBeginnings, Flushes, IsIoError, IsSaid, IsWritable, Opened, at_beginning, beginning, HasData, IsSynced, Known, Log, Repeats, Readable, Recorder, WavSpecEx, one_more, WhereKeeps, WhereTells, new_file, resumed_file, seen};
 ghost use Rattle.hound.specs.declared.Phase.TheVariants.{Saving};
 ghost use Rattle.hound.specs.declared.Report.TheVariants.{Pending};
 ghost use Rattle.hound.specs.{Directed, MediumState, PutsAt, end_of, overlay, placed};
-ghost use Rattle.hound_callers.specs.Recorder.{CountsDirected, Continues, IsFound, IsNotContinued, IsNotMended, IsResumed, once_mended, IsAsked, IsDirected, IsErrorOf, IsNotResumed, IsReady, PerformsAll, Saves, Stops, StopsAt, TriesAction, asked_as, once_done, report_for, samples_of};
+ghost use Rattle.hound_callers.specs.Recorder.{CountsDirected, Continues, IsFound, IsNotContinued, IsNotMended, IsResumed, once_mended, IsAsked, IsDirected, IsErrorOf, IsNotBegunBy, IsNotResumed, IsReady, LeavesNoSample, PerformsAll, Saves, Stops, StopsAt, TriesAction, asked_as, once_done, report_for, samples_of};
 ghost use Rattle.hound_callers.specs.Recording.{published_calls};
 
 use hound::{
-    Action, Effect, Error, FoundFile, Medium, Recorder, RecorderError, RepairState, Report,
-    WavReader, WavSpecEx, a_cut_is_ignored, a_recorder_directs, a_recording_is_kept,
-    a_request_ends, an_effect_may_be_repeated, header_of, put_all, put_all_at,
+    Action, BeginningEffect, Effect, Error, FoundFile, Medium, Recorder, RecorderError,
+    RepairState, Report, WavReader, WavSpecEx, a_cut_is_ignored, a_recorder_directs,
+    a_recording_is_kept, a_request_ends, an_effect_may_be_repeated, beginning_effect, header_of,
+    part_from, put_all_at,
 };
 use std::{io, result};
 
@@ -164,33 +165,80 @@ fn save_blocks<M: Medium>(
     blocks.len()
 }
 
+// Performs an effect with which a file begins. A medium isn't cut off, and is in no folder.
+fn perform_beginning<M: Medium>(
+    medium: &mut M,
+    spec_ex: WavSpecEx,
+    effect: BeginningEffect,
+) -> io::Result<()>
+    requires { IsWritable spec_ex }
+    ensures { WhereTells M.tells
+        (DoesBeginning M.keeps spec_ex effect result (M.state medium.old) (M.state medium.new)) }
+{
+    match effect {
+        BeginningEffect::SyncFolder | BeginningEffect::Empty => Ok(()),
+        BeginningEffect::Sync => medium.flush(),
+        BeginningEffect::Header(first) => {
+            let header = header_of(spec_ex, 0, 0);
+            put_all_at(medium, first as u64, part_from(header.as_slice(), first))
+        }
+    }
+}
+
+// Performs the effects with which a file begins, from this number on, up to one that fails.
+fn begin_from<M: Medium>(medium: &mut M, spec_ex: WavSpecEx, number: u32) -> io::Result<()>
+    requires writable { IsWritable spec_ex }
+    requires within { number ≤ 5 }
+    ensures { WhereTells M.tells (DoesBeginnings M.keeps spec_ex (drop number beginning) result
+        (M.state medium.old) (M.state medium.new)) }
+{
+    let Ok(Some(effect)) = beginning_effect(spec_ex, number) else {
+        return Ok(());
+    };
+    perform_beginning(medium, spec_ex, effect)?;
+    begin_from(medium, spec_ex, number + 1)
+}
+
+/// Begins a file by the effects that are requested for it. A new one has at most its header then, and counts no sample,
+/// also after a loss of power (`survives`). Where one of them fails it isn't begun (`rejected`).
+pub fn begin_by_effects<M: Medium>(medium: &mut M, spec_ex: WavSpecEx) -> hound::Result<()>
+    ensures rejected { IfErr result (λ e. IsNotBegunBy M.Placed spec_ex medium.old medium.new e) }
+    ensures opened { IfOk result (λ _. IsWritable spec_ex
+        × WhereKeeps M.tells M.keeps (Opened spec_ex (M.state medium.old) (M.state medium.new))) }
+    ensures survives { IsWritable spec_ex → WhereKeeps M.tells M.keeps
+        (LeavesNoSample spec_ex (M.state medium.old) (M.state medium.new)) }
+{
+    a_recording_is_kept();
+    if !spec_ex.is_writable() {
+        return Err(Error::Unsupported);
+    }
+    begin_from(medium, spec_ex, 0)?;
+    Ok(())
+}
+
 /// Records blocks of containers into a new file, with a checkpoint after each, until a call fails or a
 /// block doesn't fit, and returns how many blocks were saved. It writes the bytes and performs the
 /// effects itself, as programs in other languages do: of the first effects those reports are lost that
 /// `lost` says, as of a program that was interrupted, and what has no report is performed again. It is an error if the
 /// file isn't begun (`rejected`).
-///
-/// The medium must be at 0, and synced: of a new one nothing has been written yet.
 pub fn record_by_effects<M: Medium>(
     medium: &mut M,
     spec_ex: WavSpecEx,
     blocks: &[&[u8]],
     lost: &[bool],
 ) -> hound::Result<usize>
-    requires place { WhereTells M.tells ((M.state medium.old).place ≡ 0) }
-    requires synced { WhereKeeps M.tells M.keeps (IsSynced (M.state medium.old)) }
-    ensures rejected { IfErr result (λ e. IsNotBegun M.Placed spec_ex medium.old medium.new e) }
+    ensures rejected { IfErr result (λ e. IsNotBegunBy M.Placed spec_ex medium.old medium.new e) }
     ensures within { IfOk result (λ n. n ≤ length blocks.now) }
     ensures saved { IfOk result (λ n. WhereKeeps M.tells M.keeps
-        (Saves spec_ex (new_file (M.state medium.old)) blocks.now n (M.state medium.new))) }
+        (Saves spec_ex (new_file (at_beginning (M.state medium.old))) blocks.now n (M.state medium.new))) }
 {
     a_recorder_directs();
     a_recording_is_kept();
     an_effect_may_be_repeated();
+    begin_by_effects(medium, spec_ex)?;
     let Ok(mut recorder) = Recorder::begin(spec_ex) else {
         return Err(Error::Unsupported);
     };
-    put_all(medium, header_of(spec_ex, 0, 0).as_slice())?;
     Ok(save_blocks(medium, &mut recorder, blocks, lost))
 }
 

@@ -10,9 +10,9 @@ use Rattle.hound_spec.specs.declared.spec.SampleFormat.{SampleFormat}
 use Rattle.hound_sample.specs.{FillsFront, items_of, answer_of, ReadsEach, ReadRejection, Reads, error_of_read, ReadsItem, reason_of, error_of_sample}
 use Rattle.std.proofs.lemmas.Nat.{mul-le}
 use Rattle.hound_walk.specs.{AreTaken}
-use Rattle.hound_reader.specs.Reader.{ReadsBlock, requested, GivesItemsOfBytes, over_bytes, HasGiven, taken_without, GivesItems, ReaderState, IsNext, CountsTaken, rejection_at, meaning_at, samples_left}
+use Rattle.hound_reader.specs.Reader.{ReadsBlock, block_bytes, further, requested, GivesItemsOfBytes, over_bytes, HasGiven, taken_without, GivesItems, ReaderState, IsNext, CountsTaken, rejection_at, meaning_at, samples_left}
 use Rattle.hound_sample.specs.declared.item.SampleError.{SampleError}
-use Rattle.hound_reader.proofs.ItemLemmas.{a_container_is_taken, later}
+use Rattle.hound_reader.proofs.ItemLemmas.{a_container_is_taken}
 
 -- an Ok of a type that doesn't read the samples
 no_value : {A : Type 0} {P : Type 0} (value : A) (error : Error)
@@ -20,7 +20,7 @@ no_value : {A : Type 0} {P : Type 0} (value : A) (error : Error)
 no_value value error is = cc
 
 -- the error of a type that doesn't read the samples, by its reason
-rejection_by_reason : (rejection : ReadRejection) (fault : IoFault)
+pub rejection_by_reason : (rejection : ReadRejection) (fault : IoFault)
     → error_of_sample (reason_of (error_of_read rejection)) fault ≡ error_of_read rejection
 rejection_by_reason rejection fault = grind (arith, common_steps)
 
@@ -101,7 +101,7 @@ pub no_sample_is_given : {R A : Type 0} (left : R → Option (List ℕ))
     (rejection : SampleFormat → ℕ → ℕ → Option ReadRejection) (meaning : SampleFormat → ℕ → ℕ → List ℕ → A)
     (old new : ReaderState R) (reason : SampleError) (given : ℕ)
     → old.samples_read < old.num_samples → old.spec_ex.bytes_per_sample < 2 ^ 64
-    → new ≡ later old 1 (taken_without reason given old.spec_ex.bytes_per_sample) new.reader
+    → new ≡ further old 1 (taken_without reason given old.spec_ex.bytes_per_sample) new.reader
     → ReadsItem (rejection_at rejection old.spec_ex) (meaning_at meaning old.spec_ex)
     old.spec_ex.bytes_per_sample (left old.reader) (left new.reader) (Err reason)
     → (IsSome (rejection_at rejection old.spec_ex) → new.reader ≡ old.reader)
@@ -115,12 +115,6 @@ no_sample_is_given left rejection meaning old new reason given inside small is r
     (taken_without reason given width, ap (λ (r : ReaderState _). r.bytes_read) is, known) in
     grind (arith, common_steps, taken, read fault)
 
--- how many bytes a block took: its containers, and what was taken for an item without a sample
-abbrev pub block_bytes : {T : Type 0} → ℕ → ℕ → ℕ → Result T SampleError → ℕ
-block_bytes count width given (Ok done) = count * width
-block_bytes count width given (Err reason) =
-    count * width + taken_without reason (given - count * width) width
-
 module _ {A : Type 0} (rejection : SampleFormat → ℕ → ℕ → Option ReadRejection)
     (meaning : SampleFormat → ℕ → ℕ → List ℕ → A) where
   abbrev Gives : List (Result A Error) → ReaderState (Option (List ℕ)) → ReaderState (Option (List ℕ)) → Type 0
@@ -132,18 +126,18 @@ module _ {A : Type 0} (rejection : SampleFormat → ℕ → ℕ → Option ReadR
       → ReadsEach (rejection_at rejection old.spec_ex) (meaning_at meaning old.spec_ex)
       old.spec_ex.bytes_per_sample (map Ok values) old.reader new
       → Gives (map Ok values) old
-      (later old (length values) (length values * old.spec_ex.bytes_per_sample) new)
+      (further old (length values) (length values * old.spec_ex.bytes_per_sample) new)
   samples_are_items [] old new few same = grind (arith, common_steps)
   samples_are_items (value ∷ values) old new few (mid, read, rest) =
       let width = old.spec_ex.bytes_per_sample in
-      let next = later old 1 width mid in (
+      let next = further old 1 width mid in (
         next,
         (let taken : CountsTaken (λ (bytes : Option (List ℕ)). bytes) old next =
             (width, refl, a_container_is_taken (rejection_at rejection old.spec_ex) _ _ _ _ value read) in
             grind (arith, common_steps, taken, read)),
         subst (Gives (map Ok values) next)
-            (let e : later next (length values) (length values * width) new
-            ≡ later old (suc (length values)) (suc (length values) * width) new = grind (arith, common_steps) in e)
+            (let e : further next (length values) (length values * width) new
+            ≡ further old (suc (length values)) (suc (length values) * width) new = grind (arith, common_steps) in e)
             (samples_are_items values next new (omega (arith, few)) rest),
       )
 
@@ -166,7 +160,7 @@ module _ {A : Type 0} (rejection : SampleFormat → ℕ → ℕ → Option ReadR
       → ReadsEach (rejection_at rejection old.spec_ex) (meaning_at meaning old.spec_ex)
       old.spec_ex.bytes_per_sample (items_of values (answer_of answer fault)) old.reader new
       → Gives (items_of values (answer_of answer fault)) old
-      (later old (requested (length values) answer)
+      (further old (requested (length values) answer)
       (block_bytes (length values) old.spec_ex.bytes_per_sample given answer) new)
   block_items values (Ok done) fault given old new few small has each =
       samples_are_items values old new few each
@@ -177,10 +171,10 @@ module _ {A : Type 0} (rejection : SampleFormat → ℕ → ℕ → Option ReadR
       let m = meaning_at meaning old.spec_ex in
       let (mid, before, read, unknown) = each_split r m width values _ old.reader new each in
       let torn = taken_without reason (given - k * width) width in
-      let next = later old k (k * width) mid in
-      let last : ReaderState (Option (List ℕ)) = later next 1 torn new in
+      let next = further old k (k * width) mid in
+      let last : ReaderState (Option (List ℕ)) = further next 1 torn new in
       subst (Gives (map Ok values ++ (Err (error_of_sample reason fault) ∷ [])) old)
-      (let e : last ≡ later old (k + 1) (k * width + torn) new = grind (arith, common_steps) in e)
+      (let e : last ≡ further old (k + 1) (k * width + torn) new = grind (arith, common_steps) in e)
       (items_more (map Ok values) _ old next last
       (samples_are_items values old mid (omega (arith, few)) before)
       (let taken : CountsTaken (λ (bytes : Option (List ℕ)). bytes) next last =
@@ -217,7 +211,7 @@ module _ {R A : Type 0} (left : R → Option (List ℕ))
       → HasGiven (left old.reader) given (left new.reader)
       → (IsSome (rejection_at rejection old.spec_ex) → new.reader ≡ old.reader)
       → over_bytes left new
-      ≡ later (over_bytes left old) (requested count answer)
+      ≡ further (over_bytes left old) (requested count answer)
       (block_bytes count old.spec_ex.bytes_per_sample given answer) (left new.reader)
       → ReadsBlock left rejection meaning count (answer_of answer fault) xs (ys ++ drop wanted xs) old new
   is_block count wanted given modelled answer fault xs ys old new shown is size small narrow fills each has untouched after =
@@ -240,7 +234,7 @@ module _ {R A : Type 0} (left : R → Option (List ℕ))
             Gives rejection meaning (items_of x.0 (answer_of answer fault)) begin x.1)
             (λ i. (
               sym taken i,
-              (ap (λ n. later begin (requested n answer) (block_bytes n width given answer) (left new.reader)) all
+              (ap (λ n. further begin (requested n answer) (block_bytes n width given answer) (left new.reader)) all
                   ∙ sym after) i,
             ))
             (block_items rejection meaning (take count ys) answer fault given begin (left new.reader) few

@@ -8,7 +8,7 @@ use Rattle.hound_spec.specs.declared.error.Error.{Error}
 use Rattle.hound_spec.specs.declared.spec.SampleFormat.{SampleFormat}
 use Rattle.hound_sample.specs.{ReadRejection, Reads, answer_of}
 use Rattle.hound_walk.specs.{AreTaken}
-use Rattle.hound_reader.specs.Reader.{ReaderState, IsNext, rejection_at, meaning_at, samples_left, AreItems, GivesItems}
+use Rattle.hound_reader.specs.Reader.{ReaderState, further, IsNext, rejection_at, meaning_at, samples_left, AreItems, GivesItems}
 use Rattle.hound_sample.specs.declared.item.SampleError.{SampleError}
 
 -- an Ok took exactly a container
@@ -17,20 +17,12 @@ pub a_container_is_taken : {A : Type 0} (rejection : Option ReadRejection) (mean
     → Reads rejection meaning width old new (Ok value) → WhereKnown old new (AreTaken width)
 a_container_is_taken rejection meaning width old new value read = grind (arith, common_steps)
 
--- this many samples and bytes later
-abbrev pub later : {R : Type 0} → ReaderState R → ℕ → ℕ → R → ReaderState R
-later reading samples bytes reader = record reading {
-  reader = reader;
-  samples_read = reading.samples_read + samples;
-  bytes_read = reading.bytes_read + bytes;
-}
-
 -- a sample was given, as `read` of its type does it
 pub a_sample_is_given : {R A : Type 0} (left : R → Option (List ℕ))
     (rejection : SampleFormat → ℕ → ℕ → Option ReadRejection) (meaning : SampleFormat → ℕ → ℕ → List ℕ → A)
     (old new : ReaderState R) (answer : Result A SampleError) (fault : IoFault) (value : A)
     → old.samples_read < old.num_samples
-    → new ≡ later old 1 old.spec_ex.bytes_per_sample new.reader
+    → new ≡ further old 1 old.spec_ex.bytes_per_sample new.reader
     → Reads (rejection_at rejection old.spec_ex)
     (meaning_at meaning old.spec_ex) old.spec_ex.bytes_per_sample (left old.reader)
     (left new.reader) (answer_of answer fault)

@@ -1,7 +1,9 @@
 pub mod BlockLemmas
 pub mod CanonicalLemmas
 pub mod CountingLemmas
+pub mod GettingLemmas
 pub mod ItemLemmas
+pub mod MemoryLemmas
 pub mod OpeningLemmas
 pub mod ReaderLemmas
 pub mod SeekLemmas

@@ -159,6 +159,20 @@ abbrev pub requested : {T E : Type 0} → ℕ → Result T E → ℕ
 requested count (Ok done) = count
 requested count (Err error) = count + 1
 
+-- how many bytes a block took: its containers, and what was taken for an item without a sample
+abbrev pub block_bytes : {T : Type 0} → ℕ → ℕ → ℕ → Result T SampleError → ℕ
+block_bytes count width given (Ok done) = count * width
+block_bytes count width given (Err reason) =
+    count * width + taken_without reason (given - count * width) width
+
+-- this many samples and bytes further
+abbrev pub further : {R : Type 0} → ReaderState R → ℕ → ℕ → R → ReaderState R
+further reading samples bytes reader = record reading {
+  reader = reader;
+  samples_read = reading.samples_read + samples;
+  bytes_read = reading.bytes_read + bytes;
+}
+
 -- `read_samples`: a block is items. The samples that came are the front of the slice, `count` of them:
 -- all that fit or are left, or fewer if the next item is the error. The rest of the slice stays.
 pub record ReadsBlock {R A : Type 0} (left : R → Option (List ℕ))

@@ -1,14 +1,16 @@
 // Items: a reader that saves its last fault, and one that counts the bytes that it gives.
 ghost use Rattle.std.specs.Prelude.{◌≡◌, ◌<◌, ◌≤◌, List, Option, Result, ℕ, None, IsSome, IfSome, length, take};
-ghost use Rattle.hound_sample.specs.{FillsFront};
+ghost use Rattle.hound_sample.specs.{FillsFront, answer_of};
 ghost use Rattle.hound_sample.specs.declared.item.SampleError.{SampleError};
 ghost use Rattle.hound_reader.specs.Reader.{AnswersReadMany, rejection_at, AnswersRead, taken_without, HasGiven, HasGiven-prop};
 ghost use Rattle.std.specs.Borrow.{GName};
+ghost use Rattle.std.specs.IoError.{error_kind};
+ghost use Rattle.std.specs.declared.io.ErrorKind.TheVariants.{Other};
 ghost use Rattle.std.specs.Io.KnownBytes.{Consumes, Keeps};
 ghost use Rattle.hound_spec.specs.declared.spec.WavSpecEx.{WavSpecEx};
 
 use hound_number::early_end;
-use hound_sample::{ContainerReader, Sample, SampleError, reason_of};
+use hound_sample::{ContainerReader, Sample, SampleError, error_of_sample, reason_of};
 use hound_spec::WavSpecEx;
 use std::marker::{Brand, PhantomData};
 use std::{io, result};
@@ -24,10 +26,26 @@ pub(crate) fn taken_without(no_sample: SampleError, given: u64, width: u16) -> u
     }
 }
 
-// The end is saved as a fault.
+/// What a block returns for how it ended, with this saved fault.
+#[inline(always)]
+pub(crate) fn result_of(
+    answer: result::Result<(), SampleError>,
+    fault: &io::Error,
+) -> hound_spec::Result<()>
+    ensures { result ≡ answer_of answer fault.now }
+{
+    match answer {
+        Ok(()) => Ok(()),
+        Err(no_sample) => Err(error_of_sample(no_sample, fault)),
+    }
+}
+
+/// The end is saved as a fault.
 #[cold]
 #[inline(never)]
-fn keep_end(fault: &mut io::Error) {
+pub(crate) fn keep_end(fault: &mut io::Error)
+    ensures { error_kind fault.new ≡ Other }
+{
     *fault = early_end();
 }
 

@@ -5,8 +5,10 @@
 #![tactic(auto)]
 
 mod file;
+mod getting;
 mod item;
 mod laws;
+mod memory;
 mod reader;
 mod samples;
 

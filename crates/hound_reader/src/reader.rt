@@ -1,19 +1,19 @@
 // The reader of a file's samples.
-ghost use Rattle.std.specs.Prelude.{◌≡◌, ℕ, ◌*◌, ◌/◌, ◌%◌, ⊤, Some, drop, IfOk, IfErr, IfSome, MatchResult};
+ghost use Rattle.std.specs.Prelude.{◌≡◌, ℕ, ◌*◌, ◌/◌, ◌%◌, ⊤, Some, ◌≤◌, drop, IfOk, IfErr, IfSome, MatchResult};
 ghost use Rattle.hound_number.specs.{WhereKnown};
 ghost use Rattle.hound_spec.specs.declared.spec.WavSpecEx.{WavSpecEx};
 ghost use Rattle.hound_walk.specs.{Readable, Unreadable, IsRejection, IsSoundSpec, OpensAs, FailsAs, TakesAll, UnreadableAfter, unread};
 ghost use Rattle.hound_reader.specs.Opening.{FindsSamples, IsNotOpened, OpensSource};
 ghost use Rattle.hound_walk.specs.declared.cause.Cause.{Cause};
 ghost use Rattle.hound_medium.specs.{Shifts, WhereTells};
-ghost use Rattle.hound_reader.specs.Reader.{AnswersNext, HasWholeFrames, samples_left, ReadsBlock};
+ghost use Rattle.hound_reader.specs.Reader.{AnswersNext, HasWholeFrames, samples_left, ReadsBlock, block_bytes, further, requested};
 ghost use Rattle.hound_reader.specs.Seeking.{Recounts, way_to};
 ghost use Rattle.hound_reader.specs.Samples.{lent_reader, lender, taken_reader};
 
-use crate::item::{SavingReader, read_item_since, read_many_since, taken_without};
+use crate::item::{SavingReader, read_item_since, read_many_since, result_of, taken_without};
 use crate::samples::{WavIntoSamples, WavSamples};
 use hound_medium::{Placed, Source};
-use hound_sample::{Sample, SampleError, error_of_sample};
+use hound_sample::{Sample, SampleError};
 use hound_spec::{Error, Result, WavSpec, WavSpecEx};
 use hound_walk::{FileHead, HeadError, SourceReader, error_of, read_until_samples};
 use std::io::ErrorKind;
@@ -35,11 +35,11 @@ use std::{io, result};
 /// ```
 #[derive(Drop)]
 pub struct WavReader<R> {
-    reader: SavingReader<R>,
-    spec_ex: WavSpecEx,
-    num_samples: u32,
-    samples_read: u64,
-    bytes_read: u64,
+    pub(crate) reader: SavingReader<R>,
+    pub(crate) spec_ex: WavSpecEx,
+    pub(crate) num_samples: u32,
+    pub(crate) samples_read: u64,
+    pub(crate) bytes_read: u64,
 }
 
 impl<R> Model for WavReader<R> {
@@ -94,8 +94,8 @@ impl<R: io::Read + Drop> WavReader<R> {
         }
     }
 
-    // A reader of this input, which is at the data. Nothing was read of them.
-    fn over(reader: R, spec_ex: WavSpecEx, num_samples: u32) -> WavReader<R>
+    /// A reader of this input, which is at the data. Nothing was read of them.
+    pub(crate) fn over(reader: R, spec_ex: WavSpecEx, num_samples: u32) -> WavReader<R>
         requires sound { IsSoundSpec spec_ex }
         requires frames { num_samples % spec_ex.spec.channels ≡ 0 }
         ensures view { result ≡ record {
@@ -217,16 +217,32 @@ impl<R: io::Read + Drop> WavReader<R> {
             &mut answer,
         );
         let (count, answer) = answer;
+        let result = result_of(answer, &self.reader.fault);
+        self.count_block(count, given, answer);
+        (count, result)
+    }
+
+    /// Counts a block: its samples, the one in whose place an error came, and what they took of the
+    /// bytes that were given.
+    #[inline(always)]
+    pub(crate) fn count_block(
+        &mut self,
+        count: usize,
+        given: u64,
+        answer: result::Result<(), SampleError>,
+    )
+        requires { requested count answer ≤ samples_left self.old }
+        ensures { self.new ≡ further self.old (requested count answer)
+            (block_bytes count self.old.spec_ex.bytes_per_sample given answer) self.old.reader }
+    {
         let width = self.spec_ex.bytes_per_sample;
         let bytes = count as u64 * width as u64;
         self.samples_read += count as u64;
         self.bytes_read += bytes;
-        let Err(no_sample) = answer else {
-            return (count, Ok(()));
-        };
-        self.samples_read += 1;
-        self.bytes_read += taken_without(no_sample, given.saturating_sub(bytes), width);
-        (count, Err(error_of_sample(no_sample, &self.reader.fault)))
+        if let Err(no_sample) = answer {
+            self.samples_read += 1;
+            self.bytes_read += taken_without(no_sample, given.saturating_sub(bytes), width);
+        }
     }
 
     /// Moves the source to the first container of a frame; `time` counts frames from 0.

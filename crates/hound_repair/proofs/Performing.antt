@@ -336,7 +336,7 @@ on_log (Size at size ∷ effects) result old new (mid, Err e, does, (is, same)) 
     (mid.state, Err e, does, (is, ap (λ (l : Log). l.state) same))
 
 -- the effect with a number is the next of those that are left
-pub nth_next : (effects : List Effect) (k : ℕ) (effect : Effect) → nth effects k ≡ Some effect
+pub nth_next : {T : Type 0} (effects : List T) (k : ℕ) (effect : T) → nth effects k ≡ Some effect
     → drop k effects ≡ effect ∷ drop (k + 1) effects
 nth_next [] k effect is = grind (arith, common_steps)
 nth_next (y ∷ effects) zero effect is = grind (arith, common_steps)
@@ -344,7 +344,7 @@ nth_next (y ∷ effects) (suc k) effect is =
     nth_next effects k effect is
     ∙ ap (λ i. effect ∷ drop i (y ∷ effects)) (let e : suc (k + 1) ≡ suc k + 1 = omega arith in e)
 
-pub nth_none : (effects : List Effect) (k : ℕ) → nth effects k ≡ None → drop k effects ≡ []
+pub nth_none : {T : Type 0} (effects : List T) (k : ℕ) → nth effects k ≡ None → drop k effects ≡ []
 nth_none [] k is = grind (arith, common_steps)
 nth_none (y ∷ effects) zero is = grind (arith, common_steps)
 nth_none (y ∷ effects) (suc k) is = nth_none effects k is

@@ -1,24 +1,25 @@
 -- Floats that are whole numbers, and the signs of those that are rounded.
 use mathlib.Core.Path.{◌≡◌, refl, sym, ap, ◌∙◌, subst}
 use mathlib.Core.Bool.{Bool, true, false, cond, not, true≢false}
-use Prim.Native.Nat.{ℕ, zero, suc, ◌+◌, ◌-◌, ◌*◌, ◌/◌, ◌%◌, ◌^◌, ◌≤◌, ◌<◌, compare, min}
-use native.Mathlib.Nat.{div-lt_iff_lt-mul, lt_of_lt_of_le, mul-div_cancel, mul-mod_left, mul-one}
+use Prim.Native.Nat.{ℕ, zero, suc, ◌+◌, ◌-◌, ◌*◌, ◌/◌, ◌%◌, ◌^◌, ◌≤◌, ◌<◌, compare, min, Ordering}
+use Prim.Native.Nat.compare
+use native.Mathlib.Nat.{add-mul, div-add-mod', div-eq_of_lt-le, div-lt_iff_lt-mul, eq_of_mul-eq-mul_right, le-div_iff_mul-le, lt_of_le_of_lt, lt_of_lt_of_le, lt_of_not-le, mod-lt, mul-div_cancel, mul-le-mul_right, mul-lt-mul_of_pos_right, mul-mod_left, mul-one, mul-pos, not-le_of_lt}
 use native.Mathlib.Omega.{arith}
-use lib.Dec.{T, eqb, leb, ltb, lit≤}
-use lib.IntN.{ℤ, pos, negsuc, nat_abs, neg_ℤ, ◌-ℤ◌, ◌*ℤ◌}
+use lib.Dec.{T, eqb, ltb, ltb→lt, lit≤}
+use lib.IntN.{ℤ, pos, negsuc, nat_abs, neg_ℤ, ◌+ℤ◌, ◌-ℤ◌}
 use mir.Facts.{to_z-of_z}
 use Rattle.std.proofs.Common.{[], ◌∷◌, FitsSigned, of_z, slice_index_or, to_z, w64}
 use mir.Val.{bool_byte}
-use lib.Pow.{pow_mono, shl_lt}
+use lib.Pow.{pow_mono, pow_pos, shl_lt}
 use lib.Signed.{lt_z}
-use borrow.Author.Differences.{ints}
-use borrow.Author.Tests.{le-leb, leb-false, leb-true, lt-leb, lt-ltb, ltb-true}
-use lib.Ieee.{Float, Format, binary64, nan, inf, fin, prec, low, emax, up, down, odd, units, round, neg, div, unlike, lt, fits, of_bits, of_fields, of_int, to_bits, in_signed, to_signed, whole}
-use lib.Ieee.Bits.{of_bits-to_bits}
-use lib.Ieee.Exact.{HasValue, round_exact}
-use lib.Ieee.Fits.{down_pos, nearest-le, round_is}
-use lib.Ieee.Nearest.{closest}
-use Rattle.std.specs.Float.{float_with_sign, round_ties_even, round_with}
+use borrow.Author.Differences.{ints, neg_is, same_in, sum_is_lem}
+use borrow.Author.Tests.{le-leb, lt-ltb, ltb-false, ltb-true}
+use lib.Ieee.{Float, Format, binary64, nan, inf, fin, prec, low, emax, up, down, odd, size, nearest, units, round, sum, add, neg, div, unlike, lt, of_bits, of_int, in_signed, to_signed, whole}
+use lib.Ieee.Digits.{size-le, size-lt}
+use lib.Ieee.Exact.{HasValue, round_exact, units_val}
+use lib.Ieee.Fits.{core, down_pos, nearest-le, round_is}
+use lib.Ieee.Nearest.{closest, closest_same}
+use Rattle.std.specs.Float.{round_ties_even, round_with}
 
 neg-odd : (d q k l : ℕ) → neg (odd d false q k l) ≡ odd d true q k l
 unfolding neg odd
@@ -80,7 +81,7 @@ signed_quotient f z y = by (lt_z z (pos 0)) refl
 abbrev Whole : Float → Bool → ℕ → Type 0
 Whole r s n = (s ≡ false → T (in_signed binary64 63 r)) × (to_signed 63 r ≡ cond s (neg_ℤ (pos n)) (pos n))
 
-whole_of : (r : Float) (s : Bool) (n : ℕ) → HasValue r s n 1 → n ≤ 2 ^ 52 → Whole r s n
+whole_of : (r : Float) (s : Bool) (n : ℕ) → HasValue r s n 1 → n ≤ 2 ^ 53 → Whole r s n
 unfolding in_signed whole to_signed
 whole_of nan s n v h = absurd v
 whole_of (inf t) s n v h = absurd v
@@ -96,152 +97,226 @@ whole_of (fin t m e) s n v h =
     by true = ap (λ k. neg_ℤ (pos k)) (omega arith)
     by false = ap pos (omega arith)
 
--- the whole number that is nearest to a fraction below 2^52
-abbrev nearest_of : ℕ → ℤ → ℕ
-nearest_of m e = closest (m * up e) (down e)
-
-few : (m : ℕ) (e : ℤ) → m * up e < 2 ^ 52 * down e → nearest_of m e ≤ 2 ^ 52
-few m e h =
-    let below : m * up e / down e < 2 ^ 52 = (div-lt_iff_lt-mul (down_pos e)).1 h in
-    let next = nearest-le (m * up e / down e) (compare (m * up e % down e * 2) (down e)) in
-    omega arith
-
-tidy : (m : ℕ) (e : ℤ) → ltb (m * up e * 1) (1 * 2 ^ 52 * down e) ≡ true → m * up e < 2 ^ 52 * down e
-tidy m e h = omega (arith, ltb-true _ _ h)
-
 rounded : (s : Bool) (n : ℕ) → n ≤ 2 ^ 52 → Whole (round binary64 s n 1) s n
 rounded s n h =
     let small : n < 2 ^ 53 = omega arith in
     let fine : n * 2 ^ low binary64 < 2 ^ (low binary64 + suc (emax binary64)) =
     lt_of_lt_of_le (shl_lt 53 (low binary64) small) (pow_mono {i = 53 + low binary64} {j = low binary64 + suc (emax binary64)} (lit≤ (tt {0}))) in
     whole_of (round binary64 s n 1) s n
-    (round_exact binary64 s n 1 n (low binary64) (lit≤ tt) small fine (sym (mul-one (n * 2 ^ low binary64)))) h
+    (round_exact binary64 s n 1 n (low binary64) (lit≤ tt) small fine (sym (mul-one (n * 2 ^ low binary64)))) (omega (arith, h))
 
--- 2^52 as a literal
-limit_is : of_bits binary64 0x4330_0000_0000_0000 ≡ fin false 1 (pos 52)
+-- ---- the whole number that is nearest to a float, by a sum where floats are 1 apart
+
+size-gt : (n j : ℕ) → 2 ^ j ≤ n → j < size n
+size-gt n j h = lt_of_not-le (λ (g : size n ≤ j). not-le_of_lt (lt_of_lt_of_le (size-lt n) (pow_mono g)) h)
+
+-- a fraction from 2^52 to 2^53 is rounded to the nearest whole number
+spaced : (a d c : ℕ) → 0 < d → 2 ^ 52 * d ≤ a → a < 2 ^ 53 * d → closest a d ≡ c → c ≤ 2 ^ 53
+    → HasValue (round binary64 false a d) false c 1
+spaced a d c some lo hi is most =
+    let L = 2 ^ 1074 in
+    let lo' : 2 ^ (52 + 1074) * d ≤ a * L = omega (arith, mul-le-mul_right L lo) in
+    let hi' : a * L < 2 ^ (53 + 1074) * d = omega (arith, mul-lt-mul_of_pos_right hi (pow_pos 1074)) in
+    let k : size (a * L / d) - 53 ≡ 1074 = omega (arith, size-gt (a * L / d) (52 + 1074) ((le-div_iff_mul-le some).1 lo'), size-le (a * L / d) (53 + 1074) ((div-lt_iff_lt-mul some).1 hi')) in
+    let kept : closest (a * L) (d * L) ≡ c = closest_same (a * L) (d * L) a d (mul-pos some (pow_pos 1074)) some (omega arith) ∙ is in
+    let y : round binary64 false a d ≡ units binary64 false c 1074 = round_is binary64 false a d ∙ ap (core binary64 false (a * L) d) k ∙ ap (λ (q : ℕ). units binary64 false q 1074) kept in
+    scaled_down (round binary64 false a d) c L (pow_pos 1074)
+    (subst (λ (z : Float). HasValue z false (c * L) L) (sym y) (units_val binary64 false c 1074 (lt_of_le_of_lt (mul-le-mul_right L most) (ltb→lt _ _ tt))))
+  where
+    scaled_down : (z : Float) (n l : ℕ) → 0 < l → HasValue z false (n * l) l → HasValue z false n 1
+    scaled_down nan n l p v = absurd v
+    scaled_down (inf s) n l p v = absurd v
+    scaled_down (fin s m e) n l p v = (v.0, eq_of_mul-eq-mul_right l p (m * up e * 1) (n * down e) (omega (arith, v.1)))
+
+-- ---- the order of two numbers
+
+compare-lt : (a b : ℕ) → a < b → compare a b ≡ Ordering.lt
+compare-lt zero (suc b) h = compare.zero-suc b
+compare-lt (suc a) (suc b) h = compare.suc-suc a b ∙ compare-lt a b (omega arith)
+compare-lt a zero h = absurd (omega arith)
+
+compare-gt : (a b : ℕ) → b < a → compare a b ≡ Ordering.gt
+compare-gt (suc a) zero h = compare.suc-zero a
+compare-gt (suc a) (suc b) h = compare.suc-suc a b ∙ compare-gt a b (omega arith)
+compare-gt zero b h = absurd (omega arith)
+
+compare-eq : (a b : ℕ) → a ≡ b → compare a b ≡ Ordering.eq
+compare-eq zero zero h = compare.zero-zero
+compare-eq (suc a) (suc b) h = compare.suc-suc a b ∙ compare-eq a b (omega arith)
+compare-eq zero (suc b) h = absurd (omega arith)
+compare-eq (suc a) zero h = absurd (omega arith)
+
+-- ---- a whole number and a fraction, or less a fraction
+
+-- the nearest to a fraction by its quotient and its rest
+by_parts : (n d q r : ℕ) → n ≡ q * d + r → r < d → closest n d ≡ nearest q (compare (r * 2) d)
+by_parts n d q r is less =
+    let quotient : n / d ≡ q = div-eq_of_lt-le {k = q} d (omega (arith, is)) (omega (arith, is)) in
+    let whole : n / d * d ≡ q * d = ap (λ k. k * d) quotient in
+    let rest : n % d ≡ r = omega (arith, div-add-mod' n d, is) in
+    (λ i. nearest (quotient i) (compare (rest i * 2) d))
+
+-- an even number less a fraction is rounded to that number less the fraction rounded
+turned : (h q r d : ℕ) → 0 < r → r < d → q < 2 * h
+    → nearest (2 * h - q - 1) (compare ((d - r) * 2) d) ≡ 2 * h - nearest q (compare (r * 2) d)
+turned h q r d some less most = by (ltb (r * 2) d) (ltb d (r * 2)) refl refl
+  where
+    by : (b c : Bool) → ltb (r * 2) d ≡ b → ltb d (r * 2) ≡ c
+        → nearest (2 * h - q - 1) (compare ((d - r) * 2) d) ≡ 2 * h - nearest q (compare (r * 2) d)
+    by true c is also =
+        let l = ltb-true _ _ is in
+        let same : suc (2 * h - q - 1) ≡ 2 * h - q = omega (arith, most) in
+        (λ i. nearest (2 * h - q - 1) (compare-gt ((d - r) * 2) d (omega (arith, l)) i))
+        ∙ same
+        ∙ (λ i. 2 * h - nearest q (sym (compare-lt (r * 2) d l) i))
+    by false true is also =
+        let l = ltb-true _ _ also in
+        let same : 2 * h - q - 1 ≡ 2 * h - suc q = omega (arith, most) in
+        (λ i. nearest (2 * h - q - 1) (compare-lt ((d - r) * 2) d (omega (arith, l)) i))
+        ∙ same
+        ∙ (λ i. 2 * h - nearest q (sym (compare-gt (r * 2) d l) i))
+    by false false is also =
+        let l = ltb-false _ _ is in
+        let k = ltb-false _ _ also in
+        let same : 2 * h - q - 1 + (2 * h - q - 1) % 2 ≡ 2 * h - (q + q % 2) = omega (arith, most) in
+        (λ i. nearest (2 * h - q - 1) (compare-eq ((d - r) * 2) d (omega (arith, l, k)) i))
+        ∙ same
+        ∙ (λ i. 2 * h - nearest q (sym (compare-eq (r * 2) d (omega (arith, l, k))) i))
+
+parts_of : (a d : ℕ) → 0 < d → (a ≡ a / d * d + a % d) × (a % d < d)
+parts_of a d some = (sym (div-add-mod' a d), mod-lt a some)
+
+mirrored : (h a d : ℕ) → 0 < d → a < 2 * h * d → closest (2 * h * d - a) d ≡ 2 * h - closest a d
+mirrored h a d some less = by (a / d) (a % d) (parts_of a d some).0 (parts_of a d some).1 ((div-lt_iff_lt-mul some).1 less)
+  where
+    by : (q r : ℕ) → a ≡ q * d + r → r < d → q < 2 * h → closest (2 * h * d - a) d ≡ 2 * h - nearest q (compare (r * 2) d)
+    by q zero is low most =
+        let all : (2 * h - q) * d + q * d ≡ 2 * h * d = sym (add-mul (2 * h - q) q d) ∙ ap (λ k. k * d) (omega (arith, most)) in
+        by_parts (2 * h * d - a) d (2 * h - q) 0 (omega (arith, all, is)) some
+        ∙ (λ i. nearest (2 * h - q) (compare-lt 0 d some i))
+        ∙ (λ i. 2 * h - nearest q (sym (compare-lt 0 d some) i))
+    by q (suc r) is low most =
+        let all : (2 * h - q - 1) * d + (q + 1) * d ≡ 2 * h * d = sym (add-mul (2 * h - q - 1) (q + 1) d) ∙ ap (λ k. k * d) (omega (arith, most)) in
+        by_parts (2 * h * d - a) d (2 * h - q - 1) (d - suc r) (omega (arith, all, is, low)) (omega arith)
+        ∙ turned h q (suc r) d (omega arith) low most
+
+added : (h a d : ℕ) → 0 < d → closest (a + 2 * h * d) d ≡ closest a d + 2 * h
+added h a d some =
+    let (is, low) = parts_of a d some in
+    by_parts (a + 2 * h * d) d (a / d + 2 * h) (a % d) (omega (arith, is)) low ∙ more (compare (a % d * 2) d)
+  where
+    more : (o : Ordering) → nearest (a / d + 2 * h) o ≡ nearest (a / d) o + 2 * h
+    more Ordering.lt = refl
+    more Ordering.eq = omega arith
+    more Ordering.gt = omega arith
+
+-- ---- the whole number that is nearest to a float: by a sum that is where floats are 1 apart
+
+-- 3 * 2^51 and a whole number, or less it
+abbrev moved : Bool → ℕ → ℕ
+moved s n = cond s (3 * 2 ^ 51 - n) (n + 3 * 2 ^ 51)
+
+-- it is n with the sign s, and so are the sum and what the float is rounded to
+abbrev Nearest : Float → Type 0
+Nearest x = (s : Bool) × (n : ℕ) × (n ≤ 2 ^ 51) × HasValue (add binary64 x (fin false 3 (pos 51))) false (moved s n) 1
+    × (to_signed 63 (round_ties_even binary64 x) ≡ cond s (neg_ℤ (pos n)) (pos n))
+
+by_value : (x : Float) → lt (fin true 1 (pos 51)) x ≡ true → lt x (fin false 1 (pos 51)) ≡ true → Nearest x
+unfolding lt round_with add sum
+by_value nan g h = absurd (true≢false (sym h))
+by_value (inf false) g h = absurd (true≢false (sym h))
+by_value (inf true) g h = absurd (true≢false (sym g))
+by_value (fin s m e) g h = (s, closest (m * up e) (down e), most, (by s).0, (by s).1)
+  where
+    size-lt_of : (s : Bool) → lt (fin true 1 (pos 51)) (fin s m e) ≡ true → lt (fin s m e) (fin false 1 (pos 51)) ≡ true → m * up e < 2 ^ 51 * down e
+    size-lt_of false g h = omega (arith, ltb-true _ _ h)
+    size-lt_of true g h = omega (arith, ltb-true _ _ g)
+
+    below : m * up e < 2 ^ 51 * down e
+    below = size-lt_of s g h
+
+    most : closest (m * up e) (down e) ≤ 2 ^ 51
+    most =
+        let low : m * up e / down e < 2 ^ 51 = (div-lt_iff_lt-mul (down_pos e)).1 below in
+        let next = nearest-le (m * up e / down e) (compare (m * up e % down e * 2) (down e)) in
+        omega arith
+
+    by : (s : Bool) → HasValue (add binary64 (fin s m e) (fin false 3 (pos 51))) false (moved s (closest (m * up e) (down e))) 1
+        × (to_signed 63 (round_ties_even binary64 (fin s m e)) ≡ cond s (neg_ℤ (pos (closest (m * up e) (down e)))) (pos (closest (m * up e) (down e))))
+    by false = (
+      spaced (m * up e * 1 + 3 * 2 ^ 51 * down e) (down e * 1) (closest (m * up e) (down e) + 3 * 2 ^ 51) (omega (arith, down_pos e)) (omega (arith, below)) (omega (arith, below))
+          (ap (λ d. closest (m * up e * 1 + 3 * 2 ^ 51 * down e) d) (mul-one (down e)) ∙ ap (λ a. closest (a + 3 * 2 ^ 51 * down e) (down e)) (mul-one (m * up e)) ∙ added (3 * 2 ^ 50) (m * up e) (down e) (down_pos e))
+          (omega (arith, most)),
+      (rounded false (closest (m * up e) (down e)) (omega (arith, most))).1,
+    )
+    by true = (
+      rw (lt-ltb (m * up e * 1) (3 * 2 ^ 51 * down e) (omega (arith, below)))
+          (spaced (3 * 2 ^ 51 * down e - m * up e * 1) (down e * 1) (3 * 2 ^ 51 - closest (m * up e) (down e)) (omega (arith, down_pos e)) (omega (arith, below)) (omega (arith, below))
+          (ap (λ d. closest (3 * 2 ^ 51 * down e - m * up e * 1) d) (mul-one (down e)) ∙ ap (λ a. closest (3 * 2 ^ 51 * down e - a) (down e)) (mul-one (m * up e)) ∙ mirrored (3 * 2 ^ 50) (m * up e) (down e) (down_pos e) (omega (arith, below)))
+          (omega (arith, most))),
+      (rounded true (closest (m * up e) (down e)) (omega (arith, most))).1,
+    )
+
+-- 2^51, less 2^51 and 3 * 2^51 as literals
+most_is : of_bits binary64 0x4320_0000_0000_0000 ≡ fin false 1 (pos 51)
 unfolding of_bits
-limit_is = refl
+most_is = refl
 
--- ---- the sign of a float, and what is left without it, by its bits
+least_is : neg (of_bits binary64 0x4320_0000_0000_0000) ≡ fin true 1 (pos 51)
+unfolding of_bits neg
+least_is = refl
 
-odd-signed : (s : Bool) (q k l : ℕ) → odd 53 s q k l ≡ float_with_sign s (odd 53 false q k l)
-unfolding odd float_with_sign
-odd-signed s zero k l = refl
-odd-signed s (suc q) k l = refl
-
-fields-signed : (s : Bool) (x t : ℕ) → of_fields binary64 s x t ≡ float_with_sign s (of_fields binary64 false x t)
-unfolding of_fields float_with_sign
-fields-signed s zero t = odd-signed s t 0 1074
-fields-signed s (suc x) t = by (eqb (suc x) 2047) (eqb t 0)
-  where
-    by : (p r : Bool) → cond p (cond r (inf s) nan) (odd 53 s (2 ^ 52 + t) x 1074)
-        ≡ float_with_sign s (cond p (cond r (inf false) nan) (odd 53 false (2 ^ 52 + t) x 1074))
-    by true true = refl
-    by true false = refl
-    by false r = odd-signed s (2 ^ 52 + t) x 1074
-
-signed : (b : ℕ) → of_bits binary64 b ≡ float_with_sign (leb (2 ^ 63) b) (of_bits binary64 (b % 2 ^ 63))
+middle_is : of_bits binary64 0x4338_0000_0000_0000 ≡ fin false 3 (pos 51)
 unfolding of_bits
-signed b =
-    let s : leb (2 ^ 63) (b % 2 ^ 63) ≡ false = lt-leb (2 ^ 63) (b % 2 ^ 63) (omega arith) in
-    let x : b % 2 ^ 63 % 2 ^ 63 / 2 ^ 52 ≡ b % 2 ^ 63 / 2 ^ 52 = omega arith in
-    let t : b % 2 ^ 63 % 2 ^ 52 ≡ b % 2 ^ 52 = omega arith in
-    fields-signed (leb (2 ^ 63) b) (b % 2 ^ 63 / 2 ^ 52) (b % 2 ^ 52)
-    ∙ (λ i. float_with_sign (leb (2 ^ 63) b) (of_fields binary64 (sym s i) (sym x i) (sym t i)))
+middle_is = refl
 
--- the float without its sign has none
-unsigned : (b : ℕ) → of_bits binary64 (b % 2 ^ 63) ≡ float_with_sign false (of_bits binary64 (b % 2 ^ 63))
-unsigned b =
-    let s : leb (2 ^ 63) (b % 2 ^ 63) ≡ false = lt-leb (2 ^ 63) (b % 2 ^ 63) (omega arith) in
-    let again : b % 2 ^ 63 % 2 ^ 63 ≡ b % 2 ^ 63 = omega arith in
-    signed (b % 2 ^ 63) ∙ (λ i. float_with_sign (s i) (of_bits binary64 (again i)))
-
--- ---- the whole number that is nearest to a float
-
--- it is n for a size y, with the sign of the float
-abbrev Nearest : Float → Bool → Type 0
-Nearest y s = (n : ℕ) × (n ≤ 2 ^ 52) × T (in_signed binary64 63 (round_ties_even binary64 y))
-    × (to_signed 63 (round_ties_even binary64 y) ≡ pos n)
-    × (to_signed 63 (round_ties_even binary64 (float_with_sign s y)) ≡ cond s (neg_ℤ (pos n)) (pos n))
-
-by_value : (y : Float) (s : Bool) → y ≡ float_with_sign false y → lt y (fin false 1 (pos 52)) ≡ true → Nearest y s
-unfolding lt float_with_sign round_with
-by_value nan s is h = absurd (true≢false (sym h))
-by_value (inf t) s is h = absurd (infinite t is h)
+-- what a sum has over 3 * 2^51
+difference : (s : Bool) (n : ℕ) → n ≤ 2 ^ 51
+    → FitsSigned w64 (pos (moved s n) -ℤ pos (3 * 2 ^ 51)) × (pos (moved s n) -ℤ pos (3 * 2 ^ 51) ≡ cond s (neg_ℤ (pos n)) (pos n))
+difference s n most = (subst (FitsSigned w64) (sym (is s)) (held s n most), is s)
   where
-    infinite : (t : Bool) → inf t ≡ inf false → lt (inf t) (fin false 1 (pos 52)) ≡ true → ⊥
-    infinite true is h = cc
-    infinite false is h = true≢false (sym h)
-by_value (fin true m e) s is h = absurd cc
-by_value (fin false m e) s is h =
-    let most = few m e (tidy m e h) in
-    let (cast, value) = rounded false (nearest_of m e) most in
-    (nearest_of m e, most, cast refl, value, with_sign s)
-  where
-    with_sign : (s : Bool) → to_signed 63 (round_ties_even binary64 (fin s m e))
-        ≡ cond s (neg_ℤ (pos (nearest_of m e))) (pos (nearest_of m e))
-    with_sign true = (rounded true (nearest_of m e) (few m e (tidy m e h))).1
-    with_sign false = (rounded false (nearest_of m e) (few m e (tidy m e h))).1
+    held : (s : Bool) (n : ℕ) → n ≤ 2 ^ 51 → FitsSigned w64 (cond s (neg_ℤ (pos n)) (pos n))
+    held false n h = record { sfits = omega (arith, h) }
+    held true zero h = record { sfits = omega (arith, h) }
+    held true (suc n) h = record { sfits = omega (arith, h) }
 
--- what a sign that is a bit makes of a number
-abbrev factor : ℕ → ℤ
-factor k = to_z w64 (of_z w64 (pos 1 -ℤ to_z w64 (of_z w64 (pos 2 *ℤ to_z w64 k))))
+    is : (s : Bool) → pos (moved s n) -ℤ pos (3 * 2 ^ 51) ≡ cond s (neg_ℤ (pos n)) (pos n)
+    is false = same_in (pos (n + 3 * 2 ^ 51) +ℤ neg_ℤ (pos (3 * 2 ^ 51))) (pos n) (omega (arith, ints, sum_is_lem, neg_is))
+    is true = same_in (pos (3 * 2 ^ 51 - n) +ℤ neg_ℤ (pos (3 * 2 ^ 51))) (neg_ℤ (pos n)) (omega (arith, ints, sum_is_lem, neg_is, most))
 
-product : (n k : ℕ) → n ≤ 2 ^ 52 → k < 2
-    → FitsSigned w64 (pos n *ℤ factor k)
-    × (to_z w64 (of_z w64 (pos n *ℤ factor k)) ≡ cond (leb 1 k) (neg_ℤ (pos n)) (pos n))
-product n zero most bit =
-    let is : pos n *ℤ factor 0 ≡ pos n = ap pos (mul-one n) in
-    let fits : FitsSigned w64 (pos n) = record { sfits = omega arith } in
-    (subst (FitsSigned w64) (sym is) fits, ap (λ z. to_z w64 (of_z w64 z)) is ∙ to_z-of_z {w = w64} fits)
-product n (suc zero) most bit =
-    let is : pos n *ℤ factor 1 ≡ neg_ℤ (pos n) = ap (λ k. neg_ℤ (pos k)) (mul-one n) in
-    let fits : FitsSigned w64 (neg_ℤ (pos n)) = negative n most in
-    (subst (FitsSigned w64) (sym is) fits, ap (λ z. to_z w64 (of_z w64 z)) is ∙ to_z-of_z {w = w64} fits)
-  where
-    negative : (n : ℕ) → n ≤ 2 ^ 52 → FitsSigned w64 (neg_ℤ (pos n))
-    negative zero h = record { sfits = omega arith }
-    negative (suc n) h = record { sfits = omega arith }
-product n (suc (suc k)) most bit = absurd (omega arith)
+-- a float below 2^51: the sum loses nothing as an integer, and what it has over 3 * 2^51 is nearest to the float
+module _ (x : Float) (above : lt (neg (of_bits binary64 0x4320_0000_0000_0000)) x ≡ true)
+    (below : lt x (of_bits binary64 0x4320_0000_0000_0000) ≡ true) where
+  abbrev total : Float
+  total = add binary64 x (of_bits binary64 0x4338_0000_0000_0000)
 
--- a float by its bits: the cast of its size loses nothing, and the product with its sign is what is nearest to it
-module _ (x whole : Float) (bits : ℕ) (fit : T (fits binary64 x)) (bits_are : bits ≡ to_bits binary64 x)
-    (few_bits : bits < 2 ^ 64)
-    (small : lt (of_bits binary64 (bits % 2 ^ 63)) (of_bits binary64 0x4330_0000_0000_0000) ≡ true)
-    (whole_is : whole ≡ round_ties_even binary64 (of_bits binary64 (bits % 2 ^ 63))) where
-  abbrev size : Float
-  size = of_bits binary64 (bits % 2 ^ 63)
+  abbrev rest : ℤ
+  rest = to_z w64 (of_z w64 (to_signed 63 total)) -ℤ pos (3 * 2 ^ 51)
 
-  near : Nearest size (leb (2 ^ 63) bits)
-  near = by_value size (leb (2 ^ 63) bits) (unsigned bits) (ap (lt size) (sym limit_is) ∙ small)
+  near : Nearest x
+  near = by_value x (ap (λ y. lt y x) (sym least_is) ∙ above) (ap (lt x) (sym most_is) ∙ below)
 
-  x_is : x ≡ float_with_sign (leb (2 ^ 63) bits) size
-  x_is = sym (of_bits-to_bits binary64 x fit) ∙ ap (of_bits binary64) (sym bits_are) ∙ signed bits
-
-  pub can_cast : T (in_signed binary64 63 whole)
-  can_cast = subst (λ y. T (in_signed binary64 63 y)) (sym whole_is) near.2
-
-  cast_is : to_z w64 (of_z w64 (to_signed 63 whole)) ≡ pos near.0
-  cast_is = ap (λ y. to_z w64 (of_z w64 (to_signed 63 y))) whole_is ∙ ap (λ z. to_z w64 (of_z w64 z)) near.3
-      ∙ to_z-of_z {w = w64} {z = pos near.0} (record { sfits = omega (arith, near.1) })
-
-  signed_is : FitsSigned w64 (pos near.0 *ℤ factor (bits / 2 ^ 63))
-      × (to_z w64 (of_z w64 (pos near.0 *ℤ factor (bits / 2 ^ 63))) ≡ cond (leb 1 (bits / 2 ^ 63)) (neg_ℤ (pos near.0)) (pos near.0))
-  signed_is = product near.0 (bits / 2 ^ 63) near.1 (omega (arith, few_bits))
-
-  pub product_fits : FitsSigned w64 (to_z w64 (of_z w64 (to_signed 63 whole)) *ℤ factor (bits / 2 ^ 63))
-  product_fits = subst (λ z. FitsSigned w64 (z *ℤ factor (bits / 2 ^ 63))) (sym cast_is) signed_is.0
-
-  same_sign : leb 1 (bits / 2 ^ 63) ≡ leb (2 ^ 63) bits
-  same_sign = by (leb (2 ^ 63) bits) refl
+  total_is : Whole total false (moved near.0 near.1)
+  total_is = whole_of total false (moved near.0 near.1)
+      (subst (λ y. HasValue (add binary64 x y) false (moved near.0 near.1) 1) (sym middle_is) near.3) (few near.0 near.1 near.2)
     where
-      by : (t : Bool) → leb (2 ^ 63) bits ≡ t → leb 1 (bits / 2 ^ 63) ≡ leb (2 ^ 63) bits
-      by true h = le-leb 1 (bits / 2 ^ 63) (omega (arith, leb-true _ _ h)) ∙ sym h
-      by false h = lt-leb 1 (bits / 2 ^ 63) (omega (arith, leb-false _ _ h)) ∙ sym h
+      few : (s : Bool) (n : ℕ) → n ≤ 2 ^ 51 → moved s n ≤ 2 ^ 53
+      few true n h = omega (arith, h)
+      few false n h = omega (arith, h)
 
-  pub product_is : to_z w64 (of_z w64 (to_z w64 (of_z w64 (to_signed 63 whole)) *ℤ factor (bits / 2 ^ 63)))
-      ≡ to_signed 63 (round_ties_even binary64 x)
-  product_is =
-      ap (λ z. to_z w64 (of_z w64 (z *ℤ factor (bits / 2 ^ 63)))) cast_is ∙ signed_is.1
-      ∙ ap (λ s. cond s (neg_ℤ (pos near.0)) (pos near.0)) same_sign ∙ sym near.4
-      ∙ ap (λ y. to_signed 63 (round_ties_even binary64 y)) (sym x_is)
+  pub can_cast : T (in_signed binary64 63 total)
+  can_cast = total_is.0 refl
+
+  rest_is : rest ≡ pos (moved near.0 near.1) -ℤ pos (3 * 2 ^ 51)
+  rest_is = ap (λ z. to_z w64 (of_z w64 z) -ℤ pos (3 * 2 ^ 51)) total_is.1
+      ∙ ap (λ z. z -ℤ pos (3 * 2 ^ 51)) (to_z-of_z {w = w64} {z = pos (moved near.0 near.1)} (held near.0 near.1 near.2))
+    where
+      held : (s : Bool) (n : ℕ) → n ≤ 2 ^ 51 → FitsSigned w64 (pos (moved s n))
+      held true n h = record { sfits = omega (arith, h) }
+      held false n h = record { sfits = omega (arith, h) }
+
+  pub rest_fits : FitsSigned w64 rest
+  rest_fits = subst (FitsSigned w64) (sym rest_is) (difference near.0 near.1 near.2).0
+
+  pub rest_is_nearest : to_z w64 (of_z w64 rest) ≡ to_signed 63 (round_ties_even binary64 x)
+  rest_is_nearest = to_z-of_z {w = w64} {z = rest} rest_fits ∙ rest_is ∙ (difference near.0 near.1 near.2).1 ∙ sym near.4

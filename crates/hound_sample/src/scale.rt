@@ -1,14 +1,12 @@
 // Samples as floats whose full scale is 1, and as integers of other bits.
-ghost use Rattle.std.specs.Prelude.{◌≡◌, ◌<◌, ◌≤◌, ◌-◌, ◌+ℤ◌, ◌*ℤ◌, ◌^◌, not, pos};
+ghost use Rattle.std.specs.Prelude.{◌≡◌, ◌<◌, ◌≤◌, ◌-◌, ◌+ℤ◌, ◌*ℤ◌, ◌^◌, nat_abs, not, pos};
 ghost use lib.Ieee.{binary32, binary64, of_int};
 ghost use Rattle.std.specs.Float.{float_to_signed, round_ties_even};
 ghost use Rattle.std.specs.Int.{int_shr, w64};
 ghost use Rattle.hound_sample.specs.Container.{fits};
 ghost use Rattle.hound_sample.specs.Scale.{clipped, double_of_int, float_of_int, scaled, with_bits};
 
-use std::num::{
-    f32_to_f64_with_nan, f64_to_bits_with_nan, nearest_u32_to_f32, saturating_f64_to_i64,
-};
+use std::num::{f32_to_f64_with_nan, nearest_u32_to_f32, saturating_f64_to_i64};
 
 /// An integer of so many bits as a float whose full scale is 1: over `2^(bits - 1)`.
 ///
@@ -28,6 +26,17 @@ pub fn int_to_float(sample: i32, bits: u16) -> f32
     // A sign that is looked up needs no branch, which would be guessed wrong for each second sample.
     let divisors = [full_scale, -full_scale];
     nearest_u32_to_f32(sample.unsigned_abs()) / divisors[(sample < 0) as usize]
+}
+
+/// The same of an integer that is a float itself, which takes less time.
+#[inline]
+pub fn small_int_to_float(sample: i32, bits: u16) -> f32
+    requires some { 0 < bits }
+    requires most { bits ≤ 32 }
+    requires small { nat_abs sample ≤ 2 ^ 24 }
+    ensures { result ≡ float_of_int bits sample }
+{
+    sample as f32 / nearest_u32_to_f32(two_to(bits - 1))
 }
 
 /// The same as a float of 64 bits, which is the quotient itself.
@@ -74,18 +83,18 @@ pub fn double_to_int(number: f64, bits: u16) -> (i32, bool)
 fn nearest_integer(number: f64) -> i64
     ensures { result ≡ float_to_signed w64 (round_ties_even binary64 number) }
 {
-    // The sign is a bit here, because a branch on it would be guessed wrong for each second sample.
-    let bits = f64_to_bits_with_nan(number);
-    let size_bits = bits % 0x8000_0000_0000_0000;
-    if size_bits < 0x7ff0_0000_0000_0000 {
-        let size = f64::from_bits(size_bits);
-        // Below 2^52 a cast loses nothing, and is one instruction.
-        if size < 4503599627370496.0 {
-            let whole = size.round_ties_even() as i64;
-            let sign = 1 - 2 * (bits / 0x8000_0000_0000_0000) as i64;
-            return whole * sign;
-        }
+    // Between 2^52 and 2^53 floats are 1 apart, so a sum that is there has no fraction.
+    if -2251799813685248.0 < number && number < 2251799813685248.0 {
+        return (number + 6755399441055744.0) as i64 - 6755399441055744;
     }
+    nearest_to_distant(number)
+}
+
+// The same of any number. It is a call of its own, so that the loops above stay short.
+#[inline(never)]
+fn nearest_to_distant(number: f64) -> i64
+    ensures { result ≡ float_to_signed w64 (round_ties_even binary64 number) }
+{
     saturating_f64_to_i64(number.round_ties_even())
 }
 

@@ -1,5 +1,5 @@
 -- Integers as floats whose full scale is 1, and back; and floats of 32 bits as those of 64, and back.
-use Rattle.std.specs.Prelude.{◌≡◌, ℕ, ℤ, Bool, ◌&&◌, ◌≤◌, ◌<◌, List, length, take, drop, map, not, Result, Ok, Err}
+use Rattle.std.specs.Prelude.{◌≡◌, ℕ, ℤ, Bool, ◌&&◌, ◌≤◌, ◌<◌, ◌^◌, List, length, nat_abs, take, drop, map, not, Result, Ok, Err}
 use Rattle.std.specs.Float.{Float, binary32, float_is_finite, round_to_format}
 use Rattle.std.specs.List.{count_by}
 use Rattle.hound_sample.specs.{clipped, fits, scaled}
@@ -15,6 +15,10 @@ abbrev pub IsScaleError : ℕ → ℕ → ℕ → CallError → Type 0
 IsScaleError bits count room NotWritable = AreBits bits → ⊥
 IsScaleError bits count room NoRoom = room < count
 IsScaleError bits count room _ = ⊥
+
+-- an integer is a float of 32 bits itself, as those of 24 bits are
+abbrev pub IsSmall : ℤ → Type 0
+IsSmall v = nat_abs v ≤ 2 ^ 24
 
 -- what scaling integers does: each is over full scale, as a float of a type, which is `float_of_int` or
 -- `double_of_int`

@@ -27,6 +27,11 @@ found_of c =
     else if nat_lt greatest_u16 (s.spec.channels * s.bytes_per_sample) then None
     else Some s
 
+-- Table: which part of a file a walk requests (Part, Bytes, Place).
+-- | Front | 12 | the first byte |
+-- | Header | 8 | after the chunks before, where the last one has no content, or all of it was read |
+-- | Last | 9: the last byte of a content that is passed over, and the header after it | at that byte |
+-- | Fmt | as many as the content of a fmt chunk has, at most 40 | after its header |
 -- the part that C's walk asks for, by its number
 abbrev pub part_of : ℕ → ℕ → Part
 part_of part length =
@@ -48,12 +53,15 @@ part_end walk = part_start walk.part walk.taken + part_length walk.part
 abbrev pub Asks : HoundWalk → Type 0
 Asks c = c.effect ≡ effect_of (Some (Read (part_start (walk_of c).part c.taken) (part_length (walk_of c).part)))
 
+-- Table: what a walk does with the part that it requested (Report, It returns, The walk then).
+-- | done, and another part decides | 1: it requests that part, which is after this one | at it; fewer are left |
 -- A walk asks on: for a later part, and there are fewer to come.
 pub record AsksOn (old new : HoundWalk) : Type 0 where
   pub asks : Asks new
   pub ahead : part_end (walk_of old) ≤ new.effect.place
   pub nearer : parts_left (walk_of new).part new.taken < parts_left (walk_of old).part old.taken
 
+-- | done, and the data begin after it | 0, with what is before them | as it was |
 -- The data begin where the last part ended.
 pub record FindsHead (old : HoundWalk) (info : HoundInfo) : Type 0 where
   pub explicit : IsExplicit info.spec
@@ -71,6 +79,7 @@ abbrev pub HasNoHead : Bool → List ℕ → Cause → Type 0
 HasNoHead true = Unreadable
 HasNoHead false = Rejected
 
+-- | done, and the file isn't read | the cause | as it was |
 -- A step of a walk over a file, of which its part was handed in, leads on, to the data, or to the
 -- cause why there are none.
 pub record Steps (is_counted : Bool) (file : List ℕ) (number : ℤ) (new : HoundWalk) (info : HoundInfo) :
@@ -89,12 +98,14 @@ bytes_of_part c =
 abbrev pub AreAsked : HoundWalk → List ℕ → Type 0
 AreAsked c file = bytes_of_part c ≡ part_bytes (walk_of c) file
 
+-- | none | 1: it requests the part again | as it was |
 -- A walk whose part isn't read asks for it, as before.
 pub record AsksAgain (number : ℤ) (old new : HoundWalk) : Type 0 where
   pub one : number ≡ pos 1
   pub same : walk_of new ≡ walk_of old
   pub asks : Asks new
 
+-- | failed | `HOUND_NOT_PERFORMED` | as it was |
 -- what comes of a part, by how its read has ended
 abbrev pub AnswersPart : Bool → Report → ℤ → HoundWalk → HoundWalk → HoundInfo → Type 0
 AnswersPart is_counted Pending number old new info = AsksAgain number old new

@@ -1,9 +1,13 @@
 // What a machine asks its caller to do, as C has it, and how that ended.
-ghost use Rattle.std.specs.Prelude.{◌≡◌, ◌++◌, replicate};
-ghost use Rattle.hound_slices.specs.Effects.{effect_of, effect_with, report_of};
+ghost use Rattle.std.specs.Prelude.{◌≡◌, ◌++◌, ◌-◌, ◌≤◌, Some, length, replicate};
+ghost use Rattle.hound_spec.specs.{IsWritable};
+ghost use Rattle.hound_writer.specs.{header_part};
+ghost use Rattle.hound_writer.specs.declared.effects.BeginningEffect.TheVariants.{Header};
+ghost use Rattle.hound_slices.specs.Effects.{beginning_of, effect_of, effect_with, report_of};
 
 use hound_number::le_u32;
-use hound_writer::{Action, Effect, Report};
+use hound_spec::{WavSpecEx, header_of};
+use hound_writer::{Action, BeginningEffect, Effect, Report, part_from};
 
 /// What a caller does to its file, and how that ended.
 #[repr(C)]
@@ -16,12 +20,13 @@ pub struct HoundEffect {
     pub bytes: [u8; 40],
 }
 
-// Four bytes, and zeros after them.
-fn padded(bytes: [u8; 4]) -> [u8; 40]
-    ensures { result ≡ bytes ++ replicate 36 0 }
+// At most 40 bytes, and zeros after them.
+fn padded(bytes: &[u8]) -> [u8; 40]
+    requires few { length bytes.now ≤ 40 }
+    ensures { result ≡ bytes.now ++ replicate (40 - length bytes.now) 0 }
 {
     let mut padded = [0; 40];
-    padded[..4].copy_from_slice(&bytes);
+    padded[..bytes.len()].copy_from_slice(bytes);
     padded
 }
 
@@ -47,12 +52,39 @@ pub fn effect_for_c(action: Option<Action>) -> HoundEffect
         Some(Action::Read(place, length)) => without_bytes(1, place, length),
         Some(Action::Perform(Effect::Pad(place))) => without_bytes(2, place, 1),
         Some(Action::Perform(Effect::Size(place, size))) => HoundEffect {
-            bytes: padded(le_u32(size)),
+            bytes: padded(&le_u32(size)),
             ..without_bytes(2, place, 4)
         },
         Some(Action::WriteBlock(place, length)) => without_bytes(3, place, length),
         Some(Action::Perform(Effect::Sync)) => without_bytes(4, 0, 0),
         Some(Action::Cut(place)) => without_bytes(5, place, 0),
+    }
+}
+
+// The write of the header from one of its bytes on.
+fn header_part_for_c(spec_ex: WavSpecEx, first: u32) -> HoundEffect
+    requires { IsWritable spec_ex }
+    ensures { result ≡ beginning_of spec_ex (Some (Header first)) }
+{
+    let header = header_of(spec_ex, 0, 0);
+    let bytes = part_from(header.as_slice(), first);
+    HoundEffect {
+        bytes: padded(bytes),
+        ..without_bytes(2, first as u64, bytes.len() as u32)
+    }
+}
+
+/// What begins a file of this spec, as C has it.
+pub fn beginning_for_c(spec_ex: WavSpecEx, effect: Option<BeginningEffect>) -> HoundEffect
+    requires { IsWritable spec_ex }
+    ensures { result ≡ beginning_of spec_ex effect }
+{
+    match effect {
+        None => without_bytes(0, 0, 0),
+        Some(BeginningEffect::Header(first)) => header_part_for_c(spec_ex, first),
+        Some(BeginningEffect::Sync) => without_bytes(4, 0, 0),
+        Some(BeginningEffect::Empty) => without_bytes(5, 0, 0),
+        Some(BeginningEffect::SyncFolder) => without_bytes(6, 0, 0),
     }
 }
 

@@ -5,6 +5,7 @@
 #![tactic(auto)]
 
 mod appending;
+mod dithering;
 mod effect;
 mod error;
 mod head;
@@ -20,7 +21,8 @@ mod walking;
 mod writing;
 
 pub use appending::append_block;
-pub use effect::{HoundEffect, effect_for_c, report_of};
+pub use dithering::{dither_doubles, dither_floats};
+pub use effect::{HoundEffect, beginning_for_c, effect_for_c, report_of};
 pub use error::{CallError, code_of, code_of_error};
 pub use head::find_samples;
 pub use reading::{decode_block, read_block};

@@ -1,16 +1,17 @@
 // Integers as floats whose full scale is 1, and back; and floats of 32 bits as those of 64, and back.
-ghost use Rattle.std.specs.Prelude.{◌≡◌, ◌≤◌, IfOk, IfErr, length};
+ghost use Rattle.std.specs.Prelude.{◌≡◌, ◌≤◌, IfOk, IfErr, IsTrue, drop, length, map, take};
+ghost use Rattle.std.specs.List.{All};
 ghost use Rattle.std.specs.Float.{round_to_format};
 ghost use lib.Ieee.{binary32};
 ghost use Rattle.hound_sample.specs.{double_of_int, float_of_int};
-ghost use Rattle.hound_slices.specs.Scaling.{AreBits, IsScaleError, NarrowsFloats, ScalesToFloats, ScalesToIntegers, WidensFloats, becomes_infinite};
+ghost use Rattle.hound_slices.specs.Scaling.{AreBits, IsScaleError, IsSmall, NarrowsFloats, ScalesToFloats, ScalesToIntegers, WidensFloats, becomes_infinite};
 
 use crate::error::CallError;
-use hound_sample::{double_to_int, float_to_int, int_to_double, int_to_float};
+use hound_sample::{double_to_int, float_to_int, int_to_double, int_to_float, small_int_to_float};
 use std::num::{f32_to_f64_with_nan, nearest_f64_to_f32_with_nan};
 
 // Checks that integers have so many bits, and that there is room for so many values.
-fn check_scale(bits: u16, count: usize, room: usize) -> Result<(), CallError>
+pub(crate) fn check_scale(bits: u16, count: usize, room: usize) -> Result<(), CallError>
     ensures bits { IfOk result (λ _. AreBits bits) }
     ensures room { IfOk result (λ _. count ≤ room) }
     ensures error { IfErr result (IsScaleError bits count room) }
@@ -24,14 +25,54 @@ fn check_scale(bits: u16, count: usize, room: usize) -> Result<(), CallError>
     Ok(())
 }
 
+// Whether each integer is a float itself, as those of 24 bits are.
+fn are_small(samples: &[i32]) -> bool
+    ensures { IsTrue result → All IsSmall samples.now }
+{
+    let mut are_large = false;
+    for i in 0..samples.len() {
+        are_large |= samples[i].unsigned_abs() > 0x100_0000;
+    }
+    !are_large
+}
+
+// Scales such integers, in a loop of which LLVM makes vectors.
+fn scale_small(samples: &[i32], bits: u16, out: &mut [f32])
+    requires bits { AreBits bits }
+    requires room { length samples.now ≤ length out.now }
+    requires small { All IsSmall samples.now }
+    ensures front { take (length samples.now) out.new ≡ map (float_of_int bits) samples.now }
+    ensures rest { drop (length samples.now) out.new ≡ drop (length samples.now) out.old }
+    ensures same { length out.new ≡ length out.old }
+{
+    for i in 0..samples.len() {
+        out[i] = small_int_to_float(samples[i], bits);
+    }
+}
+
+// Scales any integers.
+fn scale_large(samples: &[i32], bits: u16, out: &mut [f32])
+    requires bits { AreBits bits }
+    requires room { length samples.now ≤ length out.now }
+    ensures front { take (length samples.now) out.new ≡ map (float_of_int bits) samples.now }
+    ensures rest { drop (length samples.now) out.new ≡ drop (length samples.now) out.old }
+    ensures same { length out.new ≡ length out.old }
+{
+    for i in 0..samples.len() {
+        out[i] = int_to_float(samples[i], bits);
+    }
+}
+
 /// Scales integers of so many bits to floats, and returns how many.
 pub fn scale_to_floats(samples: &[i32], bits: u16, out: &mut [f32]) -> Result<usize, CallError>
     ensures scales { ScalesToFloats float_of_int bits samples.now out.old out.new result }
     ensures within { IfOk result (λ n. n ≤ length out.old) }
 {
     check_scale(bits, samples.len(), out.len())?;
-    for i in 0..samples.len() {
-        out[i] = int_to_float(samples[i], bits);
+    if are_small(samples) {
+        scale_small(samples, bits, out);
+    } else {
+        scale_large(samples, bits, out);
     }
     Ok(samples.len())
 }

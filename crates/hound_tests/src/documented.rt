@@ -66,6 +66,19 @@ fn sum_of_blocks(bytes: &[u8]) -> hound::Result<i64> {
     Ok(sum)
 }
 
+// The same in memory, by one block.
+fn sum_in_memory(bytes: &[u8]) -> hound::Result<i64> {
+    let mut sum = 0i64;
+    let mut block = [0i32; 6];
+    let mut reader = WavReader::from_bytes(bytes)?;
+    let (count, result) = reader.decode_samples(&mut block);
+    for sample in &block[..count] {
+        sum = sum.wrapping_add(i64::from(*sample));
+    }
+    result?;
+    Ok(sum)
+}
+
 // The third sample.
 fn third(bytes: &[u8]) -> hound::Result<Option<i16>> {
     let mut reader = WavReader::new(Cursor::new(bytes))?;
@@ -75,8 +88,12 @@ fn third(bytes: &[u8]) -> hound::Result<Option<i16>> {
 
 #[test]
 fn what_is_read_by_each_call(rt: HostRuntime) -> Result<(), Fail> {
-    let sums = (sum_of(&FOUR_SAMPLES)?, sum_of_blocks(&FOUR_SAMPLES)?);
-    assert_eq!(rt; sums, (-3, -3));
+    let sums = (
+        sum_of(&FOUR_SAMPLES)?,
+        sum_of_blocks(&FOUR_SAMPLES)?,
+        sum_in_memory(&FOUR_SAMPLES)?,
+    );
+    assert_eq!(rt; sums, (-3, -3, -3));
     assert_eq!(rt; third(&FOUR_SAMPLES)?, Some(5));
     Ok(())
 }

@@ -1,9 +1,12 @@
 //! Tests over the public items of `hound` and of the program alone, for what rows (`hound_rows`) can't do:
-//! allocations that fail, the words that clauses import, the program, and the examples of the documentation.
+//! allocations that fail, blocks of a source whose calls fail, the words that clauses import, the program, and the
+//! examples of the documentation.
 #![tactic(auto)]
 
 #[cfg(test)]
 mod answers;
+#[cfg(test)]
+mod causes;
 #[cfg(test)]
 mod documented;
 #[cfg(test)]

@@ -7,6 +7,7 @@ use Rattle.std.specs.Prelude.{if◌then◌else◌}
 use Rattle.std.specs.declared.io.Error.{Error as IoFault}
 use Rattle.hound_medium.specs.{MediumState}
 use Rattle.hound_spec.specs.declared.spec.WavSpecEx.{WavSpecEx}
+use Rattle.hound_writer.specs.Beginning.{at_beginning}
 use Rattle.hound_writer.specs.Calls.{Begun, Known, marked, new_file, publish}
 use Rattle.hound_writer.specs.Effects.{Log, Performs, nth, pad_effects, size_effects}
 use Rattle.hound_writer.specs.Machine.{EffectEnds, GivesUp, GoesOn, HasEnded, IsSaving, MaySave, TakesBlock, after_block, cuts_next, doubted, end_of, end_place, given_up}
@@ -80,12 +81,15 @@ idle s file frames r m d channels whole phase = record {
 }
 
 pub directing_new : (s : WavSpecEx) (old : MediumState) (log : Log) (r : Recorder) → Opened s old log.state
-    → BeginsRecorder s (Ok r) → Directed s (new_file old) [] r log.state
+    → BeginsRecorder s (Ok r) → Directed s (new_file (at_beginning old)) [] r log.state
 directing_new s old log r opened (writable, is) =
-    let d = step_new s old log r opened (writable, is) in
-    subst (λ r. Directed s (new_file old) [] r log.state) (sym is)
-    (idle s (new_file old) 0 _ log.state (subst (λ r. InStep s (new_file old) [] r true log.state) is d) refl
-    (omega arith) refl)
+    let d = step_same s (new_file (at_beginning old)) [] _ log.state Saving false (step_new s old log opened writable) in
+    subst (λ r. Directed s (new_file (at_beginning old)) [] r log.state) (sym is) (record {
+      in_step = d;
+      channels = refl;
+      whole = (0, omega arith);
+      block = tt;
+    })
 
 -- a recorder that keeps what the header counts
 kept_counted : (f : FoundFile) (b : Bool) (m : MediumState) (file : Begun) (frames : ℕ)
@@ -207,15 +211,30 @@ gives_up s file known old m (Writing n) d is =
     rw sound (moved s file known known old (record old { health = Suspect }) m m Saving true d
     (step_needs s file known old m d.in_step none) (refl, refl, refl) tt)
 
+-- nothing is under way then
+is_given_up : (phase : Phase) (r : Recorder) → record (given_up phase r) { phase = Idle } ≡ given_up phase r
+is_given_up Idle r = refl
+is_given_up Saving r = refl
+is_given_up Cleaning r = refl
+is_given_up (Requested n) r = refl
+is_given_up (Writing n) r = refl
+
 pub directing_asked : (s : WavSpecEx) (file : Begun) (known : List Known) (old end new : Recorder)
     (m : MediumState) (samples : ℕ) → Directed s file known old m → GivesUp old end
     → Directed s file known (record end { phase = Saving }) m
-    × (TakesBlock samples end new (Ok tt) → Directed s file known new m)
+    × (TakesBlock samples end new (Ok tt) → Directed s file known new m) × Directed s file known end m
 directing_asked s file known old end new m samples d gives =
     let one : Directed s file known (record end { phase = Saving }) m =
-    rw gives (gives_up s file known old m old.phase d refl) in (
+    rw gives (gives_up s file known old m old.phase d refl) in
+    let idle : record end { phase = Idle } ≡ end = rw gives (is_given_up old.phase old) in (
       one,
       λ (low, some, whole, room, is). rw is (asks s file known (record end { phase = Saving }) m samples one whole room),
+      subst (λ r. Directed s file known r m) idle (record {
+        in_step = step_same s file known (record end { phase = Saving }) m Idle end.has_rest one.in_step;
+        channels = one.channels;
+        whole = one.whole;
+        block = tt;
+      }),
     )
 
 pub directing_saved : (s : WavSpecEx) (file : Begun) (known : List Known) (old new : Recorder)

@@ -6,7 +6,7 @@ use Rattle.std.proofs.Math.Nat.{mul-div_cancel, mul-mod_left}
 use Rattle.std.specs.Prelude.{if◌then◌else◌}
 use Rattle.std.specs.declared.io.Error.{Error as IoFault}
 use Rattle.hound_sample.specs.{containers}
-use Rattle.hound_spec.specs.{IsPair, data_start, greatest_u32, header, riff_size}
+use Rattle.hound_spec.specs.{IsPair, IsWritable, data_start, greatest_u32, header, riff_size}
 use Rattle.hound_spec.proofs.HeaderLemmas.{length-header}
 use Rattle.hound_spec.specs.declared.error.Error.{Error}
 use Rattle.hound_spec.specs.declared.error.Error.TheVariants.{IoError, UnfinishedSample}
@@ -16,11 +16,11 @@ use Rattle.hound_medium.specs.{MediumState}
 use Rattle.hound_walk.specs.{Head, Readable}
 use Rattle.hound_writer.specs.Accepting.{mark_of, whole_containers}
 use Rattle.hound_writer.specs.Appending.{head_fault}
-use Rattle.hound_writer.specs.Beginning.{Begins}
+use Rattle.hound_writer.specs.Beginning.{Begins, at_beginning}
 use Rattle.hound_writer.specs.Calls.{Asked, Begun, Does, Known, Opens, Recorded, handed_in, marked, new_file, publish, write}
 use Rattle.hound_writer.specs.Effects.{Log, Performed, Performs, checkpoint, log_kind, nth}
 use Rattle.hound_writer.specs.Parts.{IsPublishResult, PutsAt, of_fields}
-use Rattle.hound_writer.specs.Recorder.{AppendsRecorder, BeginsRecorder, HasData, HasFailed, IsAlive, IsClear, NextEffect, effects_of, is_sound, recorder_of}
+use Rattle.hound_writer.specs.Recorder.{AppendsRecorder, HasData, HasFailed, IsAlive, IsClear, NextEffect, effects_of, is_sound, recorder_of}
 use Rattle.hound_writer.specs.Recording.{InStep, IsIdle, IsOrdered, IsRecorderOf, IsSynced, Opened, Resumed, block_known, resumed_file}
 use Rattle.hound_writer.specs.Writer.{WriterState, HasRoom, IsSound, accepted_samples, sample_count}
 use Rattle.hound_writer.specs.declared.effects.Effect.{Effect}
@@ -37,6 +37,7 @@ use Rattle.hound_writer.proofs.Beginning.{header_file, sound_begin, at_most_begi
 use Rattle.hound_writer.proofs.Checkpoint.{as_out, bad, fine, good_over, publishes_effects}
 use Rattle.hound_writer.proofs.Containers.{count_bytes}
 use Rattle.hound_writer.proofs.Heads.{head_beyond}
+use Rattle.hound_writer.proofs.Opening.{all_put, header_opened}
 use Rattle.hound_writer.proofs.Ordering.{all_ordered, effects_ordered, header_in_order, in_order_none, puts_in_order, taken_ordered}
 use Rattle.hound_writer.proofs.Recording.{recorded_first, recorded_more, recorded_spec}
 use Rattle.hound_writer.proofs.Samples.{samples_out}
@@ -143,26 +144,29 @@ has_room r w n more is none long (far, wide, fits) =
     let sum : n ≡ w.bytes_written + 0 + more = omega (arith, is.1, long) in
     rw none (subst (λ (x : ℕ × ℕ). riff_size x.0 x.1 ≤ greatest_u32) (λ i. (is.0 i, sum i)) fits)
 
--- a new file whose header was written
-pub step_new : (s : WavSpecEx) (old : MediumState) (log : Log) (r : Recorder) → Opened s old log.state
-    → BeginsRecorder s (Ok r) → InStep s (new_file old) [] r true log.state
-step_new s old log r opens (writable, is) =
+-- a new file that was begun, in the medium as it was at its beginning
+pub step_new : (s : WavSpecEx) (given : MediumState) (log : Log) → Opened s given log.state → IsWritable s
+    → InStep s (new_file (at_beginning given)) [] (recorder_of s (data_start s) 0) true log.state
+step_new s given log opened writable =
+    let r = recorder_of s (data_start s) 0 in
+    let old = at_beginning given in
+    let puts = header_opened s given log.state opened in
     let start = length (header s 0 0) in
     let w = of_fields log s start 0 [] [] in
     let here = length-header s 0 0 in
     let sound : IsSound w = sound_begin log s start writable here in
     let begins : Begins log_kind s old w = record {
       begun = let begins = here in search rules;
-      file = λ _. header_file log_kind s old log writable opens.begins opens.puts;
+      file = λ _. header_file log_kind s old log writable refl (all_put (header s 0 0) old log.state refl puts);
     } in
     at_rest s (new_file old) [] r w (recorded_first log_kind s (new_file old) w begins)
     (record {
       none = refl;
       sound = sound;
-      at_most = at_most_begin log_kind s old log writable opens.begins opens.puts;
+      at_most = at_most_begin log_kind s old log writable refl (all_put (header s 0 0) old log.state refl puts);
     })
-    (rw (is, here) (refl, refl, refl)) (ap (λ (x : Recorder). x.number) is)
-    (λ synced. (data_start s, header_in_order s old log.state opens synced, λ _. rw is (omega arith)))
+    (rw here (refl, refl, refl)) refl
+    (λ synced. (data_start s, header_in_order s old log.state synced puts, λ _. omega arith))
 
 -- a file that was there, as a walk found it
 pub no_fault : (s : WavSpecEx) (samples start : ℕ) → 1 ≤ s.bytes_per_sample → samples % s.spec.channels ≡ 0

@@ -24,6 +24,7 @@ pub mod AppendAnswers
 pub mod Writing
 pub mod AcceptingMany
 pub mod OneByOne
+pub mod Opening
 pub mod Recording
 pub mod Fresh
 pub mod Checkpoint

@@ -1,6 +1,6 @@
 -- A recorder's file is written at ascending places only since it was synced.
 use Rattle.std.proofs.lemmas.Grind.{common_steps}
-use Rattle.std.proofs.Common.{◌≡◌, ℕ, zero, suc, ◌+◌, ◌%◌, ◌≤◌, Bool, true, false, List, [], ◌∷◌, ◌++◌, length, take, Result, Ok, Err, is_ok, refl, rules, ◌∙◌, ap, subst, arith, length-take}
+use Rattle.std.proofs.Common.{◌≡◌, ℕ, zero, suc, ◌+◌, ◌%◌, ◌≤◌, Bool, true, false, List, [], ◌∷◌, ◌++◌, length, take, Result, Ok, Err, is_ok, refl, ◌∙◌, ap, subst, arith, length-take}
 use Rattle.std.specs.Prelude.{⊤, if◌then◌else◌}
 use Rattle.std.specs.declared.io.Error.{Error as IoFault}
 use Rattle.hound_spec.specs.{data_start, header}
@@ -11,7 +11,7 @@ use Rattle.hound_durable.specs.{Ascends, IsBelow}
 use Rattle.hound_durable.proofs.Ascending.{ascends_more, below_more, length_put}
 use Rattle.hound_writer.specs.Effects.{Log, Performed, Performs, checkpoint, pad_effects, size_effects}
 use Rattle.hound_writer.specs.Parts.{PutsAt}
-use Rattle.hound_writer.specs.Recording.{IsOrdered, IsSynced, Opened}
+use Rattle.hound_writer.specs.Recording.{IsOrdered, IsSynced}
 use Rattle.hound_writer.proofs.Checkpoint.{fine}
 use Rattle.hound_writer.specs.declared.effects.Effect.{Effect}
 use Rattle.hound_writer.specs.declared.effects.Effect.TheVariants.{Pad, Size, Sync}
@@ -102,13 +102,9 @@ taken_ordered (effect ∷ effects) (suc k) high end (le, ordered) =
     let (last, rest) = taken_ordered effects k (high_after effect) end ordered in (last, (le, rest))
 
 -- a header that was written to a medium of which all was synced
-pub header_in_order : (s : WavSpecEx) (old new : MediumState) → Opened s old new → IsSynced old
-    → IsOrdered (data_start s) new
-header_in_order s old new opens synced =
-    let p = opens.puts in
-    let takes = rw opens.begins at p.takes in
-    let place : new.place ≡ 0 + length (header s 0 0) = takes.place ∙ ap (λ n. 0 + n) p.whole in
-    let puts : PutsAt {T = Unit {0}} {E = IoFault} true 0 (header s 0 0) (Ok tt) old new = search rules in
+pub header_in_order : (s : WavSpecEx) (old new : MediumState) → IsSynced old
+    → PutsAt {T = Unit {0}} {E = IoFault} true 0 (header s 0 0) (Ok tt) old new → IsOrdered (data_start s) new
+header_in_order s old new synced puts =
     let end : 0 + length (header s 0 0) ≡ data_start s = omega (arith, length-header s 0 0) in
     subst (λ n. IsOrdered n new) end
     (puts_in_order 0 0 (header s 0 0) (fine tt) old new (omega arith) (in_order_none 0 old synced) puts)

@@ -22,11 +22,11 @@ size_effects start n = Sync ∷ Size 4 (riff_size start n) ∷ Size (start - 4) 
 abbrev pub checkpoint : ℕ → ℕ → List Effect
 checkpoint start n = pad_effects (start + n) (n % 2) ++ size_effects start n
 
--- the effect with this number
-abbrev pub nth : List Effect → ℕ → Option Effect
+-- the one with this number, from 0
+abbrev pub nth : {T : Type 0} → List T → ℕ → Option T
 nth [] k = None
-nth (effect ∷ effects) zero = Some effect
-nth (effect ∷ effects) (suc k) = nth effects k
+nth (one ∷ others) zero = Some one
+nth (one ∷ others) (suc k) = nth others k
 
 -- A file as effects have left it: the bytes that it began with, each byte written since with its
 -- place, how many of them were synced, and what that makes of it.

@@ -7,7 +7,7 @@ use Rattle.hound_writer.specs.declared.effects.Effect.{Effect}
 use Rattle.hound_writer.specs.declared.effects.Effect.TheVariants.{Sync}
 use Rattle.hound_writer.specs.declared.recorder.Health.{Health}
 use Rattle.hound_writer.specs.declared.recorder.Health.TheVariants.{Sound, Suspect, Dead}
-use Rattle.hound_writer.specs.declared.recorder.Phase.TheVariants.{Idle}
+use Rattle.hound_writer.specs.declared.recorder.Phase.TheVariants.{Idle, Saving}
 use Rattle.hound_writer.specs.declared.recorder.Recorder.{Recorder}
 use Rattle.hound_writer.specs.declared.recorder.RecorderError.{RecorderError}
 use Rattle.hound_writer.specs.declared.recorder.RecorderError.TheVariants.{NotWritable, UnfinishedFrame, TooLong, NeedsCheckpoint, SyncFailed}
@@ -25,10 +25,10 @@ recorder_of s start len = record {
   has_rest = false;
 }
 
--- what the call for a new file does
+-- what the call for a new file does: a checkpoint is under way, which stores the header
 abbrev pub BeginsRecorder : WavSpecEx → Result Recorder RecorderError → Type 0
 BeginsRecorder s (Ok recorder) = IsWritable s
-    × (recorder ≡ recorder_of s (data_start s) 0)
+    × (recorder ≡ record (recorder_of s (data_start s) 0) { phase = Saving })
 BeginsRecorder s (Err error) = (IsWritable s → ⊥) × (error ≡ NotWritable)
 
 -- a file has so many bytes of data where a recorder's begin

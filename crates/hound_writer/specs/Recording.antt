@@ -2,12 +2,12 @@
 use Rattle.std.specs.Prelude.{◌≡◌, ℕ, ◌+◌, ◌*◌, ◌<◌, ◌≤◌, Bool, true, false, List, [], ◌∷◌, length, take, drop, Result, Ok, Err, is_ok}
 use Rattle.std.specs.declared.io.Error.{Error as IoFault}
 use Rattle.hound_durable.specs.{Ascends, IsBelow}
-use Rattle.hound_medium.specs.{Goes, MediumState, PutsAll}
+use Rattle.hound_medium.specs.{Goes, MediumState}
 use Rattle.hound_sample.specs.{containers}
 use Rattle.hound_spec.specs.declared.spec.WavSpecEx.{WavSpecEx}
-use Rattle.hound_spec.specs.{header}
 use Rattle.hound_walk.specs.{Head, IsSoundSpec, Readable}
 use Rattle.hound_writer.specs.Accepting.{whole_containers}
+use Rattle.hound_writer.specs.Beginning.{DoesBeginnings, beginning}
 use Rattle.hound_writer.specs.Calls.{Begun, Known, Recorded, appended, handed_in, marked, publish, write}
 use Rattle.hound_writer.specs.Effects.{Log, Performed, log_kind}
 use Rattle.hound_writer.specs.Parts.{CountsAtMost, of_fields}
@@ -20,10 +20,9 @@ use Rattle.hound_writer.specs.declared.recorder.Recorder.{Recorder}
 use Rattle.hound_writer.specs.declared.recorder.RecorderError.{RecorderError}
 use Rattle.hound_writer.specs.declared.resuming.FoundFile.{FoundFile}
 
--- A new file is recorded: its header was written, with both sizes 0.
-pub record Opened (s : WavSpecEx) (old new : MediumState) : Type 0 where
-  pub begins : old.place ≡ 0
-  pub puts : PutsAll {T = Unit {0}} {E = IoFault} true (header s 0 0) (Ok tt) old new
+-- A new file is recorded: all effects with which it begins were done.
+abbrev pub Opened : WavSpecEx → MediumState → MediumState → Type 0
+Opened s old new = DoesBeginnings true s beginning (Ok tt) old new
 
 -- A file is recorded further: it was found with so many samples, and the caller went to their end.
 pub record Resumed (f : FoundFile) (samples : ℕ) (old new : MediumState) : Type 0 where

@@ -1,9 +1,11 @@
 // What the caller of a machine does to its file, one effect after the other.
-ghost use Rattle.std.specs.Prelude.{◌≡◌, ◌≤◌, Option};
+ghost use Rattle.std.specs.Prelude.{◌≡◌, ◌≤◌, Option, drop, length, take};
 ghost use Rattle.hound_spec.specs.{riff_size, greatest_u32};
+ghost use Rattle.hound_writer.specs.Beginning.{BeginsWith};
 ghost use Rattle.hound_writer.specs.Effects.{checkpoint, nth, size_effects};
 
-use hound_spec::riff_size;
+use crate::recorder::RecorderError;
+use hound_spec::{WavSpecEx, riff_size};
 
 /// What the caller does to its file.
 #[derive(Clone, Copy)]
@@ -32,6 +34,22 @@ pub enum Action {
 
     /// To cut the file off at this place, unless it is no longer than that.
     Cut(u64),
+}
+
+/// What the caller does to begin a new file.
+#[derive(Clone, Copy, Debug, PartialEq, Eq)]
+pub enum BeginningEffect {
+    /// To sync the folder that holds its name.
+    SyncFolder,
+
+    /// To cut it off at its first byte, if it has one.
+    Empty,
+
+    /// To sync it.
+    Sync,
+
+    /// To write the header from this byte of it on, at the same place in the file: 40 bytes, or fewer at its end.
+    Header(u32),
 }
 
 /// How what the caller was asked to do has ended.
@@ -79,4 +97,36 @@ fn effect_of_sizes(data_start: u64, data_length: u32, number: u32) -> Option<Eff
         3 => Some(Effect::Sync),
         _ => None,
     }
+}
+
+/// Those of the bytes of a header that are written from one of them on.
+pub fn part_from(header: &[u8], first: u32) -> &[u8]
+    ensures is { result.now ≡ take 40 (drop first header.now) }
+    ensures few { length result.now ≤ 40 }
+{
+    let rest = &header[header.len().min(first as usize)..];
+    &rest[..rest.len().min(40)]
+}
+
+/// The effect with this number, from 0, with which a file of this spec begins; none after the last. A file that is
+/// there stays as it is where its name can't be stored. It is emptied and synced before it gets its header, so that a
+/// loss of power brings nothing of it back. After the last effect a recorder begins
+/// ([`Recorder::begin`](crate::Recorder::begin)).
+pub fn beginning_effect(
+    spec_ex: WavSpecEx,
+    number: u32,
+) -> Result<Option<BeginningEffect>, RecorderError>
+    ensures { BeginsWith spec_ex number result }
+{
+    if !spec_ex.is_writable() {
+        return Err(RecorderError::NotWritable);
+    }
+    Ok(match number {
+        0 => Some(BeginningEffect::SyncFolder),
+        1 => Some(BeginningEffect::Empty),
+        2 => Some(BeginningEffect::Sync),
+        3 => Some(BeginningEffect::Header(0)),
+        4 => Some(BeginningEffect::Header(40)),
+        _ => None,
+    })
 }

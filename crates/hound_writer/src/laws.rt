@@ -8,6 +8,7 @@ ghost use Rattle.hound_spec.specs.declared.error.Error.{Error};
 ghost use Rattle.hound_spec.specs.declared.spec.WavSpecEx.{WavSpecEx};
 ghost use Rattle.hound_writer.specs.Accepting.{Accepts, AcceptsEach, containers_in, mark_of};
 ghost use Rattle.hound_writer.specs.Appending.{HasOneAppendAnswer};
+ghost use Rattle.hound_writer.specs.Beginning.{at_beginning};
 ghost use Rattle.hound_writer.specs.Calls.{Begun, Known, marked, new_file, publish};
 ghost use Rattle.hound_writer.specs.Effects.{Log, Performed, Performs, log_kind};
 ghost use Rattle.hound_writer.specs.Parts.{PutsAt};
@@ -49,8 +50,9 @@ pub fn a_block_is_its_samples<S: Sample, M: Medium>()
 {}
 
 /// A caller that does what a [`Recorder`](crate::Recorder) says makes calls of a writer, whatever fails. It
-/// begins a recorder of a new file, whose header it wrote (`new`), or of one that was found (`resumed`), and
-/// asks for blocks and checkpoints (`asked`). It performs the effects that
+/// begins a recorder of a file that it began by all effects of [`beginning_effect`](crate::beginning_effect)
+/// (`new`), or of one that was found (`resumed`), and asks for blocks and checkpoints (`asked`); a request that is
+/// rejected gives up what was under way. It performs the effects that
 /// [`next`](crate::Recorder::next) returns (`performed`), writes the block at its place (`handed`, `wrote`),
 /// cuts off what follows, or not (`cut`), and reports each result, until there is no more (`saved`). An error
 /// comes only of what it reports, or once a sync has failed (`failed`).
@@ -62,7 +64,7 @@ pub fn a_block_is_its_samples<S: Sample, M: Medium>()
 /// the recorder's methods, and those of hound_c, as they are.
 pub fn a_recorder_directs()
     ensures new { (s : WavSpecEx) (old : MediumState) (log : Log) (r : Recorder) → Opened s old log.state
-        → BeginsRecorder s (Ok r) → Directed s (new_file old) [] r log.state }
+        → BeginsRecorder s (Ok r) → Directed s (new_file (at_beginning old)) [] r log.state }
     ensures resumed { (f : FoundFile) (samples : ℕ) (mends overwrites : Bool) (old : MediumState) (log : Log)
         (r : Recorder) → Resumed f samples old log.state → Resumes f mends overwrites (Ok r)
         → r.data_length ≡ f.data_length
@@ -79,7 +81,7 @@ pub fn a_recorder_directs()
     ensures asked { (s : WavSpecEx) (file : Begun) (known : List Known) (old end new : Recorder)
         (m : MediumState) (samples : ℕ) → Directed s file known old m → GivesUp old end
         → Directed s file known (record end { phase = Saving }) m
-        × (TakesBlock samples end new (Ok tt) → Directed s file known new m) }
+        × (TakesBlock samples end new (Ok tt) → Directed s file known new m) × Directed s file known end m }
     ensures performed { (s : WavSpecEx) (file : Begun) (known : List Known) (old mid new : Recorder)
         (m : MediumState) (end : Log) (effect : Effect) (result : Result Unit IoFault)
         (outcome : Result Unit RecorderError) → Directed s file known old m

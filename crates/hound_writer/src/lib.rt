@@ -18,7 +18,7 @@ mod resuming;
 mod write;
 
 pub use batch::SampleWriter16;
-pub use effects::{Action, Effect, Report};
+pub use effects::{Action, BeginningEffect, Effect, Report, beginning_effect, part_from};
 pub use laws::{
     a_block_is_its_samples, a_cut_is_ignored, a_recorder_directs, an_effect_may_be_repeated,
     one_append_answer,

@@ -114,7 +114,9 @@ impl Recorder {
         }
     }
 
-    /// A recorder of a new file, whose header the caller writes.
+    /// A recorder of a new file, which the caller has begun ([`beginning_effect`](crate::beginning_effect)). What
+    /// comes next is a checkpoint of no samples, after which a loss of power leaves the header; a block or a checkpoint
+    /// that is requested before it takes its place.
     pub fn begin(spec_ex: WavSpecEx) -> Result<Recorder, RecorderError>
         ensures { BeginsRecorder spec_ex result }
     {
@@ -122,7 +124,9 @@ impl Recorder {
             return Err(RecorderError::NotWritable);
         }
         let data_start = header_length(spec_ex);
-        Ok(Recorder::empty(spec_ex, data_start as u64))
+        let mut recorder = Recorder::empty(spec_ex, data_start as u64);
+        recorder.phase = Phase::Saving;
+        Ok(recorder)
     }
 
     // A recorder that appends to a file whose data begin at this place and have so many bytes.

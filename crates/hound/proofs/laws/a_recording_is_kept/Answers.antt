@@ -1,5 +1,6 @@
 use Rattle.std.proofs.Common.{true}
 use Rattle.hound_writer.proofs.Directing.{step_ascends}
+use Rattle.hound.proofs.Begun.{begun_survives}
 use Rattle.hound.proofs.Mended.{mended_survives}
 use Rattle.hound.proofs.Recorders.{directed_cut, directed_cut_survives, directed_kept, directed_survives}
 use Rattle.hound.proofs.laws.a_recording_is_kept.Goals as goal
@@ -18,6 +19,9 @@ returns-clause-cut c = directed_cut
 
 pub returns-clause-cut_survives : goal.returns-clause-cut_survives
 returns-clause-cut_survives c = directed_cut_survives
+
+pub returns-clause-begun : goal.returns-clause-begun
+returns-clause-begun c = begun_survives
 
 pub returns-clause-mended : goal.returns-clause-mended
 returns-clause-mended c = mended_survives

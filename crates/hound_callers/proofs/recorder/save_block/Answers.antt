@@ -1,21 +1,26 @@
-use Rattle.std.proofs.Common.{◌≡◌, ◌∷◌, ◌++◌, ◌/◌, [], ap, append_assoc, false, inl, inr, length, refl, subst, sym, true}
+use Rattle.std.proofs.Common.{◌≡◌, ◌∷◌, ◌++◌, ◌/◌, ◌∙◌, [], ap, append_assoc, false, inl, inr, length, refl, subst, sym, true}
 use Rattle.hound.specs.{Directed, Recorder, length_with, publish, seen, write}
 use Rattle.hound.specs.declared.Phase.TheVariants.{Saving, Requested}
-use Rattle.hound_callers.specs.Recorder.{Stops, samples_of}
-use Rattle.hound_callers.proofs.Performing.{given_up, not_taken, on_err, on_ok, stopped_before}
+use Rattle.hound_callers.specs.Recorder.{IsRejected, Stops, samples_of}
+use Rattle.hound_callers.proofs.Performing.{given_up, nothing_given, not_taken, on_err, on_ok, stopped_before}
 use Rattle.hound_callers.proofs.recorder.save_block.Goals as goal
 
 pub returns-then-block-width-ne0-clause-stopped : goal.returns-then-block-width-ne0-clause-stopped
 returns-then-block-width-ne0-clause-stopped g c tells keeps s file known d =
-    stopped_before s file known _ c.args.block _ (inl c.if-block-width-ne0.true) c.requires.ready d
+    stopped_before s file known _ c.args.block _ (inl c.if-block-width-ne0.true) c.requires.ready.0 d
 
 pub returns-in_err-write-clause-stopped : goal.returns-in_err-write-clause-stopped
-returns-in_err-write-clause-stopped g c = on_err c.from_residual.result (λ err tells keeps s file known d.
+returns-in_err-write-clause-stopped g c = on_err c.from_residual.result (λ err tells keeps s file known (once, d, repeats).
     let r = c.args.recorder.now in
+    let (end, gives, takes) = c.in_err-write.ensures in
     let (same, rejected) = not_taken r c.write.new.self c.args.block c.in_err-write.field-0.0 c.if-block-width-ne0.false c.requires.ready
     c.in_err-write.ensures in
-    subst (λ x. Stops s file known c.args.block x (g.M.Placed.state c.args.medium.now)) (sym same)
-    (stopped_before s file known r c.args.block _ rejected c.requires.ready d))
+    let left = (c.a_recorder_directs.ensures.asked s file known r end c.write.new.self once 0 d (given_up r end gives)).2 in
+    let given = nothing_given r end c.requires.ready.2 gives in
+    subst (λ x. Stops s file known c.args.block x (g.M.Placed.state c.args.medium.now)) (sym (same ∙ sym given))
+    (stopped_before s file known end c.args.block _
+    (subst (λ (x : Recorder). IsRejected x c.args.block) (sym given) rejected)
+    (ap (λ (x : Recorder). x.number) given ∙ c.requires.ready.0) (once, left, repeats)))
 
 pub returns-in_err-perform_all-clause-stopped : goal.returns-in_err-perform_all-clause-stopped
 returns-in_err-perform_all-clause-stopped g c = on_err c.from_residual-in_err-perform_all.result (λ err tells keeps s file known (once, d, repeats).

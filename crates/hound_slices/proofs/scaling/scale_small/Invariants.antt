@@ -1,6 +1,6 @@
 use Rattle.std.proofs.Common.{◌≡◌, length, map, take, drop}
 use Rattle.hound_sample.specs.{float_of_int}
-use Rattle.hound_slices.proofs.scaling.scale_to_floats.Given as goal
+use Rattle.hound_slices.proofs.scaling.scale_small.Given as goal
 
 abbrev pub invariant-loop-i : goal.invariant-loop-i
 invariant-loop-i l = record {

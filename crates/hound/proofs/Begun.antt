@@ -1,0 +1,122 @@
+-- What a loss of power leaves of a file within its beginning.
+use Rattle.std.proofs.Common.{◌≡◌, ℕ, zero, suc, ◌+◌, ◌-◌, ◌/◌, ◌<◌, ◌≤◌, true, List, [], ◌∷◌, ◌++◌, length, get_or, take, drop, inl, inr, Result, refl, sym, ◌∙◌, ap, subst, arith, append_assoc, length-append, length-drop, length-take}
+use Rattle.std.proofs.lemmas.Bool.{cases_lt}
+use Rattle.std.proofs.lemmas.List.{get_or_append_left, get_or-append_right, get_or_past, get_or-take, get_or-drop}
+use Rattle.std.specs.declared.io.Error.{Error as IoFault}
+use Rattle.hound_number.specs.{bytes_of, number}
+use Rattle.hound_spec.specs.{data_start, header, riff_tag}
+use Rattle.hound_spec.specs.declared.spec.WavSpecEx.{WavSpecEx}
+use Rattle.hound_spec.proofs.HeaderLemmas.{data_start_least, described, header-parts, length-described, length-header}
+use Rattle.hound_medium.specs.{MediumState, moment, overlay, placed}
+use Rattle.hound_medium.proofs.Overlays.{length-put_at, overlay_at_end, take-placed}
+use Rattle.hound_durable.specs.{SurvivesLoss}
+use Rattle.hound_writer.specs.{DoesBeginnings, Opened, beginning, field}
+pub use Rattle.hound_repair.proofs.Performing.{nth_next}
+use Rattle.hound_writer.proofs.Opening.{front_begun, header_opened}
+
+-- bytes that are all zero
+zero_number : (l : List ℕ) → ((i : ℕ) → i < length l → get_or l i 0 ≡ 0) → number l ≡ 0
+zero_number [] all = refl
+zero_number (b ∷ l) all =
+    omega (arith, all 0 (omega arith), zero_number l (λ i less. all (suc i) (omega (arith, less))))
+
+-- the last bytes of a header without samples are the data length
+zero_at : (s : WavSpecEx) (i : ℕ) → data_start s - 4 ≤ i → get_or (header s 0 0) i 0 ≡ 0
+zero_at s i from =
+    let front = riff_tag ++ (bytes_of 4 0 ++ described s) in
+    let least = data_start_least s in
+    let long : length front ≡ data_start s - 4 =
+    omega (
+      arith,
+      least,
+      length-described s,
+      length-append riff_tag (bytes_of 4 0 ++ described s),
+      length-append (bytes_of 4 0) (described s),
+    ) in
+    let whole : header s 0 0 ≡ front ++ bytes_of 4 0 =
+    header-parts s 0 0 ∙ ap (λ l. riff_tag ++ l) (sym (append_assoc (bytes_of 4 0) (described s) (bytes_of 4 0)))
+    ∙ sym (append_assoc riff_tag (bytes_of 4 0 ++ described s) (bytes_of 4 0)) in
+    ap (λ l. get_or l i 0) whole ∙ get_or-append_right front (bytes_of 4 0) (data_start s - 4) i 0 long from
+    ∙ zeros (i - (data_start s - 4))
+  where
+    zeros : (i : ℕ) → get_or (bytes_of 4 0) i 0 ≡ 0
+    zeros zero = refl
+    zeros (suc zero) = refl
+    zeros (suc (suc zero)) = refl
+    zeros (suc (suc (suc zero))) = refl
+    zeros (suc (suc (suc (suc i)))) = refl
+
+-- a beginning of the header has no other bytes than the header
+front_zero : (s : WavSpecEx) (front rest : List ℕ) (i : ℕ) → front ++ rest ≡ header s 0 0
+    → data_start s - 4 ≤ i → get_or front i 0 ≡ 0
+front_zero s front rest i parts from = elim (cases_lt i (length front)) [
+  | inl less ↦ sym (get_or_append_left front rest 0 i less) ∙ ap (λ l. get_or l i 0) parts ∙ zero_at s i from
+  | inr past ↦ get_or_past front i 0 past
+]
+
+-- a file without bytes of which these were written
+module _ (s : WavSpecEx) (front rest : List ℕ) (parts : front ++ rest ≡ header s 0 0) where
+  at_moment : (j : ℕ) → moment [] (placed 0 front) j ≡ take j front
+  at_moment j = ap (overlay []) (take-placed j 0 front) ∙ overlay_at_end [] 0 (take j front) refl
+
+  left_zero : (j i : ℕ) → data_start s - 4 ≤ i → get_or (moment [] (placed 0 front) j) i 0 ≡ 0
+  left_zero j i from = ap (λ l. get_or l i 0) (at_moment j) ∙ elim (cases_lt i j) [
+    | inl less ↦ get_or-take j front i 0 less ∙ front_zero s front rest i parts from
+    | inr past ↦ get_or_past (take j front) i 0 (omega (arith, past, length-take j front))
+  ]
+
+  begins_left : (sector f k : ℕ) (left : List ℕ) → SurvivesLoss sector [] (placed 0 front) f k left
+      → (length left ≤ data_start s) × (field (data_start s - 4) left ≡ 0)
+  begins_left sector f k left lost =
+      let p = data_start s - 4 in
+      let l = lost.long in
+      let few : length left ≤ data_start s = omega (
+        arith,
+        l.3,
+        ap length (at_moment l.0),
+        length-take l.0 front,
+        ap length parts,
+        length-append front rest,
+        length-header s 0 0,
+      ) in (
+        few,
+        zero_number (take 4 (drop p left)) (λ i less.
+            let inside : p + i < length left =
+            omega (arith, less, length-take 4 (drop p left), length-drop p left) in
+            let four : i < 4 = omega (arith, less, length-take 4 (drop p left)) in
+            let from = lost.sectors ((p + i) / sector) in
+            get_or-take 4 (drop p left) i 0 four ∙ get_or-drop p left i 0 ∙ from.3 (p + i) refl inside
+            ∙ left_zero from.0 (p + i) (omega arith)),
+      )
+
+-- contents get no shorter as bytes are written
+nothing_before : (c : List ℕ) (past : List (ℕ × ℕ)) → overlay c past ≡ [] → (c ≡ []) × (past ≡ [])
+nothing_before [] [] none = (refl, refl)
+nothing_before (x ∷ c) [] none = absurd (cc none)
+nothing_before c (e ∷ past) none =
+    let next = nothing_before _ past none in
+    absurd (omega (arith, ap length next.0, length-put_at e.0 e.1 c))
+
+pub begun_survives : (s : WavSpecEx) (old new : MediumState) (result : Result (Unit {0}) IoFault)
+    → overlay old.start old.past ≡ [] → DoesBeginnings true s beginning result old new → (sector : ℕ) (left : List ℕ)
+    → SurvivesLoss sector new.start new.past new.flushed (length new.past) left
+    → (length left ≤ data_start s) × (field (data_start s - 4) left ≡ 0)
+begun_survives s old new result none does sector left lost =
+    let b = front_begun s result old new does in
+    let (start, past) = nothing_before old.start old.past none in
+    let started : new.start ≡ [] = b.start ∙ start in
+    let put : new.past ≡ placed 0 b.front = b.past ∙ ap (λ l. l ++ placed 0 b.front) past in
+    begins_left s b.front b.rest b.parts sector new.flushed (length new.past) left
+    (subst (λ (m : List ℕ × List (ℕ × ℕ)). SurvivesLoss sector m.0 m.1 new.flushed (length new.past) left)
+    (λ i. (started i, put i)) lost)
+
+-- no more is flushed of a file that was begun than was written
+pub begun_within : (s : WavSpecEx) (old new : MediumState) → Opened s old new → new.flushed ≤ length new.past
+begun_within s old new opened =
+    let puts = header_opened s old new opened in
+    omega (
+      arith,
+      puts.flushed,
+      ap length (puts.past refl),
+      length-append old.past (placed 0 (take puts.count (header s 0 0))),
+    )
