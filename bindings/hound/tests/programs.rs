@@ -83,8 +83,11 @@ fn a_pipe_gets_all_samples_but_no_sizes() {
         let mut writer = WavWriter::create(&path, MONO).unwrap();
         (0..9000).step_by(4).for_each(|first| write_by(way, &mut writer, first, 4).unwrap());
         assert!(writer.finalize().is_err());
-        let (bytes, file) = (reader.join().unwrap(), written(MONO, &numbers(9000)));
-        assert!(bytes[..44] == written::<i16>(MONO, &[])[..] && bytes[44..] == file[44..]);
+        let (bytes, mut file) = (reader.join().unwrap(), written(MONO, &numbers(9000)));
+        // Both sizes stay 0, as they are in the first header, since a pipe has no place to go back to.
+        file[4..8].fill(0);
+        file[40..44].fill(0);
+        assert!(bytes == file);
     }
 }
 
