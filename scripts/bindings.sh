@@ -1,4 +1,4 @@
-# What scripts/try_bindings, scripts/try_install and scripts/release share.
+# What scripts/try_bindings.sh, scripts/try_install.sh and scripts/release.sh share.
 
 subject=${0##*/try_}
 unset HOUND_C_LIB HOUND_C_LIBRARY HOUND_C_SOURCE

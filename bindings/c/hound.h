@@ -528,7 +528,7 @@ static inline const char *hound_kind_text(int32_t kind) {
 #define HOUND_ASSERT(condition) HOUND_ASSERT_AT(__LINE__, condition)
 #endif
 HOUND_ASSERT(sizeof(float) == 4);
-/* The layout of the structs, made from hound.h by scripts/make_interface. */
+/* The layout of the structs, made from hound.h by scripts/make_interface.py. */
 HOUND_ASSERT(sizeof(hound_spec) == 12 && offsetof(hound_spec, channels) == 4
              && offsetof(hound_spec, bits_per_sample) == 6 && offsetof(hound_spec, bytes_per_sample) == 8
              && offsetof(hound_spec, sample_format) == 10);

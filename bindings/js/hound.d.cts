@@ -103,7 +103,7 @@ export interface Clipping {
   seed?: number;
 }
 
-// The names of errors, made from hound.h by scripts/make_interface.
+// The names of errors, made from hound.h by scripts/make_interface.py.
 export type Code =
   | "ENDED" | "UNSUPPORTED" | "OTHER_FORMAT" | "TOO_WIDE" | "NOT_WRITABLE" | "TRUNCATED" | "TOO_LONG"
   | "UNFINISHED_FRAME" | "NO_ROOM" | "NO_RIFF_TAG" | "NO_WAVE_TAG" | "NO_DATA_CHUNK" | "NO_FMT_CHUNK" | "FMT_SIZE"

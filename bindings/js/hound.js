@@ -8,7 +8,7 @@ import { module, nodeFiles } from "./module.js";
 
 // Each error, its code in hound.h without the sign, and its sentence there.
 const ERRORS = {
-  // The errors, made from hound.h by scripts/make_interface.
+  // The errors, made from hound.h by scripts/make_interface.py.
   ENDED: [1, "the bytes end before the data begin"],
   UNSUPPORTED: [2, "the format is neither PCM nor IEEE float"],
   OTHER_FORMAT: [3, "the samples are floats and the type is an integer, or vice versa"],
@@ -68,7 +68,7 @@ const NAMES = new Map(Object.entries(ERRORS).map(([name, [code]]) => [code, name
 
 // What a file is that isn't read, by the number of its kind.
 const KINDS = new Map([
-  // The names of kinds of files, made from hound.h by scripts/make_interface.
+  // The names of kinds of files, made from hound.h by scripts/make_interface.py.
   [2, "Microsoft ADPCM"],
   [6, "A-law"],
   [7, "mu-law"],
@@ -115,7 +115,7 @@ function checked(code) {
   return Number(code);
 }
 
-// The constants, and where fields are, made from hound.h by scripts/make_interface.
+// The constants, and where fields are, made from hound.h by scripts/make_interface.py.
 const VERSION = 512;
 const [INT, FLOAT, EFFECT_BYTES, DONE, FAILED] = [0, 1, 40, 1, 2];
 const [READ, WRITE, WRITE_BLOCK, SYNC, CUT, SYNC_FOLDER] = [1, 2, 3, 4, 5, 6];

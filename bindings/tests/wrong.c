@@ -1,4 +1,4 @@
-/* Wrong libraries, for scripts/try_bindings: linked between calls.c and hound_c (by the linker's --wrap), this does
+/* Wrong libraries, for scripts/try_bindings.sh: linked between calls.c and hound_c (by the linker's --wrap), this does
    what hound_c does, but for the fault that the environment variable FAULT names. calls.c must find each of them. */
 #include "hound.h"
 #include <stdlib.h>

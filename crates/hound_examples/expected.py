@@ -1,5 +1,5 @@
 #!/usr/bin/env python3
-"""Prints what scripts/try_programs expects of the examples: what the original crate, sox, ffmpeg and python make of it.
+"""Prints what scripts/try_programs.py expects of the examples: what the original crate, sox, ffmpeg and python make of it.
 
 usage: ./expected.py SINE
 

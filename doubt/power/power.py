@@ -2,7 +2,7 @@
 moments, and looks at what its files are then: each time a second machine mounts what the disk may have, with some
 of the writes that no flush has covered, and reads and repairs the files.
 
-usage: doubt/faults power [STATES] [SEED] [--fs NAME,..] [--control NAME,..] [--log FOLDER] [--turn N] [--c]
+usage: doubt/faults.py power [STATES] [SEED] [--fs NAME,..] [--control NAME,..] [--log FOLDER] [--turn N] [--c]
 
 STATES states (500) are divided among the file systems, and a fifth as many more among the controls: recorders that
 leave out a sync, or a disk that does, for which the test has to find wrong states. `--fs` and `--control` choose
@@ -441,7 +441,7 @@ class Trial:
                 for part in ("image", "log"):
                     shutil.copy(os.path.join(self.folder, part), kept)
             for turn, words in self.wrong[:20]:
-                again = f"doubt/faults power 1 {seed} --fs {self.name} --control none --log {kept} --turn {turn}"
+                again = f"doubt/faults.py power 1 {seed} --fs {self.name} --control none --log {kept} --turn {turn}"
                 print(f"power: wrong: {words}\n    again: {again}", flush=True)
         return len(turns)
 
@@ -469,7 +469,7 @@ def missing():
 
 
 def main():
-    parser = argparse.ArgumentParser(prog="doubt/faults power", usage=__doc__.split("usage: ")[1].split("\n")[0])
+    parser = argparse.ArgumentParser(prog="doubt/faults.py power", usage=__doc__.split("usage: ")[1].split("\n")[0])
     parser.add_argument("states", nargs="?", type=int, default=500)
     parser.add_argument("seed", nargs="?", type=int, default=1)
     parser.add_argument("--fs", default=",".join(USUAL))

@@ -1,4 +1,4 @@
-// Runs a case of the JavaScript package beside a plain loop, for scripts/speed/measure.
+// Runs a case of the JavaScript package beside a plain loop, for scripts/speed/measure.py.
 //   node package.mjs CASE COUNT FOLDER     prints the best nanoseconds a sample of both, of seven runs in turn
 // Samples have 16 bits, two channels, and values that no processor guesses. A plain loop is what a program would write
 // that knows where the samples are, and calls no package: it checks nothing.

@@ -1,4 +1,4 @@
-"""Runs a case of the Python package beside soundfile, for scripts/speed/measure.
+"""Runs a case of the Python package beside soundfile, for scripts/speed/measure.py.
 
 usage: package.py CASE COUNT FOLDER     prints the best nanoseconds a sample of both, of seven runs in turn, as the
 time that the thread has had, since the machine may be busy

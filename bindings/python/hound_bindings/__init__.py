@@ -64,7 +64,7 @@ class Cause(enum.IntEnum):
         cause._value_, cause.sentence = code, sentence
         return cause
 
-    # The errors, made from hound.h by scripts/make_interface.
+    # The errors, made from hound.h by scripts/make_interface.py.
     ENDED = 1, "the bytes end before the data begin"
     UNSUPPORTED = 2, "the format is neither PCM nor IEEE float"
     OTHER_FORMAT = 3, "the samples are floats and the type is an integer, or vice versa"
@@ -122,7 +122,7 @@ class State(enum.IntEnum):
 
 
 _KINDS: Dict[int, str] = {
-    # The names of what files are, made from hound.h by scripts/make_interface.
+    # The names of what files are, made from hound.h by scripts/make_interface.py.
     2: "Microsoft ADPCM",
     6: "A-law",
     7: "mu-law",
@@ -260,7 +260,7 @@ class Repair(_Held):
         return max(self.frames - self.counted, 0)
 
 
-# The constants and structs, made from hound.h by scripts/make_interface.
+# The constants and structs, made from hound.h by scripts/make_interface.py.
 _FIND_DAMAGE, _REPAIR, _REPAIR_TO_END, _MAKE_CANONICAL = 0, 1, 2, 3
 _MEND, _OVERWRITE = 1, 2
 _HEADER_BYTES = 68

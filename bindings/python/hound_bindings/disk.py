@@ -25,7 +25,7 @@ __all__ = [
     "read_at", "read_into", "replace", "sync", "sync_folder", "sync_once",
 ]  # fmt: skip
 
-# The kinds of effects, and how one ended, made from hound.h by scripts/make_interface.
+# The kinds of effects, and how one ended, made from hound.h by scripts/make_interface.py.
 READ, WRITE, WRITE_BLOCK, SYNC, CUT, SYNC_FOLDER = 1, 2, 3, 4, 5, 6
 DONE, FAILED = 1, 2
 # The end of what is made from hound.h.

@@ -40,7 +40,7 @@ macro_rules! errors {
     };
 }
 errors! {
-    // The errors, made from hound.h by scripts/make_interface.
+    // The errors, made from hound.h by scripts/make_interface.py.
     Ended = -1, "the bytes end before the data begin";
     Unsupported = -2, "the format is neither PCM nor IEEE float";
     OtherFormat = -3, "the samples are floats and the type is an integer, or vice versa";
@@ -171,7 +171,7 @@ mod c {
     use super::machines;
     use std::mem::size_of;
 
-    // The constants and structs, made from hound.h by scripts/make_interface.
+    // The constants and structs, made from hound.h by scripts/make_interface.py.
     pub const EFFECT_BYTES: usize = 40;
     pub const HEADER_BYTES: usize = 68;
     pub const NOTHING: u16 = 0;
@@ -753,7 +753,7 @@ pub fn guess_data(file: &[u8]) -> Result<usize> {
 pub fn kind(file: &[u8]) -> Option<&'static str> {
     // SAFETY: as above.
     Some(match unsafe { c::hound_kind(file.as_ptr(), file.len()) } {
-        // The names of kinds of files, made from hound.h by scripts/make_interface.
+        // The names of kinds of files, made from hound.h by scripts/make_interface.py.
         2 => "Microsoft ADPCM",
         6 => "A-law",
         7 => "mu-law",

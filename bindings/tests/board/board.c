@@ -1,7 +1,7 @@
 /* Records by bindings/c/board.c to a file in memory. At each call in turn that changes the file the power is lost: of
    what wasn't synced then any sectors are there, and the old or the new length. The file is repaired, while the power
    is lost again, and read: all samples of the last checkpoint have to be there, in their order. Then each call in turn
-   fails, and the recording goes on. scripts/try_portable runs this on boards; it needs 24 KiB of memory. */
+   fails, and the recording goes on. scripts/try_portable.sh runs this on boards; it needs 24 KiB of memory. */
 #include "../../c/board.c"
 #include <stdio.h>
 #include <stdlib.h>

@@ -1,6 +1,6 @@
 -- The words of every layer, and the types of the layers below that clauses name, for a crate over this
 -- one. Its own types, and the variants of those that it exports, are in `Rattle.hound.specs.declared`.
--- The file is made by `scripts/make_words`.
+-- The file is made by `scripts/make_words.py`.
 pub use Rattle.hound_number.specs.{Account, CountsRead, CountsReads, IfEnded, NoneFailed, OneFailed, ReportsEnding, WhereKnown, Writes, one_failure_more, AreBytes, bytes_of, mix, number, signed_bytes_of, signed_number, signed_of, twos_complement}
 pub use Rattle.hound_number.specs.declared.input.ReadError.{ReadError}
 pub use Rattle.hound_spec.specs.{Extension, FmtFields, extensible, extension, extension_bytes, extension_size, fmt_bytes, fmt_fields, greatest_u16, greatest_u32, guid, ieee_float, pcm, subformat, IsPair, IsWritable, canonical, data_start, data_tag, extended, fields, fmt_tag, is_pair, is_short, long_fmt, mask, padded, padding, pairs, riff_size, riff_tag, short_fmt, wave_tag, with_default_width}

@@ -1,4 +1,4 @@
--- The words of this crate, for those above it. The file is made by `scripts/make_words`.
+-- The words of this crate, for those above it. The file is made by `scripts/make_words.py`.
 pub use Rattle.hound_reader.specs.Reader.{AnswersNext, AnswersRead, AnswersReadMany, AreContainers, AreItems, CountsTaken, GivesItem, GivesItems, GivesItemsOfBytes, HasGiven, HasGiven-prop, HasSoundCounts, HasWholeFrames, IsNext, ReaderState, ReadsBlock, TookBytes, block_bytes, further, meaning_at, over_bytes, rejection_at, requested, samples_left, taken_without}
 pub use Rattle.hound_reader.specs.Opening.{AnswersSamples, FindsSamples, IsNotOpened, OpensSource}
 pub use Rattle.hound_reader.specs.Samples.{LendsNext, TakesNext, lender, lent_reader, taken_reader}

@@ -1,4 +1,4 @@
--- The words of this crate, for those above it. The file is made by `scripts/make_words`.
+-- The words of this crate, for those above it. The file is made by `scripts/make_words.py`.
 pub use Rattle.hound_repair.specs.Held.{are_right, begins_chunk, broadcast_tags, counts_all, frame_length, frames_held, has_tag, held, if_some, is_printable, known_tags, mended, metadata_tags, missing_pad, program_tags, riff_tags, right_length, said_length, shown_length, torn_bytes, update_tags}
 unfoldable pub use Rattle.hound_repair.specs.Held.{are_at_most, are_chunks, chunk_content, data_held, ends_with_id3, ends_with_pad, has_known_tag, is_followed, uncounted}
 pub use Rattle.hound_repair.specs.Repairing.{Finds, HasRightLength, HasUnfitHead, IsFoundAt, IsNoPad, IsNotFound, IsRepairFault, LeavesFor, Looks, ReadsFrames, Repairs, UnlessFollowed, found_length, frames_found, is_mended, state_of, torn_found, unfollowed_state, whole_frames}

@@ -1,4 +1,4 @@
--- The words of this crate, for those above it. The file is made by `scripts/make_words`.
+-- The words of this crate, for those above it. The file is made by `scripts/make_words.py`.
 pub use Rattle.hound_sample.specs.Container.{IsEncoded, Rejection, WritesContainer, all_containers, and_more, bytes_in, containers, error_of, fits, if_fits, int_bytes, joined_containers, offset_byte, too_wide, unsupported}
 unfoldable pub use Rattle.hound_sample.specs.Container.{int_container, pattern_container}
 pub use Rattle.hound_sample.specs.ContainerLaws.{contained, int_container-in_width, pattern_container-in_width}

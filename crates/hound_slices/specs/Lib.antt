@@ -1,4 +1,4 @@
--- The words of this crate, for those above it. The file is made by `scripts/make_words`.
+-- The words of this crate, for those above it. The file is made by `scripts/make_words.py`.
 pub use Rattle.hound_slices.specs.Codes.{IsHeadError, Records, Returns, code_for, error_code, error_of_rejection, reason_code}
 pub use Rattle.hound_slices.specs.Reading.{Decodes, DecodesSamples, IsCutBefore, IsOtherType, IsReadError, ReadsInto, ReadsSamples, read_check, rejection_error, stored, whole}
 pub use Rattle.hound_slices.specs.Writing.{AppendsInPlace, AppendsSamples, Encodes, GivesHeader, GivesSizes, HasPlace, IsAppendingError, IsEncodeError, IsExplicit, IsFile, IsRejectedBy, IsSizeError, IsUnencoded, IsWriteError, Sizes, WritesFile, file_size, spec_from_c}

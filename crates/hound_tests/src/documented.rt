@@ -1,4 +1,4 @@
-// The examples of the public items' documentation, each run: scripts/check_docs looks that each of
+// The examples of the public items' documentation, each run: scripts/check_docs.py looks that each of
 // them is here.
 use hound::{
     Begin, End, FloatBits, Journal, RepairState, SampleFormat, Step, Tape, WavReader, WavSpec,

@@ -1,4 +1,4 @@
-// What docs/USING.md says passes the check, in functions without a proof file: scripts/check_docs
+// What docs/USING.md says passes the check, in functions without a proof file: scripts/check_docs.py
 // looks that each of its lines is here.
 ghost use Rattle.std.specs.Prelude.{◌≡◌};
 ghost use Rattle.hound.specs.{IsSixteen};

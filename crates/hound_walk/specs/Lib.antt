@@ -1,4 +1,4 @@
--- The words of this crate, for those above it. The file is made by `scripts/make_words`.
+-- The words of this crate, for those above it. The file is made by `scripts/make_words.py`.
 pub use Rattle.hound_walk.specs.Fmt.{IsSoundSpec, by_subformat, fmt_len, fmt_of, spec_of, width_of, with_format, with_valid_bits}
 unfoldable pub use Rattle.hound_walk.specs.Fmt.{by_tag, fmt_said, wave_format, wave_format_extensible, wave_format_ieee_float, wave_format_pcm}
 pub use Rattle.hound_walk.specs.Grammar.{Answer, Answers, AnswersFile, Chunk, Chunks, HasOneAnswer, HasOneFileAnswer, Head, IsChunk, IsDataPlace, Readable, Rejected, Unreadable, Walk, chunk_bytes, cut_fault, data_fault, fault_of, first_fault, fmt_fault, joined, last_spec, ok_of, readable, unreadable}

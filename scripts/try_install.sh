@@ -2,8 +2,8 @@
 # Follows each install line of README.md and docs/BINDINGS.md as a reader does: in an empty folder beside a fresh clone,
 # by that page's words, and without network where unshare is allowed. Then the page's program has to run there, and git
 # has to find the clone as it was. What a line needs and isn't here is named and passed over. It writes a line for each
-# install, and last 'N of N installs work'. What the packages do after that is tried by scripts/try_bindings.
-#   scripts/try_install
+# install, and last 'N of N installs work'. What the packages do after that is tried by scripts/try_bindings.sh.
+#   scripts/try_install.sh
 set -u
 cd "$(dirname "$0")/.."
 work=$(mktemp -d)
@@ -87,12 +87,12 @@ cmake_user() { # LINES WORD..
     $offline cmake -S . -B out "${@:2}" && cmake --build out && out/tone
 }
 by_install() {
-    "$clone/bindings/c/install" "$PWD/prefix" \
+    "$clone/bindings/c/install.sh" "$PWD/prefix" \
         && cmake_user "find_package(hound REQUIRED)" "-DCMAKE_PREFIX_PATH=$PWD/prefix"
 }
 by_pkg_config() {
     export PKG_CONFIG_PATH=prefix/lib/pkgconfig LD_LIBRARY_PATH=prefix/lib
-    "$clone/bindings/c/install" "$PWD/prefix" && page c "$manual" > tone.c \
+    "$clone/bindings/c/install.sh" "$PWD/prefix" && page c "$manual" > tone.c \
         && cc tone.c $(pkg-config --cflags --libs hound) -o tone && ./tone
 }
 by_cmake_install() {
@@ -130,9 +130,9 @@ if has cc "the library in C"; then
         echo "install: passed over, since this is no Linux on x86-64: cc links the library"
     fi
     install "cc compiles hound_c.c" by_source
-    has pkg-config "the file for it" && install "pkg-config finds what bindings/c/install installed" by_pkg_config
+    has pkg-config "the file for it" && install "pkg-config finds what bindings/c/install.sh installed" by_pkg_config
     if has cmake "the library in CMake"; then
-        install "find_package finds what bindings/c/install installed" by_install
+        install "find_package finds what bindings/c/install.sh installed" by_install
         install "find_package finds what cmake --install installed" by_cmake_install
         install "FetchContent takes the clone" by_fetch_content
     fi

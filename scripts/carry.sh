@@ -3,8 +3,8 @@
 # them, the sha256 of each file, its length, and the line with which it was proved. Binaryen makes the module for a memory
 # of 32 bits from the one for 64, scripts/portable bindings/c/hound_c.c, and the kit's linker the shared libraries: so
 # these are trusted with them.
-#   scripts/carry [LOG]              writes the files, the copy of hound_c.c for Cargo, and the page that has the module in it
-#   scripts/carry --check [LOG]      writes none, and fails where one isn't, byte for byte, what the proofs give
+#   scripts/carry.sh [LOG]              writes the files, the copy of hound_c.c for Cargo, and the page that has the module in it
+#   scripts/carry.sh --check [LOG]      writes none, and fails where one isn't, byte for byte, what the proofs give
 # Another kit than that may compile to other bytes: then only the sums are compared, and it says so.
 # LOG is what an `rt ci` that is running says: once the libraries below hound_c are proved, they are taken as they are, and
 # hound_c alone is proved again. Else `rt lib` proves what isn't proved yet.
@@ -21,7 +21,7 @@ if [ $# -gt 1 ] || [ -n "$log" ] && [ ! -f "$log" ]; then
     sed -n '/^#   scripts/p' "$0" >&2
     exit 2
 fi
-look_at_kit scripts/carry
+look_at_kit scripts/carry.sh
 kit=$(dirname "$(dirname "$(readlink -f "$(command -v rt)")")")
 below=$(sed -n 's/^hound_c staticlib: //p' crates.txt)
 work=$(mktemp -d)
@@ -117,11 +117,11 @@ made() { # FILE HOW
 
 copy=bindings/rust/hound_c.c # for Cargo, which packages and vendors no file from outside of a crate
 if [ -n "$check" ] && ! { (cd bindings/lib && sha256sum --check --strict --quiet PROVED) && cmp bindings/c/hound_c.c "$copy"; }; then
-    echo "carry: bindings/lib and hound_c.c aren't what PROVED says; scripts/carry makes them" >&2
+    echo "carry: bindings/lib and hound_c.c aren't what PROVED says; scripts/carry.sh makes them" >&2
     exit 1
 fi
 mkdir "$work/lib" "$work/c"
-echo "# What the proofs give, by scripts/carry; before the sha256 of each file are its length and the line with which it was proved, or how it was made of another." > "$work/lib/PROVED"
+echo "# What the proofs give, by scripts/carry.sh; before the sha256 of each file are its length and the line with which it was proved, or how it was made of another." > "$work/lib/PROVED"
 echo "# Made with $(rt version)" >> "$work/lib/PROVED"
 carry wasm64-unknown-unknown hound_c.wasm
 lower hound_c.wasm hound_c32.wasm
@@ -138,7 +138,7 @@ if [ -n "$check" ]; then
     elif [ "$made_with" != "$(rt version)" ]; then
         echo "carry: passed over, since this kit isn't $made_with, which made bindings/lib: its bytes"
     else
-        echo "carry: bindings/lib or hound_c.c isn't what the proofs give; scripts/carry makes them" >&2
+        echo "carry: bindings/lib or hound_c.c isn't what the proofs give; scripts/carry.sh makes them" >&2
         exit 1
     fi
 else
@@ -146,6 +146,6 @@ else
     cp -r "$work/lib/." bindings/lib
     cp "$work/c/hound_c.c" bindings/c
     cp bindings/c/hound_c.c "$copy"
-    bindings/js/page/make
+    bindings/js/page/make.py
     echo "carry: bindings/lib has $(cat "$work"/lib/*/*.{a,so} "$work"/lib/*.wasm | wc -c) bytes"
 fi

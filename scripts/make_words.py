@@ -5,7 +5,7 @@ every layer; and a file of tests that imports each word of a clause over `hound`
 (crates/hound_tests/src/words.rt, to be laid out by `rt fmt`); and in docs/PROVING.md the tables of the recorder and the
 repairer, whose rows are comments above their definitions.
 
-usage: scripts/make_words [--check]     (with --check: says which of them is old, and writes nothing)"""
+usage: scripts/make_words.py [--check]     (with --check: says which of them is old, and writes nothing)"""
 import glob
 import os
 import re
@@ -28,20 +28,20 @@ TYPES = {
 # The definitions whose comments are tables, by the crate that is between the two lines where these stand.
 TABLES = {"hound_writer": ["Machine", "Resuming"], "hound_repair": ["Steps"], "hound_slices": ["Walks"]}
 PROVING = "docs/PROVING.md"
-TABLES_BEGIN, TABLES_END = "<!-- made by scripts/make_words of {} -->", "<!-- the end of what it makes -->"
+TABLES_BEGIN, TABLES_END = "<!-- made by scripts/make_words.py of {} -->", "<!-- the end of what it makes -->"
 # What is made of a contract and `SampleError` are private.
 PRIVATE = re.compile(r"contracts|declared\.item")
 # A definition, at the margin or in a module of parameters, or a constructor of a `data`.
 WORD = re.compile(r"^(?: {2})?(?:(?:abbrev |unfoldable )pub |(?<! )pub |pub (?=record |data ))(?:record |data )?([^\s:({◌]+)|^  (\w+) : ", flags=re.M)
-LIB_HEAD = "-- The words of this crate, for those above it. The file is made by `scripts/make_words`.\n"
+LIB_HEAD = "-- The words of this crate, for those above it. The file is made by `scripts/make_words.py`.\n"
 ROOT_HEAD = """\
 -- The words of every layer, and the types of the layers below that clauses name, for a crate over this
 -- one. Its own types, and the variants of those that it exports, are in `Rattle.hound.specs.declared`.
--- The file is made by `scripts/make_words`.
+-- The file is made by `scripts/make_words.py`.
 """
 WORDS = """\
 // Each word that a clause of the library imports can be imported over `hound` alone. The file is
-// made by `scripts/make_words`. The checker reads the imports because the clause uses one.
+// made by `scripts/make_words.py`. The checker reads the imports because the clause uses one.
 ghost use Rattle.std.specs.Prelude.{{◌≡◌}};
 {imports}
 // Reads them.
@@ -165,7 +165,7 @@ def main():
     old = [path for path, text in made.items() if read(path).split() != text.split()]
     if sys.argv[1:] == ["--check"]:
         if old:
-            sys.exit(f"words: {' and '.join(old)}: made of older definitions; run scripts/make_words")
+            sys.exit(f"words: {' and '.join(old)}: made of older definitions; run scripts/make_words.py")
         print("words: the files that follow from the definitions are as they would be made")
         return
     for path in old:

@@ -2,7 +2,7 @@
 """Reads hostile files by the many: each by the library and by the model of the format that the rows
 of hound_rows are made with (crates/hound_rows/expected.py), which have to agree.
 
-usage: doubt/hostile [INPUTS]     (a million where no number is given)
+usage: doubt/hostile.py [INPUTS]     (a million where no number is given)
 
 An input is made from its number alone: fields at their edges, chunks that lie about their length,
 cut and spliced. Each is read as integers and as floats, whole, one byte a read, and by blocks with

@@ -1,9 +1,9 @@
 #!/usr/bin/env python3
 """Prints what the words of the contracts mean: each definition of specs/ with the comment above it.
 
-usage: scripts/definitions WORD...     the words of these names, whole; also fields, constructors, functions, types and clauses
-       scripts/definitions CRATE...    the words of these crates' specs/, a line each, in their order
-       scripts/definitions --check     names each definition that has no comment"""
+usage: scripts/definitions.py WORD...     the words of these names, whole; also fields, constructors, functions, types and clauses
+       scripts/definitions.py CRATE...    the words of these crates' specs/, a line each, in their order
+       scripts/definitions.py --check     names each definition that has no comment"""
 import os
 import re
 import sys

@@ -1,9 +1,9 @@
 #!/usr/bin/env python3
 """Measures the cases of crates/hound_bench beside hound 3.5.1 and libsndfile, and the packages for Python and
-JavaScript beside soundfile and a plain loop. It writes the figures to docs/speed.tsv, of which scripts/speed_picture
+JavaScript beside soundfile and a plain loop. It writes the figures to docs/speed.tsv, of which scripts/speed_picture.py
 makes docs/speed.svg.
 
-usage: scripts/speed/measure ORIGINAL [--rounds N] [--samples N] [--no-instructions] [CASE...]
+usage: scripts/speed/measure.py ORIGINAL [--rounds N] [--samples N] [--no-instructions] [CASE...]
 
 ORIGINAL is the folder of the published crate. `crates/hound_bench` and `crates/hound_tool` have to be
 built (`rt run` there, or ./test).

@@ -1,8 +1,8 @@
 #!/usr/bin/env python3
-"""Makes what shows docs/speed.tsv, which scripts/speed/measure writes: the picture docs/speed.svg, and
+"""Makes what shows docs/speed.tsv, which scripts/speed/measure.py writes: the picture docs/speed.svg, and
 the figures of the tables in README.md and docs/PERFORMANCE.md whose first column names a case.
 
-usage: scripts/speed_picture [--check]     (with --check: says which of them is old, and writes nothing)"""
+usage: scripts/speed_picture.py [--check]     (with --check: says which of them is old, and writes nothing)"""
 import os
 import re
 import sys
@@ -100,7 +100,7 @@ def main():
                 with open(path, "w") as file:
                     file.write(made)
     if old and sys.argv[1:] == ["--check"]:
-        sys.exit(f"{', '.join(old)}: not those of docs/speed.tsv: run scripts/speed_picture")
+        sys.exit(f"{', '.join(old)}: not those of docs/speed.tsv: run scripts/speed_picture.py")
 
 
 main()

@@ -2,7 +2,7 @@
 """Does what docs/USING.md says, as a reader would: copies the library into a new repository, makes the
 crate that the page shows, runs it by `rt try`, and looks at what it prints and at the file it leaves.
 
-usage: scripts/try_using"""
+usage: scripts/try_using.py"""
 import os
 import re
 import subprocess
@@ -21,7 +21,7 @@ def main():
     printed = re.search(r"print (\d+)\.", page).group(1)
     with tempfile.TemporaryDirectory(prefix="hound_using_") as folder:
         # The page's commands are for a clone of this repository.
-        script = commands.replace("mkdir ../mine && scripts/vendor ../mine", f"mkdir mine && {TOP}/scripts/vendor mine > /dev/null").replace("cd ../mine", "cd mine")
+        script = commands.replace("mkdir ../mine && scripts/vendor.sh ../mine", f"mkdir mine && {TOP}/scripts/vendor.sh mine > /dev/null").replace("cd ../mine", "cd mine")
         subprocess.run(["bash", "-eu", "-c", script], cwd=folder, check=True, capture_output=True)
         crate = os.path.join(folder, "mine", "crates", "mine")
         with open(os.path.join(crate, "src", "main.rt"), "w") as file:

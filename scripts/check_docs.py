@@ -1,7 +1,7 @@
 #!/usr/bin/env python3
 """Checks that README and docs/ name only what is there, and that what they show is what is tested.
 
-usage: scripts/check_docs
+usage: scripts/check_docs.py
 
 It looks at links, and at what is between backticks and is one name or path: a name has to be in the
 crates' sources or in a script, a path has to be a file of the repository or of a crate. Names of
@@ -103,7 +103,7 @@ def unquoted(paths):
 
 def without_comment():
     """Words of public contracts whose definition has no comment."""
-    words = [os.path.join(TOP, "scripts", "definitions"), "--check"]
+    words = [os.path.join(TOP, "scripts", "definitions.py"), "--check"]
     lines = subprocess.run(words, capture_output=True, text=True).stderr.split("\n")
     return {re.search(r": (\S+) has no comment", line).group(1) for line in lines if line}
 

@@ -8,8 +8,8 @@ with all samples that it accepted. Of a block that was rejected nothing stays in
 bindings/tests/python_faults.py does so with programs that use the Python package, and bindings/tests/parts.py
 with recorders that continue in a next file.
 
-usage: doubt/faults [KILLS]     (1000 kills where no number is given)
-       doubt/faults power ..    (losses of power in a virtual machine: see doubt/power/power.py)
+usage: doubt/faults.py [KILLS]     (1000 kills where no number is given)
+       doubt/faults.py power ..    (losses of power in a virtual machine: see doubt/power/power.py)
 
 It needs python3, strace, cc and cargo, and for a disk that fills up the right to mount a tmpfs; what it can't
 do it says. The files are read here by hand, and not by the library."""
@@ -609,7 +609,7 @@ def repaired(folder):
 def in_python(count, folder):
     """Kills so many programs that append by the Python package, and recorders that continue in a next file, and lets
     calls of others fail."""
-    subprocess.run([os.path.join(HERE, "bindings", "c", "install"), folder], stdout=subprocess.DEVNULL, check=True)
+    subprocess.run([os.path.join(HERE, "bindings", "c", "install.sh"), folder], stdout=subprocess.DEVNULL, check=True)
     package = {"HOUND_C_LIBRARY": os.path.join(folder, "lib", "libhound_c.so"), "PYTHONPATH": os.path.join(HERE, "bindings", "python")}
     for program, most in ("python_faults.py", count), ("parts.py", 200):
         words = [sys.executable, os.path.join(HERE, "bindings", "tests", program), str(min(count, most))]

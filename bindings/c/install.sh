@@ -2,9 +2,9 @@
 # Installs the headers, the static and the shared library of this processor, the file for pkg-config and the package for
 # CMake, in PREFIX/include, PREFIX/lib, PREFIX/lib/pkgconfig and PREFIX/lib/cmake/hound. The folder PREFIX may be moved
 # afterwards.
-#   install PREFIX               (in DESTDIR/PREFIX, where DESTDIR is in the environment)
-#   install --uninstall PREFIX   (removes what that installed)
-#   install --help
+#   install.sh PREFIX               (in DESTDIR/PREFIX, where DESTDIR is in the environment)
+#   install.sh --uninstall PREFIX   (removes what that installed)
+#   install.sh --help
 # With HOUND_C_LIB in the environment it takes the library of that folder. Where bindings/lib has none that this
 # processor runs, or with HOUND_C_SOURCE, it compiles hound_c.c. CC has the words of the compiler, AR the archiver.
 set -eu

@@ -3,9 +3,9 @@
 # isn't in this repository: the published tests over the package, with no change in them; the programs of
 # bindings/tests/dropin, which fail at a difference that docs/USING.md doesn't list; and programs written for hound,
 # before and after the one change in Cargo.toml. HOUND_C_LIB says where the library is, as elsewhere.
-#   scripts/try_dropin FOLDER [COUNT]     (COUNT files are read, and as many written: 300000)
-#   scripts/try_dropin --wrong FOLDER     (the wrong versions of bindings/tests/dropin/wrong.tsv, which have to be found)
-#   scripts/try_dropin --speed FOLDER     (nanoseconds of both; bindings/tests/dropin/slower.tsv has what takes longer, and why)
+#   scripts/try_dropin.sh FOLDER [COUNT]     (COUNT files are read, and as many written: 300000)
+#   scripts/try_dropin.sh --wrong FOLDER     (the wrong versions of bindings/tests/dropin/wrong.tsv, which have to be found)
+#   scripts/try_dropin.sh --speed FOLDER     (nanoseconds of both; bindings/tests/dropin/slower.tsv has what takes longer, and why)
 set -eu -o pipefail
 cd "$(dirname "$0")/.."
 parts=(published beside users)

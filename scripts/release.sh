@@ -3,7 +3,7 @@
 # npm package, the two crates, an archive for C, hound.html, and the sums of all. It makes each twice, and the sums have
 # to be the same. Then it installs each in a fresh place without network, and runs the programs of docs/BINDINGS.md. The
 # folder is there only if all of that works; else the status is 1, and the last line names what failed.
-#   scripts/release FOLDER    (needs a C compiler, CMake, pkg-config, Python with venv, a recent cargo, and npm; no kit)
+#   scripts/release.sh FOLDER    (needs a C compiler, CMake, pkg-config, Python with venv, a recent cargo, and npm; no kit)
 set -u -o pipefail
 [ $# -eq 1 ] || { sed -n 6p "$0" >&2; exit 2; }
 folder=$(realpath -m -- "$1")
@@ -82,7 +82,7 @@ make_c() { # OUT
     pack "$folder" "$1"
 }
 make_page() { # OUT
-    bindings/js/page/make --check
+    bindings/js/page/make.py --check
     cp bindings/js/page/hound.html "$1"
 }
 
@@ -152,7 +152,7 @@ unpacked() { # NAME
 }
 c_installed() { # NAME
     unpacked "$1"
-    bindings/c/install "$work/$1/prefix"
+    bindings/c/install.sh "$work/$1/prefix"
     "$cc" tone.c $(PKG_CONFIG_PATH=$work/$1/prefix/lib/pkgconfig pkg-config --cflags --libs hound) -o tone
     LD_LIBRARY_PATH=$work/$1/prefix/lib ./tone
 }

@@ -4,7 +4,7 @@
 # bindings/tests, the tests of the packages, the rows of hound_rows beside their model, and the programs of
 # docs/BINDINGS.md as they are there; on ARM in an emulator, and in WebAssembly. What needs a tool that isn't here is named
 # and passed over. It writes a line for each check, and last 'N of N checks of the bindings'.
-#   scripts/try_bindings     (that bindings/lib is what the proofs give is looked at by scripts/carry --check)
+#   scripts/try_bindings.sh     (that bindings/lib is what the proofs give is looked at by scripts/carry.sh --check)
 set -u
 cd "$(dirname "$0")/.."
 work=$(mktemp -d)
@@ -130,17 +130,17 @@ source_of_cpp() {
 }
 installed() { # PREFIX
     local words="-I$1/include -L$1/lib -lhound_c"
-    DESTDIR=$1.stage bindings/c/install /usr && mv "$1.stage/usr" "$1" || return 1
+    DESTDIR=$1.stage bindings/c/install.sh /usr && mv "$1.stage/usr" "$1" || return 1
     ! command -v pkg-config || words=$(PKG_CONFIG_PATH=$1/lib/pkgconfig pkg-config --cflags --libs "hound >= 0.2") || return 1
     "$cc" $strict bindings/tests/calls.c $words -o "$1.calls" && rm "$1/lib/libhound_c.so" && LD_LIBRARY_PATH=$1/lib $run "$1.calls" \
         && ln -s libhound_c.so.0 "$1/lib/libhound_c.so" && cp -a "$1" "$1.copy" && touch "$1.copy/lib/other" || return 1
-    cmp bindings/c/hound_file.h "$1/include/hound_file.h" && bindings/c/install --help | grep -q uninstall \
-        && bindings/c/install --uninstall "$1.copy" && [ "$(cd "$1.copy" && find . ! -type d)" = ./lib/other ]
+    cmp bindings/c/hound_file.h "$1/include/hound_file.h" && bindings/c/install.sh --help | grep -q uninstall \
+        && bindings/c/install.sh --uninstall "$1.copy" && [ "$(cd "$1.copy" && find . ! -type d)" = ./lib/other ]
 }
 no_library() {
     export HOUND_C_LIB=$work/none
     one_line() { [ "$(grep -c "none/libhound_c.a isn't there" "$work/said")" = 1 ]; }
-    ! bindings/c/install "$work/nowhere" 2> "$work/said" && one_line || return 1
+    ! bindings/c/install.sh "$work/nowhere" 2> "$work/said" && one_line || return 1
     ! python3 -c "import sys; sys.path.insert(0, 'bindings/python'); import backend; backend.shared_library('$work')" 2> "$work/said" && one_line || return 1
     ! command -v cargo > /dev/null || { ! cargo build -q --offline --manifest-path bindings/rust/Cargo.toml --target-dir "$work/none" 2> "$work/said" && one_line && grep -q 'set HOUND_C_LIB to the absolute path of the folder that holds it' "$work/said"; }
 }
@@ -164,12 +164,12 @@ has_flags() { grep -q '^flags.*popcnt' /proc/cpuinfo && lacking none true 2> /de
 # Without a compiler only the library that is carried can be installed. An emulated processor runs the other one alone.
 old_processor() {
     local flag words="--offline --manifest-path bindings/rust/Cargo.toml --target-dir $work/target.lacking"
-    CC=none lacking none bindings/c/install "$work/lacking" || return 1
+    CC=none lacking none bindings/c/install.sh "$work/lacking" || return 1
     for flag in cx16 lahf_lm popcnt sse4_1 sse4_2 ssse3; do
-        ! CC=none lacking $flag bindings/c/install "$work/lacking" || return 1
+        ! CC=none lacking $flag bindings/c/install.sh "$work/lacking" || return 1
         ! command -v cargo > /dev/null || ! CC=none lacking $flag cargo build -q $words || return 1
     done
-    lacking ssse3 bindings/c/install "$work/lacking" && "$cc" $strict bindings/tests/calls.c "$work/lacking/lib/libhound_c.a" -o "$work/lacking/calls" || return 1
+    lacking ssse3 bindings/c/install.sh "$work/lacking" && "$cc" $strict bindings/tests/calls.c "$work/lacking/lib/libhound_c.a" -o "$work/lacking/calls" || return 1
     ! command -v cargo > /dev/null || { lacking ssse3 cargo build -q $words && [ -e "$work"/target.lacking/debug/build/hound_bindings-*/out/libhound_c.a ]; } || return 1
     ! command -v qemu-x86_64 > /dev/null || qemu-x86_64 -cpu core2duo "$work/lacking/calls"
 }
@@ -319,14 +319,14 @@ if has "$cc" "the users in C"; then
     check "the C program of docs/BINDINGS.md" page_of_c
     check "the library that is installed from hound_c.c, and the C program with that file" by_source
     has_flags && check "on x86-64 before v2 the library is compiled from hound_c.c" old_processor
-    has cmake "the library in CMake" && check "CMake finds the libraries that it and bindings/c/install installed, and builds the one of a clone" by_cmake
+    has cmake "the library in CMake" && check "CMake finds the libraries that it and bindings/c/install.sh installed, and builds the one of a clone" by_cmake
     check "the examples cat.c, record.c and repair.c" examples
 fi
 if has c++ "the headers and hound_c.c in C++"; then
     check "the headers are C++98 and C++17" header_of_cpp
     check "hound_c.c is C++11 and C++20, and each call from C works with it" source_of_cpp
 fi
-has python3 "what the packages have of hound.h" && check "the packages have the errors, structs, constants and the version of hound.h" scripts/make_interface --check
+has python3 "what the packages have of hound.h" && check "the packages have the errors, structs, constants and the version of hound.h" scripts/make_interface.py --check
 if has python3 "the Python package" && has "$cc" "the Python package"; then
     has_mypy && check "the types of the Python package, by mypy" python_types
     check "where HOUND_C_LIB has no library, a line says so" no_library
@@ -361,7 +361,7 @@ if has cargo "the Cargo crate"; then
     check "the same after cargo vendor" vendored
     check "the Rust program of docs/BINDINGS.md, which adds the crate from a clone" page_of_rust
 fi
-has python3 "that hound.html is made" && check "hound.html is what its script makes of the package and the module" bindings/js/page/make --check
+has python3 "that hound.html is made" && check "hound.html is what its script makes of the package and the module" bindings/js/page/make.py --check
 if ! has node "the JavaScript package"; then :
 elif ! is_node_20; then
     echo "bindings: passed over, since this node is older than 20: the JavaScript package"
@@ -376,7 +376,7 @@ else
     fi
     browsers=
     for browser in chromium firefox-esr; do has "$browser" "hound.html in it" && browsers="$browsers $browser"; done
-    [ -z "$browsers" ] || check "hound.html in$browsers" scripts/try_browser
+    [ -z "$browsers" ] || check "hound.html in$browsers" scripts/try_browser.mjs
 fi
 if has python3 "the libraries of other processors" && has "$cc" "the libraries of other processors"; then
     check "each code among the answers to requests.py" answers

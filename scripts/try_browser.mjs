@@ -3,16 +3,16 @@
 // said of each is compared with what should be, and each file that is saved with the one made by hand here. Both are without
 // a window, but for Firefox where Xvfb, xdotool and GTK for Python are here: its protocol drops no files, so they are dragged
 // over a display. A browser that isn't here is named and passed over.
-//   scripts/try_browser [FOLDER]   (pictures of the page, and the files that were given and saved, go into the folder: its
+//   scripts/try_browser.mjs [FOLDER]   (pictures of the page, and the files that were given and saved, go into the folder: its
 //                                   page.png is docs/page.png)
-"use strict";
-const { spawn, spawnSync } = require("child_process");
-const fs = require("fs");
-const os = require("os");
-const path = require("path");
-const { pathToFileURL } = require("url");
+import { spawn, spawnSync } from "node:child_process";
+import fs from "node:fs";
+import os from "node:os";
+import path from "node:path";
+import { fileURLToPath, pathToFileURL } from "node:url";
 
-const PAGE = path.resolve(__dirname, "../bindings/js/page/hound.html"), FOLDER = process.argv[2];
+const PAGE = fileURLToPath(new URL("../bindings/js/page/hound.html", import.meta.url));
+const FOLDER = process.argv[2];
 const work = fs.mkdtempSync(path.join(os.tmpdir(), "try_browser-"));
 const text = (characters) => [...Buffer.from(characters, "latin1")];
 const u16 = (n) => [n & 255, n >> 8 & 255];

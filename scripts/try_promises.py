@@ -5,7 +5,7 @@ rejected for what it does, and not for any change there. Only the functions with
 their crate, over the libraries below: those that `rt ci` leaves, or else what `rt lib` makes. All twins of a crate are tried
 at once, a mutant alone.
 
-usage: scripts/try_promises [LOG]     (LOG is what an `rt ci` that is running says: each crate waits until those below it are proved)
+usage: scripts/try_promises.py [LOG]     (LOG is what an `rt ci` that is running says: each crate waits until those below it are proved)
 
 It writes a line for each mutant, and last 'promises: N of N mutants rejected, N of N twins accepted'."""
 import glob

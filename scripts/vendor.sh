@@ -4,7 +4,7 @@
 # names the library by a line of its own there, `mine: hound`. With --check it lists the files of
 # the copy that were changed, added or removed since, and ends with status 1 if there are any.
 #
-# usage: scripts/vendor [--check] DIR
+# usage: scripts/vendor.sh [--check] DIR
 set -eu -o pipefail
 top=$(cd "$(dirname "$0")/.." && pwd)
 check=
@@ -13,7 +13,7 @@ if [ "${1:-}" = --check ]; then
     shift
 fi
 if [ $# -ne 1 ] || [ ! -d "$1" ]; then
-    echo "usage: scripts/vendor [--check] DIR, where DIR is a folder that exists" >&2
+    echo "usage: scripts/vendor.sh [--check] DIR, where DIR is a folder that exists" >&2
     exit 2
 fi
 dir=$(cd "$1" && pwd)
@@ -44,7 +44,7 @@ commit() {
 
 if [ -n "$check" ]; then
     if [ ! -f "$version" ]; then
-        echo "vendor: $version is not there: scripts/vendor did not write this copy" >&2
+        echo "vendor: $version is not there: scripts/vendor.sh did not write this copy" >&2
         exit 2
     fi
     # Of the lines that only one of the two lists has, the names.
@@ -82,7 +82,7 @@ mv "$dir/crates.txt.new" "$dir/crates.txt"
 [ -e "$dir/HANDLES" ] || cp "$top/HANDLES" "$dir/HANDLES"
 . "$top/scripts/kit.sh"
 {
-    echo "# Written by scripts/vendor of hound, proved; scripts/vendor --check compares the files with it."
+    echo "# Written by scripts/vendor.sh of hound, proved; scripts/vendor.sh --check compares the files with it."
     echo "# commit $(commit)"
     echo "# kit $PROVED_WITH"
     checksums

@@ -2,7 +2,7 @@
 """Has other programs read what a recorder leaves with an odd number of data bytes, at each of its
 checkpoints and at its end: just the samples that were published, and without a warning.
 
-usage: doubt/peers
+usage: doubt/peers.py
 
 It needs python3, and for the checkpoints strace, which ends the recorder at each. The programs are
 sox, ffmpeg, those of libsndfile, python's wave, and wavpack, which warns where odd data have no pad

@@ -2,7 +2,7 @@
 """Looks that README, docs/ and the comments of the crates below say things in plain words: it lists
 each use of a word from the left column of the glossary, and ends with status 1 if there is one.
 
-usage: scripts/check_words [CRATE...]    (with crates: the comments of these alone)
+usage: scripts/check_words.py [CRATE...]    (with crates: the comments of these alone)
 
 Quoted code, names between backticks and block quotes are left out. The words of the specification
 (`tells`, `keeps`, `go`, `shift`, `get`, `put`, `most`, `fail`, `taken`, `accepted`, `counts`,

@@ -4,15 +4,15 @@ constants, and the version; and in hound.h itself the layout of its structs. It 
 the first one names this script; the version is wherever VERSIONS says. It compares the tables of pairs of bits and
 bytes, too.
 
-usage: scripts/make_interface           writes the files
-       scripts/make_interface --check   writes none, and fails where one would change"""
+usage: scripts/make_interface.py           writes the files
+       scripts/make_interface.py --check   writes none, and fails where one would change"""
 import os
 import re
 import sys
 
 TOP = os.path.dirname(os.path.dirname(os.path.abspath(__file__)))
 HEADER = "bindings/c/hound.h"
-BEGIN, END = "made from hound.h by scripts/make_interface", "The end of what is made from hound.h"
+BEGIN, END = "made from hound.h by scripts/make_interface.py", "The end of what is made from hound.h"
 BITS = {"uint8_t": 8, "uint16_t": 16, "uint32_t": 32, "uint64_t": 64}
 
 
@@ -332,7 +332,7 @@ def main():
             fail(f"{path} has other pairs of bits and bytes than {PAIRS[0]}")
     changed = [path for path in files if files[path] != before[path]]
     if sys.argv[1:] and changed:
-        fail(f"scripts/make_interface changes {', '.join(changed)}")
+        fail(f"scripts/make_interface.py changes {', '.join(changed)}")
     for path in [] if sys.argv[1:] else changed:
         with open(os.path.join(TOP, path), "w") as file:
             file.write(files[path])

@@ -4,9 +4,9 @@
 # library, the calls of calls.c, hostile files, descriptors.c, recordings over the disk of disk.c, and the programs of
 # bindings/c, whose files have to be those of this processor's; and that it is rejected where it would be wrong. Then
 # bindings/c/board.c on emulated boards without a system, and what can only be compiled here.
-#   scripts/try_portable [TARGET..]     (all that can be tried here)
-#   scripts/try_portable --wrong        (wrong versions of the converter, bindings/tests/portable.tsv: which are found)
-#   scripts/try_portable --reached      (how many lines of the C file the answers and the calls execute)
+#   scripts/try_portable.sh [TARGET..]     (all that can be tried here)
+#   scripts/try_portable.sh --wrong        (wrong versions of the converter, bindings/tests/portable.tsv: which are found)
+#   scripts/try_portable.sh --reached      (how many lines of the C file the answers and the calls execute)
 set -u -o pipefail
 cd "$(dirname "$0")/.."
 top=$PWD
@@ -228,7 +228,7 @@ board riscv32 "qemu-system-riscv32 -M virt -bios none $on_qemu" riscv64-unknown-
 if [ ${#only[@]} -eq 0 ]; then
     wrong_boards
     tried=$((tried + 1))
-    scripts/measure_board --check || failed=$((failed + 1))
+    scripts/measure_board.py --check || failed=$((failed + 1))
     mkdir "$work/declared"
     echo 'void abort(void);' > "$work/declared/stdlib.h"
     printf '#include <stddef.h>\nvoid *memcpy(void *, const void *, size_t), *memmove(void *, const void *, size_t), *memset(void *, int, size_t);\n' > "$work/declared/string.h"

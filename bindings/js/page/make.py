@@ -1,8 +1,8 @@
 #!/usr/bin/env python3
 """Makes hound.html, which is one file: page.html with the JavaScript and the WebAssembly module in it.
 
-usage: make            writes it
-       make --check    writes nothing, and fails where it isn't what would be written"""
+usage: make.py            writes it
+       make.py --check    writes nothing, and fails where it isn't what would be written"""
 import base64
 import hashlib
 import os

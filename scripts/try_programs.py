@@ -3,7 +3,7 @@
 what they return, print and leave. What `hound_tool` does with words and input is asked by rows
 (crates/hound_rows); here is what only a process has.
 
-usage: scripts/try_programs [NAME]     (each check, or those whose name begins with NAME)
+usage: scripts/try_programs.py [NAME]     (each check, or those whose name begins with NAME)
 
 A program is taken where `rt ci` or `rt run` built it, with the second one that `rt ci` builds. What
 is expected comes from the public format, from hound 3.5.1, and from other programs
