@@ -121,6 +121,7 @@ const [INT, FLOAT, EFFECT_BYTES, DONE, FAILED] = [0, 1, 40, 1, 2];
 const [READ, WRITE, WRITE_BLOCK, SYNC, CUT, SYNC_FOLDER] = [1, 2, 3, 4, 5, 6];
 const [FIND_DAMAGE, REPAIR, REPAIR_TO_END, MAKE_CANONICAL, OVERWRITE] = [0, 1, 2, 3, 2];
 const [KIND_UNKNOWN, KIND_FLOAT64] = [65536, 65545];
+const STATES = ["whole", "cutOff", "hasChunksAfterData", "allCounted"];
 const LAYOUT = {
   spec: { sampleRate: 0, channels: 4, bitsPerSample: 6, bytesPerSample: 8, sampleFormat: 10, size: 12 },
   info: { spec: 0, samples: 12, dataStart: 16, size: 24 },
@@ -610,8 +611,6 @@ export async function write(samples, { onClipped = warn, dither, seed, ...format
   if (clipped > 0) onClipped(clipped);
   return file;
 }
-
-const STATES = ["whole", "cutOff", "hasChunksAfterData", "allCounted"];
 
 /** What a repairer of this mode finds in a file of so many bytes, once all that it requests is performed. */
 function repairBy(size, mode, perform) {
