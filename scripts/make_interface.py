@@ -304,6 +304,13 @@ TABLES = [
     ("bindings/tests/repairs.py", r"^    pairs = (.*)$"),
     ("crates/hound_rows/expected.py", r"^PAIRS = (.*)$"),
 ]
+# What names their bits alone: a sentence, and what is guessed or chosen from.
+CHOICES = [
+    (HEADER, r"not read or written \((.*)\)"),
+    ("bindings/js/guess.js", r"^const SAMPLE_FORMS = (.*)$"),
+    ("bindings/python/hound_bindings/lost.py", r"^_FORMS = (.*)$"),
+    ("bindings/python/hound_bindings/command.py", r'"choices": \[(.*?)\]'),
+]
 
 
 def pairs_of(path, form):
@@ -315,9 +322,10 @@ def unused():
     """The names that a folder has to use, and doesn't."""
     made = re.compile(rf"{BEGIN}.*?{END}", flags=re.S)
     for folder, form, names in USES:
-        paths = [os.path.join(folder, name) for name in os.listdir(os.path.join(TOP, folder)) if "." in name]
+        names_there = [name for name in os.listdir(os.path.join(TOP, folder)) if "." in name]
         # In hound.h itself they are defined.
-        code = "".join(made.sub("", read(path)) for path in paths if path != HEADER and not path.endswith("hound_c.c"))
+        paths = [os.path.join(folder, name) for name in names_there if name not in ("hound.h", "hound_c.c")]
+        code = "".join(made.sub("", read(path)) for path in paths)
         yield from (f"{name} ({folder})" for name in names if not re.search(form.format(name), code))
 
 
@@ -358,6 +366,10 @@ def main():
     for path, form in TABLES:
         if pairs_of(path, form) != pairs_of(*PAIRS):
             fail(f"{path} has other pairs of bits and bytes than {PAIRS[0]}")
+    for path, form in CHOICES:
+        named = re.findall(r"\d+", " ".join(re.findall(form, read(path), flags=re.M)))
+        if set(named) != {bits for bits, _ in pairs_of(*PAIRS)}:
+            fail(f"{path} names other bits than {PAIRS[0]}")
     if list(unused()):
         fail(f"no code uses {', '.join(unused())}")
     changed = [path for path in files if files[path] != before[path]]
