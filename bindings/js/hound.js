@@ -586,7 +586,8 @@ function encode(given, spec, out, place, width, noise) {
 /** The containers of the given samples, and how many samples were clipped. They are at the front of `room`, if that is
     long enough. */
 function encoded(given, spec, noise, room = new Uint8Array(0)) {
-  const width = widthOf(given.type, spec), length = given.count * width;
+  // Where there are samples, the calls that encode them say whether their type is written.
+  const width = given.count > 0 ? spec.bytesPerSample : widthOf(given.type, spec), length = given.count * width;
   const data = length <= room.length ? room.subarray(0, length) : new Uint8Array(length);
   return { data, clipped: encode(given, spec, data, 0, width, noise) };
 }

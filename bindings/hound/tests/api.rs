@@ -270,6 +270,37 @@ fn containers_are_written_and_read_by_the_trait() {
     assert!(rest.is_empty() && 70000i32.as_i16() == 4464);
 }
 
+/// A sample that writes so many bytes, whatever the file has.
+struct Bytes(usize);
+
+impl Sample for Bytes {
+    fn write<W: Write>(self, _: &mut W, _: u16) -> Result<()> {
+        unreachable!("a writer asks for containers")
+    }
+    fn write_padded<W: Write>(self, writer: &mut W, _: u16, _: u16) -> Result<()> {
+        Ok(writer.write_all(&vec![7; self.0])?)
+    }
+    fn read<R: Read>(_: &mut R, _: SampleFormat, _: u16, _: u16) -> Result<Bytes> {
+        unreachable!("it is written only")
+    }
+    fn as_i16(self) -> i16 {
+        unreachable!("it is in no batch")
+    }
+}
+
+#[test]
+fn bytes_of_a_users_own_type_are_whole_containers_or_rejected() {
+    let mut file = Cursor::new(Vec::new());
+    let mut writer = WavWriter::new(&mut file, MONO).unwrap();
+    for (bytes, len) in [(2, 1), (1, 1), (2, 2), (3, 2), (4, 4), (0, 4), (2, 5)] {
+        let result = writer.write_sample(Bytes(bytes));
+        assert!(if bytes % 2 == 0 { result.is_ok() } else { matches!(result, Err(Error::Unsupported)) });
+        assert_eq!(writer.len(), len);
+    }
+    writer.finalize().unwrap();
+    assert_eq!(file.get_ref()[40..], [10, 0, 0, 0, 7, 7, 7, 7, 7, 7, 7, 7, 7, 7]);
+}
+
 #[test]
 fn samples_are_appended_in_containers_of_four_bytes() {
     let spec = WavSpec { bits_per_sample: 24, ..MONO };
