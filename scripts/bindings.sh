@@ -37,11 +37,13 @@ has() { # PROGRAM WHAT
 
 # The files of this repository, also where git doesn't read it.
 files() {
-    git ls-files -z -co --exclude-standard 2> /dev/null || find . -type f -not -path './.git*' -not -path '*/out/*' -print0
+    git ls-files -z -co --exclude-standard 2> /dev/null \
+        || find . -type f -not -path './.git*' -not -path '*/out/*' -print0
 }
 
 # Makes a clone of what is here, as if it were committed.
 clone_to() { # FOLDER
     mkdir "$1" && files | tar -c --null -T - --ignore-failed-read | tar -x -C "$1" || return 1
-    git -C "$1" init -q && git -C "$1" add -A && git -C "$1" -c user.name=nobody -c user.email=nobody commit -qm "what is here"
+    git -C "$1" init -q && git -C "$1" add -A \
+        && git -C "$1" -c user.name=nobody -c user.email=nobody commit -qm "what is here"
 }

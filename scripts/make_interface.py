@@ -1,8 +1,8 @@
 #!/usr/bin/env python3
-"""Writes what the packages have of hound.h: errors with their codes and sentences, the names of kinds of files, structs,
-constants, and the version; and in hound.h itself the layout of its structs. It is between two lines of a file, of which
-the first one names this script; the version is wherever VERSIONS says. It compares the tables of pairs of bits and
-bytes, too.
+"""Writes what the packages have of hound.h: errors with their codes and sentences, the names of kinds of files,
+structs, constants, and the version; and in hound.h itself the layout of its structs. It is between two lines of a file,
+of which the first one names this script; the version is wherever VERSIONS says. It compares the tables of pairs of bits
+and bytes, too.
 
 usage: scripts/make_interface.py           writes the files
        scripts/make_interface.py --check   writes none, and fails where one would change"""
@@ -53,7 +53,9 @@ def errors():
     """Name, code without its sign, and sentence, in the order of the codes."""
     sentences = re.findall(r'^    case HOUND_(\w+):\s+return ((?:"[^"]*"\s*)+);', HOUND_H, flags=re.M)
     coded = sorted(
-        (-NUMBERS[name], name, "".join(re.findall(r'"([^"]*)"', parts))) for name, parts in sentences if NUMBERS[name] < 0
+        (-NUMBERS[name], name, "".join(re.findall(r'"([^"]*)"', parts)))
+        for name, parts in sentences
+        if NUMBERS[name] < 0
     )
     if [code for code, _, _ in coded] != list(range(1, -min(NUMBERS.values()) + 1)):
         fail(f"{HEADER} has an error without a code or a sentence of its own")
@@ -199,8 +201,11 @@ def type_python(kind, count):
 
 
 def structs_python():
-    lines = [f"{', '.join('_' + name for name in names)} = {', '.join(str(NUMBERS[name]) for name in names)}"
-             for names in (("FIND_DAMAGE", "REPAIR", "REPAIR_TO_END", "MAKE_CANONICAL"), ("MEND", "OVERWRITE"))]  # fmt: skip
+    groups = (("FIND_DAMAGE", "REPAIR", "REPAIR_TO_END", "MAKE_CANONICAL"), ("MEND", "OVERWRITE"))
+    lines = [
+        f"{', '.join('_' + name for name in names)} = {', '.join(str(NUMBERS[name]) for name in names)}"
+        for names in groups
+    ]
     lines += [f"_{name} = {NUMBERS[name]}" for name in ("HEADER_BYTES", "KIND_RIFX", "KIND_FLOAT64")]
     for name, (fields, _) in STRUCTS.items():
         lines += ["", "", f"class _{camel(name)}(ctypes.Structure):", "    _fields_ = ["]
@@ -209,8 +214,10 @@ def structs_python():
 
 
 def kinds_python():
-    return [f"{', '.join(names)} = {', '.join(str(NUMBERS[name]) for name in names)}"
-            for names in (EFFECTS, ("DONE", "FAILED"))]
+    return [
+        f"{', '.join(names)} = {', '.join(str(NUMBERS[name]) for name in names)}"
+        for names in (EFFECTS, ("DONE", "FAILED"))
+    ]
 
 
 # JavaScript
@@ -277,7 +284,10 @@ VERSIONS = [
 
 
 # The number of the version, which the library returns.
-VERSION_NUMBER = "crates/hound_c/src/lib.rt", "fn hound_version() -> i32\n    ensures {{ result ≡ pos {0} }}\n{{\n    {0}\n}}"
+VERSION_NUMBER = (
+    "crates/hound_c/src/lib.rt",
+    "fn hound_version() -> i32\n    ensures {{ result ≡ pos {0} }}\n{{\n    {0}\n}}",
+)
 
 # Tables of the pairs of bits and bytes that are read and written, which have to be that of the specification.
 PAIRS = "crates/hound_spec/specs/Header.antt", r"^pairs \w+ = (.*)$"

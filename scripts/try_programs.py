@@ -81,9 +81,11 @@ CHECKS = []
 
 def check(name):
     """Marks a check of the program of this name."""
+
     def mark(function):
         CHECKS.append((name, function))
         return function
+
     return mark
 
 
@@ -212,6 +214,7 @@ def a_full_output_is_reported(tool):
         (["show"], MANY_FILE, MANY_SPEC + MANY_LINES),
     ]:
         for room in [0, 43, 20000]:
+
             def limit():
                 signal.signal(signal.SIGXFSZ, signal.SIG_IGN)
                 resource.setrlimit(resource.RLIMIT_FSIZE, (room, room))
@@ -230,7 +233,9 @@ def interrupted_writes_are_tried_again(tool):
         return
     interrupted = ["strace", "-qq", "-o", os.devnull, "-e", "trace=write", "-e", "inject=write:error=EINTR:when=1+2"]
     for words, given, wanted in [(PACK, MANY_LINES, MANY_FILE), (["show"], MANY_FILE, MANY_SPEC + MANY_LINES)]:
-        ran = subprocess.run([*interrupted, tool.file, *words], input=given, stdout=subprocess.PIPE, stderr=subprocess.PIPE)
+        ran = subprocess.run(
+            [*interrupted, tool.file, *words], input=given, stdout=subprocess.PIPE, stderr=subprocess.PIPE
+        )
         same((ran.returncode, ran.stdout, ran.stderr), (0, wanted, b""), words)
 
 
@@ -311,10 +316,15 @@ def record_has_each_checkpoint_in_the_file(example):
 def file_of(channels, rate, bits, data):
     """A file of integers, as the public format has it: an extensible fmt chunk for more than two channels or 16 bits."""
     frame = channels * bits // 8
-    tag, rest = (1, b"") if channels <= 2 and bits <= 16 else (0xFFFE, struct.pack("<HHI", 22, bits, (1 << channels) - 1))
+    tag, rest = (
+        (1, b"") if channels <= 2 and bits <= 16 else (0xFFFE, struct.pack("<HHI", 22, bits, (1 << channels) - 1))
+    )
     rest += bytes.fromhex("0100000000001000800000aa00389b71") if rest else b""
     fmt = struct.pack("<HHIIHH", tag, channels, rate, rate * frame, frame, bits) + rest
-    parts = b"".join(name + struct.pack("<I", len(part)) + part + b"\0" * (len(part) % 2) for name, part in [(b"fmt ", fmt), (b"data", data)])
+    parts = b"".join(
+        name + struct.pack("<I", len(part)) + part + b"\0" * (len(part) % 2)
+        for name, part in [(b"fmt ", fmt), (b"data", data)]
+    )
     return b"RIFF" + struct.pack("<I", 4 + len(parts)) + b"WAVE" + parts
 
 
@@ -327,7 +337,14 @@ def bytes_of(path):
 @check("hound_examples")
 def record_takes_raw_samples_of_each_width(example):
     path = path_of("raw")
-    for channels, rate, bits in [(1, 8000, 8), (2, 44100, 16), (3, 48000, 16), (1, 96000, 24), (2, 48000, 24), (5, 44100, 32)]:
+    for channels, rate, bits in [
+        (1, 8000, 8),
+        (2, 44100, 16),
+        (3, 48000, 16),
+        (1, 96000, 24),
+        (2, 48000, 24),
+        (5, 44100, 32),
+    ]:
         frame = channels * bits // 8
         data = bytes(at * 37 % 251 for at in range(9 * frame))
         words = [f"channels={channels}", f"rate={rate}", f"bits={bits}"]
@@ -355,7 +372,11 @@ def record_continues_after_errors(example):
             status, output, errors = example.run_over(given, ["record", path, "1000", *words], preexec_fn=limited)
         lines = output.decode().split("\n")
         same((status, errors, lines[:4], lines[-1]), (1, b"", ["1000", "2000", "3000", "4000"], ""), words)
-        same(int(lines[-2].split()[1]) + sum(int(line.split()[1]) for line in lines if line.startswith("lost")), 30000, lines)
+        same(
+            int(lines[-2].split()[1]) + sum(int(line.split()[1]) for line in lines if line.startswith("lost")),
+            30000,
+            lines,
+        )
         found = bytes_of(path)
         same(found[44:8044], raw(range(4000)), words)
         same(len(found) <= 9000 and int.from_bytes(found[40:44], "little") in (8000, 8956), True, words)
@@ -364,8 +385,19 @@ def record_continues_after_errors(example):
 @check("hound_examples")
 def record_rejects_other_words(example):
     usage = b"usage: record FILE COUNT [channels=N] [rate=N] [bits=N] [durable] [append]\n"
-    for words in [[], ["a.wav"], ["a.wav", "0"], ["a.wav", "one"], ["a.wav", "1", "bits=12"], ["a.wav", "1", "channels=0"],
-                  ["a.wav", "1", "channels=65536"], ["a.wav", "1", "rate=x"], ["a.wav", "1", "durable=0"], ["a.wav", "1", "bits"], ["a.wav", "1", "fast"]]:
+    for words in [
+        [],
+        ["a.wav"],
+        ["a.wav", "0"],
+        ["a.wav", "one"],
+        ["a.wav", "1", "bits=12"],
+        ["a.wav", "1", "channels=0"],
+        ["a.wav", "1", "channels=65536"],
+        ["a.wav", "1", "rate=x"],
+        ["a.wav", "1", "durable=0"],
+        ["a.wav", "1", "bits"],
+        ["a.wav", "1", "fast"],
+    ]:
         same(example.run(["record", *words]), (2, b"", usage), words)
     same(example.run(["record", path_of("none"), "1", "append"])[:2], (1, b""))
 
@@ -388,7 +420,12 @@ def convert_rounds_and_clips_as_sox(example):
 def write_floats(path, numbers):
     data = struct.pack(f"<{len(numbers)}f", *numbers)
     with open(path, "wb") as file:
-        file.write(b"RIFF" + struct.pack("<I", 36 + len(data)) + b"WAVEfmt " + struct.pack("<IHHIIHH", 16, 3, 1, 44100, 176400, 4, 32))
+        file.write(
+            b"RIFF"
+            + struct.pack("<I", 36 + len(data))
+            + b"WAVEfmt "
+            + struct.pack("<IHHIIHH", 16, 3, 1, 44100, 176400, 4, 32)
+        )
         file.write(b"data" + struct.pack("<I", len(data)) + data)
 
 
@@ -642,12 +679,23 @@ def mix_is_the_clipped_sum(example):
         second = [at * 104729 * 2 ** (bits - 16) % 2**bits - half for at in range(1000)]
         for path, numbers in [(one, first), (other, second)]:
             with open(path, "wb") as file:
-                file.write(file_of(2, 44100, bits, b"".join(number.to_bytes(bits // 8, "little", signed=True) for number in numbers)))
+                file.write(
+                    file_of(
+                        2,
+                        44100,
+                        bits,
+                        b"".join(number.to_bytes(bits // 8, "little", signed=True) for number in numbers),
+                    )
+                )
         sums = [a + b for a, b in zip(first + [0] * 100, second)]
         wanted = [max(-half, min(half - 1, one)) for one in sums]
         clipped = sum(a != b for a, b in zip(sums, wanted))
         same((printed(example, ["mix", one, other, to]), clipped > 10), (b"%d samples clipped\n" % clipped, True), bits)
-        same(bytes_of(to), file_of(2, 44100, bits, b"".join(number.to_bytes(bits // 8, "little", signed=True) for number in wanted)), bits)
+        same(
+            bytes_of(to),
+            file_of(2, 44100, bits, b"".join(number.to_bytes(bits // 8, "little", signed=True) for number in wanted)),
+            bits,
+        )
     same(example.run(["mix", one, to, to])[:2], (1, b""))
 
 
@@ -676,7 +724,9 @@ def silences_cut_a_file(example):
     source, prefix = path_of("from"), os.path.join(FOLDER.name, "part")
     loud, quiet = [1000, -104], [103, -50]
     with open(source, "wb") as file:
-        file.write(file_of(2, 8000, 16, raw(loud * 100 + quiet * 2500 + loud * 50 + quiet * 2399 + loud * 30 + quiet * 2400)))
+        file.write(
+            file_of(2, 8000, 16, raw(loud * 100 + quiet * 2500 + loud * 50 + quiet * 2399 + loud * 30 + quiet * 2400))
+        )
     same(printed(example, ["silences", source, prefix]), b"2 files\n")
     for name, wanted in [("-001.wav", loud * 100), ("-002.wav", loud * 50 + quiet * 2399 + loud * 30)]:
         same(bytes_of(prefix + name), file_of(2, 8000, 16, raw(wanted)), name)
@@ -716,13 +766,16 @@ channels 2, rate 44100, bits 16, format int
 samples 10, frames 5, seconds 0.000113
 """
     same(printed(example, ["info", path]), lines)
-    same(printed(example, ["info", os.path.join(TOP, "crates/hound_examples/data/list.wav")]), b"""\
+    same(
+        printed(example, ["info", os.path.join(TOP, "crates/hound_examples/data/list.wav")]),
+        b"""\
 fmt  at byte 20, 16 bytes
 LIST at byte 44, 38 bytes
 data at byte 90, 10 bytes
 channels 1, rate 48000, bits 16, format int
 samples 5, frames 5, seconds 0.000104
-""")
+""",
+    )
     # The original takes these thirty bytes and says the same.
     with open(path, "wb") as file:
         file.write(FIVE[:30])
