@@ -12,7 +12,7 @@ others are listed below. It also looks that
   documentation comment are in functions that a test runs or that are proved;
 - docs/TESTING.md has the numbers of rows and of mutants;
 - the text of each mutant, and of each twin, is in its file once, and the name of a mutant begins with the function, or
-  the constant, that it changes (without the hound_ of an export);
+  the constant, that it changes (without the hound_ of an export); no two mutants of a crate are the same edit;
 - no line of the code has more than 120 columns."""
 import glob
 import os
@@ -162,6 +162,16 @@ def misfits():
                 yield os.path.relpath(path, TOP), line[5:]
 
 
+def repeated():
+    """The mutants of a crate that are the edit of another one."""
+    seen = {}
+    for path in sorted(glob.glob(os.path.join(TOP, "crates/*/mutants/*.edit"))):
+        edit = os.path.dirname(path), read(path)
+        if edit in seen:
+            yield os.path.relpath(path, TOP), os.path.basename(seen[edit])
+        seen[edit] = path
+
+
 def misnamed():
     """The mutants whose name doesn't begin with the function, or the constant, that they change; some add a type."""
     for path in sorted(glob.glob(os.path.join(TOP, "crates/*/mutants/*.edit"))):
@@ -230,6 +240,7 @@ def main():
     missing += [(f"{page}, in a test", part) for page, part in untested(paths)]
     missing += misfits()
     missing += misnamed()
+    missing += repeated()
     missing += miscounted()
     missing += too_long()
     for page, name in missing:

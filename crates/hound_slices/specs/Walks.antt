@@ -9,7 +9,7 @@ use Rattle.hound_walk.specs.declared.parts.Part.{Part}
 use Rattle.hound_walk.specs.declared.parts.Part.TheVariants.{Front, Header, Last, Fmt}
 use Rattle.hound_writer.specs.declared.effects.Action.TheVariants.{Read}
 use Rattle.hound_writer.specs.declared.effects.Report.{Report}
-use Rattle.hound_writer.specs.declared.effects.Report.TheVariants.{Pending, Done, Failed as NotDone}
+use Rattle.hound_writer.specs.declared.effects.Report.TheVariants.{Pending, Done, Failed}
 use Rattle.hound_slices.specs.Codes.{error_code}
 use Rattle.hound_slices.specs.Effects.{effect_of, report_of}
 use Rattle.hound_slices.specs.Writing.{IsExplicit, spec_from_c}
@@ -109,7 +109,7 @@ pub record AsksAgain (number : ℤ) (old new : HoundWalk) : Type 0 where
 -- what comes of a part, by how its read has ended
 abbrev pub AnswersPart : Bool → Report → ℤ → HoundWalk → HoundWalk → HoundInfo → Type 0
 AnswersPart is_counted Pending number old new info = AsksAgain number old new
-AnswersPart is_counted NotDone number old new info = number ≡ error_code errors.NotPerformed
+AnswersPart is_counted Failed number old new info = number ≡ error_code errors.NotPerformed
 AnswersPart is_counted Done number old new info = (number ≡ pos 1 → AsksOn old new)
     × ((file : List ℕ) → IsAt file (walk_of old) → AreAsked old file → Steps is_counted file number new info)
 
