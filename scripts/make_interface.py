@@ -2,7 +2,7 @@
 """Writes what the packages have of hound.h: errors with their codes and sentences, the names of kinds of files,
 structs, constants, and the version; and in hound.h itself the layout of its structs. It is between two lines of a file,
 of which the first one names this script; the version is wherever VERSIONS says. It compares the tables of pairs of bits
-and bytes, too.
+and bytes, too, and looks whether each package uses each name of the enums.
 
 usage: scripts/make_interface.py           writes the files
        scripts/make_interface.py --check   writes none, and fails where one would change"""
@@ -43,10 +43,10 @@ def constants():
     return numbers
 
 
-def kinds_of_effects():
-    """The names of all kinds, without that of no effect."""
-    names = [re.findall(r"HOUND_(\w+)", body) for body in bodies_of_enums()]
-    return next(names for names in names if names[0] == "NOTHING")[1:]
+def names_from(first):
+    """The names of the enum that begins with this one."""
+    enums = [re.findall(r"HOUND_(\w+)", body) for body in bodies_of_enums()]
+    return next(names for names in enums if names[0] == first)
 
 
 def errors():
@@ -99,8 +99,10 @@ def kinds_of_files():
 
 
 NUMBERS = constants()
-# The kinds of effects, of which no package may lack one.
-EFFECTS = kinds_of_effects()
+# The enums of which no package may lack a name: the kinds of effects, without that of no effect, and how one ended; the
+# formats of samples; how a file was found; what a repairer does, and what a recorder may do.
+EFFECTS, REPORTS, FORMATS = names_from("NOTHING")[1:], names_from("PENDING"), names_from("INT")
+STATES, MODES, ALLOWED = names_from("WHOLE"), names_from("FIND_DAMAGE"), names_from("MEND")
 ERRORS = errors()
 STRUCTS = structs()
 FILES = kinds_of_files()
@@ -166,11 +168,11 @@ def type_rust(kind, count):
 def structs_rust():
     lines = []
     for kind, names in (
-        ("usize", "EFFECT_BYTES HEADER_BYTES"),
-        ("u16", " ".join(["NOTHING", *EFFECTS, "PENDING DONE FAILED INT FLOAT"])),
-        ("u32", "FIND_DAMAGE REPAIR REPAIR_TO_END MAKE_CANONICAL MEND OVERWRITE"),
+        ("usize", ["EFFECT_BYTES", "HEADER_BYTES"]),
+        ("u16", ["NOTHING", *EFFECTS, *REPORTS, *FORMATS]),
+        ("u32", [*STATES, *MODES, *ALLOWED]),
     ):
-        lines += [f"pub const {name}: {kind} = {NUMBERS[name]};" for name in names.split()]
+        lines += [f"pub const {name}: {kind} = {NUMBERS[name]};" for name in names]
     for name, (fields, size) in STRUCTS.items():
         derived = {"spec": "Clone, Copy, Debug, Default", "effect": "Clone, Debug"}.get(name, "Clone, Debug, Default")
         lines += ["", "#[repr(C)]", f"#[derive({derived})]", f"pub struct {camel(name)} {{"]
@@ -201,10 +203,9 @@ def type_python(kind, count):
 
 
 def structs_python():
-    groups = (("FIND_DAMAGE", "REPAIR", "REPAIR_TO_END", "MAKE_CANONICAL"), ("MEND", "OVERWRITE"))
     lines = [
         f"{', '.join('_' + name for name in names)} = {', '.join(str(NUMBERS[name]) for name in names)}"
-        for names in groups
+        for names in (MODES, ALLOWED)
     ]
     lines += [f"_{name} = {NUMBERS[name]}" for name in ("HEADER_BYTES", "KIND_RIFX", "KIND_FLOAT64")]
     for name, (fields, _) in STRUCTS.items():
@@ -233,10 +234,11 @@ def constants_js():
     for names in (
         ["INT", "FLOAT", "EFFECT_BYTES", "DONE", "FAILED"],
         EFFECTS,
-        ["FIND_DAMAGE", "REPAIR", "REPAIR_TO_END", "MAKE_CANONICAL", "OVERWRITE"],
+        [*MODES, "OVERWRITE"],
         ["KIND_UNKNOWN", "KIND_FLOAT64"],
     ):
         lines.append(f"const [{', '.join(names)}] = [{', '.join(str(NUMBERS[name]) for name in names)}];")
+    lines.append(f"const STATES = [{', '.join(states_js())}];")
     lines.append("const LAYOUT = {")
     for name, (fields, size) in STRUCTS.items():
         places = [f"{re.sub(r'_(.)', lambda at: at[1].upper(), field)}: {place}" for field, _, _, place in fields]
@@ -246,12 +248,17 @@ def constants_js():
     return [*lines, "};"]
 
 
+def states_js():
+    return [f'"{camel(name)[0].lower()}{camel(name)[1:]}"' for name in STATES]
+
+
 def files_js():
     return [f'[{number}, "{name}"],' for number, name in FILES]
 
 
 def codes_ts():
-    return ["export type Code =", *(line for line in wrapped([f'"{name}"' for name, _, _ in ERRORS], "  | ", " | "))]
+    names = wrapped([f'"{name}"' for name, _, _ in ERRORS], "  | ", " | ")
+    return [f"export type State = {' | '.join(states_js())};", "export type Code =", *names]
 
 
 # Each part that is made, by the words of the line before it.
@@ -267,7 +274,16 @@ PARTS = [
     ("bindings/js/hound.js", "The errors", errors_js),
     ("bindings/js/hound.js", "The constants, and where fields are", constants_js),
     ("bindings/js/hound.js", "The names of kinds of files", files_js),
-    ("bindings/js/hound.d.cts", "The names of errors", codes_ts),
+    ("bindings/js/hound.d.cts", "The names of states and errors", codes_ts),
+]
+# The names that each of these folders has to use outside of such parts, and how it writes them: a name that is new in
+# hound.h is one that no code of a package knows yet.
+USES = [
+    ("bindings/c", r"\bHOUND_{}\b", EFFECTS),
+    ("bindings/rust/src", r"\bc::{}\b", [*EFFECTS, *FORMATS, *STATES, *MODES, *ALLOWED]),
+    ("bindings/python/hound_bindings", r"\b_?{}\b", [*EFFECTS, *STATES, *MODES]),
+    ("bindings/js", r"\b{}\b", [*EFFECTS, *FORMATS, *MODES]),
+    ("bindings/js", r"\b{}: ", [name.strip('"') for name in states_js()]),
 ]
 # Where the version is, and the text that has it there.
 VERSIONS = [
@@ -292,15 +308,34 @@ VERSION_NUMBER = (
 # Tables of the pairs of bits and bytes that are read and written, which have to be that of the specification.
 PAIRS = "crates/hound_spec/specs/Header.antt", r"^pairs \w+ = (.*)$"
 TABLES = [
+    ("bindings/rust/src/lib.rs", r"^ +\(Format::\w+, (.*)\) => Container"),
     ("bindings/js/page/page.js", r"^const FORMS = (.*)$"),
     ("bindings/tests/repairs.py", r"^    pairs = (.*)$"),
     ("crates/hound_rows/expected.py", r"^PAIRS = (.*)$"),
+]
+# What names their bits alone: a sentence, and what is guessed or chosen from.
+CHOICES = [
+    (HEADER, r"not read or written \((.*)\)"),
+    ("bindings/js/guess.js", r"^const SAMPLE_FORMS = (.*)$"),
+    ("bindings/python/hound_bindings/lost.py", r"^_FORMS = (.*)$"),
+    ("bindings/python/hound_bindings/command.py", r'"choices": \[(.*?)\]'),
 ]
 
 
 def pairs_of(path, form):
     """The pairs of bits and bytes in the lines of this form."""
-    return set(re.findall(r"[(\[](\d+), (\d)\b", " ".join(re.findall(form, read(path), flags=re.M))))
+    return set(re.findall(r"\b(\d+), (\d)\b", " ".join(re.findall(form, read(path), flags=re.M))))
+
+
+def unused():
+    """The names that a folder has to use, and doesn't."""
+    made = re.compile(rf"{BEGIN}.*?{END}", flags=re.S)
+    for folder, form, names in USES:
+        names_there = [name for name in os.listdir(os.path.join(TOP, folder)) if "." in name]
+        # In hound.h itself they are defined.
+        paths = [os.path.join(folder, name) for name in names_there if name not in ("hound.h", "hound_c.c")]
+        code = "".join(made.sub("", read(path)) for path in paths)
+        yield from (f"{name} ({folder})" for name in names if not re.search(form.format(name), code))
 
 
 def with_part(path, text, words, lines):
@@ -340,6 +375,12 @@ def main():
     for path, form in TABLES:
         if pairs_of(path, form) != pairs_of(*PAIRS):
             fail(f"{path} has other pairs of bits and bytes than {PAIRS[0]}")
+    for path, form in CHOICES:
+        named = re.findall(r"\d+", " ".join(re.findall(form, read(path), flags=re.M)))
+        if set(named) != {bits for bits, _ in pairs_of(*PAIRS)}:
+            fail(f"{path} names other bits than {PAIRS[0]}")
+    if list(unused()):
+        fail(f"no code uses {', '.join(unused())}")
     changed = [path for path in files if files[path] != before[path]]
     if sys.argv[1:] and changed:
         fail(f"scripts/make_interface.py changes {', '.join(changed)}")

@@ -49,7 +49,7 @@ export interface Damage extends Spec {
    * How the file was found. With "allCounted" no sample is concerned: the header counts all whole frames, and only the
    * RIFF size isn't that of the canonical form, as where a program writes no pad byte after data of an odd length.
    */
-  state: "whole" | "cutOff" | "hasChunksAfterData" | "allCounted";
+  state: State;
   /** How many whole frames the file holds. */
   frames: number;
   /** How many whole frames the header counted; more than `frames` where it counts what the file doesn't hold. */
@@ -103,7 +103,8 @@ export interface Clipping {
   seed?: number;
 }
 
-// The names of errors, made from hound.h by scripts/make_interface.py.
+// The names of states and errors, made from hound.h by scripts/make_interface.py.
+export type State = "whole" | "cutOff" | "hasChunksAfterData" | "allCounted";
 export type Code =
   | "ENDED" | "UNSUPPORTED" | "OTHER_FORMAT" | "TOO_WIDE" | "NOT_WRITABLE" | "TRUNCATED" | "TOO_LONG"
   | "UNFINISHED_FRAME" | "NO_ROOM" | "NO_RIFF_TAG" | "NO_WAVE_TAG" | "NO_DATA_CHUNK" | "NO_FMT_CHUNK" | "FMT_SIZE"

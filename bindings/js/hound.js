@@ -121,6 +121,7 @@ const [INT, FLOAT, EFFECT_BYTES, DONE, FAILED] = [0, 1, 40, 1, 2];
 const [READ, WRITE, WRITE_BLOCK, SYNC, CUT, SYNC_FOLDER] = [1, 2, 3, 4, 5, 6];
 const [FIND_DAMAGE, REPAIR, REPAIR_TO_END, MAKE_CANONICAL, OVERWRITE] = [0, 1, 2, 3, 2];
 const [KIND_UNKNOWN, KIND_FLOAT64] = [65536, 65545];
+const STATES = ["whole", "cutOff", "hasChunksAfterData", "allCounted"];
 const LAYOUT = {
   spec: { sampleRate: 0, channels: 4, bitsPerSample: 6, bytesPerSample: 8, sampleFormat: 10, size: 12 },
   info: { spec: 0, samples: 12, dataStart: 16, size: 24 },
@@ -155,7 +156,7 @@ const WORDS = {
 class Memory {
   constructor({ exports }, size) {
     const { memory } = exports;
-    this.exports = exports;
+    this.calls = Object.fromEntries(Object.entries(exports).map(([name, call]) => [name.replace("hound_", ""), call]));
     this.start = PAGE * memory.grow(Math.ceil(size / PAGE));
     this.bytes = new Uint8Array(memory.buffer, this.start);
     this.view = new DataView(memory.buffer, this.start);
@@ -163,7 +164,11 @@ class Memory {
 
   /** Calls an export; addresses and lengths are those of a 64-bit processor. */
   call(name, ...numbers) {
-    return this.exports["hound_" + name](...numbers.map((number, i) => WORDS[name] === i ? number : BigInt(number)));
+    const word = WORDS[name];
+    for (let i = 0; i < numbers.length; i++) {
+      if (i !== word) numbers[i] = BigInt(numbers[i]);
+    }
+    return this.calls[name](...numbers);
   }
 
   at(place) {
@@ -281,19 +286,18 @@ function interleave({ samples, channels }, first, out) {
 /** Copies interleaved samples to the arrays of their channels, from a frame on. */
 function spread(samples, channels, start) {
   if (channels.length === 1) return channels[0].set(samples, start);
-  if (channels.length === 2) return spreadPairs(exact(samples), exact(channels[0]), exact(channels[1]), start);
-  const from = exact(samples);
-  channels.forEach((channel, i) => {
-    const to = exact(channel);
-    for (let place = i, frame = start; place < from.length; place += channels.length) to[frame++] = from[place];
+  const from = exact(samples), parts = channels.map((channel) => exact(channel).subarray(start));
+  if (channels.length === 2) return spreadPairs(from, ...parts);
+  parts.forEach((to, i) => {
+    for (let place = i, frame = 0; place < from.length; place += channels.length) to[frame++] = from[place];
   });
 }
 
 /** The same of two channels, in one pass, since most files have two. */
-function spreadPairs(from, left, right, start) {
-  for (let place = 0, frame = start; place < from.length; place += 2) {
-    left[frame] = from[place];
-    right[frame++] = from[place + 1];
+function spreadPairs(from, left, right) {
+  for (let frame = 0; frame < from.length >> 1; frame++) {
+    left[frame] = from[2 * frame];
+    right[frame] = from[2 * frame + 1];
   }
 }
 
@@ -442,13 +446,32 @@ function storedAs(type, spec) {
 /** An array of a type over the memory of the instance. */
 const arrayAt = (type, place, count) => new type.array(shared.bytes.buffer, shared.at(place), count);
 
-/** Decodes containers, and returns their samples, which are in the memory of the instance until the next call. */
-function decode(type, spec, bytes) {
-  const stored = storedAs(type, spec);
+// The types whose containers are numbers of this machine already: what decodes and encodes these copies them only.
+const OWN = [TYPES.int16, TYPES.int32, TYPES.float32];
+
+/** The numbers in these containers, if this machine has them as they are, and a type has room for them. */
+function numbersIn(bytes, { bitsPerSample, isFloat }, type) {
+  const own = OWN.find((one) => one.bits === bitsPerSample && one.isFloat === isFloat);
+  if (!own || own.bits > type.bits || isFloat !== type.isFloat) return undefined;
+  const size = own.array.BYTES_PER_ELEMENT;
+  return bytes.byteOffset % size === 0 ? new own.array(bytes.buffer, bytes.byteOffset, bytes.length / size) : undefined;
+}
+
+/** Decodes containers to the memory of the instance, and returns how many. */
+function decodeTo(place, stored, spec, bytes) {
   shared.putSpec(spec);
   shared.bytes.set(bytes, FIRST);
-  const places = [shared.at(FIRST), bytes.length, shared.at(SECOND), BLOCK];
-  const count = checked(shared.call("decode_" + stored.call, shared.at(SPEC), ...places));
+  const places = [shared.at(FIRST), bytes.length, shared.at(place), BLOCK];
+  return checked(shared.call("decode_" + stored.call, shared.at(SPEC), ...places));
+}
+
+/** Decodes containers, and returns their samples, which stay until the next call: in the memory of the instance, or in
+    the file. */
+function decode(type, spec, bytes) {
+  const stored = storedAs(type, spec), numbers = numbersIn(bytes, spec, stored);
+  if (numbers instanceof type.array) return numbers;
+  if (numbers) arrayAt(stored, SECOND, numbers.length).set(numbers);
+  const count = numbers ? numbers.length : decodeTo(SECOND, stored, spec, bytes);
   if (type === stored) return arrayAt(type, SECOND, count);
   if (spec.isFloat) {
     checked(shared.call("f32_to_f64", shared.at(SECOND), count, shared.at(FIRST), count));
@@ -490,9 +513,17 @@ function convert(type, spec, count, noise) {
 
 /** Encodes so many given samples from a number on into an array, and returns how many were clipped. */
 function encodeBlock(given, spec, first, count, out, noise) {
-  const { type } = given, stored = storedAs(type, spec);
+  const { type } = given, stored = storedAs(type, spec), numbers = numbersIn(out, spec, stored);
+  if (numbers instanceof type.array) {
+    interleave(given, first, numbers);
+    return 0;
+  }
   interleave(given, first, arrayAt(type, FIRST, count));
   const clipped = type === stored ? 0 : convert(type, spec, count, noise);
+  if (numbers && type !== stored) { // The library has clipped them to these bits.
+    numbers.set(arrayAt(stored, SECOND, count));
+    return clipped;
+  }
   const [from, to] = type === stored ? [FIRST, SECOND] : [SECOND, FIRST];
   checked(shared.call("encode_" + stored.call, shared.at(SPEC), shared.at(from), count, shared.at(to), out.length));
   out.set(shared.bytes.subarray(to, to + out.length));
@@ -513,7 +544,7 @@ export async function read(file, { start = 0, frames = Infinity, type, planar = 
   if (type !== undefined) typeNamed(type);
   const found = await info(given, { toEnd }), { channels, bytesPerSample, dataStart } = found;
   const form = typeNamed(type ?? (found.isFloat ? "float32" : found.bitsPerSample <= 16 ? "int16" : "int32"));
-  decode(form, found, new Uint8Array(0)); // An error where the type doesn't read the file.
+  decodeTo(SECOND, storedAs(form, found), found, new Uint8Array(0)); // An error where the type doesn't read the file.
   const counted = Math.max(Math.min(frames, found.frames - start), 0);
   const count = Math.min(counted, Math.floor((length - dataStart) / (channels * bytesPerSample)) - start);
   if (count <= 0 && counted > 0) throw new HoundError("TRUNCATED");
@@ -556,11 +587,11 @@ function encode(given, spec, out, place, width, noise) {
   return clipped;
 }
 
-/** The containers of the given samples, and how many samples were clipped. */
-function encoded(given, spec, noise) {
-  // Where there are samples, the calls that encode them say whether their type is written.
-  const width = given.count > 0 ? spec.bytesPerSample : widthOf(given.type, spec);
-  const data = new Uint8Array(given.count * width);
+/** The containers of the given samples, and how many samples were clipped. They are at the front of `room`, if that is
+    long enough. */
+function encoded(given, spec, noise, room = new Uint8Array(0)) {
+  const width = widthOf(given.type, spec), length = given.count * width;
+  const data = length <= room.length ? room.subarray(0, length) : new Uint8Array(length);
   return { data, clipped: encode(given, spec, data, 0, width, noise) };
 }
 
@@ -610,8 +641,6 @@ export async function write(samples, { onClipped = warn, dither, seed, ...format
   if (clipped > 0) onClipped(clipped);
   return file;
 }
-
-const STATES = ["whole", "cutOff", "hasChunksAfterData", "allCounted"];
 
 /** What a repairer of this mode finds in a file of so many bytes, once all that it requests is performed. */
 function repairBy(size, mode, perform) {
@@ -809,6 +838,7 @@ class Recorder {
   #noise;
   #last = Promise.resolve();
   #requests = 0;
+  #room; // What the last block was in: the next one is, too, if nothing is under way.
   #closing;
   #most; // How many frames a file has at most, where the recording continues in a next one.
   #paths = []; // The files of such a recording.
@@ -859,7 +889,9 @@ class Recorder {
     this.#checkOpen();
     const given = taken(samples), first = noiseOf({ dither, seed });
     checkChannels(given.channels, this.spec.channels);
-    const { data, clipped } = encoded(given, this.spec, first && (this.#noise ??= first));
+    const room = this.#requests === 0 ? this.#room : undefined;
+    const { data, clipped } = encoded(given, this.spec, first && (this.#noise ??= first), room);
+    if (data.length <= BLOCK_BYTES) this.#room = new Uint8Array(data.buffer);
     if (clipped > 0) onClipped(clipped);
     const isSplit = this.#most !== undefined && given.count % this.spec.channels === 0;
     return this.#queue(() => isSplit ? this.#writeInFiles(data) : this.#perform("recorder_write", data, given.count));

@@ -49,25 +49,24 @@ pub(crate) fn read_value<R: ReadContainer>(
     container: Option<Container>,
     size: usize,
 ) -> Option<io::Result<i32>> {
-    use SampleFormat::{Float, Int};
-    Some(match (format, container, size) {
-        (Float, Some(Container::Float), _) => reader.read_container().map(i32::from_le_bytes),
-        (Int, Some(Container::Int16), 2..) => {
+    use Container::{Float, Int16, Int24, Int24In4, Int32, Int8};
+    let is_int = format == SampleFormat::Int;
+    Some(match container? {
+        Float if !is_int => reader.read_container().map(i32::from_le_bytes),
+        Int16 if is_int && size >= 2 => {
             reader.read_container().map(|bytes| proved::value_16(u16::from_le_bytes(bytes).into()))
         }
-        (Int, Some(Container::Int24), 4..) => reader.read_container().map(|[low, middle, high]| {
+        Int24 if is_int && size >= 4 => reader.read_container().map(|[low, middle, high]| {
             proved::value_24(u32::from(u16::from_le_bytes([low, middle])) | u32::from(high) << 16)
         }),
-        (Int, Some(Container::Int32), 4..) => {
+        Int32 if is_int && size >= 4 => {
             reader.read_container().map(|bytes| proved::value_32(u32::from_le_bytes(bytes)))
         }
-        (Int, Some(Container::Int8), _) => {
-            reader.read_container().map(|bytes| proved::value_8(u8::from_le_bytes(bytes).into()))
-        }
-        (Int, Some(Container::Int24In4), 4..) => {
+        Int8 if is_int => reader.read_container().map(|bytes| proved::value_8(u8::from_le_bytes(bytes).into())),
+        Int24In4 if is_int && size >= 4 => {
             reader.read_container().map(|bytes| proved::value_24(u32::from_le_bytes(bytes)))
         }
-        _ => return None,
+        Float | Int8 | Int16 | Int24 | Int24In4 | Int32 => return None,
     })
 }
 

@@ -24,6 +24,7 @@ function byHand(data, { counted = data.length, after = [], riff, channels = 1, b
 
 const LIST = [...text("LIST"), ...u32(4), ...text("INFO")];
 const fails = (promise, code) => assert.rejects(promise, (error) => error instanceof HoundError && error.code === code);
+const bytesIn = ({ buffer, byteOffset, byteLength }) => new Uint8Array(buffer, byteOffset, byteLength);
 const bytes = async (file) => file instanceof Blob ? new Uint8Array(await file.arrayBuffer()) : file;
 
 /** Both kinds of files. */
@@ -119,6 +120,19 @@ test("24 bits take three bytes or four, and floats keep their bits", async () =>
   assert.deepEqual([...floats.subarray(68)], [0, 0, 0, 63, 0, 0, 0, 128]);
   assert.deepEqual(await read(floats), Float32Array.of(0.5, -0));
   assert.equal((await info(floats)).isFloat, true);
+});
+
+test("a file at an odd place of its buffer, which the library decodes, has the same samples", async () => {
+  const data = Array.from({ length: 480 }, (_, i) => i * i * 37 % 256);
+  for (const [bits, tag] of [[8, 1], [16, 1], [24, 1], [32, 1], [32, 3]]) {
+    const file = byHand(data, { bits, tag, channels: 2 }), odd = new Uint8Array(file.length + 1).subarray(1);
+    odd.set(file);
+    for (const type of [undefined, "int8", "int16", "int32", "float32", "float64"]) {
+      const all = (given) => read(given, { type }).then((samples) => [...bytesIn(samples)], ({ code }) => code);
+      assert.deepEqual(await all(file), await all(odd), `${bits} bits as ${type}`);
+    }
+    assert.equal((await read(odd)).length, 3840 / bits);
+  }
 });
 
 test("integers are read as floats whose full scale is 1", async () => {

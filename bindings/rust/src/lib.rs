@@ -130,17 +130,18 @@ pub struct Info {
 
 /// How a file was found.
 #[derive(Clone, Copy, Debug, PartialEq, Eq)]
+#[repr(u32)]
 pub enum State {
     /// Both sizes were right.
-    Whole,
+    Whole = c::WHOLE,
     /// The data length was wrong, as after a recording that was cut off.
-    CutOff,
+    CutOff = c::CUT_OFF,
     /// Chunks or a tag follow the data, and nothing was written.
-    HasChunksAfterData,
+    HasChunksAfterData = c::HAS_CHUNKS_AFTER_DATA,
     /// The data length counts all whole frames, so no sample is concerned: only the RIFF size isn't that of the
     /// canonical form, as where a program writes no pad byte after data of an odd length. [`repair`] leaves such a file
     /// as it is; [`repair_to_end`] and [`Mode::MakeCanonical`] write that size, and a missing pad byte.
-    AllCounted,
+    AllCounted = c::ALL_COUNTED,
 }
 
 /// What a file holds, and how it was found.
@@ -186,6 +187,10 @@ mod c {
     pub const FAILED: u16 = 2;
     pub const INT: u16 = 0;
     pub const FLOAT: u16 = 1;
+    pub const WHOLE: u32 = 0;
+    pub const CUT_OFF: u32 = 1;
+    pub const HAS_CHUNKS_AFTER_DATA: u32 = 2;
+    pub const ALL_COUNTED: u32 = 3;
     pub const FIND_DAMAGE: u32 = 0;
     pub const REPAIR: u32 = 1;
     pub const REPAIR_TO_END: u32 = 2;
@@ -302,42 +307,6 @@ mod c {
         pub fn hound_header(spec: *const Spec, samples: u64, out: *mut u8, capacity: usize) -> i64;
         pub fn hound_sizes(spec: *const Spec, data_start: u64, samples: u64, out: *mut u8, capacity: usize) -> i64;
         pub fn hound_find_damage(file: *const u8, length: usize, found: *mut Repair) -> i32;
-        pub fn hound_to_f32(samples: *const i32, count: usize, bits: u16, out: *mut f32, capacity: usize) -> i64;
-        pub fn hound_from_f32(
-            samples: *const f32,
-            count: usize,
-            bits: u16,
-            out: *mut i32,
-            capacity: usize,
-            clipped: *mut u64,
-        ) -> i64;
-        pub fn hound_to_f64(samples: *const i32, count: usize, bits: u16, out: *mut f64, capacity: usize) -> i64;
-        pub fn hound_from_f64(
-            samples: *const f64,
-            count: usize,
-            bits: u16,
-            out: *mut i32,
-            capacity: usize,
-            clipped: *mut u64,
-        ) -> i64;
-        pub fn hound_dither_f32(
-            samples: *const f32,
-            count: usize,
-            bits: u16,
-            state: *mut u64,
-            out: *mut i32,
-            capacity: usize,
-            clipped: *mut u64,
-        ) -> i64;
-        pub fn hound_dither_f64(
-            samples: *const f64,
-            count: usize,
-            bits: u16,
-            state: *mut u64,
-            out: *mut i32,
-            capacity: usize,
-            clipped: *mut u64,
-        ) -> i64;
         pub fn hound_f32_to_f64(samples: *const f32, count: usize, out: *mut f64, capacity: usize) -> i64;
         pub fn hound_f64_to_f32(
             samples: *const f64,
@@ -392,6 +361,33 @@ mod c {
     coding!(i32, hound_decode_i32, hound_encode_i32);
     coding!(f32, hound_decode_f32, hound_encode_f32);
 
+    macro_rules! scaling {
+        ($float:ty, $to:ident, $from:ident, $dither:ident) => {
+            extern "C" {
+                pub fn $to(samples: *const i32, count: usize, bits: u16, out: *mut $float, capacity: usize) -> i64;
+                pub fn $from(
+                    samples: *const $float,
+                    count: usize,
+                    bits: u16,
+                    out: *mut i32,
+                    capacity: usize,
+                    clipped: *mut u64,
+                ) -> i64;
+                pub fn $dither(
+                    samples: *const $float,
+                    count: usize,
+                    bits: u16,
+                    state: *mut u64,
+                    out: *mut i32,
+                    capacity: usize,
+                    clipped: *mut u64,
+                ) -> i64;
+            }
+        };
+    }
+    scaling!(f32, hound_to_f32, hound_from_f32, hound_dither_f32);
+    scaling!(f64, hound_to_f64, hound_from_f64, hound_dither_f64);
+
     macro_rules! calls {
         ($sample:ty, $read:ident, $write:ident, $append:ident) => {
             extern "C" {
@@ -433,7 +429,10 @@ impl Spec {
             channels: self.channels,
             bits_per_sample: self.bits_per_sample,
             bytes_per_sample: self.bytes_per_sample,
-            sample_format: if self.format == Format::Int { c::INT } else { c::FLOAT },
+            sample_format: match self.format {
+                Format::Int => c::INT,
+                Format::Float => c::FLOAT,
+            },
         }
     }
 
@@ -443,7 +442,11 @@ impl Spec {
             channels: spec.channels,
             bits_per_sample: spec.bits_per_sample,
             bytes_per_sample: spec.bytes_per_sample,
-            format: if spec.sample_format == c::INT { Format::Int } else { Format::Float },
+            format: match spec.sample_format {
+                c::INT => Format::Int,
+                c::FLOAT => Format::Float,
+                other => panic!("the library has found samples of a format {other}"),
+            },
         }
     }
 }
@@ -485,10 +488,11 @@ impl Repair {
             frames: found.frames,
             left_over: found.left_over,
             state: match found.state {
-                0 => State::Whole,
-                1 => State::CutOff,
-                2 => State::HasChunksAfterData,
-                _ => State::AllCounted,
+                c::WHOLE => State::Whole,
+                c::CUT_OFF => State::CutOff,
+                c::HAS_CHUNKS_AFTER_DATA => State::HasChunksAfterData,
+                c::ALL_COUNTED => State::AllCounted,
+                other => panic!("the library has found a file in a state {other}"),
             },
             data_start: found.data_start,
             length: found.length,
@@ -875,38 +879,59 @@ pub fn container_32(value: i32) -> Result<u32> {
     checked(unsafe { c::hound_container_32(value) }).map(|number| number as u32)
 }
 
-/// Scales integers of so many bits, from 1 to 32, to floats whose full scale is 1, and returns how many. Other
-/// bits are `NotWritable`, and where `out` is shorter the error is `NoRoom`.
-pub fn to_f32(samples: &[i32], bits: u16, out: &mut [f32]) -> Result<usize> {
-    // SAFETY: as above.
-    checked(unsafe { c::hound_to_f32(samples.as_ptr(), samples.len(), bits, out.as_mut_ptr(), out.len()) })
-}
+// The calls that scale samples to floats of a type, and those of this type to integers.
+macro_rules! scaling {
+    (
+        $float:ty;
+        $(#[$to_page:meta])* $to:ident = $hound_to:ident;
+        $(#[$from_page:meta])* $from:ident = $hound_from:ident;
+        $(#[$dither_page:meta])* $dither:ident = $hound_dither:ident;
+    ) => {
+        $(#[$to_page])*
+        pub fn $to(samples: &[i32], bits: u16, out: &mut [$float]) -> Result<usize> {
+            // SAFETY: as above; so below.
+            checked(unsafe { c::$hound_to(samples.as_ptr(), samples.len(), bits, out.as_mut_ptr(), out.len()) })
+        }
 
-/// Scales floats whose full scale is 1 to integers of so many bits, each to the nearest one, and returns
-/// how many were clipped. The errors are those of [`to_f32`].
-pub fn from_f32(samples: &[f32], bits: u16, out: &mut [i32]) -> Result<u64> {
-    let mut clipped = 0;
-    // SAFETY: as above.
-    checked(unsafe {
-        c::hound_from_f32(samples.as_ptr(), samples.len(), bits, out.as_mut_ptr(), out.len(), &mut clipped)
-    })?;
-    Ok(clipped)
-}
+        $(#[$from_page])*
+        pub fn $from(samples: &[$float], bits: u16, out: &mut [i32]) -> Result<u64> {
+            let (count, room, mut clipped) = (samples.len(), out.len(), 0);
+            checked(unsafe {
+                c::$hound_from(samples.as_ptr(), count, bits, out.as_mut_ptr(), room, &mut clipped)
+            })?;
+            Ok(clipped)
+        }
 
-/// Scales integers as [`to_f32`] does, to floats of 64 bits, which hold those of up to 32 bits.
-pub fn to_f64(samples: &[i32], bits: u16, out: &mut [f64]) -> Result<usize> {
-    // SAFETY: as above.
-    checked(unsafe { c::hound_to_f64(samples.as_ptr(), samples.len(), bits, out.as_mut_ptr(), out.len()) })
+        $(#[$dither_page])*
+        pub fn $dither(samples: &[$float], bits: u16, state: &mut u64, out: &mut [i32]) -> Result<u64> {
+            let (count, room, mut clipped) = (samples.len(), out.len(), 0);
+            checked(unsafe {
+                c::$hound_dither(samples.as_ptr(), count, bits, state, out.as_mut_ptr(), room, &mut clipped)
+            })?;
+            Ok(clipped)
+        }
+    };
 }
-
-/// Scales floats of 64 bits as [`from_f32`] does those of 32.
-pub fn from_f64(samples: &[f64], bits: u16, out: &mut [i32]) -> Result<u64> {
-    let mut clipped = 0;
-    // SAFETY: as above.
-    checked(unsafe {
-        c::hound_from_f64(samples.as_ptr(), samples.len(), bits, out.as_mut_ptr(), out.len(), &mut clipped)
-    })?;
-    Ok(clipped)
+scaling! {
+    f32;
+    /// Scales integers of so many bits, from 1 to 32, to floats whose full scale is 1, and returns how many. Other
+    /// bits are `NotWritable`, and where `out` is shorter the error is `NoRoom`.
+    to_f32 = hound_to_f32;
+    /// Scales floats whose full scale is 1 to integers of so many bits, each to the nearest one, and returns
+    /// how many were clipped. The errors are those of [`to_f32`].
+    from_f32 = hound_from_f32;
+    /// Scales floats as [`from_f32`] does, each with triangular noise of at most one step, which is added before it is
+    /// rounded. `state` begins as any number, the seed, and becomes the one for the samples after these.
+    dither_f32 = hound_dither_f32;
+}
+scaling! {
+    f64;
+    /// Scales integers as [`to_f32`] does, to floats of 64 bits, which hold those of up to 32 bits.
+    to_f64 = hound_to_f64;
+    /// Scales floats of 64 bits as [`from_f32`] does those of 32.
+    from_f64 = hound_from_f64;
+    /// Scales floats of 64 bits as [`dither_f32`] does those of 32.
+    dither_f64 = hound_dither_f64;
 }
 
 /// Widens floats to 64 bits, which are the same numbers, and returns how many.
@@ -923,25 +948,4 @@ pub fn f64_to_f32(samples: &[f64], out: &mut [f32]) -> Result<u64> {
         c::hound_f64_to_f32(samples.as_ptr(), samples.len(), out.as_mut_ptr(), out.len(), &mut infinite)
     })?;
     Ok(infinite)
-}
-
-/// Scales floats as [`from_f32`] does, each with triangular noise of at most one step, which is added before it is
-/// rounded. `state` begins as any number, the seed, and becomes the one for the samples after these.
-pub fn dither_f32(samples: &[f32], bits: u16, state: &mut u64, out: &mut [i32]) -> Result<u64> {
-    let mut clipped = 0;
-    // SAFETY: as above.
-    checked(unsafe {
-        c::hound_dither_f32(samples.as_ptr(), samples.len(), bits, state, out.as_mut_ptr(), out.len(), &mut clipped)
-    })?;
-    Ok(clipped)
-}
-
-/// Scales floats of 64 bits as [`dither_f32`] does those of 32.
-pub fn dither_f64(samples: &[f64], bits: u16, state: &mut u64, out: &mut [i32]) -> Result<u64> {
-    let mut clipped = 0;
-    // SAFETY: as above.
-    checked(unsafe {
-        c::hound_dither_f64(samples.as_ptr(), samples.len(), bits, state, out.as_mut_ptr(), out.len(), &mut clipped)
-    })?;
-    Ok(clipped)
 }

@@ -569,8 +569,9 @@ impl Recorder {
     /// a part of a frame it is [`UnfinishedFrame`](crate::Error::UnfinishedFrame), also with `mend`, since a recorder
     /// never cuts off what is counted: repair the file first.
     pub fn resume(found: &Repair, allowed: Allowed) -> Result<Recorder> {
+        let Allowed { mend, overwrite } = allowed;
         let (mut recorder, allowed) =
-            (c::Recorder::default(), c::MEND * u32::from(allowed.mend) + c::OVERWRITE * u32::from(allowed.overwrite));
+            (c::Recorder::default(), c::MEND * u32::from(mend) + c::OVERWRITE * u32::from(overwrite));
         checked(unsafe { c::hound_recorder_resume(&found.to_c(), allowed, &mut recorder) }.into())?;
         Ok(Recorder(recorder))
     }
@@ -637,6 +638,12 @@ mod tests {
                 _ => Err(crate::Error::NotPerformed),
             }
         }
+    }
+
+    #[test]
+    #[should_panic(expected = "a state 4")]
+    fn an_unknown_state_is_no_other_one() {
+        let _ = Repair::from_c(c::Repair { state: c::ALL_COUNTED + 1, ..c::Repair::default() });
     }
 
     #[test]
