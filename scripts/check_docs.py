@@ -190,7 +190,7 @@ def too_long():
     specs/. A long string counts nothing, so that it stays whole and a search for what is printed finds it. Left out are
     hound_c.c, which is made, and in the crates lists of names and data."""
     others = r"\s*((ghost |pub |unfoldable pub )?use |#\[tactic\(|\*b\"|\(0x13 |ghost counts: )"
-    string = r"\"[^\"]{70,}\"|'[^']{70,}'|`[^`]{70,}`"
+    string = r"\"[^\"]{70,}\"|'[^']{70,}'"
     code = r"(bindings|scripts|doubt)/.*\.([cm]?[jt]s|c|h|py|rs|sh)|crates/\w+/(src|specs)/.*\.(rt|antt)"
     code += "|example|hound|mutants|test"
     for path in glob.glob("**", root_dir=TOP, recursive=True):
@@ -199,7 +199,7 @@ def too_long():
             continue
         for number, line in enumerate(read(path).split("\n"), 1):
             if not path.startswith("crates/"):
-                line = re.sub(string, "", line)
+                line = re.sub(string + "|`[^`]{70,}`" * path.endswith("js"), "", line)
             if len(line) > 120 and not (path.startswith("crates/") and re.match(others, line)):
                 yield f"{path}:{number}", f"{len(line)} columns"
 

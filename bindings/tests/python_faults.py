@@ -250,7 +250,7 @@ CONTROLS = {
     "right": lambda: None,
     "a report before the effect": lambda: performed(late),
     "each report is that it is done": lambda: performed(reported),
-    "a block isn't cut off": lambda: performed(without(hound.disk.CUT)),
+    "a block isn't cut off": lambda: performed(without(hound.disk.SHORTEN)),
     "no block is written": lambda: performed(without(hound.disk.WRITE_BLOCK)),
     "counted early": counted_early,
     "effects forgotten": effects_forgotten,

@@ -70,8 +70,8 @@ WRONG = {
     ),
     "a device is taken for a file": ("S_ISREG(about.st_mode)", "1"),
     "a rejected block isn't cut off": (
-        "case HOUND_CUT: is_done = hound_file_cut(file->descriptor, effect->place) == 0;",
-        "case HOUND_CUT: is_done = 1;",
+        "case HOUND_SHORTEN: is_done = hound_file_shorten(file->descriptor, effect->place) == 0;",
+        "case HOUND_SHORTEN: is_done = 1;",
     ),
     "a report is taken for done": (
         "file->fault == 0) file->fault = errno;\n    effect->report = is_done ? HOUND_DONE : HOUND_FAILED;",

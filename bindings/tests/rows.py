@@ -301,7 +301,7 @@ def check_reports():
 
     assert streams._recorder_write(ctypes.byref(recorder), 3) == 0
     assert next_after(0) == next_after(0) == (1, hound.disk.WRITE_BLOCK, 44) and recorder.effect.length == 6
-    assert next_after(hound.disk.FAILED) == (1, hound.disk.CUT, 44)
+    assert next_after(hound.disk.FAILED) == (1, hound.disk.SHORTEN, 44)
     assert next_after(hound.disk.DONE)[0] == -Cause.NEEDS_CHECKPOINT
     assert streams._recorder_write(ctypes.byref(recorder), 3) == 0 and next_after(0) == (1, hound.disk.SYNC, 0)
     assert next_after(hound.disk.FAILED)[0] == streams._recorder_write(ctypes.byref(recorder), 3) == -Cause.SYNC_FAILED
@@ -310,8 +310,8 @@ def check_reports():
     for length, state, results in (
         (48, 0, [0, 0, 0, 0]),
         (46, 1, [-Cause.TRUNCATED] * 4),
-        (50, 1, [-Cause.IS_CUT_OFF, 0, -Cause.IS_CUT_OFF, 0]),
-        (56, 2, [-Cause.CHUNKS_FOLLOW, -Cause.CHUNKS_FOLLOW, 0, 0]),
+        (50, 1, [-Cause.NEEDS_MEND, 0, -Cause.NEEDS_MEND, 0]),
+        (56, 2, [-Cause.NEEDS_OVERWRITE, -Cause.NEEDS_OVERWRITE, 0, 0]),
     ):
         found = hound._Repair(spec, (length - 44) // 2, 0, state, 44, length, 4)
         begun = ctypes.byref(found), ctypes.byref(recorder)
@@ -323,7 +323,8 @@ def check_reports():
     repairer.effect.report = hound.disk.FAILED
     for _ in range(2):
         assert hound._repairer_next(ctypes.byref(repairer), ctypes.byref(found)) == -Cause.NOT_PERFORMED
-    met.update((Cause.NEEDS_CHECKPOINT, Cause.SYNC_FAILED, Cause.IS_CUT_OFF, Cause.CHUNKS_FOLLOW, Cause.NOT_PERFORMED))
+    met.update((Cause.NEEDS_CHECKPOINT, Cause.SYNC_FAILED, Cause.NEEDS_MEND, Cause.NEEDS_OVERWRITE))
+    met.add(Cause.NOT_PERFORMED)
 
 
 def main():

@@ -105,8 +105,8 @@ class Cause(enum.IntEnum):
     )
     NEEDS_CHECKPOINT = 27, "a write failed or a checkpoint is not done, and no samples are written before one is"
     SYNC_FAILED = 28, "a sync failed, and it is unknown what is stored"
-    IS_CUT_OFF = 29, "the recording was cut off, and has to be repaired first"
-    CHUNKS_FOLLOW = 30, "chunks or a tag follow the data, and would be overwritten"
+    NEEDS_MEND = 29, "the recording was cut off, and has to be repaired first"
+    NEEDS_OVERWRITE = 30, "chunks or a tag follow the data, and would be overwritten"
     NOT_PERFORMED = 31, "the file could not be read or written"
     # The end of what is made from hound.h.
 
@@ -153,8 +153,8 @@ _ADVICE = {
     Cause.TRUNCATED: "repair(path); open(file, to_end=True)",
     Cause.DATA_LENGTH: "repair(path); open(file, to_end=True)",
     Cause.FRAME_LENGTH: "repair(path); open(file, to_end=True)",
-    Cause.IS_CUT_OFF: "repair(path)",
-    Cause.CHUNKS_FOLLOW: "append(.., overwrite=True)",
+    Cause.NEEDS_MEND: "repair(path)",
+    Cause.NEEDS_OVERWRITE: "append(.., overwrite=True)",
 }
 
 

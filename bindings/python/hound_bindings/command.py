@@ -47,7 +47,7 @@ _ADVICE = {
     hound.Cause.TRUNCATED: "hound-wav repair, or --to-end",
     hound.Cause.DATA_LENGTH: "hound-wav repair, or --to-end",
     hound.Cause.FRAME_LENGTH: "hound-wav repair, or --to-end",
-    hound.Cause.IS_CUT_OFF: "hound-wav repair",
+    hound.Cause.NEEDS_MEND: "hound-wav repair",
     hound.Cause.TOO_LONG: "a WAV file has less than 4 GiB, so the rest needs another one",
 }
 _USUAL_HINT = "where a header is lost or damaged, --guess or --like makes a copy with a new one"

@@ -20,13 +20,13 @@ except ImportError:
     msvcrt = None  # type: ignore[assignment]
 
 __all__ = [
-    "CUT", "DONE", "Descriptor", "FAILED", "File", "Medium", "READ", "SYNC", "Stream", "WRITE", "WRITE_BLOCK",
+    "DONE", "Descriptor", "FAILED", "File", "Medium", "READ", "SHORTEN", "SYNC", "Stream", "WRITE", "WRITE_BLOCK",
     "check_object", "descriptor_of", "folder_of", "opened", "perform", "piece_of", "place_of", "put", "put_here",
     "read_at", "read_into", "replace", "sync", "sync_folder", "sync_once",
 ]  # fmt: skip
 
 # The kinds of effects, and how one ended, made from hound.h by scripts/make_interface.py.
-READ, WRITE, WRITE_BLOCK, SYNC, CUT, SYNC_FOLDER = 1, 2, 3, 4, 5, 6
+READ, WRITE, WRITE_BLOCK, SYNC, SHORTEN, SYNC_FOLDER = 1, 2, 3, 4, 5, 6
 DONE, FAILED = 1, 2
 # The end of what is made from hound.h.
 
@@ -138,7 +138,7 @@ def perform(effect: Any, file: "Medium", durable: bool, block: Iterable[Any] = (
     elif kind == READ:
         content = file.read_at(effect.length, place)
         effect.length, effect.bytes[: len(content)] = len(content), content
-    elif kind == CUT:
+    elif kind == SHORTEN:
         file.cut(place)
     elif kind == SYNC:
         file.sync(durable)

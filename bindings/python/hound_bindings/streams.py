@@ -729,7 +729,7 @@ class Writer(_OneAtATime):
                 if effect.kind == disk.SYNC and effect.report != disk.FAILED:
                     raise  # A signal handler raised it.
                 fault, effect.report = fault or error, disk.FAILED
-            if effect.kind == disk.CUT:
+            if effect.kind == disk.SHORTEN:
                 self._has_rest = effect.report == disk.FAILED
         if fault and code < 0:
             self._add_rest(fault)

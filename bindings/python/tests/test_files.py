@@ -177,21 +177,21 @@ class Files(unittest.TestCase):
         one, followed = array.array("h", [7]), by_hand(b"\1\2\3\4", after=CHUNK)
         for samples in one, array.array("h"):
             self.leave(followed)
-            self.fails(Cause.CHUNKS_FOLLOW, lambda: hound.append(self.path, samples))
+            self.fails(Cause.NEEDS_OVERWRITE, lambda: hound.append(self.path, samples))
             self.assert_file(followed)
         self.assertEqual(hound.append(self.path, one, overwrite=True), 50)
         self.assert_file(by_hand(b"\1\2\3\4\7\0"))
         self.leave(by_hand(b"\1\2", after=b"TAG" + bytes(125)))
-        self.fails(Cause.CHUNKS_FOLLOW, lambda: hound.append(self.path, one))
+        self.fails(Cause.NEEDS_OVERWRITE, lambda: hound.append(self.path, one))
 
     def test_an_append_to_what_was_cut_off(self):
         held = array.array("h", range(-24000, 24000)).tobytes()
         for cut_off, frames, cause in (
-            (by_hand(held, 0, riff=36), 48000, Cause.IS_CUT_OFF),  # as a recorder leaves it that was killed
-            (by_hand(held, 4), 48000, Cause.IS_CUT_OFF),
+            (by_hand(held, 0, riff=36), 48000, Cause.NEEDS_MEND),  # as a recorder leaves it that was killed
+            (by_hand(held, 4), 48000, Cause.NEEDS_MEND),
             (by_hand(held)[:-2], 47999, Cause.TRUNCATED),
             (by_hand(held, 0xFFFFFFFE), 48000, Cause.TRUNCATED),
-            (by_hand(held, 95999), 48000, Cause.IS_CUT_OFF),  # no whole frames
+            (by_hand(held, 95999), 48000, Cause.NEEDS_MEND),  # no whole frames
         ):
             for samples in array.array("h", [7]), array.array("h"):
                 for overwrite in False, True:
@@ -201,16 +201,16 @@ class Files(unittest.TestCase):
             self.assertEqual(hound.repair(self.path)[:2], (State.CUT_OFF, frames))
             self.assertEqual(hound.append(self.path, array.array("h", [7])), 44 + 2 * frames + 2)
             self.assert_file(by_hand(held[: 2 * frames] + b"\7\0"))
-        self.assertIn("repair", str(HoundError(Cause.IS_CUT_OFF)))
+        self.assertIn("repair", str(HoundError(Cause.NEEDS_MEND)))
         self.leave(by_hand(b"\x81\x82\x83", 0, width=1))  # A repair adds a pad byte.
-        self.fails(Cause.IS_CUT_OFF, lambda: hound.append(self.path, array.array("b", [4])))
+        self.fails(Cause.NEEDS_MEND, lambda: hound.append(self.path, array.array("b", [4])))
 
     def test_an_append_to_what_is_no_file_of_frames(self):
         torn = by_hand(b"\1\2\3", after=b"\0" + CHUNK)
         for contents, overwrite, cause in (
             (b"RIFX" + bytes(60), False, Cause.NO_RIFF_TAG),
             (b"RIFX" + bytes(60), True, Cause.NO_RIFF_TAG),
-            (torn, False, Cause.CHUNKS_FOLLOW),
+            (torn, False, Cause.NEEDS_OVERWRITE),
             (torn, True, Cause.UNFINISHED_FRAME),
         ):
             self.leave(contents)

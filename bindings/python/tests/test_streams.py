@@ -599,9 +599,9 @@ class Recordings(Case):
                 writer.write(SAMPLES[first:])
             self.assertEqual(content_of(self.path), by_hand(SAMPLES.tobytes(), chunk))
         for content, cause in (
-            (by_hand(SAMPLES.tobytes(), counted=8), Cause.IS_CUT_OFF),
-            (by_hand(SAMPLES.tobytes()) + chunk, Cause.CHUNKS_FOLLOW),
-            (by_hand(SAMPLES.tobytes(), counted=7), Cause.IS_CUT_OFF),
+            (by_hand(SAMPLES.tobytes(), counted=8), Cause.NEEDS_MEND),
+            (by_hand(SAMPLES.tobytes()) + chunk, Cause.NEEDS_OVERWRITE),
+            (by_hand(SAMPLES.tobytes(), counted=7), Cause.NEEDS_MEND),
             (b"RIFX" + bytes(60), Cause.NO_RIFF_TAG),
         ):
             self.leave(content)
@@ -1178,7 +1178,7 @@ class Recordings(Case):
             self.leave(content + last)
             for call in (lambda: hound.append_to(self.path).close(), lambda: hound.append(self.path, array.array("b"))):
                 if is_cut_off:
-                    self.fails(Cause.IS_CUT_OFF, call)
+                    self.fails(Cause.NEEDS_MEND, call)
                     self.assertEqual(content_of(self.path), content + last)
                 else:
                     call()

@@ -57,7 +57,7 @@ fn perform<M: Medium>(medium: &mut M, action: Action, block: &[u8], is_lost: boo
             put_all_at(medium, place, &size.to_le_bytes()).is_ok()
         }
         Action::WriteBlock(place, _) => put_all_at(medium, place, block).is_ok(),
-        Action::Read(..) | Action::Cut(_) => false,
+        Action::Read(..) | Action::Shorten(_) => false,
     };
     report_of(is_done, is_lost)
 }
@@ -310,7 +310,7 @@ fn error_of(error: RecorderError) -> Error
 {
     match error {
         RecorderError::Truncated => Error::FormatError("the data are cut off"),
-        RecorderError::HasChunksAfterData => Error::FormatError("more follows the data"),
+        RecorderError::NeedsOverwrite => Error::FormatError("more follows the data"),
         _ => Error::Unsupported,
     }
 }

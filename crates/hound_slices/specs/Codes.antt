@@ -48,8 +48,8 @@ error_code (Recorder recorder_errors.UnfinishedFrame) = negsuc 7
 error_code (Recorder recorder_errors.Truncated) = negsuc 5
 error_code (Recorder recorder_errors.NeedsCheckpoint) = negsuc 26
 error_code (Recorder recorder_errors.SyncFailed) = negsuc 27
-error_code (Recorder recorder_errors.CutOff) = negsuc 28
-error_code (Recorder recorder_errors.HasChunksAfterData) = negsuc 29
+error_code (Recorder recorder_errors.NeedsMend) = negsuc 28
+error_code (Recorder recorder_errors.NeedsOverwrite) = negsuc 29
 
 -- the error of bytes that are rejected by a look at them
 abbrev pub error_of_rejection : Rejection → CallError

@@ -7,7 +7,7 @@ use Rattle.hound_writer.specs.declared.effects.BeginningEffect.{BeginningEffect}
 use Rattle.hound_writer.specs.declared.effects.BeginningEffect.TheVariants as beginnings
 use Rattle.hound_writer.specs.declared.recorder.RecorderError.{RecorderError}
 use Rattle.hound_writer.specs.declared.effects.Action.{Action}
-use Rattle.hound_writer.specs.declared.effects.Action.TheVariants.{Read, Perform, WriteBlock, Cut}
+use Rattle.hound_writer.specs.declared.effects.Action.TheVariants.{Read, Perform, WriteBlock, Shorten}
 use Rattle.hound_writer.specs.declared.effects.Effect.TheVariants.{Sync, Pad, Size}
 use Rattle.hound_writer.specs.declared.effects.Report.{Report}
 use Rattle.hound_writer.specs.declared.effects.Report.TheVariants.{Pending, Done, Failed}
@@ -26,7 +26,7 @@ effect_of (Some (Perform (Pad at))) = effect_with 2 at 1 (replicate 40 0)
 effect_of (Some (Perform (Size at size))) = effect_with 2 at 4 (bytes_of 4 size ++ replicate 36 0)
 effect_of (Some (WriteBlock at len)) = effect_with 3 at len (replicate 40 0)
 effect_of (Some (Perform Sync)) = effect_with 4 0 0 (replicate 40 0)
-effect_of (Some (Cut at)) = effect_with 5 at 0 (replicate 40 0)
+effect_of (Some (Shorten at)) = effect_with 5 at 0 (replicate 40 0)
 
 -- what begins a file, as C has it
 abbrev pub beginning_of : WavSpecEx → Option BeginningEffect → HoundEffect

@@ -9,7 +9,6 @@ ghost use Rattle.hound.specs.declared.BeginningEffect.TheVariants.{Sync as Begin
 ghost use Rattle.hound.specs.declared.Effect.TheVariants.{Sync as EffectSync, Size as EffectSize};
 ghost use Rattle.hound.specs.declared.Report.TheVariants.{Pending as ReportPending, Done as ReportDone};
 ghost use Rattle.hound.specs.declared.Phase.TheVariants.{Saving as PhaseSaving, Writing as PhaseWriting};
-ghost use Rattle.hound.specs.declared.RecorderError.TheVariants.{HasChunksAfterData as RecorderErrorHasChunksAfterData};
 ghost use Rattle.hound.specs.declared.RepairState.TheVariants.{Whole as RepairStateWhole, HasChunksAfterData as RepairStateHasChunksAfterData, AllCounted as RepairStateAllCounted};
 ghost use Rattle.hound.specs.declared.Begin.{Begin};
 ghost use Rattle.hound.specs.declared.Begin.TheVariants.{New as BeginNew, Append as BeginAppend};
