@@ -194,16 +194,16 @@ def errors_python():
 
 
 def type_python(kind, count):
-    kind = f"ctypes.c_uint{BITS[kind]}" if kind in BITS else f"_{camel(kind[6:])}"
+    kind = f"ctypes.c_uint{BITS[kind]}" if kind in BITS else f"C{camel(kind[6:])}"
     return f"{kind} * {NUMBERS[count]}" if count else kind
 
 
 def structs_python():
-    lines = [f"{', '.join('_' + name for name in names)} = {', '.join(str(NUMBERS[name]) for name in names)}"
+    lines = [f"{', '.join(names)} = {', '.join(str(NUMBERS[name]) for name in names)}"
              for names in (("FIND_DAMAGE", "REPAIR", "REPAIR_TO_END", "MAKE_CANONICAL"), ("MEND", "OVERWRITE"))]  # fmt: skip
-    lines += [f"_{name} = {NUMBERS[name]}" for name in ("HEADER_BYTES", "KIND_RIFX", "KIND_FLOAT64")]
+    lines += [f"{name} = {NUMBERS[name]}" for name in ("HEADER_BYTES", "KIND_RIFX", "KIND_FLOAT64")]
     for name, (fields, _) in STRUCTS.items():
-        lines += ["", "", f"class _{camel(name)}(ctypes.Structure):", "    _fields_ = ["]
+        lines += ["", "", f"class C{camel(name)}(ctypes.Structure):", "    _fields_ = ["]
         lines += [f'        ("{field}", {type_python(kind, count)}),' for field, kind, count, _ in fields] + ["    ]"]
     return lines
 
@@ -253,10 +253,10 @@ PARTS = [
     ("bindings/rust/src/lib.rs", "The errors", errors_rust),
     ("bindings/rust/src/lib.rs", "The constants and structs", structs_rust),
     ("bindings/rust/src/lib.rs", "The names of kinds of files", files_rust),
-    ("bindings/python/hound_bindings/__init__.py", "The errors", errors_python),
-    ("bindings/python/hound_bindings/__init__.py", "The constants and structs", structs_python),
-    ("bindings/python/hound_bindings/__init__.py", "The names of what files are", files_python),
-    ("bindings/python/hound_bindings/disk.py", "The kinds of effects, and how one ended", kinds_python),
+    ("bindings/python/hound_bindings/_library.py", "The errors", errors_python),
+    ("bindings/python/hound_bindings/_library.py", "The constants and structs", structs_python),
+    ("bindings/python/hound_bindings/_library.py", "The names of what files are", files_python),
+    ("bindings/python/hound_bindings/_library.py", "The kinds of effects, and how one ended", kinds_python),
     ("bindings/js/hound.js", "The errors", errors_js),
     ("bindings/js/hound.js", "The constants, and where fields are", constants_js),
     ("bindings/js/hound.js", "The names of kinds of files", files_js),
@@ -270,7 +270,7 @@ VERSIONS = [
     ("bindings/hound/src/lib.rs", "names version 3.5.1+rattle.{}.\n"),
     ("bindings/python/pyproject.toml", '\nversion = "{}"\n'),
     ("bindings/python/backend.py", 'NAME, VERSION = "hound_bindings", "{}"\n'),
-    ("bindings/python/hound_bindings/__init__.py", '\n__version__ = "{}"\n'),
+    ("bindings/python/hound_bindings/_library.py", '\n__version__ = "{}"\n'),
     ("bindings/js/package.json", '"version": "{}",\n'),
     ("CHANGELOG.md", "# Changes\n\n## {} "),
 ]
@@ -282,6 +282,7 @@ VERSION_NUMBER = "crates/hound_c/src/lib.rt", "fn hound_version() -> i32\n    en
 # Tables of the pairs of bits and bytes that are read and written, which have to be that of the specification.
 PAIRS = "crates/hound_spec/specs/Header.antt", r"^pairs \w+ = (.*)$"
 TABLES = [
+    ("bindings/python/hound_bindings/_library.py", r"^(?:INTEGERS|FLOATS) = (.*)$"),
     ("bindings/js/page/page.js", r"^const FORMS = (.*)$"),
     ("bindings/tests/repairs.py", r"^    pairs = (.*)$"),
     ("crates/hound_rows/expected.py", r"^PAIRS = (.*)$"),
