@@ -198,18 +198,15 @@ def errors_python():
 
 
 def type_python(kind, count):
-    kind = f"ctypes.c_uint{BITS[kind]}" if kind in BITS else f"_{camel(kind[6:])}"
+    kind = f"ctypes.c_uint{BITS[kind]}" if kind in BITS else f"C{camel(kind[6:])}"
     return f"{kind} * {NUMBERS[count]}" if count else kind
 
 
 def structs_python():
-    lines = [
-        f"{', '.join('_' + name for name in names)} = {', '.join(str(NUMBERS[name]) for name in names)}"
-        for names in (MODES, ALLOWED)
-    ]
-    lines += [f"_{name} = {NUMBERS[name]}" for name in ("HEADER_BYTES", "KIND_RIFX", "KIND_FLOAT64")]
+    lines = [f"{', '.join(names)} = {', '.join(str(NUMBERS[name]) for name in names)}" for names in (MODES, ALLOWED)]
+    lines += [f"{name} = {NUMBERS[name]}" for name in ("HEADER_BYTES", "KIND_RIFX", "KIND_FLOAT64")]
     for name, (fields, _) in STRUCTS.items():
-        lines += ["", "", f"class _{camel(name)}(ctypes.Structure):", "    _fields_ = ["]
+        lines += ["", "", f"class C{camel(name)}(ctypes.Structure):", "    _fields_ = ["]
         lines += [f'        ("{field}", {type_python(kind, count)}),' for field, kind, count, _ in fields] + ["    ]"]
     return lines
 
@@ -267,10 +264,10 @@ PARTS = [
     ("bindings/rust/src/lib.rs", "The errors", errors_rust),
     ("bindings/rust/src/lib.rs", "The constants and structs", structs_rust),
     ("bindings/rust/src/lib.rs", "The names of kinds of files", files_rust),
-    ("bindings/python/hound_bindings/__init__.py", "The errors", errors_python),
-    ("bindings/python/hound_bindings/__init__.py", "The constants and structs", structs_python),
-    ("bindings/python/hound_bindings/__init__.py", "The names of what files are", files_python),
-    ("bindings/python/hound_bindings/disk.py", "The kinds of effects, and how one ended", kinds_python),
+    ("bindings/python/hound_bindings/_library.py", "The errors", errors_python),
+    ("bindings/python/hound_bindings/_library.py", "The constants and structs", structs_python),
+    ("bindings/python/hound_bindings/_library.py", "The names of what files are", files_python),
+    ("bindings/python/hound_bindings/_library.py", "The kinds of effects, and how one ended", kinds_python),
     ("bindings/js/hound.js", "The errors", errors_js),
     ("bindings/js/hound.js", "The constants, and where fields are", constants_js),
     ("bindings/js/hound.js", "The names of kinds of files", files_js),
@@ -293,7 +290,7 @@ VERSIONS = [
     ("bindings/hound/src/lib.rs", "names version 3.5.1+rattle.{}.\n"),
     ("bindings/python/pyproject.toml", '\nversion = "{}"\n'),
     ("bindings/python/backend.py", 'NAME, VERSION = "hound_bindings", "{}"\n'),
-    ("bindings/python/hound_bindings/__init__.py", '\n__version__ = "{}"\n'),
+    ("bindings/python/hound_bindings/_library.py", '\n__version__ = "{}"\n'),
     ("bindings/js/package.json", '"version": "{}",\n'),
     ("CHANGELOG.md", "# Changes\n\n## {} "),
 ]
@@ -309,6 +306,7 @@ VERSION_NUMBER = (
 PAIRS = "crates/hound_spec/specs/Header.antt", r"^pairs \w+ = (.*)$"
 TABLES = [
     ("bindings/rust/src/lib.rs", r"^ +\(Format::\w+, (.*)\) => Container"),
+    ("bindings/python/hound_bindings/_library.py", r"^(?:INTEGERS|FLOATS) = (.*)$"),
     ("bindings/js/page/page.js", r"^const FORMS = (.*)$"),
     ("bindings/tests/repairs.py", r"^    pairs = (.*)$"),
     ("crates/hound_rows/expected.py", r"^PAIRS = (.*)$"),
@@ -317,8 +315,6 @@ TABLES = [
 CHOICES = [
     (HEADER, r"not read or written \((.*)\)"),
     ("bindings/js/guess.js", r"^const SAMPLE_FORMS = (.*)$"),
-    ("bindings/python/hound_bindings/lost.py", r"^_FORMS = (.*)$"),
-    ("bindings/python/hound_bindings/command.py", r'"choices": \[(.*?)\]'),
 ]
 
 

@@ -8,30 +8,36 @@ import sys
 import warnings
 from typing import Any, Callable, ContextManager, Iterator, NamedTuple, Optional, Tuple
 
-from . import _POINTER, _SIZE, _SPARE, Cause, HoundError, Info, _checked, _function, _integer, _Spec
+from ._library import (
+    POINTER, SIZE, SPARE, Cause, CSpec, HoundError, Info, address, checked, function, integer,
+)  # fmt: skip
 
 __all__ = [
-    "BLOCK", "CODES", "Given", "Room", "Scale", "TYPES", "Take", "address", "are_containers", "check_columns",
-    "form_of", "is_converted", "kind_of", "noise_of", "spec_like", "type_of", "warn_caller", "width_of",
+    "BLOCK", "CODES", "Given", "READ_TYPES", "Room", "Scale", "TYPES", "Take", "are_containers", "check_columns",
+    "check_like", "exact_in", "form_of", "is_converted", "kind_of", "noise_of", "room_of", "spec_like", "spec_of",
+    "type_of", "warn_caller", "width_of",
 ]  # fmt: skip
 
 
 class Type(NamedTuple):
-    """A type of samples: the code of its arrays, the calls that read and write it, and the bits of its files."""
+    """A type of samples: the code of its arrays, the calls that read and write it, the bits of its files, and of the
+    widest integers that all are exact in it."""
 
     code: str
     kind: str
     bits: int
+    exact: int
 
 
 TYPES = {
-    "int8": Type("b", "i16", 8),
-    "int16": Type("h", "i16", 16),
-    "int32": Type("i", "i32", 32),
-    "int64": Type("q", "i32", 16),  # It has the values of narrower ones.
-    "float32": Type("f", "f32", 32),
-    "float64": Type("d", "f32", 32),
+    "int8": Type("b", "i16", 8, 8),
+    "int16": Type("h", "i16", 16, 16),
+    "int32": Type("i", "i32", 32, 32),
+    "int64": Type("q", "i32", 16, 64),  # It has the values of narrower ones.
+    "float32": Type("f", "f32", 32, 24),
+    "float64": Type("d", "f32", 32, 53),
 }
+READ_TYPES = [name for name in TYPES if name != "int64"]
 CODES = {"i8": "b", "i16": "h", "i32": "i", "f32": "f"}
 _LIBRARYS = ("int16", "int32", "float32")
 _FORMATS = {("l", 4): "int32", ("l", 8): "int64"}
@@ -45,50 +51,24 @@ BLOCK = 1 << 16
 Take = Callable[[int, Any, int], int]
 
 _TO_SCALED = {
-    name: _function(call, _POINTER, _SIZE, ctypes.c_uint16, _POINTER, _SIZE)
+    name: function(call, POINTER, SIZE, ctypes.c_uint16, POINTER, SIZE)
     for name, call in (("float32", "to_f32"), ("float64", "to_f64"))
 }
 _FROM_SCALED = {
-    name: _function(call, _POINTER, _SIZE, ctypes.c_uint16, _POINTER, _SIZE, _POINTER)
+    name: function(call, POINTER, SIZE, ctypes.c_uint16, POINTER, SIZE, POINTER)
     for name, call in (("float32", "from_f32"), ("float64", "from_f64"))
 }
 _DITHER = {
-    name: _function(call, _POINTER, _SIZE, ctypes.c_uint16, _POINTER, _POINTER, _SIZE, _POINTER)
+    name: function(call, POINTER, SIZE, ctypes.c_uint16, POINTER, POINTER, SIZE, POINTER)
     for name, call in (("float32", "dither_f32"), ("float64", "dither_f64"))
 }
-_f32_to_f64 = _function("f32_to_f64", _POINTER, _SIZE, _POINTER, _SIZE)
-_f64_to_f32 = _function("f64_to_f32", _POINTER, _SIZE, _POINTER, _SIZE, _POINTER)
-
-
-class address:  # noqa: N801
-    """The address and the number of bytes of a buffer, or of a copy where the buffer is read-only, not
-    contiguous or not aligned. They live as long as the context."""
-
-    def __init__(self, buffer: Any, align: int = 1) -> None:
-        self._buffer, self._align = buffer, align
-
-    def __enter__(self) -> Tuple[Any, int]:
-        self._kept: Any = None
-        view = self._view = memoryview(self._buffer)
-        if view.nbytes == 0:
-            return ctypes.addressof(_SPARE), 0
-        if view.c_contiguous and not view.readonly:
-            start = ctypes.c_char.from_buffer(view)
-            if ctypes.addressof(start) % self._align == 0:
-                self._kept = start
-                return ctypes.addressof(start), view.nbytes
-            del start
-        self._kept = self._buffer if isinstance(self._buffer, bytes) else view.tobytes()
-        return ctypes.cast(ctypes.c_char_p(self._kept), _POINTER).value, len(self._kept)
-
-    def __exit__(self, *_: Any) -> None:
-        self._kept = None
-        self._view.release()
+_f32_to_f64 = function("f32_to_f64", POINTER, SIZE, POINTER, SIZE)
+_f64_to_f32 = function("f64_to_f32", POINTER, SIZE, POINTER, SIZE, POINTER)
 
 
 def _start(samples: "array.array[Any]") -> int:
     """The address of an array of this package, which nobody else resizes."""
-    return samples.buffer_info()[0] if samples else ctypes.addressof(_SPARE)
+    return samples.buffer_info()[0] if samples else ctypes.addressof(SPARE)
 
 
 def form_of(view: memoryview, name: str, taken: str) -> Tuple[str, Optional[int]]:
@@ -120,22 +100,27 @@ def _is_of_numpy(dtype: Any) -> bool:
     return (dtype if isinstance(dtype, type) else type(dtype)).__module__.partition(".")[0] == "numpy"
 
 
-def type_of(dtype: Any, spec: _Spec) -> str:
+def exact_in(types: Tuple[str, ...], bits: int) -> str:
+    """The first of these types in which all integers of so many bits are exact, or the last one."""
+    return next((name for name in types if bits <= TYPES[name].exact), types[-1])
+
+
+def type_of(dtype: Any, spec: CSpec) -> str:
     """The name of a type that is requested, or of the narrowest from 16 bits on that reads a file."""
     if dtype is None:
-        return "float32" if spec.sample_format else ("int16" if spec.bits_per_sample <= 16 else "int32")
+        return "float32" if spec.sample_format else exact_in(("int16", "int32"), spec.bits_per_sample)
     name = _name_of(dtype)
-    if name not in TYPES or name == "int64":
+    if name not in READ_TYPES:
         raise TypeError(f"dtype is {dtype!r}: {READ}")
     return str(name)
 
 
-def _is_scaled(dtype: str, spec: _Spec) -> bool:
+def _is_scaled(dtype: str, spec: CSpec) -> bool:
     """Whether integers are floats, or become floats, whose full scale is 1."""
     return TYPES[dtype].kind == "f32" and not spec.sample_format
 
 
-def kind_of(dtype: str, spec: _Spec) -> str:
+def kind_of(dtype: str, spec: CSpec) -> str:
     """The calls that decode the samples of a file for a type."""
     if _is_scaled(dtype, spec):
         return "i32"
@@ -161,7 +146,7 @@ def is_converted(dtype: str, kind: str) -> bool:
     return CODES[kind] != TYPES[dtype].code
 
 
-def are_containers(dtype: str, spec: _Spec) -> bool:
+def are_containers(dtype: str, spec: CSpec) -> bool:
     """Whether the samples of a type are the containers of a file as they are, so that what decodes and encodes them
     copies them only: those of 8 bits aren't, since they have no sign in a file."""
     width = _WIDTHS[dtype]
@@ -170,12 +155,12 @@ def are_containers(dtype: str, spec: _Spec) -> bool:
     return is_number and is_same and sys.byteorder == "little"
 
 
-def _convert(part: "array.array[Any]", count: int, dtype: str, spec: _Spec, out: Any) -> None:
+def _convert(part: "array.array[Any]", count: int, dtype: str, spec: CSpec, out: Any) -> None:
     """Stores the first samples that the library decoded at an address, in another type."""
     if _is_scaled(dtype, spec):
-        _checked(_TO_SCALED[dtype](_start(part), count, spec.bits_per_sample, out, count))
+        checked(_TO_SCALED[dtype](_start(part), count, spec.bits_per_sample, out, count))
     elif dtype == "float64":
-        _checked(_f32_to_f64(_start(part), count, out, count))
+        checked(_f32_to_f64(_start(part), count, out, count))
     else:
         ctypes.memmove(out, part[:count].tobytes()[::2], count)  # The low bytes are those of int8.
 
@@ -230,7 +215,7 @@ class Room:
         if self._view is not None:
             self._view.release()
 
-    def bound(self, spec: _Spec, dtype: Any) -> "Room":
+    def bound(self, spec: CSpec, dtype: Any) -> "Room":
         self._channels, self._is_of_numpy = spec.channels, _is_of_numpy(dtype)
         self.dtype = type_of(dtype, spec) if self._view is None or dtype is not None else self._own_dtype
         self.kind = kind_of(self.dtype, spec)
@@ -256,7 +241,7 @@ class Room:
         else:
             self._array = _zeros(TYPES[self.dtype].code, count)
 
-    def fill(self, out: Any, count: int, spec: _Spec, kind: str, take: Take) -> int:
+    def fill(self, out: Any, count: int, spec: CSpec, kind: str, take: Take) -> int:
         """Stores at most so many samples of a file at an address, and returns how many. `take` decodes them by the
         calls of this kind."""
         if not is_converted(self.dtype, kind):
@@ -272,7 +257,7 @@ class Room:
             done += some
         return done
 
-    def keeps_containers(self, spec: _Spec) -> bool:
+    def keeps_containers(self, spec: CSpec) -> bool:
         """Whether the containers of a file are samples of this type."""
         return are_containers(self.dtype, spec)
 
@@ -282,7 +267,7 @@ class Room:
         if self._view is None:
             self._allocate(count)
         with memoryview(self._array if self._view is None else self._view) as view:
-            with view.cast("B") if count else memoryview(b"") as content:
+            with view.cast("B") if count else memoryview(bytearray()) as content:
                 yield content[: count * width_of(self.dtype)]
 
     @contextlib.contextmanager
@@ -291,12 +276,12 @@ class Room:
         with self.place(count) as (self._next, _):
             yield
 
-    def add(self, content: Any, count: int, spec: _Spec, decode: Any) -> None:
+    def add(self, content: Any, count: int, spec: CSpec, decode: Any) -> None:
         """Stores the samples of the first containers in some bytes after those before them."""
         size = spec.bytes_per_sample
 
         def take(first: int, place: Any, some: int) -> int:
-            return _checked(decode(ctypes.byref(spec), start + first * size, some * size, place, some))
+            return checked(decode(ctypes.byref(spec), start + first * size, some * size, place, some))
 
         with address(content) as (start, _):
             self.fill(self._next, count, spec, self.kind, take)
@@ -312,15 +297,49 @@ class Room:
         return _shaped(self._array, self._channels, always_2d)
 
 
-def spec_like(info: Info) -> _Spec:
+def room_of(out: Any) -> Room:
+    return out if isinstance(out, Room) else Room(out)
+
+
+def spec_like(info: Info) -> CSpec:
     """The spec of a file, with the bytes of its containers."""
     width = info.bytes_per_sample or (info.bits_per_sample + 7) // 8
-    return _Spec(info.sample_rate, info.channels, info.bits_per_sample, width, info.is_float)
+    return CSpec(info.sample_rate, info.channels, info.bits_per_sample, width, info.is_float)
+
+
+def check_like(like: Any) -> None:
+    if not (like is None or isinstance(like, Info)):
+        raise TypeError(f"like is {like!r}, and not an Info")
+
+
+def spec_of(
+    rate: Optional[int],
+    channels: Optional[int],
+    bits: Optional[int],
+    width: int,
+    is_float: Optional[bool],
+    like: Optional[Info],
+) -> CSpec:
+    """A spec of these numbers, and of those of `like` that aren't given."""
+    check_like(like)
+    if like is not None:
+        rate = like.sample_rate if rate is None else rate
+        channels = like.channels if channels is None else channels
+        if bits in (None, like.bits_per_sample):
+            bits, width = like.bits_per_sample, width or like.bytes_per_sample
+            is_float = like.is_float if is_float is None else is_float
+    return CSpec(
+        integer("rate", rate, 1, 0xFFFFFFFF),
+        integer("channels", channels, 1, 0xFFFF),
+        integer("bits", bits, 1, 0xFFFF),
+        integer("bytes_per_sample", width, 0, 0xFFFF),
+        bool(is_float),
+    )
 
 
 def noise_of(dither: Any) -> Optional[int]:
     """The state of the noise of a seed, if it isn't 0."""
-    return _integer("dither", dither, 0, sys.maxsize) or None
+    return integer("dither", dither, 0, sys.maxsize) or None
 
 
 def warn_caller(sentence: str) -> None:
@@ -353,9 +372,9 @@ class Scale:
             self._integers = _zeros("i", count)
         out = _start(self._integers), count, ctypes.byref(clipped)
         if self._noise is None:
-            _checked(_FROM_SCALED[dtype](start, count, self._bits, *out))
+            checked(_FROM_SCALED[dtype](start, count, self._bits, *out))
         else:
-            _checked(_DITHER[dtype](start, count, self._bits, ctypes.byref(self._noise), *out))
+            checked(_DITHER[dtype](start, count, self._bits, ctypes.byref(self._noise), *out))
         self.clipped += clipped.value
         return memoryview(self._integers)[:count]
 
@@ -369,7 +388,7 @@ def _rounded(start: Any, count: int) -> "array.array[float]":
     """The float32 that are nearest to float64 at an address; an error where one would be infinite and the sample
     isn't."""
     floats, infinite = _zeros("f", count), ctypes.c_uint64()
-    _checked(_f64_to_f32(start, count, _start(floats), count, ctypes.byref(infinite)))
+    checked(_f64_to_f32(start, count, _start(floats), count, ctypes.byref(infinite)))
     if infinite.value:
         raise HoundError(Cause.TOO_WIDE)
     return floats
@@ -422,13 +441,13 @@ class Given:
         part.count = part.view.nbytes // part.view.itemsize
         return part
 
-    def fits(self, spec: _Spec) -> bool:
+    def fits(self, spec: CSpec) -> bool:
         """Whether a file has a container for each value of this type, so that no sample is an error."""
         is_float = self.form.kind == "f32"
         is_narrow = self.dtype not in ("int64", "float64") and self.form.bits <= spec.bits_per_sample
         return _is_scaled(self.dtype, spec) or (is_narrow and is_float == bool(spec.sample_format))
 
-    def scale(self, spec: _Spec, noise: Optional[int]) -> Scale:
+    def scale(self, spec: CSpec, noise: Optional[int]) -> Scale:
         """What scales the samples for a file; an error where it has other channels, or noise can't be added to them."""
         check_columns(self._name, self.columns, spec.channels)
         if _is_scaled(self.dtype, spec):
@@ -437,20 +456,20 @@ class Given:
             raise ValueError("dither is for floats that become integers")
         return _UNSCALED
 
-    def containers(self, spec: _Spec) -> Optional[memoryview]:
+    def containers(self, spec: CSpec) -> Optional[memoryview]:
         """The bytes of the samples, where they are the containers of a file."""
         if self.count and self.view.c_contiguous and are_containers(self.dtype, spec):
             return self.view.cast("B")
         return None
 
-    def part(self, view: memoryview, spec: _Spec, scale: Scale) -> Tuple[str, Any]:
+    def part(self, view: memoryview, spec: CSpec, scale: Scale) -> Tuple[str, Any]:
         """Some of the samples as the library takes them: the calls, and a buffer."""
         is_scaled = _is_scaled(self.dtype, spec)
         if self.dtype in _LIBRARYS and not is_scaled:
             return self.form.kind, view
         return "i32" if is_scaled else self.form.kind, self._converted(view, spec, scale)
 
-    def parts(self, spec: _Spec, scale: Scale) -> Iterator[Tuple[str, Any]]:
+    def parts(self, spec: CSpec, scale: Scale) -> Iterator[Tuple[str, Any]]:
         """All samples so: they are one part, or where they are converted, parts of whole frames."""
         if self.dtype in _LIBRARYS and not _is_scaled(self.dtype, spec):
             yield self.form.kind, self.view
@@ -459,7 +478,7 @@ class Given:
         for first in range(0, len(self.view), rows):
             yield self.part(self.view[first : first + rows], spec, scale)
 
-    def _converted(self, view: memoryview, spec: _Spec, scale: Scale) -> Any:
+    def _converted(self, view: memoryview, spec: CSpec, scale: Scale) -> Any:
         """Samples in a type of the library, until the next ones."""
         if self.form.kind == "f32":
             with address(view, view.itemsize) as (start, length):
