@@ -76,6 +76,20 @@ carry() { # TARGET FILE
     (cd "$work/lib" && sha256sum "$2") >> "$work/lib/PROVED"
 }
 
+# Lets the memory of a module begin with 17 pages more, in which hound.js has what it passes to calls. It can't grow the
+# memory instead: where one of a program grows, V8 from then on makes a check at each access to any typed array.
+widen() { # FILE
+    python3 - "$1" << 'PYTHON'
+import sys
+with open(sys.argv[1], "r+b") as file:
+    module, memory = file.read(), bytes([5, 3, 1, 0, 17])  # The section of memories: one, of 17 pages at least.
+    if module.count(memory) != 1:
+        sys.exit("carry: the module's memory doesn't begin with 17 pages")
+    file.seek(module.index(memory) + 4)
+    file.write(bytes([17 + 17]))
+PYTHON
+}
+
 # Makes the module for a memory of 32 bits from the one for 64, and writes its lines of PROVED. A check without that
 # version of Binaryen takes the module over if it was made from the same one.
 lower() { # FROM TO
@@ -83,6 +97,7 @@ lower() { # FROM TO
     from=$(sha256sum < "$work/lib/$1")
     if [ "$(wasm-opt --version 2> /dev/null | cut -d ' ' -f 1-3)" = "wasm-opt version $binaryen" ]; then
         wasm-opt --enable-memory64 --enable-bulk-memory --memory64-lowering "$work/lib/$1" -o "$work/lib/$2"
+        widen "$work/lib/$2"
     elif [ -n "$check" ]; then
         echo "carry: passed over, since wasm-opt $binaryen (Debian: binaryen) isn't here: that it makes $2 from $1" >&2
         cp "bindings/lib/$2" "$work/lib/$2"
@@ -90,7 +105,7 @@ lower() { # FROM TO
         echo "carry: wasm-opt $binaryen (Debian: binaryen) isn't here, which makes $2 from $1" >&2
         exit 1
     fi
-    made "$2" "wasm-opt $binaryen (trusted) --memory64-lowering from $1, ${from:0:16}"
+    made "$2" "wasm-opt $binaryen (trusted) --memory64-lowering, and 17 pages of memory more, from $1, ${from:0:16}"
 }
 binaryen=108
 

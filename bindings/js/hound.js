@@ -152,13 +152,14 @@ const WORDS = {
   dither_f64: 2,
 };
 
-/** An instance of the module, and so much memory of it. */
+/** An instance of the module, and so much memory of it, which follows what the module itself uses and is there when it
+    is loaded. Nothing grows it, because V8 then makes a check at each access to any typed array of a program. */
 class Memory {
   constructor({ exports }, size) {
     const { memory } = exports;
     this.calls = Object.fromEntries(Object.entries(exports).map(([name, call]) => [name.replace("hound_", ""), call]));
-    this.start = PAGE * memory.grow(Math.ceil(size / PAGE));
-    this.bytes = new Uint8Array(memory.buffer, this.start);
+    this.start = PAGE * Math.ceil(Number(exports.__heap_base.value) / PAGE);
+    this.bytes = new Uint8Array(memory.buffer, this.start, size);
     this.view = new DataView(memory.buffer, this.start);
   }
 
@@ -283,7 +284,7 @@ function interleave({ samples, channels }, first, out) {
   });
 }
 
-/** Copies interleaved samples to the arrays of their channels, from a frame on. */
+/** Copies interleaved samples to the arrays of their channels, from a frame on, or all to one array. */
 function spread(samples, channels, start) {
   if (channels.length === 1) return channels[0].set(samples, start);
   const from = exact(samples), parts = channels.map((channel) => exact(channel).subarray(start));
@@ -457,28 +458,28 @@ function numbersIn(bytes, { bitsPerSample, isFloat }, type) {
   return bytes.byteOffset % size === 0 ? new own.array(bytes.buffer, bytes.byteOffset, bytes.length / size) : undefined;
 }
 
-/** Decodes containers to the memory of the instance, and returns how many. */
-function decodeTo(place, stored, spec, bytes) {
+/** Decodes containers by the library, and returns their samples, which stay in its memory until the next call. */
+function decodedIn(bytes, spec, stored) {
   shared.putSpec(spec);
   shared.bytes.set(bytes, FIRST);
-  const places = [shared.at(FIRST), bytes.length, shared.at(place), BLOCK];
-  return checked(shared.call("decode_" + stored.call, shared.at(SPEC), ...places));
+  const places = [shared.at(FIRST), bytes.length, shared.at(SECOND), BLOCK];
+  return arrayAt(stored, SECOND, checked(shared.call("decode_" + stored.call, shared.at(SPEC), ...places)));
 }
 
-/** Decodes containers, and returns their samples, which stay until the next call: in the memory of the instance, or in
-    the file. */
-function decode(type, spec, bytes) {
-  const stored = storedAs(type, spec), numbers = numbersIn(bytes, spec, stored);
-  if (numbers instanceof type.array) return numbers;
-  if (numbers) arrayAt(stored, SECOND, numbers.length).set(numbers);
-  const count = numbers ? numbers.length : decodeTo(SECOND, stored, spec, bytes);
-  if (type === stored) return arrayAt(type, SECOND, count);
+/** Decodes containers to the ends of some arrays, from this place of each on: to one, or to one for each channel. Where
+    samples are scaled they are in the memory of the instance as they will be in the arrays. */
+function decode(bytes, spec, type, parts, start) {
+  const stored = storedAs(type, spec), samples = numbersIn(bytes, spec, stored) ?? decodedIn(bytes, spec, stored);
+  if (type === stored) return spread(samples, parts, start);
+  const count = samples.length, size = count / parts.length;
+  const part = (of, place, i) => arrayAt(of, place + i * size * of.array.BYTES_PER_ELEMENT, size);
+  spread(samples, parts.map((_, i) => part(stored, FIRST, i)), 0);
   if (spec.isFloat) {
-    checked(shared.call("f32_to_f64", shared.at(SECOND), count, shared.at(FIRST), count));
+    checked(shared.call("f32_to_f64", shared.at(FIRST), count, shared.at(SECOND), count));
   } else {
-    checked(shared.call("to_" + type.call, shared.at(SECOND), count, spec.bitsPerSample, shared.at(FIRST), count));
+    checked(shared.call("to_" + type.call, shared.at(FIRST), count, spec.bitsPerSample, shared.at(SECOND), count));
   }
-  return arrayAt(type, FIRST, count);
+  parts.forEach((array, i) => array.set(part(type, SECOND, i), start));
 }
 
 /** The noise that is added to floats before they become integers, if it is requested: the state of its generator. */
@@ -544,25 +545,20 @@ export async function read(file, { start = 0, frames = Infinity, type, planar = 
   if (type !== undefined) typeNamed(type);
   const found = await info(given, { toEnd }), { channels, bytesPerSample, dataStart } = found;
   const form = typeNamed(type ?? (found.isFloat ? "float32" : found.bitsPerSample <= 16 ? "int16" : "int32"));
-  decodeTo(SECOND, storedAs(form, found), found, new Uint8Array(0)); // An error where the type doesn't read the file.
+  decodedIn(new Uint8Array(0), found, storedAs(form, found)); // An error where the type doesn't read the file.
   const counted = Math.max(Math.min(frames, found.frames - start), 0);
   const count = Math.min(counted, Math.floor((length - dataStart) / (channels * bytesPerSample)) - start);
   if (count <= 0 && counted > 0) throw new HoundError("TRUNCATED");
   const held = Math.max(count, 0), step = Math.floor(BLOCK / channels);
-  const samples = planar ? undefined : new form.array(held * channels);
-  const arrays = Array.from({ length: planar ? channels : 0 }, () => new form.array(held));
+  const each = planar ? 1 : channels;
+  const parts = Array.from({ length: channels / each }, () => new form.array(held * each));
   for (let frame = 0; frame < held; frame += step) {
     const from = dataStart + (start + frame) * channels * bytesPerSample;
     const to = from + Math.min(step, held - frame) * channels * bytesPerSample;
     const bytes = given instanceof Blob ? await bytesOf(given, from, to) : given.subarray(from, to);
-    const block = decode(form, found, bytes);
-    if (planar) {
-      spread(block, arrays, frame);
-    } else {
-      samples.set(block, frame * channels);
-    }
+    decode(bytes, found, form, parts, frame * each);
   }
-  return planar ? arrays : samples;
+  return planar ? parts : parts[0];
 }
 
 /** How many bytes a sample takes; an error where the type isn't written. */
@@ -690,7 +686,9 @@ export async function guess(file, { skip } = {}) {
 function decodedAs(form, bytes) {
   const type = form.isFloat ? TYPES.float32 : TYPES.int32;
   const spec = { ...form, sampleRate: 1, channels: 1 };
-  return decode(type, spec, bytes.subarray(0, bytes.length - bytes.length % form.bytesPerSample)).slice();
+  const samples = new type.array(Math.floor(bytes.length / form.bytesPerSample));
+  decode(bytes.subarray(0, samples.length * form.bytesPerSample), spec, type, [samples], 0);
+  return samples;
 }
 
 /** What a file becomes by effects: its own parts and those that were written, one after the other. The file stays. */

@@ -15,5 +15,9 @@ test("a module of another version is rejected", async () => {
     }
   }
   WebAssembly.instantiate = instantiate;
+});
+
+test("no memory grows, which would make each typed array of a program slower", async () => {
+  WebAssembly.Memory.prototype.grow = () => assert.fail("the memory grows");
   assert.equal((await write(Int16Array.of(1), { sampleRate: 8000 })).length, 46);
 });
