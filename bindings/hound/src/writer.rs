@@ -242,12 +242,27 @@ impl<W: Write + Seek> Core<W> {
     }
 
     // A type of the user's own writes its containers itself.
+    #[inline]
     fn write_own<S: Sample>(&mut self, mut samples: impl Iterator<Item = S>) -> Result<()> {
-        self.encode_buffered()?;
+        if self.count > 0 {
+            self.encode_buffered()?;
+        }
         let (WavSpecEx { spec, bytes_per_sample }, bytes) = (self.spec_ex, &mut self.bytes);
         bytes.truncate(self.waiting);
         samples.try_for_each(|sample| sample.write_padded(bytes, spec.bits_per_sample, bytes_per_sample))?;
         let end = bytes.len();
+        // One container, which waits: as below, without a division.
+        if end == self.waiting + self.width && end <= BLOCK * self.width && self.room > 0 && self.buffer.is_empty() {
+            self.room -= 1;
+            self.waiting = end;
+            return Ok(());
+        }
+        self.accept_own(end)
+    }
+
+    #[cold]
+    #[inline(never)]
+    fn accept_own(&mut self, end: usize) -> Result<()> {
         if (end - self.waiting) % self.width != 0 {
             return Err(Error::Unsupported);
         }
@@ -453,11 +468,10 @@ impl WavWriter<io::BufWriter<fs::File>> {
         spec: WavSpec,
     ) -> Result<WavWriter<io::BufWriter<fs::File>>> {
         let spec = spec.into();
-        let mut recorder = Recorder::begin(&spec)?;
+        Recorder::begin(&spec)?; // A file that there is stays as it is where the spec can't be written.
         let file = open_alone(fs::OpenOptions::new().write(true).create(true).truncate(false), filename.as_ref())?;
         let mut medium = Medium::of_file(file, Some(0), true);
-        for_each_beginning(&spec, |effect| effect.perform(&mut medium, &[]))?;
-        recorder.run(&mut medium, &[])??;
+        let recorder = Recorder::create(&spec, &mut medium)??;
         Ok(WavWriter::at(medium, &spec, recorder))
     }
 
@@ -487,30 +501,17 @@ impl WavWriter<io::BufWriter<fs::File>> {
     }
 }
 
-// Does this with each effect with which a file begins.
-fn for_each_beginning(
-    spec: &proved::Spec,
-    mut perform: impl FnMut(&mut proved::Effect) -> io::Result<()>,
-) -> Result<()> {
-    let mut number = 0;
-    while let Some(mut effect) = proved::beginning(spec, number)? {
-        perform(&mut effect)?;
-        number += 1;
-    }
-    Ok(())
-}
-
 // Writes the header of a new file by one call, as hound does, to a writer that is at its beginning, and returns its
 // length.
 fn write_header<W: Write>(writer: &mut W, spec: &proved::Spec) -> Result<u64> {
-    let (mut header, mut length) = ([0; proved::HEADER_BYTES], 0);
-    for_each_beginning(spec, |effect| {
+    let (mut header, mut length, mut number) = ([0; proved::HEADER_BYTES], 0, 0);
+    while let Some(effect) = proved::beginning(spec, number)? {
         if effect.kind() == proved::Kind::Write {
             header[length..][..effect.length()].copy_from_slice(effect.bytes());
             length += effect.length();
         }
-        Ok(())
-    })?;
+        number += 1;
+    }
     writer.write_all(&header[..length])?;
     Ok(length as u64)
 }
