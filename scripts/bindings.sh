@@ -1,6 +1,7 @@
 # What scripts/try_bindings.sh, scripts/try_install.sh and scripts/release.sh share.
 
-subject=${0##*/try_}
+subject=$(basename "$0" .sh)
+subject=${subject#try_}
 unset HOUND_C_LIB HOUND_C_LIBRARY HOUND_C_SOURCE
 export PYTHONDONTWRITEBYTECODE=1
 
