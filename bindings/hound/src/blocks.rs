@@ -19,7 +19,7 @@
 //! # Ok::<(), hound::Error>(())
 //! ```
 use crate::{Result, Sample, WavReader, WavWriter};
-pub use hound_bindings::Scaled;
+pub use crate::proved::Scaled;
 use std::io::{Read, Seek, Write};
 
 /// Reads blocks.

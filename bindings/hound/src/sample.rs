@@ -49,7 +49,7 @@ pub(crate) fn read_value<R: ReadContainer>(
     container: Option<Container>,
     size: usize,
 ) -> Option<io::Result<i32>> {
-    use Container::{Float, Int16, Int24, Int24In4, Int32, Int8};
+    use proved::Container::{Float, Int16, Int24, Int24In4, Int32, Int8};
     let is_int = format == SampleFormat::Int;
     Some(match container? {
         Float if !is_int => reader.read_container().map(i32::from_le_bytes),

@@ -12,8 +12,8 @@ const SHORTEST_CODED: usize = 32;
 /// Writes samples to a file, after its header, and the sizes into the header.
 ///
 /// The channels of a frame follow one another, and a file holds whole frames. Samples are buffered, up to 4096:
-/// `flush` writes them and the sizes, `finalize` does so and ends the file. A drop does it too where there was a
-/// sample, but its errors aren't seen, and neither are its panics.
+/// `flush` writes them and the sizes, `finalize` does so and ends the file. A drop does it too, unless the file was
+/// opened to append to and nothing was, but its errors aren't seen, and neither are its panics.
 pub struct WavWriter<W: Write + Seek> {
     pub(crate) core: Core<W>,
     batch: Vec<i16>,
@@ -313,7 +313,7 @@ impl<W: Write + Seek> WavWriter<W> {
     fn begin(mut writer: W, spec: &proved::Spec) -> Result<WavWriter<W>> {
         let recorder = Recorder::begin(spec)?;
         let length = write_header(&mut writer, spec)?;
-        Ok(WavWriter::at(Medium::new(writer, Some(length)), spec, recorder))
+        Ok(WavWriter::at(Medium::new(writer, Some(length)), spec, recorder).begun())
     }
 
     fn at(medium: Medium<W>, spec: &proved::Spec, recorder: Recorder) -> WavWriter<W> {
@@ -338,6 +338,12 @@ impl<W: Write + Seek> WavWriter<W> {
             batch: Vec::new(),
             finalized: false,
         }
+    }
+
+    // Of a new file the header that is written first has no sizes yet.
+    fn begun(mut self) -> WavWriter<W> {
+        self.core.is_begun = true;
+        self
     }
 
     /// Writes a sample, which is buffered.
@@ -497,7 +503,7 @@ impl WavWriter<io::BufWriter<fs::File>> {
         let recorder = Recorder::begin(&spec)?;
         let mut file = open()?;
         let length = write_header(&mut file, &spec)?;
-        Ok(WavWriter::at(Medium::of_file(file, Some(length), false), &spec, recorder))
+        Ok(WavWriter::at(Medium::of_file(file, Some(length), false), &spec, recorder).begun())
     }
 }
 

@@ -235,6 +235,8 @@ fn a_new_file_has_its_header_at_once() {
     let mut header = written::<i16>(MONO, &[]);
     header[4..8].fill(0); // The RIFF size is 0 until the first `flush`, as that of hound is.
     assert_eq!(fs::read(&path).unwrap(), header);
+    drop(WavWriter::create(&path, MONO).unwrap()); // which writes the sizes, as hound's does
+    assert_eq!(fs::read(&path).unwrap(), written::<i16>(MONO, &[]));
     fs::write(&path, "longer than a header, which is emptied before the new one is written").unwrap();
     let writer = WavWriter::create_durable(&path, FLOATS).unwrap();
     assert_eq!(fs::read(&path).unwrap(), written::<f32>(FLOATS, &[]));
