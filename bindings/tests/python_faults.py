@@ -317,7 +317,7 @@ def program(control, work, path, number, first, count, times):
     """The program that is killed, or whose calls fail: it prints how many frames it has reported."""
     CONTROLS[control]()
     case, end = CASES[int(number)], int(first)
-    hound.secrets.token_hex = lambda count: "part"
+    hound.files.secrets.token_hex = lambda count: "part"
     try:
         if "record" in work:
             record(work, path, case, end, int(count), int(times))

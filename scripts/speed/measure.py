@@ -3,7 +3,7 @@
 JavaScript beside soundfile and a plain loop. It writes the figures to docs/speed.tsv, of which scripts/speed_picture.py
 makes docs/speed.svg.
 
-usage: scripts/speed/measure.py ORIGINAL [--rounds N] [--samples N] [--no-instructions] [CASE...]
+usage: scripts/speed/measure.py ORIGINAL [--rounds N] [--samples N] [--no-instructions] [--write] [CASE...]
 
 ORIGINAL is the folder of the published crate. `crates/hound_bench` and `crates/hound_tool` have to be
 built (`rt run` there, or ./test).
@@ -13,7 +13,8 @@ read have to agree, and where the original writes the same bytes, those over wha
 counted by valgrind between the two looks at the clock, over 100,000 samples. What isn't installed
 (libsndfile, valgrind) leaves its column empty; without numpy and soundfile in this Python, or without Node, its
 cases keep their old figures. Those run in turn with what is beside them, with the library of bindings/lib. The last
-column of the file, the instructions before the code was made smaller, is kept."""
+column of the file, the instructions before the code was made smaller, is kept. Where cases are named, their figures are
+printed alone; with --write their rows are replaced."""
 import os
 import re
 import shutil
@@ -213,6 +214,9 @@ def main():
     if "--no-instructions" in words:
         words.remove("--no-instructions")
         counts = False
+    is_written = "--write" in words
+    if is_written:
+        words.remove("--write")
     if not words:
         sys.exit(__doc__)
     ours = os.path.join(TOP, "crates", "hound_bench", "out", "hound_bench")
@@ -270,7 +274,9 @@ def main():
             row.append(before.get(case, [""] * 10)[9])
             rows.append(row + [""] * 2)
             print("\t".join(row), flush=True)
-        if not words[1:]:
+        if words[1:]:
+            rows = list({**before, **{row[0]: row for row in rows}}.values())[1:]  # without the line of the columns
+        if is_written or not words[1:]:
             with open(figures, "w") as file:
                 file.write("\n".join("\t".join(row) for row in [COLUMNS] + rows) + "\n")
 

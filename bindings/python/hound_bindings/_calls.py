@@ -31,14 +31,13 @@ class OneAtATime:
         """Whether this is a forked process, and it belongs to another one."""
         return self._process not in (None, os.getpid())
 
-    def _begin(self, frame: Any, steps: List[Tuple[Any, Any]]) -> None:
-        """Notes the frame of a call, unless that of another call is below it."""
-        here, running = frame.f_back, self._running
-        while running and here:
-            if here is running[0]:
+    def _check_not_within(self, frame: Any) -> None:
+        """An error where the frame of another call is below that of a call."""
+        here = frame.f_back
+        while here:
+            if here is self._running[0]:
                 raise RuntimeError("a signal handler called this during another call of the same thread")
             here = here.f_back
-        self._running = frame, steps
 
     def _finish(self, state: Any) -> None:
         """The last step of a call; it is taken back if the call is cut off after it."""
@@ -58,12 +57,15 @@ def one_at_a_time(call: _Call) -> _Call:
     @functools.wraps(call)
     def guarded(self: OneAtATime, *arguments: Any, **named: Any) -> Any:
         steps: List[Tuple[Any, Any]] = []
-        if self._is_elsewhere():
+        if self._process is not None and self._is_elsewhere():
             what = f"this {type(self).__name__} belongs to the process that made it"
             raise RuntimeError(f"{what}, and not to a forked one: make one here")
         try:
             with self._lock:
-                self._begin(sys._getframe(), steps)
+                # No local variable has the frame, which would hold itself and what was given to the call.
+                if self._running:
+                    self._check_not_within(sys._getframe())
+                self._running = sys._getframe(), steps
                 try:
                     return call(self, *arguments, **named)
                 finally:

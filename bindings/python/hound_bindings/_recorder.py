@@ -1,6 +1,6 @@
 """What performs over a file what a walk, a repairer and a recorder of hound.h request, one effect after the other."""
-import ctypes
 import contextlib
+import ctypes
 import errno
 import itertools
 from typing import Any, Iterable, List, NamedTuple, Optional, Tuple, Union
@@ -58,9 +58,9 @@ def repaired(file: disk.Medium, mode: int, durable: bool, denied: Optional[Excep
 
 def begin(file: disk.Medium, spec: CSpec, durable: bool) -> None:
     """Performs the effects with which a file begins."""
-    effect = CEffect()
+    effect, given = CEffect(), ctypes.byref(spec)
     for number in itertools.count():
-        if checked(_beginning(ctypes.byref(spec), number, ctypes.byref(effect))) == 0:
+        if checked(_beginning(given, number, ctypes.byref(effect))) == 0:
             return
         disk.perform(effect, file, durable)
 
@@ -125,7 +125,13 @@ class Recorder(OneAtATime):
 
     def _request_block(self, count: int) -> None:
         """Requests the write of so many samples."""
-        self._request(_recorder_write, count)
+        checked(_recorder_write(ctypes.byref(self._settled()), count))
+
+    def _finish_block(self, recorder: CRecorder, clipped: int, noise: Optional[int]) -> None:
+        """Takes the recorder after a block, of whose samples so many were clipped, for the one from now on."""
+        now: Recording = self._state
+        clipped += now.clipped
+        self._finish(Recording(now.file, recorder, [], clipped, now.ended, now.frames_before, noise))
 
     def _give_up(self, before: Recording) -> None:
         """Closes the file, and cuts it off by the recorder from before a block, if the header counts what it did then.
@@ -140,21 +146,17 @@ class Recorder(OneAtATime):
         self._file.close()
 
     def _checkpoint(self) -> None:
-        self._request(_recorder_checkpoint)
+        _recorder_checkpoint(ctypes.byref(self._settled()))
         self._perform_all()
-
-    def _request(self, call: Any, *arguments: Any) -> None:
-        checked(call(ctypes.byref(self._settled()), *arguments) or 0)
 
     def _settled(self) -> CRecorder:
         """The recorder, with a report of its sync if one was begun. One that was cut off has failed: what it was to
         store may be lost though the next one succeeds."""
-        recorder: CRecorder = self._state.recorder
-        synced = self._state.synced
-        if synced:
-            recorder.effect.report = disk.DONE if len(synced) > 1 else disk.FAILED
-            synced.clear()
-        return recorder
+        state: Recording = self._state
+        if state.synced:
+            state.recorder.effect.report = disk.DONE if len(state.synced) > 1 else disk.FAILED
+            state.synced.clear()
+        return state.recorder
 
     def _perform_all(self, block: Iterable[Any] = ()) -> CRecorder:
         """Performs all that is requested, and returns the recorder after it. The state has no report of a block that is
@@ -163,29 +165,32 @@ class Recorder(OneAtATime):
         recorder: CRecorder = self._state.recorder
         while (code := _recorder_next(ctypes.byref(recorder))) == 1:
             effect = recorder.effect
+            kind = effect.kind
             try:
-                if effect.kind == disk.WRITE_BLOCK:
+                if kind == disk.WRITE_BLOCK:
                     recorder = self._written(block)
-                elif effect.kind == disk.SYNC and self._durable:
+                elif kind == disk.SYNC and self._durable:
                     self._sync()
                 else:
-                    disk.perform(effect, self._file, self._durable)
+                    disk.perform(effect, self._state.file, self._durable)
             except OSError as error:
-                if effect.kind == disk.SYNC and effect.report != disk.FAILED:
+                if kind == disk.SYNC and effect.report != disk.FAILED:
                     raise  # A signal handler raised it.
                 fault, effect.report = fault or error, disk.FAILED
-            if effect.kind == disk.SHORTEN:
+            if kind == disk.SHORTEN:
                 self._has_rest = effect.report == disk.FAILED
-        if fault and code < 0:
-            self._add_rest(fault)
-            raise fault
-        checked(code)
+        if code < 0:
+            if fault:
+                self._add_rest(fault)
+                raise fault
+            checked(code)
         return recorder
 
     def _written(self, block: Iterable[Any]) -> CRecorder:
         """The recorder once the block is written."""
-        recorder = CRecorder.from_buffer_copy(self._state.recorder)
-        disk.perform(recorder.effect, self._file, self._durable, block)
+        state: Recording = self._state
+        recorder = CRecorder.from_buffer_copy(state.recorder)
+        disk.perform(recorder.effect, state.file, self._durable, block)
         return recorder
 
     def _sync(self) -> None:

@@ -508,7 +508,7 @@ def _recorded(writer: hound.Writer, every: float) -> int:
                 break
             held += piece
             count = len(held) // size
-            writer.write(streams.decoded(held, count * channels, spec))
+            writer.write(conversion.decoded(held, count * channels, spec))
             held = held[count * size :]
     finally:
         stop.restore()

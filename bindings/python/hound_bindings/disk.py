@@ -23,7 +23,7 @@ from ._library import DONE, FAILED, READ, SHORTEN, SYNC, SYNC_FOLDER, WRITE, WRI
 
 __all__ = [
     "DONE", "Descriptor", "FAILED", "File", "Medium", "Memory", "READ", "SHORTEN", "SYNC", "Stream", "WRITE",
-    "WRITE_BLOCK", "check_object", "descriptor_of", "folder_of", "opened", "perform", "piece_of", "place_of", "put",
+    "WRITE_BLOCK", "check_object", "descriptor_of", "folder_of", "opened", "perform", "piece_of", "place_of",
     "put_here", "read_at", "read_into", "replace", "sync", "sync_folder", "sync_once",
 ]  # fmt: skip
 
@@ -88,12 +88,8 @@ def read_into(descriptor: int, room: memoryview, place: int) -> int:
     return done
 
 
-def put(descriptor: int, content: Any, place: int) -> None:
-    """Writes all of this at a place of a file."""
-    write = getattr(os, "pwrite", _pwrite)
-    done = write(descriptor, content, place)
-    if done == len(content):
-        return
+def _put_rest(write: Any, descriptor: int, content: Any, place: int, done: int) -> None:
+    """Writes what is left once so many bytes are written."""
     with memoryview(content) as left:
         while done < len(left):
             count = write(descriptor, left[done:], place + done)
@@ -133,8 +129,10 @@ def perform(effect: Any, file: "Medium", durable: bool, block: Iterable[Any] = (
     elif kind == WRITE:
         file.put(bytes(effect.bytes)[: effect.length], place)
     elif kind == READ:
-        content = file.read_at(effect.length, place)
-        effect.length, effect.bytes[: len(content)] = len(content), content
+        room = effect.bytes
+        content = file.read_at(effect.length, place)[: len(room)]
+        ctypes.memmove(room, content, len(content))
+        effect.length = len(content)
     elif kind == SHORTEN:
         file.cut(place)
     elif kind == SYNC:
@@ -205,10 +203,10 @@ class Descriptor:
         return int(os.fstat(self.descriptor).st_size)
 
     def read_at(self, count: int, place: int) -> bytes:
-        return read_at(self.descriptor, count, place)
+        return read_at(self._file.fileno(), count, place)
 
     def read_into(self, room: memoryview, place: int) -> int:
-        return read_into(self.descriptor, room, place)
+        return read_into(self._file.fileno(), room, place)
 
     def pieces(self, place: int, length: int, most: int) -> Iterator[Any]:
         """So many bytes from a place on, in pieces of this length, each of them until the next one."""
@@ -224,7 +222,10 @@ class Descriptor:
                 return
 
     def put(self, content: Any, place: int) -> None:
-        put(self.descriptor, content, place)
+        descriptor, write = self._file.fileno(), getattr(os, "pwrite", _pwrite)
+        done = write(descriptor, content, place)
+        if done < len(content):
+            _put_rest(write, descriptor, content, place, done)
 
     def cut(self, place: int) -> None:
         cut(self.descriptor, place)
@@ -303,6 +304,11 @@ def place_of(file: Any) -> Optional[int]:
         return int(file.tell())
     except (AttributeError, OSError):
         return None
+
+
+def start_of(file: Any) -> Optional[int]:
+    """Where a file is that was opened just now, or None where it can't be sought in."""
+    return 0 if stat.S_ISREG(os.fstat(file.fileno()).st_mode) else place_of(file)
 
 
 def _appends(file: Any) -> bool:

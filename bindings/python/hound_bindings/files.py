@@ -130,15 +130,16 @@ def to_bytes(
     """
     with conversion.Given(samples) as given:
         spec = _spec_for(given, rate, channels, bits, bytes_per_sample, like)
-        scale = given.scale(spec, conversion.noise_of(dither))
+        way = conversion.Way(given.dtype, spec)
+        scale = given.scale(way, conversion.noise_of(dither))
         file = bytearray(checked(_size(ctypes.byref(spec), given.count)))
         with address(file) as (out, capacity):
             empty = "f32" if spec.sample_format else "i16"
             used = checked(_write[empty](ctypes.byref(spec), SPARE, 0, out, capacity))
-            for kind, part in given.parts(spec, scale):
-                width = conversion.width_of(kind)
+            width = conversion.width_of(way.encodes)
+            for part in given.parts(way, scale):
                 with address(part, width) as (start, length):
-                    used = checked(_append[kind](out, capacity, used, start, length // width))
+                    used = checked(_append[way.encodes](out, capacity, used, start, length // width))
         scale.warn(given.count)
     return file
 

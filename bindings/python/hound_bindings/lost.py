@@ -43,10 +43,10 @@ def _read(file: disk.Descriptor, count: int, place: int) -> bytes:
 
 def copy(file: disk.Descriptor, part: Path) -> None:
     """Copies a file to a new one."""
-    with io.open(part, "xb", buffering=0) as new:
+    with disk.Descriptor(io.open(part, "xb", buffering=0)) as new:
         place = 0
         while content := _read(file, 1 << 20, place):
-            disk.put(new.fileno(), content, place)
+            new.put(content, place)
             place += len(content)
 
 
@@ -57,7 +57,7 @@ def recovered(path: Path, part: Path, like: Info, skip: int, durable: bool) -> I
         size, place, left = channels * spec.bytes_per_sample, skip, 0
         while content := _read(file, max((1 << 20) // size, 1) * size, place):
             place, left = place + len(content), len(content) % size
-            writer.write(streams.decoded(content, len(content) // size * channels, spec))
+            writer.write(conversion.decoded(content, len(content) // size * channels, spec))
             yield Progress(place, writer.tell(), left)
 
 
@@ -152,7 +152,7 @@ def _looked(blocks: List[List[int]], bits: int, is_float: bool, channels: int) -
 
 def _decoded(block: bytes, form: Info) -> "array.array[Any]":
     spec = conversion.spec_like(form)
-    return streams.decoded(block, len(block) // spec.bytes_per_sample, spec)
+    return conversion.decoded(block, len(block) // spec.bytes_per_sample, spec)
 
 
 def _are_usual(blocks: List["array.array[Any]"]) -> bool:

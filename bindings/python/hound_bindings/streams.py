@@ -1,5 +1,4 @@
 """Files that are read or written block by block: those that are read may come from a pipe."""
-import array
 import atexit
 import contextlib
 import ctypes
@@ -12,21 +11,19 @@ import types
 import warnings
 import weakref
 from typing import (
-    IO, Any, Generator, Iterable, Iterator, List, NamedTuple, NoReturn, Optional, Set, Tuple, Union,
+    IO, Any, Callable, Generator, Iterable, Iterator, List, NamedTuple, NoReturn, Optional, Set, Tuple, Union,
 )  # fmt: skip
 
 from . import conversion, disk
 from ._calls import OneAtATime, one_at_a_time
 from ._library import (
-    FIND_DAMAGE, FRONT_BYTES, HEADER_BYTES, OVERWRITE, POINTER, SIZE, SPARE, U64, Cause, CRecorder, CSpec, Dtype,
+    FIND_DAMAGE, FRONT_BYTES, HEADER_BYTES, OVERWRITE, POINTER, U64, Cause, CRecorder, CSpec, Dtype,
     HoundError, Info, Path, address, check_header, checked, function, info_from, integer, name_error, named,
 )  # fmt: skip
-from ._recorder import Recorder, begin, begun, repaired, resumed, walk_over, warn_of_rest
+from ._recorder import Recorder, Recording, begin, begun, repaired, resumed, walk_over, warn_of_rest
 
 __all__ = ["Reader", "Writer", "append_to", "create", "open"]
 
-_decode = {t: function("decode_" + t, POINTER, POINTER, SIZE, POINTER, SIZE) for t in ("i8", "i16", "i32", "f32")}
-_encode = {t: function("encode_" + t, POINTER, POINTER, SIZE, POINTER, SIZE) for t in ("i16", "i32", "f32")}
 _whole_frames = function("whole_frames", POINTER, U64)
 
 
@@ -40,15 +37,6 @@ class _Next(NamedTuple):
 # How many bytes are read at once, of them those that stay in the processor's cache, and how many frames a stream has at
 # most.
 _PIECE, _CACHED, _MOST_FRAMES = 1 << 20, 1 << 18, 1 << 46
-
-
-def decoded(content: bytes, count: int, spec: CSpec) -> "array.array[Any]":
-    """The first samples of these bytes."""
-    room = conversion.Room().bound(spec, None)
-    with room.opened(count):
-        room.add(content, count, spec, _decode[room.kind])
-    samples: "array.array[Any]" = room.result(count, False)
-    return samples
 
 
 class Reader(OneAtATime):
@@ -70,7 +58,7 @@ class Reader(OneAtATime):
         super().__init__()
         _READERS.add(self)
         self._name, self._to_end, self._front = file, to_end, b""
-        self._kinds: Set[str] = set()  # The calls that read the file.
+        self._checked: Set[conversion.Way] = set()  # Those by which the file can be read.
         self._is_own = isinstance(file, (str, os.PathLike))
         source: Any = file
         is_memory = isinstance(source, disk.Memory)
@@ -79,7 +67,7 @@ class Reader(OneAtATime):
         self._source: Any = io.open(source, "rb", buffering=0) if self._is_own else source
         self._state = _Next(0, [])
         try:
-            self._start = 0 if is_memory else disk.place_of(self._source)
+            self._start = 0 if is_memory else disk.start_of(self._source) if self._is_own else disk.place_of(source)
             # What is read at any place, so that a read can be done again, also by a forked process.
             self._placed: Union[disk.Descriptor, disk.Memory, None] = source if is_memory else None
             if self._is_own and self._start is not None and hasattr(os, "pread"):
@@ -142,6 +130,25 @@ class Reader(OneAtATime):
         return content
 
     def _find_data(self) -> None:
+        read = self._reading_on() if self._placed is None else self._reading_at(self._placed)
+        found = walk_over(types.SimpleNamespace(read_at=read), self._to_end)
+        self._spec, self._ways = found.spec, conversion.Ways(found.spec)
+        self._size = int(found.spec.bytes_per_sample * found.spec.channels)  # of a frame
+        self.info = info_from(found.spec, found.samples // found.spec.channels, found.data_start)
+        self._most = _MOST_FRAMES if self._to_end else self.info.frames
+
+    def _reading_at(self, source: Union[disk.Descriptor, disk.Memory]) -> Callable[[int, int], bytes]:
+        """What reads a part of a file: of its front, which has the header of most files, so that one call is enough."""
+        front = self._front = source.read_at(FRONT_BYTES, 0)
+
+        def read(count: int, place: int) -> bytes:
+            is_there = place + count <= len(front) or len(front) < FRONT_BYTES
+            return front[place : place + count] if is_there else source.read_at(count, place)
+
+        return read
+
+    def _reading_on(self) -> Callable[[int, int], bytes]:
+        """The same of an object, which is read no further than to the data."""
         taken = 0
 
         def take(count: int, place: int) -> bytes:
@@ -159,38 +166,35 @@ class Reader(OneAtATime):
                 pass  # What can't be sought in is read up to there.
             return take(count, place)
 
-        found = walk_over(types.SimpleNamespace(read_at=read), self._to_end)
-        self._spec = found.spec
-        self.info = info_from(found.spec, found.samples // found.spec.channels, found.data_start)
-        self._most = _MOST_FRAMES if self._to_end else self.info.frames
+        return read
 
-    def _stored(self, frames: int, size: int, room: conversion.Room) -> Tuple[int, bytes]:
+    def _stored(self, frames: int, room: conversion.Room) -> Tuple[int, bytes]:
         """How many of the next frames were stored, at most so many, and the bytes that came after them. Nothing is lost
         if a read fails."""
+        size, channels = self._size, room.way.channels
         length, place = frames * size, self.info.data_start + self._state.frame * size
-        is_small, channels = length <= _CACHED, self._spec.channels
+        is_small = length <= _CACHED
         if self._placed is not None and (is_small or self._placed.size() >= place + length):
-            count = self._stored_at(self._placed, place, frames, size, room)
+            count = self._stored_at(self._placed, place, frames, room)
             if count == frames or not is_small:  # Else the file became shorter, or holds fewer frames than it says.
                 return count, b""
         content = self._fill(length, place)
         count = min(checked(_whole_frames(ctypes.byref(self._spec), len(content))) // size, frames)
-        with room.opened(count * channels):
-            room.add(content, count * channels, self._spec, _decode[room.kind])
+        with room.place(count * channels) as (start, _):
+            room.decode(content, count * channels, start)
         return count, content[count * size :]
 
     def _stored_at(
-        self, source: Union[disk.Descriptor, disk.Memory], place: int, frames: int, size: int, room: conversion.Room
+        self, source: Union[disk.Descriptor, disk.Memory], place: int, frames: int, room: conversion.Room
     ) -> int:
         """How many of so many frames at a place were stored."""
-        channels, count = self._spec.channels, 0
-        if room.keeps_containers(self._spec):
-            with room.bytes_of(frames * channels) as content:
-                return source.read_into(content, place) // size
-        with room.opened(frames * channels):
+        size, way, count = self._size, room.way, 0
+        if way.are_containers:
+            return room.fill(frames * way.channels, lambda content: source.read_into(content, place)) // size
+        with room.place(frames * way.channels) as (start, _):
             for piece in source.pieces(place, frames * size, max(_CACHED // size, 1) * size):
                 whole = len(piece) // size
-                room.add(piece, whole * channels, self._spec, _decode[room.kind])
+                room.decode(piece, whole * way.channels, start + count * way.channels * way.width)
                 count += whole
         return count
 
@@ -204,18 +208,17 @@ class Reader(OneAtATime):
         that its header counts, those that it holds are returned, and the next call is an error.
         """
         frames = integer("frames", frames, -1, sys.maxsize)
-        room = conversion.room_of(out).bound(self._spec, dtype)
-        if room.kind not in self._kinds:  # Whether the type reads the file is known before a byte is taken.
-            check_header(_decode[room.kind](ctypes.byref(self._spec), SPARE, 0, SPARE, 0), lambda: self._front)
-            self._kinds.add(room.kind)
-        frame, channels = self._state.frame, self._spec.channels
+        room = conversion.room_of(out).bound(self._ways, dtype)
+        if room.way not in self._checked:  # Whether the type reads the file is known before a byte is taken.
+            check_header(conversion.check_readable(room.way), lambda: self._front)
+            self._checked.add(room.way)
+        frame = self._state.frame
         left = min(self._most - frame, room.most)
         frames = left if frames < 0 else min(frames, left)
-        size = self._spec.bytes_per_sample * channels
-        count, rest = self._stored(frames, size, room)
+        count, rest = self._stored(frames, room)
         if count == 0 and frames > 0 and not self._to_end:
             raise HoundError(Cause.TRUNCATED)
-        result = room.result(count * channels, always_2d)
+        result = room.result(count * room.way.channels, always_2d)
         self._finish(_Next(frame + count, [rest]))
         return result
 
@@ -320,6 +323,7 @@ class Writer(Recorder):
         self, file: Union[disk.File, disk.Stream], spec: CSpec, recorder: CRecorder, durable: bool, dither: int
     ) -> None:
         super().__init__(file, spec, recorder, durable, dither)
+        self._ways = conversion.Ways(spec)
         self._out = ctypes.create_string_buffer(0)
         _WRITERS[self] = file
         self._process = os.getpid()
@@ -347,7 +351,7 @@ class Writer(Recorder):
             self.close()
 
     def _check_open(self) -> None:
-        if self._file.is_closed:
+        if self._state.file.is_closed:
             raise ValueError("the Writer is closed")
 
     @property
@@ -383,11 +387,14 @@ class Writer(Recorder):
         """Writes whole frames, as `hound_bindings.write` takes them. After a write that failed it makes a checkpoint
         first, as `flush` does."""
         self._check_open()
-        with block if isinstance(block, conversion.Given) else conversion.Given(block, "block") as given:
+        given = block if isinstance(block, conversion.Given) else conversion.Given(block, "block")
+        try:
             if self._most is None:
                 self._write(given)
             else:
                 self._write_in_files(given, self._most)
+        finally:
+            given.view.release()
 
     def _write_in_files(self, given: conversion.Given, most: int) -> None:
         """Writes a block; or of one that is larger than a file may be what each file has room for."""
@@ -403,31 +410,33 @@ class Writer(Recorder):
             first += room
 
     def _write(self, given: conversion.Given) -> None:
-        scale = given.scale(self._spec, self._state.noise)
-        containers = given.containers(self._spec)
+        state: Recording = self._state
+        way = self._ways.of_given(given.dtype)
+        scale = given.scale(way, state.noise)
+        containers = given.containers(way)
         if containers is not None:
             with containers:
                 self._begin_block(given.count)
                 recorder = self._perform_all(_in_pieces(containers, _WRITTEN))
-        elif given.count > conversion.BLOCK and given.fits(self._spec):
-            with contextlib.closing(self._encoded(given.parts(self._spec, scale))) as pieces:
+        elif given.count > conversion.BLOCK and way.fits:
+            with contextlib.closing(self._encoded(given.parts(way, scale), way)) as pieces:
                 self._begin_block(given.count)
                 recorder = self._perform_all(pieces)
         else:
             # Where a sample may be an error all are encoded before any is written.
-            encoded = self._encoded_at_once(given, scale)
+            encoded = self._encoded_at_once(given, way, scale)
             self._begin_block(given.count)
             recorder = self._perform_all(encoded)
         if scale.clipped:
             scale.warn(given.count)
-        clipped = self._state.clipped + scale.clipped
-        self._finish(self._state._replace(recorder=recorder, synced=[], clipped=clipped, noise=scale.noise))
+        self._finish_block(recorder, scale.clipped, scale.noise)
 
     def _begin_block(self, count: int) -> None:
         """Requests the write of so many samples, in a next file where they have no room in this one."""
-        frames, torn = divmod(count, self._spec.channels)
-        if self._most is not None and not torn and frames > self.frames_left:
-            self._continue()
+        if self._most is not None:
+            frames, torn = divmod(count, self._spec.channels)
+            if not torn and frames > self.frames_left:
+                self._continue()
         self._request_block(count)
 
     def _split(self, frames: int) -> None:
@@ -484,29 +493,27 @@ class Writer(Recorder):
                 os.unlink(path)
         self._attempted = None
 
-    def _encoded(self, parts: Iterable[Tuple[str, Any]]) -> Generator[memoryview, None, None]:
+    def _encoded(self, parts: Iterable[Any], way: conversion.Way) -> Generator[memoryview, None, None]:
         """The bytes of all parts, in pieces that stay in the processor's cache, each of them until the next one."""
-        for kind, samples in parts:
-            width = conversion.width_of(kind)
+        width = conversion.width_of(way.encodes)
+        for samples in parts:
             with address(samples, width) as (start, length):
                 for first in range(0, length, conversion.BLOCK * width):
-                    yield self._piece(kind, start + first, min(conversion.BLOCK, (length - first) // width))
+                    yield self._piece(way, start + first, min(conversion.BLOCK, (length - first) // width))
 
-    def _encoded_at_once(self, given: conversion.Given, scale: conversion.Scale) -> List[Any]:
+    def _encoded_at_once(self, given: conversion.Given, way: conversion.Way, scale: conversion.Scale) -> List[Any]:
         """The same, of which each stays; a short block is one piece, until the next one."""
         if not 0 < given.count <= conversion.BLOCK:
-            return list(map(bytes, self._encoded(given.parts(self._spec, scale))))
-        kind, samples = given.part(given.view, self._spec, scale)
-        with address(samples, conversion.width_of(kind)) as (start, _):
-            return [self._piece(kind, start, given.count)]
+            return list(map(bytes, self._encoded(given.parts(way, scale), way)))
+        samples = given.part(given.view, way, scale)
+        with address(samples, conversion.width_of(way.encodes)) as (start, _):
+            return [self._piece(way, start, given.count)]
 
-    def _piece(self, kind: str, start: Any, count: int) -> memoryview:
+    def _piece(self, way: conversion.Way, start: Any, count: int) -> memoryview:
         """The bytes of so many samples at an address, until the next call."""
-        length = count * self._state.recorder.bytes_per_sample
-        if length > len(self._out):
-            self._out = ctypes.create_string_buffer(length)
-        used = checked(_encode[kind](ctypes.byref(self._spec), start, count, self._out, len(self._out)))
-        return memoryview(self._out)[:used]
+        if count * way.size > len(self._out):
+            self._out = ctypes.create_string_buffer(count * way.size)
+        return conversion.encoded(way, start, count, self._out)
 
     @one_at_a_time
     def flush(self) -> None:

@@ -863,6 +863,15 @@ class Files(unittest.TestCase):
         self.assertEqual(hound.read(self.path, out=good, dtype="int16"), memoryview(samples[:200]))
         good.append(1)  # Nothing holds it.
 
+    def test_a_header_that_is_longer_than_what_is_read_at_once(self):
+        """Each of its parts may be across the end of the first 4096 bytes, or after it."""
+        for length in range(4096 - 60, 4096 + 20):
+            content = by_hand(b"\1\0\2\0", before=b"JUNK" + struct.pack("<I", length) + bytes(length + length % 2))
+            self.leave(content)
+            for file in self.path, content, io.BytesIO(content):
+                samples, info = hound.read_with_info(file)
+                self.assertEqual((list(samples), info.data_start), ([1, 2], len(content) - 4))
+
     def test_a_large_file_that_is_shorter_than_its_header_says(self):
         """It needs no memory for what isn't there, and the whole frames that are there are read."""
         data, samples = self.large(2, 2, 200003)
