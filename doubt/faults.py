@@ -39,34 +39,65 @@ MONO = Shape(1, 16)
 
 # The recorders: the example `record`, with these last words, record.c, and the example of bindings/hound, which appends
 # without syncs, too, and which repairs a file that was cut off before it appends.
-PLAIN, DURABLE, APPENDING, UNSYNCED, REPAIRING = "plain", "durable", "appending", "unsynced-appending Cargo", "repairing Cargo"
+PLAIN, DURABLE, APPENDING, UNSYNCED, REPAIRING = (
+    "plain",
+    "durable",
+    "appending",
+    "unsynced-appending Cargo",
+    "repairing Cargo",
+)
 IN_C = {kind: f"{kind} C" for kind in (PLAIN, DURABLE, APPENDING)}
 IN_CARGO = {kind: f"{kind} Cargo" for kind in IN_C}
 WORDS = {PLAIN: [], DURABLE: ["durable"], APPENDING: ["durable", "append"]}
-WORDS.update({IN_C[kind]: ["--" + word for word in WORDS[kind]] + ["--overwrite"] * (kind != APPENDING) for kind in IN_C})
+WORDS.update(
+    {IN_C[kind]: ["--" + word for word in WORDS[kind]] + ["--overwrite"] * (kind != APPENDING) for kind in IN_C}
+)
 WORDS.update({IN_CARGO[kind]: WORDS[kind] for kind in IN_CARGO}, **{UNSYNCED: ["append"], REPAIRING: WORDS[APPENDING]})
 # Those of bindings/hound record samples of other shapes, too.
-SHAPES = {f"{kind} Cargo, {channels} channels of {bits} bits": Shape(channels, bits) for kind, channels, bits in [
-    (DURABLE, 1, 8), (APPENDING, 2, 24), (DURABLE, 3, 8), (APPENDING, 5, 16), (DURABLE, 6, 24)]}
+SHAPES = {
+    f"{kind} Cargo, {channels} channels of {bits} bits": Shape(channels, bits)
+    for kind, channels, bits in [
+        (DURABLE, 1, 8),
+        (APPENDING, 2, 24),
+        (DURABLE, 3, 8),
+        (APPENDING, 5, 16),
+        (DURABLE, 6, 24),
+    ]
+}
 WORDS.update({kind: WORDS[kind.split()[0]] for kind in SHAPES})
 # Wrong versions of the durable record.c, and of bindings/hound: what is in the place of a line of it.
-SYNC_IN_C, WRITE_IN_C = "case HOUND_SYNC: is_done = !file->is_durable", "    int32_t code = hound_recorder_write(&file->recorder, samples);"
+SYNC_IN_C, WRITE_IN_C = (
+    "case HOUND_SYNC: is_done = !file->is_durable",
+    "    int32_t code = hound_recorder_write(&file->recorder, samples);",
+)
 SYNC_BUT_IN_C = SYNC_IN_C.replace("file->is_durable", "(file->is_durable && file->recorder.number != {})")
 WRONG_IN_C = {
     "wrong C (sizes before the samples are synced)": (SYNC_IN_C, SYNC_BUT_IN_C.format(0)),
-    "wrong C (sizes before the samples)": (WRITE_IN_C, "    file->recorder.data_length += 2 * samples, hound_file_checkpoint(file), file->recorder.data_length -= 2 * samples;\n" + WRITE_IN_C),
+    "wrong C (sizes before the samples)": (
+        WRITE_IN_C,
+        "    file->recorder.data_length += 2 * samples, hound_file_checkpoint(file), file->recorder.data_length -= 2 * samples;\n"
+        + WRITE_IN_C,
+    ),
     "wrong C (sizes that aren't synced)": (SYNC_IN_C, SYNC_BUT_IN_C.format(3)),
 }
 SYNC, WRITTEN = "(self.sync)(&mut self.writer)", "Ok(self.recorder.run(&mut self.medium, &self.bytes[..length])??)"
 # Of a checkpoint's two syncs, that after the samples is the first.
-SYNC_ONE = ("static SYNCS: std::sync::atomic::AtomicUsize = std::sync::atomic::AtomicUsize::new(0); "
-            "if SYNCS.fetch_add(1, std::sync::atomic::Ordering::Relaxed) % 2 == {} {{ " + SYNC + " }} else {{ Ok(()) }}")
+SYNC_ONE = (
+    "static SYNCS: std::sync::atomic::AtomicUsize = std::sync::atomic::AtomicUsize::new(0); "
+    "if SYNCS.fetch_add(1, std::sync::atomic::Ordering::Relaxed) % 2 == {} {{ " + SYNC + " }} else {{ Ok(()) }}"
+)
 # The sizes count a block that is reported as done, and is written after that.
-BEFORE_IT = ("if let proved::Next::Effect(effect) = self.recorder.next()? { let place = effect.place(); effect.done(); "
-             "self.checkpoint()?; proved::Medium::write_at(&mut self.medium, place, &self.bytes[..length])?; } Ok(())")
+BEFORE_IT = (
+    "if let proved::Next::Effect(effect) = self.recorder.next()? { let place = effect.place(); effect.done(); "
+    "self.checkpoint()?; proved::Medium::write_at(&mut self.medium, place, &self.bytes[..length])?; } Ok(())"
+)
 ONLY_SYNC = "|writer| writer.get_ref().sync_data()"
-BUFFERED = ("BufWriter::with_capacity(0, file)", "BufWriter::with_capacity(1 << 16, file)",
-            "medium.write_at = Medium::write_without_seek;", "let _ = Medium::write_without_seek;")
+BUFFERED = (
+    "BufWriter::with_capacity(0, file)",
+    "BufWriter::with_capacity(1 << 16, file)",
+    "medium.write_at = Medium::write_without_seek;",
+    "let _ = Medium::write_without_seek;",
+)
 WRONG_IN_CARGO = {
     "wrong Cargo (no sync)": (ONLY_SYNC, "|_| Ok(())"),
     "wrong Cargo (a header that isn't synced)": ("file.sync_data()?;", ""),
@@ -86,7 +117,14 @@ WRONG_ON_FULL_DISKS = {
     LEFT: ("proved::Medium::cut(writer.get_mut(), place)", "{ let _ = (writer, place); Ok(()) }"),
 }
 BEGUN = "let mut recorder = Recorder::begin("
-WRONG_IN_FRAMES = {TORN: ("let whole = length - length % self.frame;", "let whole = length;", BEGUN + "&spec)?;", BEGUN + "&proved::Spec { channels: 1, ..spec })?;")}
+WRONG_IN_FRAMES = {
+    TORN: (
+        "let whole = length - length % self.frame;",
+        "let whole = length;",
+        BEGUN + "&spec)?;",
+        BEGUN + "&proved::Spec { channels: 1, ..spec })?;",
+    )
+}
 WORDS.update({what: ["--durable", "--overwrite"] for what in WRONG_IN_C})
 WORDS.update({what: ["durable"] + ["append"] * ("appends" in what) for what in (*WRONG_IN_CARGO, ENDED, LEFT, TORN)})
 SHAPES[TORN] = Shape(2, 16)
@@ -136,7 +174,12 @@ def file_of(count, shape):
         fmt = struct.pack("<IH", 16, 1) + front
     else:
         guid = bytes.fromhex("0100000000001000800000aa00389b71")
-        fmt = struct.pack("<IH", 40, 0xFFFE) + front + struct.pack("<HHI", 22, shape.bits, (1 << shape.channels) - 1) + guid
+        fmt = (
+            struct.pack("<IH", 40, 0xFFFE)
+            + front
+            + struct.pack("<HHI", 22, shape.bits, (1 << shape.channels) - 1)
+            + guid
+        )
     sizes = [struct.pack("<I", size) for size in (start - 8 + len(data) + len(data) % 2, len(data))]
     return b"RIFF" + sizes[0] + b"WAVEfmt " + fmt + b"data" + sizes[1] + data + bytes(len(data) % 2)
 
@@ -268,7 +311,9 @@ def kill(folder, count, kind):
             if kind != DURABLE:  # It continues after all that the file holds.
                 found = (os.path.getsize(path) - header_of(shape)) // width_of(shape)
             with given(folder, length, found) as file:
-                ran = subprocess.run(command(folder, path, length, kind.replace(DURABLE, APPENDING)), stdin=file, stdout=subprocess.PIPE)
+                ran = subprocess.run(
+                    command(folder, path, length, kind.replace(DURABLE, APPENDING)), stdin=file, stdout=subprocess.PIPE
+                )
             if ran.stdout != b"%d\nrecorded %d samples\n" % (found + length, found + length):
                 fail(f"kill {turn}: what continues its {found} samples says {ran.stdout}")
             look(path, ran.stdout, found, found + length, f"kill {turn}, continued")
@@ -277,7 +322,10 @@ def kill(folder, count, kind):
         if (turn + 1) % 100 == 0:
             print(f"faults: {turn + 1} of {count} recorders killed", flush=True)
     os.remove(endless)
-    print(f"killed {count} {kind} recorders: {least} to {most} samples in the file, more than were said in {between}", flush=True)
+    print(
+        f"killed {count} {kind} recorders: {least} to {most} samples in the file, more than were said in {between}",
+        flush=True,
+    )
     return count
 
 
@@ -378,7 +426,11 @@ def order(folder):
     os.mkdir(other)
     os.symlink(os.path.join("other", "linked.wav"), link)
     recorders = [("a durable", DURABLE, path), ("an appending", APPENDING, path), ("a linked", DURABLE, link)]
-    recorders += [(f"{what} {kinds[kind].split()[1]}", kinds[kind], to) for kinds in (IN_C, IN_CARGO) for what, kind, to in recorders]
+    recorders += [
+        (f"{what} {kinds[kind].split()[1]}", kinds[kind], to)
+        for kinds in (IN_C, IN_CARGO)
+        for what, kind, to in recorders
+    ]
     recorders.append(("a repairing Cargo", REPAIRING, path))
     start = header_of(MONO)
     for what, kind, to in recorders:
@@ -387,7 +439,9 @@ def order(folder):
         shown = " ".join(f"{name}({on})" for name, on in names)
         if kind == REPAIRING:
             last = max(at for at, name in enumerate(names) if name == ("openat", "file"))
-            steps = [call.place if call.name in WRITES else "sync" for call in calls[:last] if call.name in WRITES + SYNCS]
+            steps = [
+                call.place if call.name in WRITES else "sync" for call in calls[:last] if call.name in WRITES + SYNCS
+            ]
             if steps != ["sync", 4, "sync", 40, "sync"]:
                 fail(f"{what} recorder repairs in another order than sync, RIFF size, sync, data length, sync: {shown}")
             calls, names = calls[last:], names[last:]
@@ -405,11 +459,16 @@ def order(folder):
         if len(recorded) < 1 or len(syncs) < 2:
             fail(f"{what} recorder has no sync before and after the sizes: {shown}")
         begin, end = syncs[:2]
-        written = [call.given[max(start - call.place, 0) :] for call in calls[recorded[0] : begin] if call.name in WRITES]
+        written = [
+            call.given[max(start - call.place, 0) :] for call in calls[recorded[0] : begin] if call.name in WRITES
+        ]
         sizes = [call.place for call in calls[begin:end] if call.name in WRITES]
         if b"".join(written) != samples(40, BEFORE[kind]) or sizes != [4, 40]:
             fail(f"{what} recorder's checkpoint has another order than samples, sync, two sizes, sync: {shown}")
-    print("durable, appending and linked recorders: the file and its folder synced; samples, sync, two sizes, sync", flush=True)
+    print(
+        "durable, appending and linked recorders: the file and its folder synced; samples, sync, two sizes, sync",
+        flush=True,
+    )
     return len(recorders)
 
 
@@ -418,7 +477,12 @@ def is_wrong(contents, least, right, shape):
     start, width = header_of(shape), width_of(shape)
     (length,) = struct.unpack("<I", contents[start - 4 : start])
     held = contents[start : start + length]
-    return length // width < least or length % (width * shape.channels) != 0 or len(held) < length or held != right[:length]
+    return (
+        length // width < least
+        or length % (width * shape.channels) != 0
+        or len(held) < length
+        or held != right[:length]
+    )
 
 
 def lose(folder, kind):
@@ -494,6 +558,7 @@ def left_over(path, output, shape):
 def fill(folder, kind):
     """Records on a disk that fills up, and beyond the largest length of a file; counts the runs. Of what was rejected
     nothing stays in the file."""
+
     def limited():
         signal.signal(signal.SIGXFSZ, signal.SIG_IGN)
         resource.setrlimit(resource.RLIMIT_FSIZE, (limit, limit))
@@ -507,7 +572,13 @@ def fill(folder, kind):
     limits = [(limit, 90000, length) for limit in [10, 44, 45, 1000, 4096, 65536 + 44, 100001]]
     for limit, count, lot in [*limits, (last, 3 * large, large)]:
         with given(folder, count, 0, shape) as file:
-            ran = subprocess.run(command(folder, path, lot, kind), stdin=file, stdout=subprocess.PIPE, stderr=subprocess.DEVNULL, preexec_fn=limited)
+            ran = subprocess.run(
+                command(folder, path, lot, kind),
+                stdin=file,
+                stdout=subprocess.PIPE,
+                stderr=subprocess.DEVNULL,
+                preexec_fn=limited,
+            )
         look(path, ran.stdout, 0, count, f"limit {limit}", shape)
         left += left_over(path, ran.stdout, shape)
         if ran.returncode != 1:
@@ -519,7 +590,9 @@ def fill(folder, kind):
         for length in [1, 10, 1000] if disk else []:
             path = os.path.join(disk, "full.wav")
             with given(folder, 90000, 0, shape) as file:
-                ran = subprocess.run(command(folder, path, length, kind), stdin=file, stdout=subprocess.PIPE, stderr=subprocess.DEVNULL)
+                ran = subprocess.run(
+                    command(folder, path, length, kind), stdin=file, stdout=subprocess.PIPE, stderr=subprocess.DEVNULL
+                )
             look(path, ran.stdout, 0, 90000, f"full disk, lots of {length}", shape)
             left += left_over(path, ran.stdout, shape)
             if ran.returncode != 1:
@@ -547,18 +620,22 @@ def give(recorder, data):
 
 
 def recover(folder, kind):
-    """Records on a disk that is full until another file is removed, and then on; counts the runs. The last checkpoint is
-    said, and with it the file has all samples that were accepted."""
+    """Records on a disk that is full until another file is removed, and then on; counts the runs. The last checkpoint
+    is said, and with it the file has all samples that were accepted."""
     runs, shape = 0, shape_of(kind)
     with small_disk(folder) as disk:
         for length in [1, 10, 1000] if disk else []:
             what = f"a disk that is full for a while, {kind}, batches of {length}"
-            path, other, output = (os.path.join(disk if name != "output" else folder, name) for name in ("a.wav", "other", "output"))
+            path, other, output = (
+                os.path.join(disk if name != "output" else folder, name) for name in ("a.wav", "other", "output")
+            )
             before = begin(path, kind)
             with open(other, "wb") as file:
                 file.write(bytes(32768))
             with open(output, "wb") as file:
-                recorder = subprocess.Popen(command(folder, path, length, kind), stdin=subprocess.PIPE, stdout=file, stderr=subprocess.DEVNULL)
+                recorder = subprocess.Popen(
+                    command(folder, path, length, kind), stdin=subprocess.PIPE, stdout=file, stderr=subprocess.DEVNULL
+                )
                 give(recorder, samples(21000, before, shape))
                 with open(output, "rb") as reading:
                     at_full = published_in(reading.read())[-1]
@@ -573,7 +650,9 @@ def recover(folder, kind):
                 fail(f"{what}: it wasn't full")
             is_right = found == published_in(said)[-1] == recorded_in(said, shape) >= at_full + 3000
             if is_right == (kind == ENDED):
-                fail(f"{what}: {at_full} samples in the full file, {found} at the end, {recorded_in(said, shape)} accepted")
+                fail(
+                    f"{what}: {at_full} samples in the full file, {found} at the end, {recorded_in(said, shape)} accepted"
+                )
             os.remove(path)
             runs += 1
     how = "ends" if kind == ENDED else "continues, with all samples that it accepted"
@@ -582,8 +661,8 @@ def recover(folder, kind):
 
 
 def repaired(folder):
-    """The calls of `mend` on a file that was cut off: a sync, the RIFF size, the data length and a missing pad byte, each of
-    which comes right after a seek, and a sync after each; none where a chunk follows the data."""
+    """The calls of `mend` on a file that was cut off: a sync, the RIFF size, the data length and a missing pad byte,
+    each of which comes right after a seek, and a sync after each; none where a chunk follows the data."""
     program = os.path.join(folder, "mend")
     os.symlink(build(), program)
     path = os.path.join(folder, "cut.wav")
@@ -591,7 +670,11 @@ def repaired(folder):
     front = b"RIFF" + bytes(4) + b"WAVEfmt " + struct.pack("<IHHIIHH", 16, 1, 1, 8000, 8000, 1, 8) + b"data"
     step = ["lseek", "write", "fsync"]
     list_chunk = b"LIST" + struct.pack("<I", 4) + b"INFO"
-    for length, held, wanted in [(0, b"abcd", ["fsync"] + 2 * step), (0, b"abc", ["fsync"] + 3 * step), (3, b"abc" + list_chunk, [])]:
+    for length, held, wanted in [
+        (0, b"abcd", ["fsync"] + 2 * step),
+        (0, b"abc", ["fsync"] + 3 * step),
+        (3, b"abc" + list_chunk, []),
+    ]:
         with open(path, "wb") as file:
             file.write(front + struct.pack("<I", length) + held)
         if subprocess.run(tracing + [program, path, "--yes"], stdout=subprocess.DEVNULL).returncode:
@@ -602,7 +685,10 @@ def repaired(folder):
         # The file is read after that.
         if calls[first : first + len(wanted)] != wanted or {"write", "fsync"} & set(calls[first + len(wanted) :]):
             fail(f"`mend` of {len(held)} bytes makes the calls {calls[first:]}, and not {wanted}")
-    print("a repair of a file: RIFF size, data length, a missing pad byte, with syncs between; none where a chunk follows", flush=True)
+    print(
+        "a repair of a file: RIFF size, data length, a missing pad byte, with syncs between; none where a chunk follows",
+        flush=True,
+    )
     return 3
 
 
@@ -610,7 +696,10 @@ def in_python(count, folder):
     """Kills so many programs that append by the Python package, and recorders that continue in a next file, and lets
     calls of others fail."""
     subprocess.run([os.path.join(HERE, "bindings", "c", "install.sh"), folder], stdout=subprocess.DEVNULL, check=True)
-    package = {"HOUND_C_LIBRARY": os.path.join(folder, "lib", "libhound_c.so"), "PYTHONPATH": os.path.join(HERE, "bindings", "python")}
+    package = {
+        "HOUND_C_LIBRARY": os.path.join(folder, "lib", "libhound_c.so"),
+        "PYTHONPATH": os.path.join(HERE, "bindings", "python"),
+    }
     for program, most in ("python_faults.py", count), ("parts.py", 200):
         words = [sys.executable, os.path.join(HERE, "bindings", "tests", program), str(min(count, most))]
         if subprocess.run(words, env={**os.environ, **package}).returncode:
@@ -652,13 +741,19 @@ def compile_in_rust(folder):
     """Compiles the example of bindings/hound, and the same over wrong versions of its writer."""
     copy = os.path.join(folder, "bindings")
     for part in "hound", "rust", "lib":
-        shutil.copytree(os.path.join(HERE, "bindings", part), os.path.join(copy, part), ignore=shutil.ignore_patterns("target"))
+        shutil.copytree(
+            os.path.join(HERE, "bindings", part), os.path.join(copy, part), ignore=shutil.ignore_patterns("target")
+        )
     paths = ["bindings/hound/src/writer.rs", "bindings/hound/src/medium.rs"]
     for name, texts in versions(paths, "recordCargo", {**WRONG_IN_CARGO, **WRONG_ON_FULL_DISKS, **WRONG_IN_FRAMES}):
         for path, text in texts.items():
             with open(os.path.join(folder, path), "w") as file:
                 file.write(text)
-        subprocess.run(["cargo", "build", "-q", "--offline", "--example", "record", "--target-dir", copy], cwd=os.path.join(copy, "hound"), check=True)
+        subprocess.run(
+            ["cargo", "build", "-q", "--offline", "--example", "record", "--target-dir", copy],
+            cwd=os.path.join(copy, "hound"),
+            check=True,
+        )
         os.rename(os.path.join(copy, "debug", "examples", "record"), os.path.join(folder, name))
 
 
@@ -676,7 +771,9 @@ def build():
     program = os.path.join(EXAMPLES, "out", "hound_examples")
     if not os.path.exists(program):
         print("faults: proving and building the examples first", flush=True)
-        subprocess.run(["rt", "run"], cwd=EXAMPLES, stdin=subprocess.DEVNULL, stdout=subprocess.DEVNULL, stderr=subprocess.DEVNULL)
+        subprocess.run(
+            ["rt", "run"], cwd=EXAMPLES, stdin=subprocess.DEVNULL, stdout=subprocess.DEVNULL, stderr=subprocess.DEVNULL
+        )
     if not os.path.exists(program):
         fail("the examples don't build: see `rt run` in crates/hound_examples")
     return program
@@ -719,7 +816,16 @@ def main():
         recover(folder, ENDED)
         fill(folder, LEFT)
         runs += repaired(folder)
-        for kind in DURABLE, APPENDING, IN_C[DURABLE], IN_C[APPENDING], IN_CARGO[DURABLE], IN_CARGO[APPENDING], REPAIRING, *shaped:
+        for kind in (
+            DURABLE,
+            APPENDING,
+            IN_C[DURABLE],
+            IN_C[APPENDING],
+            IN_CARGO[DURABLE],
+            IN_CARGO[APPENDING],
+            REPAIRING,
+            *shaped,
+        ):
             runs += lose(folder, kind)
         for kind in PLAIN, IN_C[PLAIN], IN_CARGO[PLAIN], *WRONG:
             lose(folder, kind)  # These show that such files can be wrong.

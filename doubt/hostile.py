@@ -196,7 +196,9 @@ def main():
     inputs = int(sys.argv[1]) if len(sys.argv) > 1 else 1_000_000
     if not os.path.exists(PROGRAM):
         print("hostile: proving and building hound_rows first", flush=True)
-        subprocess.run(["rt", "run"], cwd=CRATE, stdin=subprocess.DEVNULL, stdout=subprocess.DEVNULL, stderr=subprocess.DEVNULL)
+        subprocess.run(
+            ["rt", "run"], cwd=CRATE, stdin=subprocess.DEVNULL, stdout=subprocess.DEVNULL, stderr=subprocess.DEVNULL
+        )
     if not os.path.exists(PROGRAM):
         sys.exit("hostile: hound_rows doesn't build: see `rt run` in crates/hound_rows")
     seen, done, shown = Counter(), 0, 0

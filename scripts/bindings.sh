@@ -1,6 +1,7 @@
 # What scripts/try_bindings.sh, scripts/try_install.sh and scripts/release.sh share.
 
-subject=${0##*/try_}
+subject=$(basename "$0" .sh)
+subject=${subject#try_}
 unset HOUND_C_LIB HOUND_C_LIBRARY HOUND_C_SOURCE
 export PYTHONDONTWRITEBYTECODE=1
 
@@ -37,11 +38,13 @@ has() { # PROGRAM WHAT
 
 # The files of this repository, also where git doesn't read it.
 files() {
-    git ls-files -z -co --exclude-standard 2> /dev/null || find . -type f -not -path './.git*' -not -path '*/out/*' -print0
+    git ls-files -z -co --exclude-standard 2> /dev/null \
+        || find . -type f -not -path './.git*' -not -path '*/out/*' -print0
 }
 
 # Makes a clone of what is here, as if it were committed.
 clone_to() { # FOLDER
     mkdir "$1" && files | tar -c --null -T - --ignore-failed-read | tar -x -C "$1" || return 1
-    git -C "$1" init -q && git -C "$1" add -A && git -C "$1" -c user.name=nobody -c user.email=nobody commit -qm "what is here"
+    git -C "$1" init -q && git -C "$1" add -A \
+        && git -C "$1" -c user.name=nobody -c user.email=nobody commit -qm "what is here"
 }

@@ -1,13 +1,13 @@
 #!/usr/bin/env bash
 # Makes bindings/lib, for those without the kit: hound_c, proved and built for each target. PROVED has the kit that made
-# them, the sha256 of each file, its length, and the line with which it was proved. Binaryen makes the module for a memory
-# of 32 bits from the one for 64, scripts/portable bindings/c/hound_c.c, and the kit's linker the shared libraries: so
-# these are trusted with them.
-#   scripts/carry.sh [LOG]              writes the files, the copy of hound_c.c for Cargo, and the page that has the module in it
+# them, the sha256 of each file, its length, and the line with which it was proved. Binaryen makes the module for a
+# memory of 32 bits from the one for 64, scripts/portable bindings/c/hound_c.c, and the kit's linker the shared
+# libraries: so these are trusted with them.
+#   scripts/carry.sh [LOG]              writes the files, the copy of hound_c.c for Cargo, and the page
 #   scripts/carry.sh --check [LOG]      writes none, and fails where one isn't, byte for byte, what the proofs give
-# Another kit than that may compile to other bytes: then only the sums are compared, and it says so.
-# LOG is what an `rt ci` that is running says: once the libraries below hound_c are proved, they are taken as they are, and
-# hound_c alone is proved again. Else `rt lib` proves what isn't proved yet.
+# Another kit than that may compile to other bytes: then only the sums are compared, and it says so. LOG is what an `rt
+# ci` that is running says: once the libraries below hound_c are proved, they are taken as they are, and hound_c alone
+# is proved again. Else `rt lib` proves what isn't proved yet.
 set -eu -o pipefail
 cd "$(dirname "$0")/.."
 . scripts/kit.sh
@@ -45,8 +45,10 @@ build_over() {
     for crate in ../*/out/rlib; do words+=(-L "dependency=$crate"); done
     mkdir -p out
     "$kit/bin/rattle" build --crate-name hound_c src/lib.rt --crate-type staticlib --target "$1" --links hound_c= \
-        --extern "std=$kit/rlibs/std.rlib" -L "dependency=$kit/rlibs" "${words[@]}" --antt-project "$kit/rattle/logic/antt-project.json" \
-        --logic-built "$kit/logic_built" --incremental "$work/incremental" --jobs "$jobs" --toolchain "$kit/toolchain" -o out/libhound_c.a
+        --extern "std=$kit/rlibs/std.rlib" -L "dependency=$kit/rlibs" "${words[@]}" --antt-project \
+            "$kit/rattle/logic/antt-project.json" \
+        --logic-built "$kit/logic_built" --incremental "$work/incremental" --jobs "$jobs" --toolchain "$kit/toolchain" \
+            -o out/libhound_c.a
 }
 jobs=2 # four are hardly sooner ready, and take more of the processors' time
 how=(rt lib --target)
@@ -64,7 +66,8 @@ linked() { # TARGET ARCHIVE FILE
 carry() { # TARGET FILE
     echo "carry: building hound_c for $1" >&2
     mkdir -p "$work/lib/$(dirname "$2")"
-    if ! { (cd crates/hound_c && "${how[@]}" "$1") && linked "$1" crates/hound_c/out/libhound_c.a "$work/lib/$2"; } 2>&1 \
+    if ! { (cd crates/hound_c && "${how[@]}" "$1") \
+        && linked "$1" crates/hound_c/out/libhound_c.a "$work/lib/$2"; } 2>&1 \
         | tee "$work/log" | sed -un 's/^rt: chose .* for \(.*\)/carry: proving \1/p' >&2; then
         tail -n 20 "$work/log" >&2
         exit 1
@@ -131,7 +134,8 @@ made() { # FILE HOW
 }
 
 copy=bindings/rust/hound_c.c # for Cargo, which packages and vendors no file from outside of a crate
-if [ -n "$check" ] && ! { (cd bindings/lib && sha256sum --check --strict --quiet PROVED) && cmp bindings/c/hound_c.c "$copy"; }; then
+if [ -n "$check" ] && ! { (cd bindings/lib && sha256sum --check --strict --quiet PROVED) \
+    && cmp bindings/c/hound_c.c "$copy"; }; then
     echo "carry: bindings/lib and hound_c.c aren't what PROVED says; scripts/carry.sh makes them" >&2
     exit 1
 fi

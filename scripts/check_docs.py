@@ -8,11 +8,11 @@ crates' sources or in a script, a path has to be a file of the repository or of 
 others are listed below. It also looks that
 - each word of specs/ that a contract of a public function uses has a comment where it is defined;
 - each contract that docs/PROVING.md quotes is in the code;
-- the first example of docs/USING.md's "Record and read", the lines that it says pass, and each example of a documentation
-  comment are in functions that a test runs or that are proved;
+- the first example of docs/USING.md's "Record and read", the lines that it says pass, and each example of a
+  documentation comment are in functions that a test runs or that are proved;
 - docs/TESTING.md has the numbers of rows and of mutants;
-- the text of each mutant, and of each twin, is in its file once, and the name of a mutant begins with the function, or the
-  constant, that it changes (without the hound_ of an export);
+- the text of each mutant, and of each twin, is in its file once, and the name of a mutant begins with the function, or
+  the constant, that it changes (without the hound_ of an export); no two mutants of a crate are the same edit;
 - no line of the code has more than 120 columns."""
 import glob
 import os
@@ -86,7 +86,7 @@ def public_words(paths):
                 while depth and end < len(function):
                     depth += (function[end] == "{") - (function[end] == "}")
                     end += 1
-                used.update(re.findall(r"[^\s(){}.,;]+", function[clause.end():end - 1]))
+                used.update(re.findall(r"[^\s(){}.,;]+", function[clause.end() : end - 1]))
     return words & used
 
 
@@ -124,7 +124,7 @@ def untested(paths):
     example = re.search(r"## Record and read\n.*?```rust\n(.*?)```", using, flags=re.S)
     if not example or not is_tested(example.group(1)):
         yield "docs/USING.md", "the example of 'Record and read'"
-    passing = using[using.index("## Code that passes the check"):using.index("## How conditions are met")]
+    passing = using[using.index("## Code that passes the check") : using.index("## How conditions are met")]
     for block in re.findall(r"```rust\n(.*?)```", passing, flags=re.S):
         for group in block.strip().split("\n\n"):
             # What the check prints, the line that it rejects, and what passes.
@@ -162,6 +162,16 @@ def misfits():
                 yield os.path.relpath(path, TOP), line[5:]
 
 
+def repeated():
+    """The mutants of a crate that are the edit of another one."""
+    seen = {}
+    for path in sorted(glob.glob(os.path.join(TOP, "crates/*/mutants/*.edit"))):
+        edit = os.path.dirname(path), read(path)
+        if edit in seen:
+            yield os.path.relpath(path, TOP), os.path.basename(seen[edit])
+        seen[edit] = path
+
+
 def misnamed():
     """The mutants whose name doesn't begin with the function, or the constant, that they change; some add a type."""
     for path in sorted(glob.glob(os.path.join(TOP, "crates/*/mutants/*.edit"))):
@@ -176,14 +186,20 @@ def misnamed():
 
 
 def too_long():
-    """Lines of more than 120 columns: in bindings/, scripts/ and doubt/, but for hound_c.c, which is made; and in the
-    crates' src/ and specs/, but for lists of names and data."""
+    """Lines of more than 120 columns in bindings/, scripts/, doubt/, the commands at the top, and the crates' src/ and
+    specs/. A long string counts nothing, so that it stays whole and a search for what is printed finds it. Left out are
+    hound_c.c, which is made, and in the crates lists of names and data."""
     others = r"\s*((ghost |pub |unfoldable pub )?use |#\[tactic\(|\*b\"|\(0x13 |ghost counts: )"
-    code = r"(bindings|scripts|doubt)/.*\.([cm]?[jt]s|c|h|py|rs)|crates/\w+/(src|specs)/.*\.(rt|antt)"
-    for path in glob.glob("*/**", root_dir=TOP, recursive=True):
-        if not re.fullmatch(code, path) or re.search(r"/(target|node_modules)/|/hound_c\.c$", path):
+    string = r"\"[^\"]{70,}\"|'[^']{70,}'"
+    code = r"(bindings|scripts|doubt)/.*\.([cm]?[jt]s|c|h|py|rs|sh)|crates/\w+/(src|specs)/.*\.(rt|antt)"
+    code += "|example|hound|mutants|test"
+    for path in glob.glob("**", root_dir=TOP, recursive=True):
+        is_code = re.fullmatch(code, path) and os.path.isfile(os.path.join(TOP, path))
+        if not is_code or re.search(r"/(target|node_modules)/|/hound_c\.c$", path):
             continue
         for number, line in enumerate(read(path).split("\n"), 1):
+            if not path.startswith("crates/"):
+                line = re.sub(string + "|`[^`]{70,}`" * path.endswith("js"), "", line)
             if len(line) > 120 and not (path.startswith("crates/") and re.match(others, line)):
                 yield f"{path}:{number}", f"{len(line)} columns"
 
@@ -224,6 +240,7 @@ def main():
     missing += [(f"{page}, in a test", part) for page, part in untested(paths)]
     missing += misfits()
     missing += misnamed()
+    missing += repeated()
     missing += miscounted()
     missing += too_long()
     for page, name in missing:

@@ -1,7 +1,8 @@
 #!/usr/bin/env python3
 """Prints what the words of the contracts mean: each definition of specs/ with the comment above it.
 
-usage: scripts/definitions.py WORD...     the words of these names, whole; also fields, constructors, functions, types and clauses
+usage: scripts/definitions.py WORD...     the words of these names, whole; also fields, constructors, functions, types
+                                           and clauses
        scripts/definitions.py CRATE...    the words of these crates' specs/, a line each, in their order
        scripts/definitions.py --check     names each definition that has no comment"""
 import os
@@ -43,7 +44,9 @@ def definitions(crate):
 def elsewhere(word):
     """Where a word is a field, a constructor, or an item or a clause of the code: place, comment, text."""
     field = re.compile(rf"^ +(?:pub )?{re.escape(word)} : |^pub use .*\{{{re.escape(word)}\}}")
-    item = re.compile(rf"^ *(?:pub(?:\(crate\))? )?(?:(?:(?:const |extern .C. )?fn|struct|enum|trait|const|type|ensures) {re.escape(word)}\b|ghost {re.escape(word)}: )")
+    item = re.compile(
+        rf"^ *(?:pub(?:\(crate\))? )?(?:(?:(?:const |extern .C. )?fn|struct|enum|trait|const|type|ensures) {re.escape(word)}\b|ghost {re.escape(word)}: )"
+    )
     for crate in CRATES:
         for folder, kind, mark in (("specs", field, "--"), ("src", item, "///")):
             top = os.path.join(TOP, "crates", crate, folder)
@@ -59,11 +62,25 @@ def elsewhere(word):
                     while lines[first - 1].lstrip().startswith((mark, "#[")):
                         first -= 1
                     margin = len(line) - len(line.lstrip())
-                    while last < len(lines) and lines[last].strip() and (len(lines[last]) - len(lines[last].lstrip()) > margin or lines[last].strip().startswith(") ")):
+                    while (
+                        last < len(lines)
+                        and lines[last].strip()
+                        and (
+                            len(lines[last]) - len(lines[last].lstrip()) > margin
+                            or lines[last].strip().startswith(") ")
+                        )
+                    ):
                         last += 1
-                    owners = ((HEAD if kind is field else OWNER).match(one) for one in lines[number - 1::-1] if len(one) - len(one.lstrip()) < margin)
+                    owners = (
+                        (HEAD if kind is field else OWNER).match(one)
+                        for one in lines[number - 1 :: -1]
+                        if len(one) - len(one.lstrip()) < margin
+                    )
                     above = next((owner.group(owner.lastindex) for owner in owners if owner), "")
-                    comment = " ".join(part.strip().lstrip("-/ ") for part in lines[first:number] if "#[" not in part) or f"of {above}"
+                    comment = (
+                        " ".join(part.strip().lstrip("-/ ") for part in lines[first:number] if "#[" not in part)
+                        or f"of {above}"
+                    )
                     yield f"crates/{crate}/{folder}/{name}:{number + 1}", comment, "\n".join(lines[number:last])
 
 
@@ -71,7 +88,12 @@ def main():
     words = sys.argv[1:]
     every = {crate: list(definitions(crate)) for crate in CRATES}
     if words == ["--check"]:
-        missing = [f"{place}: {name} has no comment" for crate in CRATES for name, place, comment, _ in every[crate] if not comment]
+        missing = [
+            f"{place}: {name} has no comment"
+            for crate in CRATES
+            for name, place, comment, _ in every[crate]
+            if not comment
+        ]
         for line in missing:
             print(line, file=sys.stderr)
         sys.exit(bool(missing))

@@ -1,8 +1,8 @@
 #!/usr/bin/env python3
-"""Writes what the packages have of hound.h: errors with their codes and sentences, the names of kinds of files, structs,
-constants, and the version; and in hound.h itself the layout of its structs. It is between two lines of a file, of which
-the first one names this script; the version is wherever VERSIONS says. It compares the tables of pairs of bits and
-bytes, too, and looks whether each package uses each name of the enums.
+"""Writes what the packages have of hound.h: errors with their codes and sentences, the names of kinds of files,
+structs, constants, and the version; and in hound.h itself the layout of its structs. It is between two lines of a file,
+of which the first one names this script; the version is wherever VERSIONS says. It compares the tables of pairs of bits
+and bytes, too, and looks whether each package uses each name of the enums.
 
 usage: scripts/make_interface.py           writes the files
        scripts/make_interface.py --check   writes none, and fails where one would change"""
@@ -53,7 +53,9 @@ def errors():
     """Name, code without its sign, and sentence, in the order of the codes."""
     sentences = re.findall(r'^    case HOUND_(\w+):\s+return ((?:"[^"]*"\s*)+);', HOUND_H, flags=re.M)
     coded = sorted(
-        (-NUMBERS[name], name, "".join(re.findall(r'"([^"]*)"', parts))) for name, parts in sentences if NUMBERS[name] < 0
+        (-NUMBERS[name], name, "".join(re.findall(r'"([^"]*)"', parts)))
+        for name, parts in sentences
+        if NUMBERS[name] < 0
     )
     if [code for code, _, _ in coded] != list(range(1, -min(NUMBERS.values()) + 1)):
         fail(f"{HEADER} has an error without a code or a sentence of its own")
@@ -196,23 +198,24 @@ def errors_python():
 
 
 def type_python(kind, count):
-    kind = f"ctypes.c_uint{BITS[kind]}" if kind in BITS else f"_{camel(kind[6:])}"
+    kind = f"ctypes.c_uint{BITS[kind]}" if kind in BITS else f"C{camel(kind[6:])}"
     return f"{kind} * {NUMBERS[count]}" if count else kind
 
 
 def structs_python():
-    lines = [f"{', '.join('_' + name for name in names)} = {', '.join(str(NUMBERS[name]) for name in names)}"
-             for names in (MODES, ALLOWED)]  # fmt: skip
-    lines += [f"_{name} = {NUMBERS[name]}" for name in ("HEADER_BYTES", "KIND_RIFX", "KIND_FLOAT64")]
+    lines = [f"{', '.join(names)} = {', '.join(str(NUMBERS[name]) for name in names)}" for names in (MODES, ALLOWED)]
+    lines += [f"{name} = {NUMBERS[name]}" for name in ("HEADER_BYTES", "KIND_RIFX", "KIND_FLOAT64")]
     for name, (fields, _) in STRUCTS.items():
-        lines += ["", "", f"class _{camel(name)}(ctypes.Structure):", "    _fields_ = ["]
+        lines += ["", "", f"class C{camel(name)}(ctypes.Structure):", "    _fields_ = ["]
         lines += [f'        ("{field}", {type_python(kind, count)}),' for field, kind, count, _ in fields] + ["    ]"]
     return lines
 
 
 def kinds_python():
-    return [f"{', '.join(names)} = {', '.join(str(NUMBERS[name]) for name in names)}"
-            for names in (EFFECTS, ("DONE", "FAILED"))]
+    return [
+        f"{', '.join(names)} = {', '.join(str(NUMBERS[name]) for name in names)}"
+        for names in (EFFECTS, ("DONE", "FAILED"))
+    ]
 
 
 # JavaScript
@@ -261,10 +264,10 @@ PARTS = [
     ("bindings/rust/src/lib.rs", "The errors", errors_rust),
     ("bindings/rust/src/lib.rs", "The constants and structs", structs_rust),
     ("bindings/rust/src/lib.rs", "The names of kinds of files", files_rust),
-    ("bindings/python/hound_bindings/__init__.py", "The errors", errors_python),
-    ("bindings/python/hound_bindings/__init__.py", "The constants and structs", structs_python),
-    ("bindings/python/hound_bindings/__init__.py", "The names of what files are", files_python),
-    ("bindings/python/hound_bindings/disk.py", "The kinds of effects, and how one ended", kinds_python),
+    ("bindings/python/hound_bindings/_library.py", "The errors", errors_python),
+    ("bindings/python/hound_bindings/_library.py", "The constants and structs", structs_python),
+    ("bindings/python/hound_bindings/_library.py", "The names of what files are", files_python),
+    ("bindings/python/hound_bindings/_library.py", "The kinds of effects, and how one ended", kinds_python),
     ("bindings/js/hound.js", "The errors", errors_js),
     ("bindings/js/hound.js", "The constants, and where fields are", constants_js),
     ("bindings/js/hound.js", "The names of kinds of files", files_js),
@@ -287,19 +290,23 @@ VERSIONS = [
     ("bindings/hound/src/lib.rs", "names version 3.5.1+rattle.{}.\n"),
     ("bindings/python/pyproject.toml", '\nversion = "{}"\n'),
     ("bindings/python/backend.py", 'NAME, VERSION = "hound_bindings", "{}"\n'),
-    ("bindings/python/hound_bindings/__init__.py", '\n__version__ = "{}"\n'),
+    ("bindings/python/hound_bindings/_library.py", '\n__version__ = "{}"\n'),
     ("bindings/js/package.json", '"version": "{}",\n'),
     ("CHANGELOG.md", "# Changes\n\n## {} "),
 ]
 
 
 # The number of the version, which the library returns.
-VERSION_NUMBER = "crates/hound_c/src/lib.rt", "fn hound_version() -> i32\n    ensures {{ result ≡ pos {0} }}\n{{\n    {0}\n}}"
+VERSION_NUMBER = (
+    "crates/hound_c/src/lib.rt",
+    "fn hound_version() -> i32\n    ensures {{ result ≡ pos {0} }}\n{{\n    {0}\n}}",
+)
 
 # Tables of the pairs of bits and bytes that are read and written, which have to be that of the specification.
 PAIRS = "crates/hound_spec/specs/Header.antt", r"^pairs \w+ = (.*)$"
 TABLES = [
     ("bindings/rust/src/lib.rs", r"^ +\(Format::\w+, (.*)\) => Container"),
+    ("bindings/python/hound_bindings/_library.py", r"^(?:INTEGERS|FLOATS) = (.*)$"),
     ("bindings/js/page/page.js", r"^const FORMS = (.*)$"),
     ("bindings/tests/repairs.py", r"^    pairs = (.*)$"),
     ("crates/hound_rows/expected.py", r"^PAIRS = (.*)$"),
@@ -308,8 +315,6 @@ TABLES = [
 CHOICES = [
     (HEADER, r"not read or written \((.*)\)"),
     ("bindings/js/guess.js", r"^const SAMPLE_FORMS = (.*)$"),
-    ("bindings/python/hound_bindings/lost.py", r"^_FORMS = (.*)$"),
-    ("bindings/python/hound_bindings/command.py", r'"choices": \[(.*?)\]'),
 ]
 
 

@@ -21,7 +21,18 @@ TYPES = {
     "hound_spec": ["error.Error", "spec.SampleFormat", "spec.WavSpec", "spec.WavSpecEx"],
     "hound_sample": ["item.SampleError"],
     "hound_walk": ["cause.Cause", "cause.HeadError", "cause.Reason", "chunks.FileHead"],
-    "hound_writer": ["effects.Action", "effects.BeginningEffect", "effects.Effect", "effects.Report", "recorder.Health", "recorder.Phase", "recorder.Recorder", "recorder.RecorderError", "resuming.RepairState", "resuming.FoundFile"],
+    "hound_writer": [
+        "effects.Action",
+        "effects.BeginningEffect",
+        "effects.Effect",
+        "effects.Report",
+        "recorder.Health",
+        "recorder.Phase",
+        "recorder.Recorder",
+        "recorder.RecorderError",
+        "resuming.RepairState",
+        "resuming.FoundFile",
+    ],
     "hound_repair": ["look.Damage", "sizes.Repair"],
     "hound": ["session.Begin", "session.End", "session.Step"],
 }
@@ -32,7 +43,10 @@ TABLES_BEGIN, TABLES_END = "<!-- made by scripts/make_words.py of {} -->", "<!--
 # What is made of a contract and `SampleError` are private.
 PRIVATE = re.compile(r"contracts|declared\.item")
 # A definition, at the margin or in a module of parameters, or a constructor of a `data`.
-WORD = re.compile(r"^(?: {2})?(?:(?:abbrev |unfoldable )pub |(?<! )pub |pub (?=record |data ))(?:record |data )?([^\s:({◌]+)|^  (\w+) : ", flags=re.M)
+WORD = re.compile(
+    r"^(?: {2})?(?:(?:abbrev |unfoldable )pub |(?<! )pub |pub (?=record |data ))(?:record |data )?([^\s:({◌]+)|^  (\w+) : ",
+    flags=re.M,
+)
 LIB_HEAD = "-- The words of this crate, for those above it. The file is made by `scripts/make_words.py`.\n"
 ROOT_HEAD = """\
 -- The words of every layer, and the types of the layers below that clauses name, for a crate over this
@@ -60,7 +74,11 @@ def read(path):
 
 def modules_of(crate):
     """The modules of a crate's definitions, in the order of its specs/Lib.antt; `Rows` serves tests alone."""
-    return [name for name in re.findall(r"^pub mod (\w+)", read(f"crates/{crate}/specs/Lib.antt"), flags=re.M) if name != "Rows"]
+    return [
+        name
+        for name in re.findall(r"^pub mod (\w+)", read(f"crates/{crate}/specs/Lib.antt"), flags=re.M)
+        if name != "Rows"
+    ]
 
 
 def words_of(crate, module):
@@ -78,14 +96,23 @@ def words_of(crate, module):
 def variants_of(crate, kind):
     """The variants of an enum of the code."""
     module, name = kind.split(".")
-    found = re.search(rf"^(?:pub )?enum {name}(?:<.*?>)? {{\n(.*?)^}}", read(f"crates/{crate}/src/{module}.rt"), flags=re.M | re.S)
+    found = re.search(
+        rf"^(?:pub )?enum {name}(?:<.*?>)? {{\n(.*?)^}}", read(f"crates/{crate}/src/{module}.rt"), flags=re.M | re.S
+    )
     return re.findall(r"^    (\w+)", found.group(1), flags=re.M) if found else []
 
 
 def export(crate, names, module=""):
     """The lines that export these words: those that a proof elsewhere may unfold are marked so."""
-    marked = re.findall(r"^unfoldable pub (\S+)", "".join(read(f"crates/{crate}/specs/{one}.antt") for one in modules_of(crate)), flags=re.M)
-    for mark, part in (("", [name for name in names if name not in marked]), ("unfoldable ", [name for name in names if name in marked])):
+    marked = re.findall(
+        r"^unfoldable pub (\S+)",
+        "".join(read(f"crates/{crate}/specs/{one}.antt") for one in modules_of(crate)),
+        flags=re.M,
+    )
+    for mark, part in (
+        ("", [name for name in names if name not in marked]),
+        ("unfoldable ", [name for name in names if name in marked]),
+    ):
         if part:
             yield f"{mark}pub use Rattle.{crate}.specs{module}.{{{', '.join(part)}}}"
 
@@ -97,10 +124,15 @@ def library(crate):
         head = ROOT_HEAD
         for layer in LAYER_CRATES:
             lines += export(layer, [word for module in modules_of(layer) for word in words_of(layer, module)])
-            lines += [f"pub use Rattle.{layer}.specs.declared.{kind}.{{{kind.split('.')[1]}}}" for kind in TYPES.get(layer, [])]
+            lines += [
+                f"pub use Rattle.{layer}.specs.declared.{kind}.{{{kind.split('.')[1]}}}"
+                for kind in TYPES.get(layer, [])
+            ]
     for module in modules_of(crate):
         lines += export(crate, words_of(crate, module), "." + module)
-    return head + "\n".join(lines + re.findall(r"^pub mod \w+", read(f"crates/{crate}/specs/Lib.antt"), flags=re.M)) + "\n"
+    return (
+        head + "\n".join(lines + re.findall(r"^pub mod \w+", read(f"crates/{crate}/specs/Lib.antt"), flags=re.M)) + "\n"
+    )
 
 
 def words():

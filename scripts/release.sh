@@ -3,7 +3,7 @@
 # npm package, the two crates, an archive for C, hound.html, and the sums of all. It makes each twice, and the sums have
 # to be the same. Then it installs each in a fresh place without network, and runs the programs of docs/BINDINGS.md. The
 # folder is there only if all of that works; else the status is 1, and the last line names what failed.
-#   scripts/release.sh FOLDER    (needs a C compiler, CMake, pkg-config, Python with venv, a recent cargo, and npm; no kit)
+#   scripts/release.sh FOLDER    (needs a C compiler, CMake, pkg-config, Python with venv, a recent cargo, npm; no kit)
 set -u -o pipefail
 [ $# -eq 1 ] || { sed -n 6p "$0" >&2; exit 2; }
 folder=$(realpath -m -- "$1")

@@ -22,8 +22,14 @@ SHOWN = [
     ("Node: make a file of int16", "node_write_int16"),
     ("Node: read planar floats", "node_read_planar_float32"),
 ]
-BARS = [("hound", "hound, proved", "#1b6ca8"), ("original", "hound 3.5.1", "#b0b7bf"), ("linked whole", "hound 3.5.1, linked whole", "#d5dade"), ("libsndfile", "libsndfile, soundfile", "#d99a3c"),
-        ("soundfile", "libsndfile, soundfile", "#d99a3c"), ("plain loop", "a plain loop", "#8a9a5b")]
+BARS = [
+    ("hound", "hound, proved", "#1b6ca8"),
+    ("original", "hound 3.5.1", "#b0b7bf"),
+    ("linked whole", "hound 3.5.1, linked whole", "#d5dade"),
+    ("libsndfile", "libsndfile, soundfile", "#d99a3c"),
+    ("soundfile", "libsndfile, soundfile", "#d99a3c"),
+    ("plain loop", "a plain loop", "#8a9a5b"),
+]
 LEFT, WIDTH, BAR, GAP, TOP_SPACE = 270, 420, 13, 16, 56
 
 
@@ -42,31 +48,54 @@ def picture():
     parts, y = [], TOP_SPACE
     most = max(float(figures[case][name]) for _, case in SHOWN for name, _, _ in BARS if figures[case][name])
     for label, case in SHOWN:
-        bars = [(figures[case][name], text, colour) for name, text, colour in BARS if figures[case][name] and not ("_block_" in case and name in ("original", "linked whole"))]
+        bars = [
+            (figures[case][name], text, colour)
+            for name, text, colour in BARS
+            if figures[case][name] and not ("_block_" in case and name in ("original", "linked whole"))
+        ]
         middle = y + len(bars) * BAR / 2 + 4
         parts.append(f'<text x="{LEFT - 10}" y="{middle:.0f}" text-anchor="end">{label}</text>')
         for value, text, colour in bars:
             length = float(value) / most * WIDTH
-            parts.append(f'<rect x="{LEFT}" y="{y}" width="{length:.1f}" height="{BAR - 2}" fill="{colour}"><title>{text}: {value} ns</title></rect>')
-            parts.append(f'<text x="{LEFT + length + 5:.0f}" y="{y + 10}" font-size="10">{float(value):.2g}</text>'.replace("e+01", "0"))
+            parts.append(
+                f'<rect x="{LEFT}" y="{y}" width="{length:.1f}" height="{BAR - 2}" fill="{colour}"><title>{text}: {value} ns</title></rect>'
+            )
+            parts.append(
+                f'<text x="{LEFT + length + 5:.0f}" y="{y + 10}" font-size="10">{float(value):.2g}</text>'.replace(
+                    "e+01", "0"
+                )
+            )
             y += BAR
         y += GAP
     x = LEFT - 262
     legend = []
     for text, colour in dict.fromkeys(bar[1:] for bar in BARS):
-        legend.append(f'<rect x="{x}" y="32" width="11" height="11" fill="{colour}"/><text x="{x + 16}" y="42">{text}</text>')
+        legend.append(
+            f'<rect x="{x}" y="32" width="11" height="11" fill="{colour}"/><text x="{x + 16}" y="42">{text}</text>'
+        )
         x += 28 + 7 * len(text)
     height = y + 6
-    head = (f'<svg xmlns="http://www.w3.org/2000/svg" width="760" height="{height}" viewBox="0 0 760 {height}" font-family="sans-serif" font-size="12" fill="#222">\n'
-            f'<title>Nanoseconds a sample; shorter is faster</title>\n<rect width="760" height="{height}" fill="#fff"/>\n'
-            '<text x="20" y="20" font-size="13" font-weight="bold">Nanoseconds a sample (16 bits, where nothing else is said); shorter is faster</text>\n')
+    head = (
+        f'<svg xmlns="http://www.w3.org/2000/svg" width="760" height="{height}" viewBox="0 0 760 {height}" font-family="sans-serif" font-size="12" fill="#222">\n'
+        f'<title>Nanoseconds a sample; shorter is faster</title>\n<rect width="760" height="{height}" fill="#fff"/>\n'
+        '<text x="20" y="20" font-size="13" font-weight="bold">Nanoseconds a sample (16 bits, where nothing else is said); shorter is faster</text>\n'
+    )
     return head + "\n".join(legend + parts) + "\n</svg>\n"
 
 
 # The columns of a table, by their heads.
-HEADS = {"hound, proved": "hound", "hound_bindings": "hound", "soundfile": "soundfile", "a plain loop": "plain loop",
-         "ratio": "ratio", "hound 3.5.1": "original", "linked whole": "linked whole", "libsndfile": "libsndfile",
-         "instructions": "hound instructions", "of hound 3.5.1": "original instructions"}
+HEADS = {
+    "hound, proved": "hound",
+    "hound_bindings": "hound",
+    "soundfile": "soundfile",
+    "a plain loop": "plain loop",
+    "ratio": "ratio",
+    "hound 3.5.1": "original",
+    "linked whole": "linked whole",
+    "libsndfile": "libsndfile",
+    "instructions": "hound instructions",
+    "of hound 3.5.1": "original instructions",
+}
 
 
 def filled(text):

@@ -1,9 +1,9 @@
 #!/usr/bin/env bash
-# Tries hound_c from C, Python, Cargo and JavaScript as someone without the Rattle kit does: from a fresh clone, with the
-# libraries of bindings/lib, no `rt` on the path and no network. It looks at their symbols, runs the users of
+# Tries hound_c from C, Python, Cargo and JavaScript as someone without the Rattle kit does: from a fresh clone, with
+# the libraries of bindings/lib, no `rt` on the path and no network. It looks at their symbols, runs the users of
 # bindings/tests, the tests of the packages, the rows of hound_rows beside their model, and the programs of
-# docs/BINDINGS.md as they are there; on ARM in an emulator, and in WebAssembly. What needs a tool that isn't here is named
-# and passed over. It writes a line for each check, and last 'N of N checks of the bindings'.
+# docs/BINDINGS.md as they are there; on ARM in an emulator, and in WebAssembly. What needs a tool that isn't here is
+# named and passed over. It writes a line for each check, and last 'N of N checks of the bindings'.
 #   scripts/try_bindings.sh     (that bindings/lib is what the proofs give is looked at by scripts/carry.sh --check)
 set -u
 cd "$(dirname "$0")/.."
@@ -12,7 +12,9 @@ trap 'rm -rf "$work"' EXIT
 . scripts/bindings.sh
 
 has_libc_of_arm() {
-    [ -e /usr/aarch64-linux-gnu/include/stdio.h ] || { echo "bindings: passed over, since its C library isn't here: ARM (Debian: libc6-dev-arm64-cross)"; return 1; }
+    [ -e /usr/aarch64-linux-gnu/include/stdio.h ] \
+        || { echo "bindings: passed over, since its C library isn't here: ARM (Debian: libc6-dev-arm64-cross)";
+            return 1; }
 }
 
 # A clone, and a path without the kit.
@@ -52,14 +54,16 @@ on_arm() {
 }
 
 proved() {
-    cd bindings/lib && sha256sum --check --strict PROVED && [ "$(find . ../c/hound_c.c -type f ! -name PROVED | wc -l)" = "$(grep -vc '^#' PROVED)" ] && cmp ../c/hound_c.c ../rust/hound_c.c
+    cd bindings/lib && sha256sum --check --strict PROVED && [ "$(find . ../c/hound_c.c -type f ! -name PROVED \
+        | wc -l)" = "$(grep -vc '^#' PROVED)" ] && cmp ../c/hound_c.c ../rust/hound_c.c
 }
 symbols() { # NM
     local words wanted
     wanted=$(sed -nE 's/^(int32_t|int64_t|void) (hound_[a-z0-9_]+)\(.*/\2/p' bindings/c/hound.h | sort | xargs)
     for words in "$library" "-D ${library%a}so"; do
         ! "$1" -u $words | awk '$1 == "U" { print $2 }' | grep -vxE 'memcpy|memmove|memset' \
-            && [ "$("$1" -g --defined-only $words | awk '$2 == "T" { print $3 }' | sort | xargs)" = "$wanted" ] || return 1
+            && [ "$("$1" -g --defined-only $words | awk '$2 == "T" { print $3 }' | sort | xargs)" = "$wanted" ] \
+                || return 1
     done
     ! readelf -d "${library%a}so" | grep NEEDED
 }
@@ -68,12 +72,15 @@ user() { # NAME ARGUMENT.. -- FLAG..
     shift
     while [ "$1" != -- ]; do words+=("$1"); shift; done
     shift
-    "$cc" $strict "$@" "bindings/tests/$name.c" "$library" -o "$work/$name" && $run "$work/$name" ${words[@]+"${words[@]}"}
+    "$cc" $strict "$@" "bindings/tests/$name.c" "$library" -o "$work/$name" \
+        && $run "$work/$name" ${words[@]+"${words[@]}"}
 }
 # Each name in a call of has() in disk.c is a wrong version, and status 1 says that it is found.
 wrong_disks() {
     local fault status
-    "$cc" $strict bindings/tests/disk.c "$library" -o "$work/disk" && grep -oE 'has\([^;{]*"\)' bindings/tests/disk.c | grep -oE '"[^"]+"' | tr -d '"' | sort -u > "$work/faults" || return 1
+    "$cc" $strict bindings/tests/disk.c "$library" -o "$work/disk" \
+        && grep -oE 'has\([^;{]*"\)' bindings/tests/disk.c | grep -oE '"[^"]+"' | tr -d '"' \
+        | sort -u > "$work/faults" || return 1
     [ "$(wc -l < "$work/faults")" -ge 8 ] || return 1
     while IFS= read -r fault; do
         FAULT=$fault "$work/disk" 1000000
@@ -83,8 +90,11 @@ wrong_disks() {
 }
 wrong_libraries() {
     local call wrap=()
-    for call in info version kind beginning walk_next find_damage repair repair_to_end size header sizes recorder_{resume,write,next} repairer_next {to,from,dither}_f{32,64} f{32_to_f64,64_to_f32} {value,container}_{8,16,24,32} {write,append,encode}_{i16,i32,f32}; do wrap+=("-Wl,--wrap=hound_$call"); done
-    "$cc" $strict "${wrap[@]}" bindings/tests/calls.c bindings/tests/wrong.c "$library" -o "$work/wrong" && "$work/wrong" || return 1
+    for call in info version kind beginning walk_next find_damage repair repair_to_end size header sizes \
+        recorder_{resume,write,next} repairer_next {to,from,dither}_f{32,64} f{32_to_f64,64_to_f32} \
+        {value,container}_{8,16,24,32} {write,append,encode}_{i16,i32,f32}; do wrap+=("-Wl,--wrap=hound_$call"); done
+    "$cc" $strict "${wrap[@]}" bindings/tests/calls.c bindings/tests/wrong.c "$library" -o "$work/wrong" \
+        && "$work/wrong" || return 1
     grep -oE 'has\("[^"]+' bindings/tests/wrong.c | cut -d '"' -f 2 | sort -u > "$work/faults"
     while IFS= read -r fault; do
         ! FAULT=$fault "$work/wrong" || { echo "calls.c doesn't find this fault: $fault"; return 1; }
@@ -96,43 +106,56 @@ null_warned() { # COMPILER
 }
 null_reported() {
     printf '#include "hound.h"\nint main(void) { hound_info_t info; const uint8_t *volatile none = NULL; return hound_info(none, 0, &info) != HOUND_ENDED; }\n' > "$work/null.c"
-    "$cc" $strict -fsanitize=undefined "$work/null.c" "$library" -o "$work/null" && "$work/null" 2>&1 | grep 'declared to never be null'
+    "$cc" $strict -fsanitize=undefined "$work/null.c" "$library" -o "$work/null" && "$work/null" 2>&1 \
+        | grep 'declared to never be null'
 }
 uninitialized() {
-    "$cc" $strict -g bindings/tests/uninitialized.c "$library" -o "$work/uninitialized" && valgrind -q --error-exitcode=9 "$work/uninitialized" > "$work/file" || return 1
-    valgrind -q --error-exitcode=9 "$work/uninitialized" too > "$work/file" 2>&1 # the control: what is read isn't initialized either
+    "$cc" $strict -g bindings/tests/uninitialized.c "$library" -o "$work/uninitialized" \
+        && valgrind -q --error-exitcode=9 "$work/uninitialized" > "$work/file" || return 1
+    valgrind -q --error-exitcode=9 "$work/uninitialized" too > "$work/file" 2>&1 \
+        # the control: what is read isn't initialized either
     [ $? -eq 9 ]
 }
 header() {
     local words
     echo '#include "hound.h"' > "$work/header.c"
-    "$cc" $strict -std=c99 -fsyntax-only "$work/header.c" bindings/c/repair.c && "$cc" $strict -std=c11 -fsyntax-only "$work/header.c" || return 1
-    printf '#include <stdio.h>\n#include "hound_file.h"\n' > "$work/late.c" # after a header of the system that has chosen what to declare
-    for words in -D_XOPEN_SOURCE=700 -D_DEFAULT_SOURCE -D_GNU_SOURCE -std=gnu99; do "$cc" $strict -std=c99 $words -fsyntax-only "$work/late.c" || return 1; done
+    "$cc" $strict -std=c99 -fsyntax-only "$work/header.c" bindings/c/repair.c \
+        && "$cc" $strict -std=c11 -fsyntax-only "$work/header.c" || return 1
+    printf '#include <stdio.h>\n#include "hound_file.h"\n' > "$work/late.c" \
+        # after a header of the system that has chosen what to declare
+    for words in -D_XOPEN_SOURCE=700 -D_DEFAULT_SOURCE -D_GNU_SOURCE -std=gnu99;
+        do "$cc" $strict -std=c99 $words -fsyntax-only "$work/late.c" || return 1; done
     for words in "" -D_POSIX_C_SOURCE=200809L; do
-        ! "$cc" $strict -std=c99 $words -fsyntax-only "$work/late.c" 2> "$work/said" && grep -q '#error.*compile with -D_XOPEN_SOURCE=700' "$work/said" || return 1
+        ! "$cc" $strict -std=c99 $words -fsyntax-only "$work/late.c" 2> "$work/said" \
+            && grep -q '#error.*compile with -D_XOPEN_SOURCE=700' "$work/said" || return 1
     done
 }
 is_i386() {
     echo '#include <stdint.h>' > "$work/i386.c"
-    "$cc" -m32 -fsyntax-only "$work/i386.c" 2> "$work/said" || { echo "bindings: passed over, since libc6-dev-i386 isn't here: the header on i386"; return 1; }
+    "$cc" -m32 -fsyntax-only "$work/i386.c" 2> "$work/said" \
+        || { echo "bindings: passed over, since libc6-dev-i386 isn't here: the header on i386"; return 1; }
 }
-on_i386() { "$cc" -m32 $strict -std=c99 -fsyntax-only "$work/header.c" && "$cc" -m32 $strict -std=c11 -fsyntax-only "$work/header.c"; }
+on_i386() { "$cc" -m32 $strict -std=c99 -fsyntax-only "$work/header.c" \
+    && "$cc" -m32 $strict -std=c11 -fsyntax-only "$work/header.c"; }
 header_of_cpp() {
     printf '#include "hound_file.h"\nint main() { return hound_error_text(0) == 0; }\n' > "$work/header.cpp"
-    c++ $strict -std=c++98 -Wno-long-long -fsyntax-only "$work/header.cpp" && c++ $strict -std=c++17 "$work/header.cpp" -o "$work/header"
+    c++ $strict -std=c++98 -Wno-long-long -fsyntax-only "$work/header.cpp" \
+        && c++ $strict -std=c++17 "$work/header.cpp" -o "$work/header"
 }
 source_of_cpp() {
     local standard
     for standard in c++11 c++20; do
-        c++ -O1 -Wall -Wextra -Werror "-std=$standard" -x c++ -c bindings/rust/hound_c.c -o "$work/cpp.o" && "$cc" $strict bindings/tests/calls.c "$work/cpp.o" -o "$work/cpp" && "$work/cpp" || return 1
+        c++ -O1 -Wall -Wextra -Werror "-std=$standard" -x c++ -c bindings/rust/hound_c.c -o "$work/cpp.o" \
+            && "$cc" $strict bindings/tests/calls.c "$work/cpp.o" -o "$work/cpp" && "$work/cpp" || return 1
     done
 }
 installed() { # PREFIX
     local words="-I$1/include -L$1/lib -lhound_c"
     DESTDIR=$1.stage bindings/c/install.sh /usr && mv "$1.stage/usr" "$1" || return 1
-    ! command -v pkg-config || words=$(PKG_CONFIG_PATH=$1/lib/pkgconfig pkg-config --cflags --libs "hound >= 0.2") || return 1
-    "$cc" $strict bindings/tests/calls.c $words -o "$1.calls" && rm "$1/lib/libhound_c.so" && LD_LIBRARY_PATH=$1/lib $run "$1.calls" \
+    ! command -v pkg-config || words=$(PKG_CONFIG_PATH=$1/lib/pkgconfig pkg-config --cflags --libs "hound >= 0.2") \
+        || return 1
+    "$cc" $strict bindings/tests/calls.c $words -o "$1.calls" && rm "$1/lib/libhound_c.so" \
+        && LD_LIBRARY_PATH=$1/lib $run "$1.calls" \
         && ln -s libhound_c.so.0 "$1/lib/libhound_c.so" && cp -a "$1" "$1.copy" && touch "$1.copy/lib/other" || return 1
     cmp bindings/c/hound_file.h "$1/include/hound_file.h" && bindings/c/install.sh --help | grep -q uninstall \
         && bindings/c/install.sh --uninstall "$1.copy" && [ "$(cd "$1.copy" && find . ! -type d)" = ./lib/other ]
@@ -141,8 +164,12 @@ no_library() {
     export HOUND_C_LIB=$work/none
     one_line() { [ "$(grep -c "none/libhound_c.a isn't there" "$work/said")" = 1 ]; }
     ! bindings/c/install.sh "$work/nowhere" 2> "$work/said" && one_line || return 1
-    ! python3 -c "import sys; sys.path.insert(0, 'bindings/python'); import backend; backend.shared_library('$work')" 2> "$work/said" && one_line || return 1
-    ! command -v cargo > /dev/null || { ! cargo build -q --offline --manifest-path bindings/rust/Cargo.toml --target-dir "$work/none" 2> "$work/said" && one_line && grep -q 'set HOUND_C_LIB to the absolute path of the folder that holds it' "$work/said"; }
+    ! python3 -c "import sys; sys.path.insert(0, 'bindings/python'); import backend; backend.shared_library('$work')" \
+        2> "$work/said" && one_line || return 1
+    ! command -v cargo > /dev/null \
+        || { ! cargo build -q --offline --manifest-path bindings/rust/Cargo.toml --target-dir "$work/none" 2> \
+            "$work/said" && one_line && grep -q 'set HOUND_C_LIB to the absolute path of the folder that holds it' \
+            "$work/said"; }
 }
 # What HOUND_C_LIB names has another version, or none.
 other_version() {
@@ -150,17 +177,25 @@ other_version() {
     export HOUND_C_LIB=$work/other
     mkdir "$HOUND_C_LIB"
     for text in 'int hound_version(void) { return 1; }' 'int other;'; do
-        echo "$text" > "$work/other.c" && "$cc" -c "$work/other.c" -o "$work/other.o" && ar crs "$HOUND_C_LIB/libhound_c.a" "$work/other.o" \
-            && ! cargo build -q $words 2> "$work/said" && grep -q 'has no library of version [0-9.]*: set HOUND_C_LIB to the folder of one' "$work/said" && rm "$HOUND_C_LIB/libhound_c.a" || return 1
+        echo "$text" > "$work/other.c" && "$cc" -c "$work/other.c" -o "$work/other.o" \
+            && ar crs "$HOUND_C_LIB/libhound_c.a" "$work/other.o" \
+            && ! cargo build -q $words 2> "$work/said" \
+                && grep -q 'has no library of version [0-9.]*: set HOUND_C_LIB to the folder of one' "$work/said" \
+                && rm "$HOUND_C_LIB/libhound_c.a" || return 1
     done
     HOUND_C_LIB=$(dirname "$library") cargo build -q $words
 }
-by_source() { HOUND_C_SOURCE=1 installed "$work/source" && page c > "$work/page.c" && "$cc" $strict "$work/page.c" bindings/c/hound_c.c -o "$work/page" && cd "$work" && ./page; }
+by_source() { HOUND_C_SOURCE=1 installed "$work/source" && page c > "$work/page.c" \
+    && "$cc" $strict "$work/page.c" bindings/c/hound_c.c -o "$work/page" && cd "$work" && ./page; }
 # Runs a command where /proc/cpuinfo lacks a flag of the processor.
 lacking() { # FLAG COMMAND..
-    sed "s/\\b$1\\b//" /proc/cpuinfo > "$work/cpuinfo" && unshare -rm sh -c 'mount --bind "$0" /proc/cpuinfo && exec "$@"' "$work/cpuinfo" "${@:2}"
+    sed "s/\\b$1\\b//" /proc/cpuinfo > "$work/cpuinfo" \
+        && unshare -rm sh -c 'mount --bind "$0" /proc/cpuinfo && exec "$@"' "$work/cpuinfo" "${@:2}"
 }
-has_flags() { grep -q '^flags.*popcnt' /proc/cpuinfo && lacking none true 2> /dev/null || { echo "bindings: passed over, since here is no x86-64, or unshare isn't allowed: a processor before x86-64-v2"; return 1; }; }
+has_flags() { grep -q '^flags.*popcnt' /proc/cpuinfo && lacking none true 2> /dev/null \
+    || { echo \
+        "bindings: passed over, since here is no x86-64, or unshare isn't allowed: a processor before x86-64-v2";
+        return 1; }; }
 # Without a compiler only the library that is carried can be installed. An emulated processor runs the other one alone.
 old_processor() {
     local flag words="--offline --manifest-path bindings/rust/Cargo.toml --target-dir $work/target.lacking"
@@ -169,39 +204,56 @@ old_processor() {
         ! CC=none lacking $flag bindings/c/install.sh "$work/lacking" || return 1
         ! command -v cargo > /dev/null || ! CC=none lacking $flag cargo build -q $words || return 1
     done
-    lacking ssse3 bindings/c/install.sh "$work/lacking" && "$cc" $strict bindings/tests/calls.c "$work/lacking/lib/libhound_c.a" -o "$work/lacking/calls" || return 1
-    ! command -v cargo > /dev/null || { lacking ssse3 cargo build -q $words && [ -e "$work"/target.lacking/debug/build/hound_bindings-*/out/libhound_c.a ]; } || return 1
+    lacking ssse3 bindings/c/install.sh "$work/lacking" \
+        && "$cc" $strict bindings/tests/calls.c "$work/lacking/lib/libhound_c.a" -o "$work/lacking/calls" || return 1
+    ! command -v cargo > /dev/null || { lacking ssse3 cargo build -q $words \
+        && [ -e "$work"/target.lacking/debug/build/hound_bindings-*/out/libhound_c.a ]; } || return 1
     ! command -v qemu-x86_64 > /dev/null || qemu-x86_64 -cpu core2duo "$work/lacking/calls"
 }
 takes_version() { # PREFIX VERSION
-    rm -rf "$work/cmake.version" && mkdir "$work/cmake.version" && printf 'cmake_minimum_required(VERSION 3.13)\nproject(user C)\nfind_package(hound %s REQUIRED)\n' "$2" > "$work/cmake.version/CMakeLists.txt" \
+    rm -rf "$work/cmake.version" && mkdir "$work/cmake.version" \
+        && printf 'cmake_minimum_required(VERSION 3.13)\nproject(user C)\nfind_package(hound %s REQUIRED)\n' "$2" > \
+            "$work/cmake.version/CMakeLists.txt" \
         && cmake -S "$work/cmake.version" -B "$work/cmake.version/out" -DCMAKE_PREFIX_PATH="$1"
 }
 by_cmake() {
     local how prefix # from where; without one, from the clone
-    cmake -S bindings/c -B "$work/cmake" -DBUILD_SHARED_LIBS=ON -DCMAKE_INSTALL_PREFIX="$work/cmake.installed" && cmake --build "$work/cmake" --target install \
-        && [ -e "$work/cmake.installed/lib/libhound_c.so.0" ] && cmp bindings/c/hound_file.h "$work/cmake.installed/include/hound_file.h" || return 1
-    ! takes_version "$work/prefix" 0.1 && ! takes_version "$work/prefix" 0.3 && ! takes_version "$work/prefix" 0.2.99 || return 1
+    cmake -S bindings/c -B "$work/cmake" -DBUILD_SHARED_LIBS=ON -DCMAKE_INSTALL_PREFIX="$work/cmake.installed" \
+        && cmake --build "$work/cmake" --target install \
+        && [ -e "$work/cmake.installed/lib/libhound_c.so.0" ] \
+            && cmp bindings/c/hound_file.h "$work/cmake.installed/include/hound_file.h" || return 1
+    ! takes_version "$work/prefix" 0.1 && ! takes_version "$work/prefix" 0.3 \
+        && ! takes_version "$work/prefix" 0.2.99 || return 1
     for prefix in "$work/cmake.installed" "$work/prefix" ""; do
         how='find_package(hound 0.2 REQUIRED)'
-        [ -n "$prefix" ] || how=$(printf "include(FetchContent)\nFetchContent_Declare(hound SOURCE_DIR $top SOURCE_SUBDIR bindings/c)\nFetchContent_MakeAvailable(hound)")
+        [ -n "$prefix" ] \
+            || how=$(printf \
+                "include(FetchContent)\nFetchContent_Declare(hound SOURCE_DIR $top SOURCE_SUBDIR bindings/c)\nFetchContent_MakeAvailable(hound)")
         rm -rf "$work/cmake.user" && mkdir "$work/cmake.user" && page c > "$work/cmake.user/tone.c"
         printf 'cmake_minimum_required(VERSION 3.18)\nproject(user C)\n%s\nadd_executable(tone tone.c)\ntarget_link_libraries(tone hound::hound_c)\n' "$how" > "$work/cmake.user/CMakeLists.txt"
-        cmake -S "$work/cmake.user" -B "$work/cmake.user/out" -DCMAKE_PREFIX_PATH="$prefix" && cmake --build "$work/cmake.user/out" && (cd "$work" && cmake.user/out/tone) || return 1
+        cmake -S "$work/cmake.user" -B "$work/cmake.user/out" -DCMAKE_PREFIX_PATH="$prefix" \
+            && cmake --build "$work/cmake.user/out" && (cd "$work" && cmake.user/out/tone) || return 1
     done
 }
 python_by_source() { HOUND_C_LIBRARY=$work/source/lib/libhound_c.so python_tests; }
-cargo_by_source() { HOUND_C_SOURCE=1 cargo test -q --offline --manifest-path "bindings/hound/Cargo.toml" --target-dir "$work/target.source"; }
+cargo_by_source() { HOUND_C_SOURCE=1 cargo test -q --offline --manifest-path "bindings/hound/Cargo.toml" --target-dir \
+    "$work/target.source"; }
 page_of_c() {
-    page c > "$work/page.c" && "$cc" $strict "$work/page.c" "$library" -o "$work/page" && (cd "$work" && $run ./page) || return 1
-    page c README.md > "$work/readme.c" && "$cc" $strict "$work/readme.c" "$library" -o "$work/readme" && rm -f "$work/take.wav" && (cd "$work" && $run ./readme) && cmp "$work/take.wav" "$work/four.wav"
+    page c > "$work/page.c" && "$cc" $strict "$work/page.c" "$library" -o "$work/page" \
+        && (cd "$work" && $run ./page) || return 1
+    page c README.md > "$work/readme.c" && "$cc" $strict "$work/readme.c" "$library" -o "$work/readme" \
+        && rm -f "$work/take.wav" && (cd "$work" && $run ./readme) && cmp "$work/take.wav" "$work/four.wav"
 }
 # What README's programs leave, by another program's words: the header of 48 kHz stereo of 16 bits, and four samples.
-four_samples() { printf 'RIFF\54\0\0\0WAVEfmt \20\0\0\0\1\0\2\0\200\273\0\0\0\356\2\0\4\0\20\0data\10\0\0\0\2\0\375\377\5\0\371\377' > "$work/four.wav"; }
+four_samples() { printf \
+    'RIFF\54\0\0\0WAVEfmt \20\0\0\0\1\0\2\0\200\273\0\0\0\356\2\0\4\0\20\0data\10\0\0\0\2\0\375\377\5\0\371\377' > \
+    "$work/four.wav"; }
 four_samples
 page_of_python() {
     page python > "$work/page.py" && (cd "$work" && "$python" page.py) || return 1
-    page python README.md > "$work/readme.py" && rm -f "$work/take.wav" && (cd "$work" && [ "$("$python" readme.py)" = "array('h', [2, -3, 5, -7])" ]) && cmp "$work/take.wav" "$work/four.wav"
+    page python README.md > "$work/readme.py" && rm -f "$work/take.wav" \
+        && (cd "$work" && [ "$("$python" readme.py)" = "array('h', [2, -3, 5, -7])" ]) \
+        && cmp "$work/take.wav" "$work/four.wav"
 }
 page_of_rust() {
     export CARGO_HOME=$work/cargo
@@ -210,23 +262,34 @@ page_of_rust() {
 }
 python_installed() {
     [ ! -e "${library%a}so" ] || export CC=none # and no compiler
-    python3 -m venv "$work/venv" && $offline "$python" -m pip install -q --no-index --disable-pip-version-check "git+file://$top#subdirectory=bindings/python"
+    python3 -m venv "$work/venv" \
+        && $offline "$python" -m pip install -q --no-index --disable-pip-version-check \
+            "git+file://$top#subdirectory=bindings/python"
 }
-python_tests() { local name; for name in files streams floats command; do "$python" "bindings/python/tests/test_$name.py" || return 1; done; }
-command_installed() { [ -s "$work/venv/share/man/man1/hound-wav.1" ] && [ "$("$work/venv/bin/hound-wav" --version)" = "hound-wav $("$python" -c 'import hound_bindings as hound; print(hound.__version__)')" ]; }
-has_mypy() { python3 -c 'import mypy' 2> /dev/null || { echo "bindings: passed over, since mypy isn't here: the types of the Python package (Debian: python3-mypy)"; return 1; }; }
-python_types() { cd bindings/python && MYPYPATH=. python3 -m mypy --strict --cache-dir "$work/mypy" hound_bindings tests/types_of_users.py; }
+python_tests() { local name; for name in files streams floats command;
+    do "$python" "bindings/python/tests/test_$name.py" || return 1; done; }
+command_installed() { [ -s "$work/venv/share/man/man1/hound-wav.1" ] \
+    && [ "$("$work/venv/bin/hound-wav" --version)" = \
+        "hound-wav $("$python" -c 'import hound_bindings as hound; print(hound.__version__)')" ]; }
+has_mypy() { python3 -c 'import mypy' 2> /dev/null \
+    || { echo "bindings: passed over, since mypy isn't here: the types of the Python package (Debian: python3-mypy)";
+        return 1; }; }
+python_types() { cd bindings/python \
+    && MYPYPATH=. python3 -m mypy --strict --cache-dir "$work/mypy" hound_bindings tests/types_of_users.py; }
 python_systems() { "$python" bindings/python/tests/test_windows.py && "$python" bindings/python/tests/test_backend.py; }
 python_faults() { "$python" bindings/tests/python_faults.py 20 short; }
 parts() { "$python" bindings/tests/parts.py 3 short; }
-examples() { local name; for name in cat record repair; do "$cc" $strict "bindings/c/$name.c" "$library" -o "$work/$name" || return 1; done; }
+examples() { local name; for name in cat record repair; do "$cc" $strict "bindings/c/$name.c" "$library" -o \
+    "$work/$name" || return 1; done; }
 rows() { "$python" bindings/tests/rows.py "$work/cat" "$work/record"; }
-cargo_tests() { cargo test -q --offline --manifest-path "bindings/$1/Cargo.toml" --target-dir "$work/target"; } # rust or hound
+cargo_tests() { cargo test -q --offline --manifest-path "bindings/$1/Cargo.toml" --target-dir "$work/target";
+    } # rust or hound
 # The first cargo that builds for Windows.
 cargo_of_windows() {
     local cargo
     for cargo in $(type -ap cargo); do
-        [ ! -d "$("${cargo%cargo}rustc" --print target-libdir --target x86_64-pc-windows-gnu 2> /dev/null)" ] || { echo "$cargo"; return; }
+        [ ! -d "$("${cargo%cargo}rustc" --print target-libdir --target x86_64-pc-windows-gnu 2> /dev/null)" ] \
+            || { echo "$cargo"; return; }
     done
     echo "bindings: passed over, since no cargo here builds for Windows: the Cargo crates there (Debian: cargo, libstd-rust-dev-windows)" >&2
     return 1
@@ -235,24 +298,31 @@ cargo_of_windows() {
 cargo_on_windows() { # CARGO
     local crate cargo=$1
     export RUSTC=${cargo%cargo}rustc RUST_BACKTRACE=0 WINEDEBUG=-all WINEPREFIX=$work/wine
-    export CARGO_TARGET_X86_64_PC_WINDOWS_GNU_LINKER=x86_64-w64-mingw32-gcc CARGO_TARGET_X86_64_PC_WINDOWS_GNU_RUNNER=wine
+    export CARGO_TARGET_X86_64_PC_WINDOWS_GNU_LINKER=x86_64-w64-mingw32-gcc \
+        CARGO_TARGET_X86_64_PC_WINDOWS_GNU_RUNNER=wine
     for crate in rust hound; do
-        "$cargo" test -q --offline --target x86_64-pc-windows-gnu --tests --manifest-path "bindings/$crate/Cargo.toml" --target-dir "$work/target.windows" \
+        "$cargo" test -q --offline --target x86_64-pc-windows-gnu --tests --manifest-path "bindings/$crate/Cargo.toml" \
+            --target-dir "$work/target.windows" \
             -- --skip a_medium_that_panics_always_ends_no_program || return 1
     done
 }
 user_of_hound() { # a program written for hound
     export CARGO_HOME=$work/cargo
-    cargo new -q --vcs none "$work/tick" && cp bindings/tests/dropin/programs/metronome.rs "$work/tick/src/main.rs" && cd "$work/tick" \
-        && $offline cargo add -q --git "file://$top" hound && $offline cargo run -q tick.wav 120 4 && [ "$(wc -c < tick.wav)" = $((44 + 4 * 22050 * 4)) ] || return 1
-    mkdir -p src/bin && (cd "$top" && page rust README.md) > src/bin/readme.rs && [ "$($offline cargo run -q --bin readme)" = "[2, -3, 5, -7]" ] && cmp take.wav "$work/four.wav"
+    cargo new -q --vcs none "$work/tick" && cp bindings/tests/dropin/programs/metronome.rs "$work/tick/src/main.rs" \
+        && cd "$work/tick" \
+        && $offline cargo add -q --git "file://$top" hound && $offline cargo run -q tick.wav 120 4 \
+            && [ "$(wc -c < tick.wav)" = $((44 + 4 * 22050 * 4)) ] || return 1
+    mkdir -p src/bin && (cd "$top" && page rust README.md) > src/bin/readme.rs \
+        && [ "$($offline cargo run -q --bin readme)" = "[2, -3, 5, -7]" ] && cmp take.wav "$work/four.wav"
 }
 vendored() { # the same program, with the sources of both crates alone
     export CARGO_HOME=$work/cargo
-    cd "$work/tick" && rm tick.wav && mkdir .cargo && cargo vendor vendor > .cargo/config.toml && $offline cargo run -q --target-dir "$work/target.vendored" --bin tick tick.wav 120 4 \
+    cd "$work/tick" && rm tick.wav && mkdir .cargo && cargo vendor vendor > .cargo/config.toml \
+        && $offline cargo run -q --target-dir "$work/target.vendored" --bin tick tick.wav 120 4 \
         && [ "$(wc -c < tick.wav)" = $((44 + 4 * 22050 * 4)) ]
 }
-with_package() { HOUND_C_LIBRARY=$work/prefix/lib/libhound_c.so PYTHONPATH=bindings/python python3 "$@"; } # as it is here
+with_package() { HOUND_C_LIBRARY=$work/prefix/lib/libhound_c.so PYTHONPATH=bindings/python python3 "$@";
+    } # as it is here
 quick_rows() { with_package bindings/tests/rows.py "$work/cat" "$work/record"; }
 is_node_20() { node -e 'process.exit(parseInt(process.versions.node) >= 20 ? 0 : 1)'; }
 js_tests() { node --test bindings/js/tests/*.test.js; }
@@ -261,56 +331,73 @@ js_types() {
     cd bindings/js/tests && tsc $words types.mts && tsc $words --lib es2022 plain.mts
 }
 js_packed() {
-    mkdir "$work/js" && (cd bindings/js && npm pack --silent --pack-destination "$work") && git diff --exit-code && [ -z "$(git status --short)" ] && cd "$work/js" \
+    mkdir "$work/js" && (cd bindings/js && npm pack --silent --pack-destination "$work") && git diff --exit-code \
+        && [ -z "$(git status --short)" ] && cd "$work/js" \
         && $offline npm install --silent --offline --no-audit --no-fund "$work"/hound_bindings-*.tgz && js_required
 }
 js_required() { # by programs without modules, by its command, and by the declarations that each resolution finds
     node -e 'require("hound_bindings").write(Int16Array.of(1), { sampleRate: 8000 }).then((file) => fs.writeFileSync("one.wav", file))' \
-        && [ "$(npx --offline hound_bindings info one.wav)" = "one.wav: whole, 1 frame (0.000 s), 8000 Hz, 1 channel, integers of 16 bits" ] || return 1
-    ! command -v tsc > /dev/null || { cp "$top/bindings/js/tests/required.cts" . && tsc --strict --noEmit --target es2022 --module nodenext --moduleResolution nodenext required.cts \
+        && [ "$(npx --offline hound_bindings info one.wav)" = \
+            "one.wav: whole, 1 frame (0.000 s), 8000 Hz, 1 channel, integers of 16 bits" ] || return 1
+    ! command -v tsc > /dev/null || { cp "$top/bindings/js/tests/required.cts" . \
+        && tsc --strict --noEmit --target es2022 --module nodenext --moduleResolution nodenext required.cts \
         && tsc --strict --noEmit --target es2022 --module commonjs --moduleResolution node required.cts; }
 }
 js_linked() { # what a server needs is beside hound.js, and nothing that git sees
-    mkdir "$work/linked" && (cd "$work/linked" && $offline npm install --silent --offline --no-audit --no-fund "$top/bindings/js") \
-        && cmp bindings/lib/hound_c32.wasm "$work/linked/node_modules/hound_bindings/hound_c32.wasm" && [ -z "$(git status --short)" ]
+    mkdir "$work/linked" \
+        && (cd "$work/linked" && $offline npm install --silent --offline --no-audit --no-fund "$top/bindings/js") \
+        && cmp bindings/lib/hound_c32.wasm "$work/linked/node_modules/hound_bindings/hound_c32.wasm" \
+            && [ -z "$(git status --short)" ]
 }
 js_bundled() { # for browsers: with nothing of Node, and with the module beside the bundle
     local folder
     for folder in js linked; do
         cd "$work/$folder" && printf 'import * as hound from "hound_bindings";\nglobalThis.hound = hound;\n' > all.mjs \
-            && esbuild --log-level=warning --bundle --format=esm all.mjs --outfile=bundle/all.mjs && ! grep -q node: bundle/all.mjs && cp node_modules/hound_bindings/hound_c32.wasm bundle \
-            && node --input-type=module -e 'import { readFile } from "node:fs/promises"; globalThis.fetch = async (url) => new Response(await readFile(url)); await import("./bundle/all.mjs"); const file = await hound.write(Int16Array.of(7), { sampleRate: 8000 }); process.exitCode = (await hound.read(file))[0] === 7 ? 0 : 1' || return 1
+            && esbuild --log-level=warning --bundle --format=esm all.mjs --outfile=bundle/all.mjs \
+                && ! grep -q node: bundle/all.mjs && cp node_modules/hound_bindings/hound_c32.wasm bundle \
+            && node --input-type=module -e \
+                'import { readFile } from "node:fs/promises"; globalThis.fetch = async (url) => new Response(await readFile(url)); await import("./bundle/all.mjs"); const file = await hound.write(Int16Array.of(7), { sampleRate: 8000 }); process.exitCode = (await hound.read(file))[0] === 7 ? 0 : 1' || return 1
     done
 }
 page_of_js() { page js > "$work/js/page.mjs" && cd "$work/js" && node page.mjs; }
 # The answers of this processor's library, which rows.py compares with the model; and whether another's are the same.
 answers() {
     python3 bindings/tests/requests.py > "$work/requests" && user answer -- < "$work/requests" > "$work/answers" \
-        && [ "$(grep -v '^memory' "$work/requests" | paste -d ' ' - "$work/answers" | sed '/^value/d' | awk '{ print $(NF - 1) }' | grep -e - | sort -u | wc -l)" = 31 ]
+        && [ "$(grep -v '^memory' "$work/requests" | paste -d ' ' - "$work/answers" | sed '/^value/d' \
+            | awk '{ print $(NF - 1) }' | grep -e - | sort -u | wc -l)" = 31 ]
 }
 node_package() { node bindings/tests/package.mjs < "$work/requests"; }
 same_answers() { "$@" < "$work/requests" | cmp - "$work/answers"; }
-takes_wasm64() { node "$@" -e 'process.exit(WebAssembly.validate(new Uint8Array([0, 97, 115, 109, 1, 0, 0, 0, 5, 3, 1, 4, 1])) ? 0 : 1)' > /dev/null 2>&1; }
+takes_wasm64() { node "$@" -e \
+    'process.exit(WebAssembly.validate(new Uint8Array([0, 97, 115, 109, 1, 0, 0, 0, 5, 3, 1, 4, 1])) ? 0 : 1)' > \
+    /dev/null 2>&1; }
 
 python=$work/venv/bin/python
 check "bindings/lib is what its PROVED says" proved
-has nm "the library's symbols" && check "exactly the functions of the header are exported, and none but memcpy, memmove and memset undefined" symbols nm
+has nm "the library's symbols" \
+    && check "exactly the functions of the header are exported, and none but memcpy, memmove and memset undefined" \
+        symbols nm
 if has "$cc" "the users in C"; then
     check "the headers are C99, and hound.h C11" header
     is_i386 && check "the header has its layout on i386" on_i386
     check "each call from C" user calls --
     check "hostile files" user hostile 300000 --
-    check "hound_file.h over a file that was opened to append, unknown effects, and without descriptors" user descriptors "$work/descriptors.wav" --
+    check "hound_file.h over a file that was opened to append, unknown effects, and without descriptors" user \
+        descriptors "$work/descriptors.wav" --
     check "calls.c finds each wrong library of wrong.c" wrong_libraries
     check "300,000 recordings over a simulated disk, with kills, faults and losses of power" user disk 300000 --
     check "disk.c finds each of its wrong versions" wrong_disks
     check "$cc warns of a NULL" null_warned "$cc"
     has clang "its warning of a NULL" && check "clang warns of a NULL" null_warned clang
-    has valgrind "memory that is only written" && check "memory that is only written needn't be initialized, by valgrind" uninitialized
-    if echo 'int main(void) { return 0; }' > "$work/empty.c" && "$cc" -fsanitize=address,undefined "$work/empty.c" -o "$work/empty" 2> /dev/null && "$work/empty"; then
+    has valgrind "memory that is only written" \
+        && check "memory that is only written needn't be initialized, by valgrind" uninitialized
+    if echo 'int main(void) { return 0; }' > "$work/empty.c" \
+        && "$cc" -fsanitize=address,undefined "$work/empty.c" -o "$work/empty" 2> /dev/null && "$work/empty"; then
         check "each call from C, with sanitizers" user calls -- -fsanitize=address,undefined -fno-sanitize-recover=all
-        check "hostile files, with sanitizers" user hostile 30000 -- -fsanitize=address,undefined -fno-sanitize-recover=all
-        check "recordings over a simulated disk, with sanitizers" user disk 30000 -- -fsanitize=address,undefined -fno-sanitize-recover=all
+        check "hostile files, with sanitizers" user hostile 30000 -- -fsanitize=address,undefined \
+            -fno-sanitize-recover=all
+        check "recordings over a simulated disk, with sanitizers" user disk 30000 -- -fsanitize=address,undefined \
+            -fno-sanitize-recover=all
         check "sanitizers report a NULL" null_reported
     else
         echo "bindings: passed over, since $cc has no sanitizers here: the users in C with them"
@@ -319,14 +406,17 @@ if has "$cc" "the users in C"; then
     check "the C program of docs/BINDINGS.md" page_of_c
     check "the library that is installed from hound_c.c, and the C program with that file" by_source
     has_flags && check "on x86-64 before v2 the library is compiled from hound_c.c" old_processor
-    has cmake "the library in CMake" && check "CMake finds the libraries that it and bindings/c/install.sh installed, and builds the one of a clone" by_cmake
+    has cmake "the library in CMake" \
+        && check "CMake finds the libraries that it and bindings/c/install.sh installed, and builds the one of a clone" by_cmake
     check "the examples cat.c, record.c and repair.c" examples
 fi
 if has c++ "the headers and hound_c.c in C++"; then
     check "the headers are C++98 and C++17" header_of_cpp
     check "hound_c.c is C++11 and C++20, and each call from C works with it" source_of_cpp
 fi
-has python3 "what the packages have of hound.h" && check "the packages have the errors, structs, constants and the version of hound.h" scripts/make_interface.py --check
+has python3 "what the packages have of hound.h" \
+    && check "the packages have the errors, structs, constants and the version of hound.h" scripts/make_interface.py \
+        --check
 if has python3 "the Python package" && has "$cc" "the Python package"; then
     has_mypy && check "the types of the Python package, by mypy" python_types
     check "where HOUND_C_LIB has no library, a line says so" no_library
@@ -335,9 +425,11 @@ if has python3 "the Python package" && has "$cc" "the Python package"; then
         check "the tests of the Python package" python_tests
         check "pip installs the command hound-wav, and its page for man" command_installed
         check "the same over the library that is compiled from hound_c.c" python_by_source
-        has sox "guesses of lost headers" && is_node_20 && check "both packages guess the same of files whose header is lost" "$python" bindings/tests/guesses.py
+        has sox "guesses of lost headers" && is_node_20 \
+            && check "both packages guess the same of files whose header is lost" "$python" bindings/tests/guesses.py
         check "the tests with what Python has on Windows, and what pip builds on other systems" python_systems
-        has strace "killed Python programs, and failing calls of theirs" && check "killed Python programs, and failing calls of theirs" python_faults
+        has strace "killed Python programs, and failing calls of theirs" \
+            && check "killed Python programs, and failing calls of theirs" python_faults
         check "killed recordings in parts, by hound-wav, Python, C and Node" parts
         check "files of hound_rows, cut files and each code, beside the model, through cat.c and by record.c" rows
         check "the Python program of docs/BINDINGS.md" page_of_python
@@ -345,34 +437,41 @@ if has python3 "the Python package" && has "$cc" "the Python package"; then
         echo "bindings: passed over, since this Python has no ensurepip: pip"
         check "files of hound_rows, cut files and each code, beside the model, through cat.c and by record.c" quick_rows
     fi
-    has strace "record.c at the edges of a recording" && check "record.c at the edges of a recording, and its wrong versions" python3 bindings/tests/recorder.py
-    has strace "repair.c" && check "files cut at each byte by repair.c, which is killed, fails and loses its power, and its wrong versions" with_package bindings/tests/repairs.py
-    has strace "repair_file" && has cargo "repair_file" && check "the same by repair_file of the Cargo package hound" with_package bindings/tests/repairs.py cargo
+    has strace "record.c at the edges of a recording" \
+        && check "record.c at the edges of a recording, and its wrong versions" python3 bindings/tests/recorder.py
+    has strace "repair.c" \
+        && check "files cut at each byte by repair.c, which is killed, fails and loses its power, and its wrong versions" with_package bindings/tests/repairs.py
+    has strace "repair_file" && has cargo "repair_file" \
+        && check "the same by repair_file of the Cargo package hound" with_package bindings/tests/repairs.py cargo
 fi
 if has cargo "the Cargo crate"; then
     check "the tests of the Cargo crate" cargo_tests rust
     check "the tests of the Cargo package hound" cargo_tests hound
     check "Cargo rejects a library of another version" other_version
     check "the same over hound_c.c, which its build compiles" cargo_by_source
-    if has wine "the Cargo crates on Windows" && has x86_64-w64-mingw32-gcc "the Cargo crates on Windows" && cargo=$(cargo_of_windows); then
+    if has wine "the Cargo crates on Windows" && has x86_64-w64-mingw32-gcc "the Cargo crates on Windows" \
+        && cargo=$(cargo_of_windows); then
         check "the tests of both Cargo crates on Windows" cargo_on_windows "$cargo"
     fi
     check "a program written for hound, which adds that package from a clone" user_of_hound
     check "the same after cargo vendor" vendored
     check "the Rust program of docs/BINDINGS.md, which adds the crate from a clone" page_of_rust
 fi
-has python3 "that hound.html is made" && check "hound.html is what its script makes of the package and the module" bindings/js/page/make.py --check
+has python3 "that hound.html is made" \
+    && check "hound.html is what its script makes of the package and the module" bindings/js/page/make.py --check
 if ! has node "the JavaScript package"; then :
 elif ! is_node_20; then
     echo "bindings: passed over, since this node is older than 20: the JavaScript package"
 else
     check "the tests of the JavaScript package" js_tests
-    has tsc "its declarations (Debian: node-typescript)" && check "the declarations of the JavaScript package, by tsc" js_types
+    has tsc "its declarations (Debian: node-typescript)" \
+        && check "the declarations of the JavaScript package, by tsc" js_types
     if has npm "npm pack"; then
         check "npm installs the packed JavaScript package, with its command, for import and require" js_packed
         check "the JavaScript program of docs/BINDINGS.md, from the packed package" page_of_js
         check "npm links a folder, which has all that a server needs" js_linked
-        has esbuild "the JavaScript package in a bundle" && check "esbuild bundles the packed package and the linked folder for browsers" js_bundled
+        has esbuild "the JavaScript package in a bundle" \
+            && check "esbuild bundles the packed package and the linked folder for browsers" js_bundled
     fi
     browsers=
     for browser in chromium firefox-esr; do has "$browser" "hound.html in it" && browsers="$browsers $browser"; done
@@ -380,7 +479,8 @@ else
 fi
 if has python3 "the libraries of other processors" && has "$cc" "the libraries of other processors"; then
     check "each code among the answers to requests.py" answers
-    if has aarch64-linux-gnu-gcc "ARM (Debian: gcc-aarch64-linux-gnu)" && has qemu-aarch64 "ARM (Debian: qemu-user)" && has_libc_of_arm; then
+    if has aarch64-linux-gnu-gcc "ARM (Debian: gcc-aarch64-linux-gnu)" && has qemu-aarch64 "ARM (Debian: qemu-user)" \
+        && has_libc_of_arm; then
         check "the symbols of the library for ARM" on_arm symbols aarch64-linux-gnu-nm
         check "each call from C on ARM" on_arm user calls --
         check "hostile files on ARM" on_arm user hostile 30000 --
@@ -390,12 +490,15 @@ if has python3 "the libraries of other processors" && has "$cc" "the libraries o
         check "the answers on ARM are the same" same_answers on_arm user answer --
     fi
     if has node "WebAssembly"; then
-        is_node_20 && check "the JavaScript package, by parts, gives what the exports give over whole files" node_package
-        check "the answers in WebAssembly with a memory of 32 bits are the same" same_answers node bindings/tests/answer.js bindings/lib/hound_c32.wasm
+        is_node_20 && check "the JavaScript package, by parts, gives what the exports give over whole files" \
+            node_package
+        check "the answers in WebAssembly with a memory of 32 bits are the same" same_answers node \
+            bindings/tests/answer.js bindings/lib/hound_c32.wasm
         flag=
         takes_wasm64 || flag=--experimental-wasm-memory64
         if takes_wasm64 $flag; then
-            check "the answers in WebAssembly with a memory of 64 bits are the same" same_answers node $flag bindings/tests/answer.js bindings/lib/hound_c.wasm
+            check "the answers in WebAssembly with a memory of 64 bits are the same" same_answers node $flag \
+                bindings/tests/answer.js bindings/lib/hound_c.wasm
         else
             echo "bindings: passed over, since this node has no memory of 64 bits: the WebAssembly module for it"
         fi

@@ -1,15 +1,16 @@
 #!/usr/bin/env node
-// Tries bindings/js/page/hound.html in Chromium and Firefox, opened from the disk: files are chosen and dropped, what is
-// said of each is compared with what should be, and each file that is saved with the one made by hand here. Both are without
-// a window, but for Firefox where Xvfb, xdotool and GTK for Python are here: its protocol drops no files, so they are dragged
-// over a display. A browser that isn't here is named and passed over.
-//   scripts/try_browser.mjs [FOLDER]   (pictures of the page, and the files that were given and saved, go into the folder: its
+// Tries bindings/js/page/hound.html in Chromium and Firefox, opened from the disk: files are chosen and dropped, what
+// is said of each is compared with what should be, and each file that is saved with the one made by hand here. Both are
+// without a window, but for Firefox where Xvfb, xdotool and GTK for Python are here: its protocol drops no files, so
+// they are dragged over a display. A browser that isn't here is named and passed over.
+//   scripts/try_browser.mjs [FOLDER]   (pictures of the page, and the files that were given and saved, go into the
+//   folder: its
 //                                   page.png is docs/page.png)
-import { spawn, spawnSync } from "node:child_process";
+import {spawn, spawnSync} from "node:child_process";
 import fs from "node:fs";
 import os from "node:os";
 import path from "node:path";
-import { fileURLToPath, pathToFileURL } from "node:url";
+import {fileURLToPath, pathToFileURL} from "node:url";
 
 const PAGE = fileURLToPath(new URL("../bindings/js/page/hound.html", import.meta.url));
 const FOLDER = process.argv[2];
@@ -19,107 +20,198 @@ const u16 = (n) => [n & 255, n >> 8 & 255];
 const u32 = (n) => [...u16(n), ...u16(n >>> 16)];
 
 /** A file of these data, whose header may count others. */
-function wav(data, { counted = data.length, after = [], riff, channels = 1, rate = 8000, bits = 16, bytes = bits / 8, tag = 1, valid, mask = 0 } = {}) {
+function wav(data, {
+  counted = data.length,
+  after = [],
+  riff,
+  channels = 1,
+  rate = 8000,
+  bits = 16,
+  bytes = bits / 8,
+  tag = 1,
+  valid,
+  mask = 0
+} = {}) {
   const frame = channels * bytes;
-  const guid = valid ? [...u16(22), ...u16(valid), ...u32(mask), ...u16(tag), ...text("\0\0\0\0\x10\0\x80\0\0\xaa\0\x38\x9b\x71")] : [];
-  const fmt = [...u16(valid ? 0xfffe : tag), ...u16(channels), ...u32(rate), ...u32(rate * frame), ...u16(frame), ...u16(8 * bytes), ...guid];
+  const guid = valid ?
+    [...u16(22), ...u16(valid), ...u32(mask), ...u16(tag), ...text("\0\0\0\0\x10\0\x80\0\0\xaa\0\x38\x9b\x71")] :
+    [];
+  const fmt = [
+    ...u16(valid ? 0xfffe : tag), ...u16(channels), ...u32(rate), ...u32(rate * frame), ...u16(frame),
+    ...u16(8 * bytes), ...guid
+  ];
   const rest = [...text("WAVEfmt "), ...u32(fmt.length), ...fmt, ...text("data"), ...u32(counted)];
   const pieces = [Buffer.from(rest), Buffer.from(data), Buffer.from(after)];
   const length = pieces.reduce((sum, piece) => sum + piece.length, 0);
   return Buffer.concat([Buffer.from([...text("RIFF"), ...u32(riff ?? length)]), ...pieces]);
 }
 
-const tone = Array.from({ length: 16000 }, (_, i) => u16(Math.round(20000 * Math.sin(i / 20)) & 65535)).flat();
+const tone = Array.from({length: 16000}, (_, i) => u16(Math.round(20000 * Math.sin(i / 20)) & 65535)).flat();
 const WHOLE = "The file is whole: its header counts all frames. There is nothing to repair.";
 const ALL_COUNTED = "Its RIFF size or pad byte isn't as the format asks, which concerns no sample.";
-const FOLLOWED = "Other data follow the sound, as a title or markers (chunks or a tag): it needs no repair. If a program rejects the file, export it from an audio editor.";
+const FOLLOWED =
+  "Other data follow the sound, as a title or markers (chunks or a tag): it needs no repair. If a program rejects the file, export it from an audio editor.";
 const CHOOSE = "Keep the file. Choose what was recorded, and listen.";
 const NO_RIFF = `It is no WAV file, or its beginning was lost: ${CHOOSE}`;
 const named = (kind, codec) => `: the file holds ${kind}, and isn't read: convert it by ffmpeg -i FILE -c:a ${codec} NEW.wav.\nAn audio editor converts it, too. Or its header is damaged: ${CHOOSE}`;
 const DAMAGED = `Its header is damaged, or of a kind that this page doesn't read. ${CHOOSE}`;
 const CARD = "Record nothing more on the card it came from: a recovery program may find the sound there.";
 const SILENT = `The file has a header and no sound: nothing can be brought back from it. ${CARD}`;
-const LISTEN = "\nListen to its end: if silence, noise, a click or older sound is there, stop the player before that, and press \"End it where the player is\".";
-const LISTEN_TO_EACH = "\nChoose each in the list, and listen to its end: silence, noise, a click or older sound may be there.";
-const missing = (what) => (name) => `The ${what.replace(" ", ` of ${name}.wav `)}. Choose what was recorded, listen, save.`;
-const comes = (frames, counted = "none", more = "") => `${frames} come back, of which its header counted ${counted}.${more}`;
+const LISTEN =
+  "\nListen to its end: if silence, noise, a click or older sound is there, stop the player before that, and press \"End it where the player is\".";
+const LISTEN_TO_EACH =
+  "\nChoose each in the list, and listen to its end: silence, noise, a click or older sound may be there.";
+const missing = (what) => (name) =>
+  `The ${what.replace(" ", ` of ${name}.wav `)}. Choose what was recorded, listen, save.`;
+const comes = (frames, counted = "none", more = "") =>
+  `${frames} come back, of which its header counted ${counted}.${more}`;
 const cut = (...rest) => `The recording was cut off. ${comes(...rest)}${LISTEN}`;
-const tooMany = (frames, counted, more = "") => `The recording was cut off. ${frames} come back; its header counted ${counted}.${more}${LISTEN}`;
+const tooMany = (frames, counted, more = "") =>
+  `The recording was cut off. ${frames} come back; its header counted ${counted}.${more}${LISTEN}`;
 const toEnd = (...rest) => `All bytes up to the end are taken for sound. ${comes(...rest)}${LISTEN}`;
 const uncounted = (counts, bytes, what = "the rest of the recording") => `The header counts ${counts}, but ${bytes} bytes follow. They may be ${what}: repair the file to its end, and listen.`;
-const LIST = [...text("LIST"), ...u32(4), ...text("INFO")], TAG = [...text("TAG"), ...Array(125).fill(32)], ABCD = [...text("abcd"), ...u32(124), ...Array(124).fill(1)];
+const LIST = [...text("LIST"), ...u32(4), ...text("INFO")], TAG = [...text("TAG"), ...Array(125).fill(32)],
+      ABCD = [...text("abcd"), ...u32(124), ...Array(124).fill(1)];
 const damaged = (rest) => Buffer.concat([wav([]).subarray(0, 20), Buffer.from(rest)]);
-/** A file without a header, and what it is saved as: all of it in 16 bits, of one channel where the samples are predictable
-    then. They begin after the header of the data, if there is one. */
+/**
+   A file without a header, and what it is saved as: all of it in 16 bits, of one channel where the samples are
+   predictable then. They begin after the header of the data, if there is one.
+ */
 function headless(name, content, why, channels = 1, otherwise = 0) {
-  const tag = Buffer.from(content).indexOf("data", 12), start = tag < 0 ? otherwise : tag + 8, sound = content.subarray(start);
+  const tag = Buffer.from(content).indexOf("data", 12), start = tag < 0 ? otherwise : tag + 8,
+        sound = content.subarray(start);
   const whole = sound.length - sound.length % (2 * channels);
-  const saved = wav(sound.subarray(0, whole), { channels, rate: 48000 });
-  return [name, content, typeof why === "string" ? `${name}.wav${why}` : why(name), `Sound beginsat byte ${start}`, saved];
+  const saved = wav(sound.subarray(0, whole), {channels, rate: 48000});
+  return [
+    name, content, typeof why === "string" ? `${name}.wav${why}` : why(name), `Sound beginsat byte ${start}`, saved
+  ];
 }
 const unread = (why) => ` can't be read: ${why}`;
-const instead = (name, beginning, why) => headless(name, Buffer.from([...text(beginning), ...wav(tone).subarray(4)]), why);
+const instead = (name, beginning, why) =>
+  headless(name, Buffer.from([...text(beginning), ...wav(tone).subarray(4)]), why);
 // Each file, what is said of it, a fact that is shown, and the repaired file, if there is one.
 const CASES = [
   ["whole", wav(tone), WHOLE, "16,000 frames"],
-  ["cut", wav(tone, { counted: 0, riff: 36 }), cut("16,000 frames (0:02.000)"), "counts 0 frames", wav(tone)],
-  ["cut, and in part counted", wav(tone, { counted: 8 }), cut("16,000 frames (0:02.000)", "4"), "counts 4 frames", wav(tone)],
-  ["too large", wav(tone, { counted: 0xfffffffe, riff: 0xffffffff }), tooMany("16,000 frames (0:02.000)", "2,147,483,647"), "counts 2,147,483,647 frames", wav(tone)],
-  ["half a frame", wav(tone.slice(0, 8003), { channels: 2, counted: 32000, riff: 32036 }), tooMany("2,000 frames (0:00.250)", "8,000", " Of one more frame only 3 bytes are there."), "3 bytesThey stay in the original", wav(tone.slice(0, 8000), { channels: 2 })],
-  ["one byte more", wav(tone.slice(0, 8001), { counted: 0, riff: 36 }), cut("4,000 frames (0:00.500)", "none", " Of one more frame only 1 byte is there."), "1 byteIt stays in the original", wav(tone.slice(0, 8000))],
-  ["no whole frames", wav(tone.slice(0, 8), { counted: 3, riff: 39 }), cut("4 frames (0:00.001)", "1"), "counts 1 frame", wav(tone.slice(0, 8))],
-  ["odd", wav([1, 2, 3], { bits: 8, riff: 36, counted: 2 }), cut("3 frames (0:00.000)", "2"), "8 bits", wav([1, 2, 3], { bits: 8, after: [0] })],
+  ["cut", wav(tone, {counted: 0, riff: 36}), cut("16,000 frames (0:02.000)"), "counts 0 frames", wav(tone)],
+  [
+    "cut, and in part counted", wav(tone, {counted: 8}), cut("16,000 frames (0:02.000)", "4"), "counts 4 frames",
+    wav(tone)
+  ],
+  [
+    "too large", wav(tone, {counted: 0xfffffffe, riff: 0xffffffff}),
+    tooMany("16,000 frames (0:02.000)", "2,147,483,647"), "counts 2,147,483,647 frames", wav(tone)
+  ],
+  [
+    "half a frame", wav(tone.slice(0, 8003), {channels: 2, counted: 32000, riff: 32036}),
+    tooMany("2,000 frames (0:00.250)", "8,000", " Of one more frame only 3 bytes are there."),
+    "3 bytesThey stay in the original", wav(tone.slice(0, 8000), {channels: 2})
+  ],
+  [
+    "one byte more", wav(tone.slice(0, 8001), {counted: 0, riff: 36}),
+    cut("4,000 frames (0:00.500)", "none", " Of one more frame only 1 byte is there."),
+    "1 byteIt stays in the original", wav(tone.slice(0, 8000))
+  ],
+  [
+    "no whole frames", wav(tone.slice(0, 8), {counted: 3, riff: 39}), cut("4 frames (0:00.001)", "1"), "counts 1 frame",
+    wav(tone.slice(0, 8))
+  ],
+  [
+    "odd", wav([1, 2, 3], {bits: 8, riff: 36, counted: 2}), cut("3 frames (0:00.000)", "2"), "8 bits",
+    wav([1, 2, 3], {bits: 8, after: [0]})
+  ],
   // All frames are counted, and the RIFF size or the pad byte is as some programs write them.
-  ["no pad byte", wav([1, 2, 3], { bits: 8 }), WHOLE, ALL_COUNTED],
-  ["no pad byte counted", wav([1, 2, 3], { bits: 8, after: [0], riff: 39 }), WHOLE, ALL_COUNTED],
-  ["no RIFF size", wav(tone, { riff: 0 }), WHOLE, ALL_COUNTED],
-  ["no rate", wav(tone, { counted: 0, riff: 36, rate: 0 }), cut("16,000 frames"), "Duration16,000 framesA frame", wav(tone, { rate: 0 })],
-  ["again repaired", wav(tone, { counted: 0, riff: 36 }), cut("16,000 frames (0:02.000)"), "counts 0 frames", wav(tone)],
-  ["again repaired 9", wav(tone, { counted: 0, riff: 36 }), cut("16,000 frames (0:02.000)"), "counts 0 frames", wav(tone)],
-  ["take 9", wav(tone, { counted: 0, riff: 36 }), cut("16,000 frames (0:02.000)"), "counts 0 frames", wav(tone)],
-  ["followed", wav(tone, { after: LIST }), FOLLOWED, "16,000 frames"],
-  ["tagged", wav(tone, { after: TAG }), FOLLOWED, "16,000 frames"],
-  ["followed and tagged", wav(tone, { after: [...ABCD, ...TAG], riff: 36 + 32000 }), FOLLOWED, "16,000 frames"],
-  ["odd and tagged", wav([...tone, 7], { bits: 8, after: [0, ...TAG] }), FOLLOWED, "32,001 frames"],
-  ["24 in 4", wav([0, 0, 64, 0, 0, 0, 192, 0], { bits: 24, bytes: 4, valid: 24 }), WHOLE, "integers of 24 bits in 4 bytes"],
-  ["floats", wav([0, 0, 0, 63, 0, 0, 0, 191], { bits: 32, tag: 3, counted: 0, riff: 36 }), cut("2 frames (0:00.000)"), "floats of 32 bits", wav([0, 0, 0, 63, 0, 0, 0, 191], { bits: 32, tag: 3 })],
-  ["6 channels", wav(tone.slice(0, 24000), { channels: 6, counted: 12, riff: 48 }), cut("2,000 frames (0:00.250)", "1"), "counts 1 frame", wav(tone.slice(0, 24000), { channels: 6 })],
-  ["40 channels", wav(tone.slice(0, 8000), { channels: 40 }), WHOLE, "The first 32 are drawn."],
+  ["no pad byte", wav([1, 2, 3], {bits: 8}), WHOLE, ALL_COUNTED],
+  ["no pad byte counted", wav([1, 2, 3], {bits: 8, after: [0], riff: 39}), WHOLE, ALL_COUNTED],
+  ["no RIFF size", wav(tone, {riff: 0}), WHOLE, ALL_COUNTED],
+  [
+    "no rate", wav(tone, {counted: 0, riff: 36, rate: 0}), cut("16,000 frames"), "Duration16,000 framesA frame",
+    wav(tone, {rate: 0})
+  ],
+  ["again repaired", wav(tone, {counted: 0, riff: 36}), cut("16,000 frames (0:02.000)"), "counts 0 frames", wav(tone)],
+  [
+    "again repaired 9", wav(tone, {counted: 0, riff: 36}), cut("16,000 frames (0:02.000)"), "counts 0 frames", wav(tone)
+  ],
+  ["take 9", wav(tone, {counted: 0, riff: 36}), cut("16,000 frames (0:02.000)"), "counts 0 frames", wav(tone)],
+  ["followed", wav(tone, {after: LIST}), FOLLOWED, "16,000 frames"],
+  ["tagged", wav(tone, {after: TAG}), FOLLOWED, "16,000 frames"],
+  ["followed and tagged", wav(tone, {after: [...ABCD, ...TAG], riff: 36 + 32000}), FOLLOWED, "16,000 frames"],
+  ["odd and tagged", wav([...tone, 7], {bits: 8, after: [0, ...TAG]}), FOLLOWED, "32,001 frames"],
+  [
+    "24 in 4", wav([0, 0, 64, 0, 0, 0, 192, 0], {bits: 24, bytes: 4, valid: 24}), WHOLE,
+    "integers of 24 bits in 4 bytes"
+  ],
+  [
+    "floats", wav([0, 0, 0, 63, 0, 0, 0, 191], {bits: 32, tag: 3, counted: 0, riff: 36}), cut("2 frames (0:00.000)"),
+    "floats of 32 bits", wav([0, 0, 0, 63, 0, 0, 0, 191], {bits: 32, tag: 3})
+  ],
+  [
+    "6 channels", wav(tone.slice(0, 24000), {channels: 6, counted: 12, riff: 48}), cut("2,000 frames (0:00.250)", "1"),
+    "counts 1 frame", wav(tone.slice(0, 24000), {channels: 6})
+  ],
+  ["40 channels", wav(tone.slice(0, 8000), {channels: 40}), WHOLE, "The first 32 are drawn."],
   // The header counts less than there is, and something is at the end that looks like chunks or a tag.
-  ["uncounted", wav(tone, { counted: 0, riff: 36, after: TAG }), uncounted("no sound", "32,128", "the recording"), "0 frames"],
-  ["uncounted, sized", wav(tone, { counted: 0, after: TAG }), uncounted("no sound", "32,128", "the recording"), "0 frames"],
-  ["after a chunk", wav([], { riff: 36, after: [...LIST, ...tone] }), uncounted("no sound", "32,012", "the recording"), "0 frames"],
-  ["a quarter", wav(tone, { counted: 8000, after: TAG }), uncounted("only 4,000 frames (0:00.500)", "24,128"), "0:00.500, 4,000 frames"],
-  ["nearly all", wav(tone, { counted: 31998, after: TAG }), FOLLOWED, "15,999 frames"],
-  ["torn", wav(tone, { counted: 3, riff: 36, after: TAG }), toEnd("16,064 frames (0:02.008)", "1"), "counts 1 frame", wav([...tone, ...TAG])],
+  [
+    "uncounted", wav(tone, {counted: 0, riff: 36, after: TAG}), uncounted("no sound", "32,128", "the recording"),
+    "0 frames"
+  ],
+  [
+    "uncounted, sized", wav(tone, {counted: 0, after: TAG}), uncounted("no sound", "32,128", "the recording"),
+    "0 frames"
+  ],
+  [
+    "after a chunk", wav([], {riff: 36, after: [...LIST, ...tone]}), uncounted("no sound", "32,012", "the recording"),
+    "0 frames"
+  ],
+  [
+    "a quarter", wav(tone, {counted: 8000, after: TAG}), uncounted("only 4,000 frames (0:00.500)", "24,128"),
+    "0:00.500, 4,000 frames"
+  ],
+  ["nearly all", wav(tone, {counted: 31998, after: TAG}), FOLLOWED, "15,999 frames"],
+  [
+    "torn", wav(tone, {counted: 3, riff: 36, after: TAG}), toEnd("16,064 frames (0:02.008)", "1"), "counts 1 frame",
+    wav([...tone, ...TAG])
+  ],
   // Its length is wrong: before the end of the sound, and after that of the file.
-  ...[0, 4, 36, 36 + 31998, 36 + 32014, 0xffffffff].map((riff) => [`missized ${riff}`, wav(tone, { riff, after: LIST }), FOLLOWED, "16,000 frames"]),
-  ["sized to the sound", wav(tone, { riff: 36 + 32000, after: LIST }), FOLLOWED, "16,000 frames"],
+  ...[0, 4, 36, 36 + 31998, 36 + 32014, 0xffffffff].map(
+    (riff) => [`missized ${riff}`, wav(tone, {riff, after: LIST}), FOLLOWED, "16,000 frames"]),
+  ["sized to the sound", wav(tone, {riff: 36 + 32000, after: LIST}), FOLLOWED, "16,000 frames"],
   // There is no sound.
   ["no sound", wav([]), SILENT, "0 frames"],
-  ["header", wav([], { counted: 8, riff: 36 }), SILENT, "0 frames"],
-  ["a byte", wav([1], { counted: 0, riff: 36 }), SILENT, "0 frames"],
+  ["header", wav([], {counted: 8, riff: 36}), SILENT, "0 frames"],
+  ["a byte", wav([1], {counted: 0, riff: 36}), SILENT, "0 frames"],
   ["empty", Buffer.alloc(0), `empty.wav is empty. ${CARD}`],
   ["short", wav([]).subarray(0, 30), `short.wav ends before any sound. ${CARD}`],
   // Its header can't be read.
-  headless("lost", Buffer.concat([wav(tone).subarray(0, 36), Buffer.alloc(8), wav(tone).subarray(44)]), missing("beginning is lost"), 1, 44),
+  headless("lost", Buffer.concat([wav(tone).subarray(0, 36), Buffer.alloc(8), wav(tone).subarray(44)]),
+    missing("beginning is lost"), 1, 44),
   headless("cleared", Buffer.concat([Buffer.alloc(44), wav(tone).subarray(44)]), missing("beginning is lost"), 1, 44),
-  headless("damaged before sound", Buffer.concat([damaged(Buffer.alloc(24)), Buffer.from(tone)]), missing("header is damaged"), 1, 44),
+  headless("damaged before sound", Buffer.concat([damaged(Buffer.alloc(24)), Buffer.from(tone)]),
+    missing("header is damaged"), 1, 44),
   headless("damaged", damaged(Buffer.alloc(50000)), unread(`file contains zero channels.\n${DAMAGED}`), 2),
-  headless("damaged by sound", damaged([...u16(1), ...u16(2), ...Array(50001).fill(3)]), unread(`inconsistent fmt chunk.\n${DAMAGED}`), 2),
-  headless("compressed", wav(tone, { tag: 999 }), unread(`the format is neither PCM nor IEEE float.\nIts sound is compressed, and an audio editor may read it; or its header is damaged: ${CHOOSE}`)),
-  headless("16-bit floats", wav(tone, { tag: 3 }), unread(`bits per sample is not 32.\nThis page reads integers of 8, 16, 24 and 32 bits, and floats of 32 bits: an audio editor may read it. If its header is damaged: ${CHOOSE}`)),
-  headless("another", Buffer.from([...text("RIFF"), ...u32(4), ...text("AVI "), ...Array(100).fill(0)]), unread(`no WAVE tag found.\nIt is another RIFF file, or its beginning was lost: ${CHOOSE}`), 2),
+  headless("damaged by sound", damaged([...u16(1), ...u16(2), ...Array(50001).fill(3)]),
+    unread(`inconsistent fmt chunk.\n${DAMAGED}`), 2),
+  headless("compressed", wav(tone, {tag: 999}),
+    unread(
+      `the format is neither PCM nor IEEE float.\nIts sound is compressed, and an audio editor may read it; or its header is damaged: ${CHOOSE}`)),
+  headless("16-bit floats", wav(tone, {tag: 3}),
+    unread(
+      `bits per sample is not 32.\nThis page reads integers of 8, 16, 24 and 32 bits, and floats of 32 bits: an audio editor may read it. If its header is damaged: ${CHOOSE}`)),
+  headless("another", Buffer.from([...text("RIFF"), ...u32(4), ...text("AVI "), ...Array(100).fill(0)]),
+    unread(`no WAVE tag found.\nIt is another RIFF file, or its beginning was lost: ${CHOOSE}`), 2),
   instead("zeros", "\0\0\0\0", missing("beginning is lost")),
   headless("no WAV file", Buffer.from("A text, and no sound. ".repeat(9)), unread(`no RIFF tag found.\n${NO_RIFF}`), 2),
   // What it is has a name.
-  headless("IMA ADPCM", wav(tone, { tag: 17 }), named("IMA ADPCM", "pcm_s16le")),
-  headless("64 bits", wav(tone, { tag: 3, bits: 64 }), named("floats of 64 bits", "pcm_f32le")),
+  headless("IMA ADPCM", wav(tone, {tag: 17}), named("IMA ADPCM", "pcm_s16le")),
+  headless("64 bits", wav(tone, {tag: 3, bits: 64}), named("floats of 64 bits", "pcm_f32le")),
   instead("RF64", "RF64", named("RF64, which is for more than 4 GiB", "pcm_s24le")),
-  headless("mp3", Buffer.from([255, 251, 144, 100, ...Array(400).fill(0)]), named("MP3, or another MPEG audio", "pcm_s24le"), 2),
+  headless("mp3", Buffer.from([255, 251, 144, 100, ...Array(400).fill(0)]),
+    named("MP3, or another MPEG audio", "pcm_s24le"), 2),
 ];
 // The names of the files that are saved, without their end, where they aren't the file's own and a word.
-const SAVED = { "again repaired": "again repaired 2", "again repaired 9": "again repaired 10" };
+const SAVED = {
+  "again repaired": "again repaired 2",
+  "again repaired 9": "again repaired 10"
+};
 const nameOfSaved = (name) => `${SAVED[name] ?? `${name} repaired`}.wav`;
 
 /** Requests with a number each, and the answers to them. */
@@ -128,15 +220,15 @@ function conversation(write) {
   let id = 0;
   return {
     send: (method, params = {}, sessionId = undefined) => new Promise((resolve, reject) => {
-      pending.set(++id, { resolve, reject });
-      write(JSON.stringify({ id, method, params, sessionId }));
+      pending.set(++id, {resolve, reject});
+      write(JSON.stringify({id, method, params, sessionId}));
     }),
-    take({ id, result, error, message }) {
-      const { resolve, reject } = pending.get(id);
+    take({id, result, error, message}) {
+      const {resolve, reject} = pending.get(id);
       pending.delete(id);
       error ? reject(new Error(JSON.stringify(message ?? error))) : resolve(result);
     },
-    end: () => pending.forEach(({ reject }) => reject(new Error("the browser ended"))),
+    end: () => pending.forEach(({reject}) => reject(new Error("the browser ended"))),
   };
 }
 
@@ -154,9 +246,12 @@ const middleOf = (selector) => `(() => {
 
 /** Chromium, by its protocol over a pipe. */
 async function chromium() {
-  const flags = ["--headless=new", "--no-sandbox", "--disable-gpu", "--remote-debugging-pipe", `--user-data-dir=${work}/chromium`, "about:blank"];
-  const child = spawn("chromium", flags, { stdio: ["ignore", "ignore", "ignore", "pipe", "pipe"] });
-  const { send, take, end } = conversation((message) => child.stdio[3].write(message + "\0")), events = [];
+  const flags = [
+    "--headless=new", "--no-sandbox", "--disable-gpu", "--remote-debugging-pipe", `--user-data-dir=${work}/chromium`,
+    "about:blank"
+  ];
+  const child = spawn("chromium", flags, {stdio: ["ignore", "ignore", "ignore", "pipe", "pipe"]});
+  const {send, take, end} = conversation((message) => child.stdio[3].write(message + "\0")), events = [];
   let held = "";
   child.stdio[4].setEncoding("utf8").on("data", (part) => {
     const messages = (held + part).split("\0");
@@ -164,43 +259,48 @@ async function chromium() {
     for (const message of messages.map((one) => JSON.parse(one))) message.id ? take(message) : events.push(message);
   });
   child.on("exit", end);
-  const { targetId } = await send("Target.createTarget", { url: "about:blank" });
-  const { sessionId } = await send("Target.attachToTarget", { targetId, flatten: true });
+  const {targetId} = await send("Target.createTarget", {url: "about:blank"});
+  const {sessionId} = await send("Target.attachToTarget", {targetId, flatten: true});
   const call = (method, params) => send(method, params, sessionId);
   for (const domain of ["Page", "Runtime", "Log", "DOM", "Network"]) await call(`${domain}.enable`);
-  await send("Browser.setDownloadBehavior", { behavior: "allow", downloadPath: path.join(work, "saved") });
+  await send("Browser.setDownloadBehavior", {behavior: "allow", downloadPath: path.join(work, "saved")});
   const evaluate = async (expression) => {
-    const { result, exceptionDetails } = await call("Runtime.evaluate", { expression: asText(expression), awaitPromise: true, returnByValue: true });
+    const {result, exceptionDetails} =
+      await call("Runtime.evaluate", {expression: asText(expression), awaitPromise: true, returnByValue: true});
     if (exceptionDetails) throw new Error(JSON.stringify(exceptionDetails));
     return JSON.parse(result.value);
   };
   return {
-    call, evaluate,
+    call,
+    evaluate,
     name: (await send("Browser.getVersion")).product,
-    show: (url) => call("Page.navigate", { url }),
+    show: (url) => call("Page.navigate", {url}),
     async choose(...files) {
-      const { root } = await call("DOM.getDocument");
-      const { nodeId } = await call("DOM.querySelector", { nodeId: root.nodeId, selector: "input" });
-      await call("DOM.setFileInputFiles", { nodeId, files });
+      const {root} = await call("DOM.getDocument");
+      const {nodeId} = await call("DOM.querySelector", {nodeId: root.nodeId, selector: "input"});
+      await call("DOM.setFileInputFiles", {nodeId, files});
     },
     async drop(...files) {
-      const { x, y } = await evaluate(middleOf("#drop")), data = { items: [], files, dragOperationsMask: 1 };
-      for (const type of ["dragEnter", "dragOver", "drop"]) await call("Input.dispatchDragEvent", { type, x, y, data });
+      const {x, y} = await evaluate(middleOf("#drop")), data = {items: [], files, dragOperationsMask: 1};
+      for (const type of ["dragEnter", "dragOver", "drop"]) await call("Input.dispatchDragEvent", {type, x, y, data});
     },
     async click(selector) {
-      const { x, y } = await evaluate(middleOf(selector));
-      for (const type of ["mousePressed", "mouseReleased"]) await call("Input.dispatchMouseEvent", { type, x, y, button: "left", clickCount: 1 });
+      const {x, y} = await evaluate(middleOf(selector));
+      for (const type of ["mousePressed", "mouseReleased"])
+        await call("Input.dispatchMouseEvent", {type, x, y, button: "left", clickCount: 1});
     },
     async wheel(selector, deltaY) {
-      const { x, y } = await evaluate(middleOf(selector));
-      await call("Input.dispatchMouseEvent", { type: "mouseWheel", x, y, deltaX: 0, deltaY, modifiers: 2 });
+      const {x, y} = await evaluate(middleOf(selector));
+      await call("Input.dispatchMouseEvent", {type: "mouseWheel", x, y, deltaX: 0, deltaY, modifiers: 2});
     },
-    resize: (width, height = 900, deviceScaleFactor = 2) => call("Emulation.setDeviceMetricsOverride", { width, height, deviceScaleFactor, mobile: width < 500 }),
+    resize: (width, height = 900, deviceScaleFactor = 2) =>
+      call("Emulation.setDeviceMetricsOverride", {width, height, deviceScaleFactor, mobile: width < 500}),
     schemes: ["light", "dark"],
-    setScheme: (value) => call("Emulation.setEmulatedMedia", { features: [{ name: "prefers-color-scheme", value }] }),
-    picture: async () => (await call("Page.captureScreenshot", { format: "png" })).data,
-    reports: () => events.filter(({ method, params }) => method === "Runtime.exceptionThrown" || method === "Log.entryAdded"
-      || method === "Network.requestWillBeSent" && !/^(file|blob|data):/.test(params.request.url)),
+    setScheme: (value) => call("Emulation.setEmulatedMedia", {features: [{name: "prefers-color-scheme", value}]}),
+    picture: async () => (await call("Page.captureScreenshot", {format: "png"})).data,
+    reports: () =>
+      events.filter(({method, params}) => method === "Runtime.exceptionThrown" || method === "Log.entryAdded" ||
+          method === "Network.requestWillBeSent" && !/^(file|blob|data):/.test(params.request.url)),
     async close() {
       await send("Browser.close").catch(() => {});
       await exit(child);
@@ -208,7 +308,8 @@ async function chromium() {
   };
 }
 
-// The Python that Debian's python3-gi is for, and a window in the corner of the display, from which it lets a file be dragged.
+// The Python that Debian's python3-gi is for, and a window in the corner of the display, from which it lets a file be
+// dragged.
 const PYTHON = "/usr/bin/python3", SOURCE = `
 import sys, gi
 gi.require_version("Gtk", "3.0")
@@ -225,37 +326,54 @@ window.show_all()
 Gtk.main()
 `;
 
-/** A display that nobody sees, if its programs are here: its environment, and how a file is dragged to a place of it. */
+/**
+ * A display that nobody sees, if its programs are here: its environment, and how a file is dragged to a place of it.
+ */
 async function display() {
-  const programs = [["Xvfb", "-help"], ["xdotool", "--help"], [PYTHON, "-c", "import gi; gi.require_version('Gtk', '3.0')"]];
+  const programs =
+    [["Xvfb", "-help"], ["xdotool", "--help"], [PYTHON, "-c", "import gi; gi.require_version('Gtk', '3.0')"]];
   if (programs.some(([program, ...words]) => spawnSync(program, words).status !== 0)) return null;
-  const child = spawn("Xvfb", ["-displayfd", "3", "-screen", "0", "1280x1024x24"], { stdio: ["ignore", "ignore", "ignore", "pipe"] });
+  const child =
+    spawn("Xvfb", ["-displayfd", "3", "-screen", "0", "1280x1024x24"], {stdio: ["ignore", "ignore", "ignore", "pipe"]});
   const number = await new Promise((resolve) => child.stdio[3].once("data", (data) => resolve(String(data).trim())));
-  const env = { ...process.env, DISPLAY: `:${number}`, GDK_BACKEND: "x11" };
+  const env = {...process.env, DISPLAY: `:${number}`, GDK_BACKEND: "x11"};
   return {
-    env, close: () => child.kill(),
-    async drag(file, { x, y }) {
-      const source = spawn(PYTHON, ["-c", SOURCE, pathToFileURL(file).href], { env, stdio: ["ignore", "pipe", "ignore"] });
-      await new Promise((resolve, reject) => (source.stdout.once("data", resolve), source.once("exit", () => reject(new Error("nothing to drag from is shown")))));
-      const wait = ["sleep", "0.1"], steps = [[30, 30], [50, 50], [x - 5, y - 5], [x, y]].map((place) => ["mousemove", ...place.map(Math.round), ...wait]);
-      spawnSync("xdotool", [...steps[0], "mousedown", 1, ...wait, ...steps.slice(1).flat(), ...wait, "mouseup", 1].map(String), { env });
+    env,
+    close: () => child.kill(),
+    async drag(file, {x, y}) {
+      const source =
+        spawn(PYTHON, ["-c", SOURCE, pathToFileURL(file).href], {env, stdio: ["ignore", "pipe", "ignore"]});
+      await new Promise((resolve, reject) => (source.stdout.once("data", resolve),
+                          source.once("exit", () => reject(new Error("nothing to drag from is shown")))));
+      const wait = ["sleep", "0.1"], steps = [[30, 30], [50, 50], [x - 5, y - 5],
+        [x, y]].map((place) => ["mousemove", ...place.map(Math.round), ...wait]);
+      spawnSync("xdotool",
+        [...steps[0], "mousedown", 1, ...wait, ...steps.slice(1).flat(), ...wait, "mouseup", 1].map(String), {env});
       await exit(source);
     },
   };
 }
 
 // What Firefox is set to: files are saved without a question.
-const FIREFOX = { "browser.download.folderList": 2, "browser.download.dir": path.join(work, "saved"), "browser.download.useDownloadDir": true, "browser.download.alwaysOpenPanel": false };
+const FIREFOX = {
+  "browser.download.folderList": 2,
+  "browser.download.dir": path.join(work, "saved"),
+  "browser.download.useDownloadDir": true,
+  "browser.download.alwaysOpenPanel": false
+};
 
 /** Firefox, by WebDriver BiDi. */
 async function firefox() {
   const profile = path.join(work, "firefox"), events = [];
   fs.mkdirSync(profile);
-  fs.writeFileSync(path.join(profile, "user.js"), Object.entries(FIREFOX).map(([name, value]) => `user_pref("${name}", ${JSON.stringify(value)});\n`).join(""));
+  fs.writeFileSync(path.join(profile, "user.js"),
+    Object.entries(FIREFOX).map(([name, value]) => `user_pref("${name}", ${JSON.stringify(value)});\n`).join(""));
   const screen = await display();
   if (!screen) console.log("page: passed over, since Xvfb, xdotool or GTK for Python isn't here: drops in Firefox");
-  const flags = [...(screen ? [] : ["--headless"]), "--remote-debugging-port", "0", "--profile", profile, "--no-remote"];
-  const child = spawn("firefox-esr", flags, { stdio: ["ignore", "ignore", "pipe"], env: { ...(screen?.env ?? process.env), HOME: profile } });
+  const flags =
+    [...(screen ? [] : ["--headless"]), "--remote-debugging-port", "0", "--profile", profile, "--no-remote"];
+  const child = spawn(
+    "firefox-esr", flags, {stdio: ["ignore", "ignore", "pipe"], env: {...(screen?.env ?? process.env), HOME: profile}});
   const url = await new Promise((resolve, reject) => {
     let all = "";
     child.stderr.on("data", (part) => {
@@ -265,52 +383,64 @@ async function firefox() {
     child.on("exit", () => reject(new Error(all)));
   });
   const socket = new WebSocket(`${url}/session`);
-  await new Promise((resolve, reject) => Object.assign(socket, { onopen: resolve, onerror: reject }));
-  const { send, take, end } = conversation((message) => socket.send(message));
-  socket.onmessage = ({ data }) => {
+  await new Promise((resolve, reject) => Object.assign(socket, {onopen: resolve, onerror: reject}));
+  const {send, take, end} = conversation((message) => socket.send(message));
+  socket.onmessage = ({data}) => {
     const message = JSON.parse(data);
     message.id ? take(message) : events.push(message);
   };
   child.on("exit", end);
-  const { capabilities } = await send("session.new", { capabilities: {} });
-  await send("session.subscribe", { events: ["log.entryAdded", "network.beforeRequestSent"] });
-  const { contexts: [{ context }] } = await send("browsingContext.getTree");
+  const {capabilities} = await send("session.new", {capabilities: {}});
+  await send("session.subscribe", {events: ["log.entryAdded", "network.beforeRequestSent"]});
+  const {contexts: [{context}]} = await send("browsingContext.getTree");
   const raw = async (expression) => {
-    const { type, result, exceptionDetails } = await send("script.evaluate", { expression, target: { context }, awaitPromise: true, resultOwnership: "root" });
+    const {type, result, exceptionDetails} =
+      await send("script.evaluate", {expression, target: {context}, awaitPromise: true, resultOwnership: "root"});
     if (type !== "success") throw new Error(JSON.stringify(exceptionDetails));
     return result;
   };
   const evaluate = async (expression) => JSON.parse((await raw(asText(expression))).value);
-  const act = (...actions) => send("input.performActions", { context, actions });
+  const act = (...actions) => send("input.performActions", {context, actions});
   const over = async (selector) => {
     await evaluate(middleOf(selector));
-    const { sharedId } = await raw(`document.querySelector(${JSON.stringify(selector)})`);
-    return { x: 0, y: 0, origin: { type: "element", element: { sharedId } } };
+    const {sharedId} = await raw(`document.querySelector(${JSON.stringify(selector)})`);
+    return {x: 0, y: 0, origin: {type: "element", element: {sharedId}}};
   };
   return {
     evaluate,
     name: `${capabilities.browserName} ${capabilities.browserVersion}`,
-    show: (url) => send("browsingContext.navigate", { context, url, wait: "complete" }),
+    show: (url) => send("browsingContext.navigate", {context, url, wait: "complete"}),
     async choose(...files) {
-      const { origin: { element } } = await over("input");
-      await send("input.setFiles", { context, element, files });
+      const {origin: {element}} = await over("input");
+      await send("input.setFiles", {context, element, files});
     },
     drop: screen && (async (file) => {
-      const { x, y } = await evaluate(middleOf("#drop")), corner = await evaluate("({ x: mozInnerScreenX, y: mozInnerScreenY })");
-      await screen.drag(file, { x: corner.x + x, y: corner.y + y });
+      const {x, y} = await evaluate(middleOf("#drop")),
+                corner = await evaluate("({ x: mozInnerScreenX, y: mozInnerScreenY })");
+      await screen.drag(file, {x: corner.x + x, y: corner.y + y});
     }),
-    click: async (selector) => act({ type: "pointer", id: "mouse", actions: [{ type: "pointerMove", ...await over(selector) }, { type: "pointerDown", button: 0 }, { type: "pointerUp", button: 0 }] }),
+    click: async (selector) => act({
+      type: "pointer",
+      id: "mouse",
+      actions: [
+        {type: "pointerMove", ...await over(selector)}, {type: "pointerDown", button: 0}, {type: "pointerUp", button: 0}
+      ]
+    }),
     async wheel(selector, deltaY) {
-      const key = (type) => ({ type, value: "\uE009" }), pause = { type: "pause" };
-      await act({ type: "key", id: "keys", actions: [key("keyDown"), pause, key("keyUp")] },
-        { type: "wheel", id: "wheel", actions: [pause, { type: "scroll", ...await over(selector), deltaX: 0, deltaY }, pause] });
+      const key = (type) => ({type, value: "\uE009"}), pause = {type: "pause"};
+      await act({type: "key", id: "keys", actions: [key("keyDown"), pause, key("keyUp")]}, {
+        type: "wheel",
+        id: "wheel",
+        actions: [pause, {type: "scroll", ...await over(selector), deltaX: 0, deltaY}, pause]
+      });
     },
-    resize: (width) => send("browsingContext.setViewport", { context, viewport: { width, height: 900 } }),
+    resize: (width) => send("browsingContext.setViewport", {context, viewport: {width, height: 900}}),
     schemes: ["light"],
     setScheme: () => {},
-    picture: async () => (await send("browsingContext.captureScreenshot", { context })).data,
-    reports: () => events.filter(({ method, params }) => method === "log.entryAdded" && params.level === "error"
-      || method === "network.beforeRequestSent" && params.context === context && !/^(file|blob|data):/.test(params.request.url)),
+    picture: async () => (await send("browsingContext.captureScreenshot", {context})).data,
+    reports: () => events.filter(({method, params}) => method === "log.entryAdded" && params.level === "error" ||
+        method === "network.beforeRequestSent" && params.context === context &&
+          !/^(file|blob|data):/.test(params.request.url)),
     async close() {
       child.kill();
       await exit(child);
@@ -339,14 +469,15 @@ async function drawn(browser, what, act) {
 }
 
 /** Gives the page a file: dropped, if that is said and can be done, or chosen. */
-const give = (browser, file, isDropped = true) => drawn(browser, file, () => (isDropped && browser.drop ? browser.drop : browser.choose)(file));
+const give = (browser, file, isDropped = true) =>
+  drawn(browser, file, () => (isDropped && browser.drop ? browser.drop : browser.choose)(file));
 
 const said = (browser) => browser.evaluate(`document.getElementById("said").textContent.trim()`);
 
 /** Saves what the page repaired, and returns where it is once it has this size. */
 async function saved(browser, name, size, how = () => browser.click("#save")) {
   const file = path.join(work, "saved", name);
-  fs.rmSync(file, { force: true });
+  fs.rmSync(file, {force: true});
   await how();
   for (let i = 0; i < 600 && !(fs.existsSync(file) && fs.statSync(file).size === size); i++) await pause(50);
   await pause(300);
@@ -356,7 +487,7 @@ async function saved(browser, name, size, how = () => browser.click("#save")) {
 /** Leaves something in the folder. */
 function keep(name, content) {
   if (!FOLDER) return;
-  fs.mkdirSync(FOLDER, { recursive: true });
+  fs.mkdirSync(FOLDER, {recursive: true});
   fs.writeFileSync(path.join(FOLDER, name), content);
 }
 
@@ -370,11 +501,18 @@ async function tryCase(browser, [name, content, says, fact, repaired], isDropped
   fs.writeFileSync(file, content);
   await give(browser, file, isDropped);
   must(await said(browser) === says, `${name}: it says ${JSON.stringify(await said(browser))}`);
-  const kind = [WHOLE, FOLLOWED].includes(says) ? "good" : / can't be read: |: the file holds |^The file has a header and no sound: | is empty\. | ends before any sound\. /.test(says) ? "bad" : "cut";
-  must(await browser.evaluate(`document.getElementById("said").className`) === kind, `${name}: it isn't said as ${kind}`);
-  const facts = await browser.evaluate(`document.getElementById("result").hidden ? "" : document.getElementById("facts").textContent`);
+  const kind = [WHOLE, FOLLOWED].includes(says) ? "good" :
+    / can't be read: |: the file holds |^The file has a header and no sound: | is empty\. | ends before any sound\. /
+      .test(says) ?
+                                                  "bad" :
+                                                  "cut";
+  must(
+    await browser.evaluate(`document.getElementById("said").className`) === kind, `${name}: it isn't said as ${kind}`);
+  const facts = await browser.evaluate(
+    `document.getElementById("result").hidden ? "" : document.getElementById("facts").textContent`);
   must(fact ? facts.includes(fact) : facts === "", `${name}: it shows ${facts}`);
-  const save = await browser.evaluate(`(({ hidden, download }) => hidden ? null : download)(document.getElementById("save"))`);
+  const save =
+    await browser.evaluate(`(({ hidden, download }) => hidden ? null : download)(document.getElementById("save"))`);
   must(save === (repaired ? nameOfSaved(name) : null), `${name}: it saves ${save}`);
   await mustHavePlayer(browser, name, facts);
   keep(`${name}.wav`, content);
@@ -386,8 +524,10 @@ async function tryCase(browser, [name, content, says, fact, repaired], isDropped
 async function mustHavePlayer(browser, name, facts) {
   const isSilent = facts.includes("0:00.000, 0 frames") || facts.includes("Sample rate0 Hz");
   if (isSilent) await pause(500);
-  const [player, sentence] = await browser.evaluate(`["audio", "#player"].map((one) => document.querySelector(one).checkVisibility())`);
-  must(player === (facts !== "" && !isSilent) && !(sentence && !player), `${name}: it ${player ? "has" : "lacks"} a player${sentence ? ", and a sentence on it" : ""}`);
+  const [player, sentence] =
+    await browser.evaluate(`["audio", "#player"].map((one) => document.querySelector(one).checkVisibility())`);
+  must(player === (facts !== "" && !isSilent) && !(sentence && !player),
+    `${name}: it ${player ? "has" : "lacks"} a player${sentence ? ", and a sentence on it" : ""}`);
 }
 
 /** What is saved has to be this file. */
@@ -408,28 +548,39 @@ async function tryToEnd(browser, one, asks, back, [frames, counted], repaired) {
   await mustHavePlayer(browser, name, frames);
   await mustSave(browser, name, repaired);
   await drawn(browser, "the file as it was", () => browser.click("#end"));
-  must(await said(browser) === says && await browser.evaluate(`document.getElementById("save").hidden`), `${name}: it isn't left any more`);
+  must(await said(browser) === says && await browser.evaluate(`document.getElementById("save").hidden`),
+    `${name}: it isn't left any more`);
 }
 
-/** A recording that was cut off where it looks like a chunk, and those of which the header counts nothing, or too little. */
+/**
+ * A recording that was cut off where it looks like a chunk, and those of which the header counts nothing, or too
+ * little.
+ */
 async function triesToEnd(browser) {
   const data = tone.slice(0, 8000), frames = ["4,006 frames (0:00.501)", "4,000"];
-  await tryToEnd(browser, ["to the end", wav(data, { after: LIST }), FOLLOWED, "4,000 frames"],
+  await tryToEnd(browser, ["to the end", wav(data, {after: LIST}), FOLLOWED, "4,000 frames"],
     "Only if you hear that its end is missing: then it was cut off, and its last 12 bytes only look like chunks or a tag.",
-    "If it ends in noise now, chunks or a tag were there, and the file needs no repair.", frames, wav([...data, ...LIST]));
-  for (const [name, counted, content] of [["uncounted", "none", wav([...tone, ...TAG])], ["a quarter", "4,000", wav([...tone, ...TAG])]]) {
+    "If it ends in noise now, chunks or a tag were there, and the file needs no repair.", frames,
+    wav([...data, ...LIST]));
+  for (const [name, counted, content] of [
+         ["uncounted", "none", wav([...tone, ...TAG])], ["a quarter", "4,000", wav([...tone, ...TAG])]]) {
     await tryToEnd(browser, CASES.find((one) => one[0] === name),
       "Chunks or a tag among them (a title, markers) become a click, which an audio editor can cut off.",
       "If it ends in a click now, chunks or a tag were there.", ["16,064 frames (0:02.008)", counted], content);
   }
 }
 
-/** A recording that was cut off, or seems to be, after whose sound a chunk comes: that is left out, and taken again. Then
-    the recording is ended where the player is. */
+/**
+   A recording that was cut off, or seems to be, after whose sound a chunk comes: that is left out, and taken again.
+   Then the recording is ended where the player is.
+ */
 async function tryEnds(browser) {
-  const name = "a chunk at its end", file = path.join(work, `${name}.wav`), shown = (id) => browser.evaluate(`document.getElementById("${id}").checkVisibility() && document.getElementById("${id}").textContent`);
-  fs.writeFileSync(file, wav(tone, { counted: 0, riff: 36, after: LIST }));
-  const [before, end] = cut("16,006 frames (0:02.001)").split("\n"), all = `${before} Its last 12 bytes look like a LIST chunk (a title, markers), which becomes a click.\n${end}`;
+  const name = "a chunk at its end", file = path.join(work, `${name}.wav`),
+        shown = (id) => browser.evaluate(
+          `document.getElementById("${id}").checkVisibility() && document.getElementById("${id}").textContent`);
+  fs.writeFileSync(file, wav(tone, {counted: 0, riff: 36, after: LIST}));
+  const [before, end] = cut("16,006 frames (0:02.001)").split("\n"),
+                 all = `${before} Its last 12 bytes look like a LIST chunk (a title, markers), which becomes a click.\n${end}`;
   await give(browser, file, false);
   must(await said(browser) === all, `${name}: it says ${await said(browser)}`);
   must(await shown("end") === "Leave out the LIST chunk", `${name}: the button is ${await shown("end")}`);
@@ -440,16 +591,19 @@ async function tryEnds(browser) {
   must(await duration(browser) === 2, `${name}, left out: the player has another length`);
   must(await shown("end") === "Take all of it", `${name}, left out: the button is ${await shown("end")}`);
   await browser.click("#shorter");
-  must(await said(browser) === "Play it first, and stop where the sound ends.", `${name}, from the beginning: it says ${await said(browser)}`);
+  must(await said(browser) === "Play it first, and stop where the sound ends.",
+    `${name}, from the beginning: it says ${await said(browser)}`);
   await browser.evaluate(`document.querySelector("audio").currentTime = 0.25`);
   await drawn(browser, "the file up to a time", () => browser.click("#shorter"));
   must(await said(browser) === cut("2,000 frames (0:00.250)"), `${name}, up to a time: it says ${await said(browser)}`);
   await mustSave(browser, name, wav(tone.slice(0, 4000)));
   await drawn(browser, "all of it again", () => browser.click("#end"));
   must(await said(browser) === all, `${name}, again: it says ${await said(browser)}`);
-  for (const [what, after] of [["longer", [...text("LIST"), ...u32(5), ...text("INFO")]], ["shorter", [...text("LIST"), ...u32(3), ...text("INFO1")]], ["of no name", [...text("abcd"), ...u32(4), ...text("INFO")]]]) {
+  for (const [what, after] of [["longer", [...text("LIST"), ...u32(5), ...text("INFO")]],
+         ["shorter", [...text("LIST"), ...u32(3), ...text("INFO1")]],
+         ["of no name", [...text("abcd"), ...u32(4), ...text("INFO")]]]) {
     const other = path.join(work, `a chunk that is ${what}.wav`);
-    fs.writeFileSync(other, wav(tone, { counted: 0, riff: 36, after }));
+    fs.writeFileSync(other, wav(tone, {counted: 0, riff: 36, after}));
     await give(browser, other, false);
     must(!(await said(browser)).includes("look like"), `a chunk that is ${what}: it says ${await said(browser)}`);
   }
@@ -458,7 +612,8 @@ async function tryEnds(browser) {
 /** Samples of these channels, each of which is a sine of its own, in little-endian containers that `put` writes. */
 function sines(channels, bytes, put, count = 6000) {
   const data = Buffer.alloc(channels * bytes * count);
-  for (let i = 0; i < channels * count; i++) put(data, Math.sin(Math.floor(i / channels) / (20 + 3 * (i % channels)) + i % channels), i * bytes);
+  for (let i = 0; i < channels * count; i++)
+    put(data, Math.sin(Math.floor(i / channels) / (20 + 3 * (i % channels)) + i % channels), i * bytes);
   return data;
 }
 
@@ -476,99 +631,144 @@ function walkOfChance(count = 6000) {
 /** Files of many kinds that begin with zeros in the place of their headers: each is guessed, and saved as it was. */
 async function tryLost(browser) {
   for (const [form, channels, lost, skip, bits, bytes, tag, put] of [
-    ["integers of 16 bits", 2, 44, 44, 16, 2, 1, (data, x, at) => data.writeInt16LE(Math.round(9000 * x), at)],
-    ["integers of 16 bits", 2, 48, 44, 16, 2, 1],
-    ["integers of 24 bits", 2, 44, 44, 24, 3, 1, (data, x, at) => data.writeIntLE(Math.round(4e6 * x), at, 3)],
-    ["integers of 24 bits", 4, 560, 80, 24, 3, 1, (data, x, at) => data.writeIntLE(Math.round(4e6 * x), at, 3)],
-    ["floats of 32 bits", 2, 58, 58, 32, 4, 3, (data, x, at) => data.writeFloatLE(x / 3, at)],
-    ["integers of 32 bits", 1, 80, 80, 32, 4, 1, (data, x, at) => data.writeInt32LE(Math.round(1e9 * x), at)],
-    ["integers of 8 bits", 1, 44, 44, 8, 1, 1, (data, x, at) => data.writeUInt8(Math.round(128 + 100 * x), at)],
+         ["integers of 16 bits", 2, 44, 44, 16, 2, 1, (data, x, at) => data.writeInt16LE(Math.round(9000 * x), at)],
+         ["integers of 16 bits", 2, 48, 44, 16, 2, 1],
+         ["integers of 24 bits", 2, 44, 44, 24, 3, 1, (data, x, at) => data.writeIntLE(Math.round(4e6 * x), at, 3)],
+         ["integers of 24 bits", 4, 560, 80, 24, 3, 1, (data, x, at) => data.writeIntLE(Math.round(4e6 * x), at, 3)],
+         ["floats of 32 bits", 2, 58, 58, 32, 4, 3, (data, x, at) => data.writeFloatLE(x / 3, at)],
+         ["integers of 32 bits", 1, 80, 80, 32, 4, 1, (data, x, at) => data.writeInt32LE(Math.round(1e9 * x), at)],
+         ["integers of 8 bits", 1, 44, 44, 8, 1, 1, (data, x, at) => data.writeUInt8(Math.round(128 + 100 * x), at)],
   ]) {
-    const name = `no header, ${form}, ${channels}, ${lost}`, file = path.join(work, `${name}.wav`), data = put ? sines(channels, bytes, put) : walkOfChance();
-    const chosen = `(({ form, channels, rate, skip }) => [form.selectedOptions[0].text, ...[channels, rate, skip].map(({ value }) => Number(value))])(document.getElementById("lost").elements)`;
+    const name = `no header, ${form}, ${channels}, ${lost}`, file = path.join(work, `${name}.wav`),
+          data = put ? sines(channels, bytes, put) : walkOfChance();
+    const chosen =
+      `(({ form, channels, rate, skip }) => [form.selectedOptions[0].text, ...[channels, rate, skip].map(({ value }) => Number(value))])(document.getElementById("lost").elements)`;
     fs.writeFileSync(file, Buffer.concat([Buffer.alloc(lost), data]));
     await give(browser, file, false);
     must(await said(browser) === missing("beginning is lost")(name), `${name}: it says ${await said(browser)}`);
     const guess = JSON.stringify(await browser.evaluate(chosen));
     must(guess === JSON.stringify([form, channels, 48000, skip]), `${name}: the guess is ${guess}`);
-    must((await browser.evaluate(`document.getElementById("guess").textContent`)).startsWith("This is a guess, except the rate: no guess finds it, and 48,000 Hz is assumed."), `${name}: it isn't said to be a guess`);
-    must(await browser.evaluate(`document.getElementById("save").textContent`) === `Save the repaired file with 48,000 Hz as ${name} repaired.wav`, `${name}: the button says no rate`);
+    must((await browser.evaluate(`document.getElementById("guess").textContent`))
+           .startsWith("This is a guess, except the rate: no guess finds it, and 48,000 Hz is assumed."),
+      `${name}: it isn't said to be a guess`);
+    must(await browser.evaluate(`document.getElementById("save").textContent`) ===
+        `Save the repaired file with 48,000 Hz as ${name} repaired.wav`,
+      `${name}: the button says no rate`);
     for (const [field, value] of [["rate", 8000], ["skip", lost]]) {
-      await drawn(browser, name, () => browser.evaluate(`((field) => { field.value = ${value}; field.dispatchEvent(new Event("change", { bubbles: true })); })(document.getElementById("lost").elements.${field})`));
+      await drawn(browser, name,
+        () => browser.evaluate(`((field) => { field.value = ${value}; field.dispatchEvent(new Event("change", { bubbles: true })); })(document.getElementById("lost").elements.${field})`));
     }
-    must(await said(browser) === "6,000 frames (0:00.750) of that are there. Listen: if it is noise, or too fast or too slow, choose otherwise.", `${name}: it says ${await said(browser)}`);
-    must(await browser.evaluate(`document.getElementById("guess").textContent`) === "This is what you chose.", `${name}: it is still said to be a guess`);
-    const isLong = bits > 16 || tag === 3; // Those have the longer header, with a bit for each channel and the subformat.
-    await mustSave(browser, name, wav(data, isLong ? { channels, bits, bytes, tag, valid: bits, mask: 2 ** channels - 1 } : { channels, bits }));
+    must(await said(browser) ===
+        "6,000 frames (0:00.750) of that are there. Listen: if it is noise, or too fast or too slow, choose otherwise.",
+      `${name}: it says ${await said(browser)}`);
+    must(await browser.evaluate(`document.getElementById("guess").textContent`) === "This is what you chose.",
+      `${name}: it is still said to be a guess`);
+    const isLong =
+      bits > 16 || tag === 3;  // Those have the longer header, with a bit for each channel and the subformat.
+    await mustSave(browser, name,
+      wav(data, isLong ? {channels, bits, bytes, tag, valid: bits, mask: 2 ** channels - 1} : {channels, bits}));
   }
 }
 
 /** A header whose rate is lost, which is chosen; and a file in which nothing is found. */
 async function tryNoRate(browser) {
   await tryCase(browser, CASES.find(([name]) => name === "no rate"), false);
-  must(await browser.evaluate(`document.getElementById("guess").textContent`) === "Its rate is lost: choose one.", "no rate: none is asked for");
-  await drawn(browser, "another rate", () => browser.evaluate(`((rate) => { rate.value = 8000; rate.dispatchEvent(new Event("change", { bubbles: true })); })(document.getElementById("lost").elements.rate)`));
+  must(await browser.evaluate(`document.getElementById("guess").textContent`) === "Its rate is lost: choose one.",
+    "no rate: none is asked for");
+  await drawn(browser, "another rate",
+    () => browser.evaluate(
+      `((rate) => { rate.value = 8000; rate.dispatchEvent(new Event("change", { bubbles: true })); })(document.getElementById("lost").elements.rate)`));
   await mustSave(browser, "no rate", wav(tone));
   await tryCase(browser, CASES.find(([name]) => name === "damaged"), false);
-  must(await browser.evaluate(`document.getElementById("guess").textContent`) === "No guess: nothing in it is predictable, as sound is, or it is too short.", "damaged: it is said to be something");
+  must(await browser.evaluate(`document.getElementById("guess").textContent`) ===
+      "No guess: nothing in it is predictable, as sound is, or it is too short.",
+    "damaged: it is said to be something");
   await tryCase(browser, CASES[0], false);
-  must(!await browser.evaluate(`document.getElementById("lost").checkVisibility()`), "the choice stays for another file");
+  must(
+    !await browser.evaluate(`document.getElementById("lost").checkVisibility()`), "the choice stays for another file");
 }
 
 /** Several files at once, and a folder where it can be dropped. */
 async function tryMany(browser) {
-  const folder = path.join(work, "card"), cutOff = wav(tone, { counted: 0, riff: 36 });
-  const files = [["b 2.wav", cutOff], ["b 10.WAV", wav(tone, { riff: 0 })], ["c.wav", Buffer.from("OggS")], ["d.wav", wav(tone, { after: LIST })], [path.join("day", "e.wav"), wav(tone.slice(0, 8000), { channels: 2, counted: 4 })], ["f.wav", wav([])], ["g.wav", Buffer.concat([Buffer.alloc(44), Buffer.from(tone)])], ["h.wav", wav(tone.slice(0, 4000), { counted: 0, after: LIST })]];
-  fs.mkdirSync(path.join(folder, "day"), { recursive: true });
+  const folder = path.join(work, "card"), cutOff = wav(tone, {counted: 0, riff: 36});
+  const files = [
+    ["b 2.wav", cutOff], ["b 10.WAV", wav(tone, {riff: 0})], ["c.wav", Buffer.from("OggS")],
+    ["d.wav", wav(tone, {after: LIST})],
+    [path.join("day", "e.wav"), wav(tone.slice(0, 8000), {channels: 2, counted: 4})], ["f.wav", wav([])],
+    ["g.wav", Buffer.concat([Buffer.alloc(44), Buffer.from(tone)])],
+    ["h.wav", wav(tone.slice(0, 4000), {counted: 0, after: LIST})]
+  ];
+  fs.mkdirSync(path.join(folder, "day"), {recursive: true});
   for (const [name, content] of files) fs.writeFileSync(path.join(folder, name), content);
   fs.writeFileSync(path.join(folder, "notes.txt"), "none");
-  const rows = [["b 2.wav", "0:02.000", "was cut off"], ["b 10.WAV", "0:02.000", "whole"], ["c.wav", "", "Ogg: look at it"], ["d.wav", "0:02.000", "other data follow the sound"], ["f.wav", "0:00.000", "no sound"], ["g.wav", "", "its beginning may be lost: look at it"], ["h.wav", "0:00.251", "was cut off, and seems to end in a LIST chunk: look at it"], ["e.wav", "0:00.250", "was cut off"]];
+  const rows = [
+    ["b 2.wav", "0:02.000", "was cut off"], ["b 10.WAV", "0:02.000", "whole"], ["c.wav", "", "Ogg: look at it"],
+    ["d.wav", "0:02.000", "other data follow the sound"], ["f.wav", "0:00.000", "no sound"],
+    ["g.wav", "", "its beginning may be lost: look at it"],
+    ["h.wav", "0:00.251", "was cut off, and seems to end in a LIST chunk: look at it"],
+    ["e.wav", "0:00.250", "was cut off"]
+  ];
   const places = rows.map(([name]) => path.join(folder, name === "e.wav" ? path.join("day", name) : name));
-  for (const [what, act] of [["several files", () => browser.choose(...places)], ...(browser.call ? [["a folder", () => browser.drop(folder)]] : [])]) {
+  for (const [what, act] of [["several files", () => browser.choose(...places)],
+         ...(browser.call ? [["a folder", () => browser.drop(folder)]] : [])]) {
     await drawn(browser, what, act);
-    const shown = await browser.evaluate(`[...document.querySelectorAll("tbody tr")].map((row) => [...row.cells].map((cell) => cell.textContent))`);
+    const shown = await browser.evaluate(
+      `[...document.querySelectorAll("tbody tr")].map((row) => [...row.cells].map((cell) => cell.textContent))`);
     must(JSON.stringify(shown) === JSON.stringify(rows), `${what}: the table has ${JSON.stringify(shown)}`);
-    must(await said(browser) === `8 files, of which 3 were cut off and can be saved repaired.${LISTEN_TO_EACH}`, `${what}: it says ${await said(browser)}`);
-    fs.rmSync(path.join(work, "saved", "e repaired.wav"), { force: true });
+    must(await said(browser) === `8 files, of which 3 were cut off and can be saved repaired.${LISTEN_TO_EACH}`,
+      `${what}: it says ${await said(browser)}`);
+    fs.rmSync(path.join(work, "saved", "e repaired.wav"), {force: true});
     await mustSave(browser, "b 2", wav(tone), () => browser.click("#all"));
     await once(browser, "true", "");
     for (let i = 0; i < 100 && !fs.existsSync(path.join(work, "saved", "e repaired.wav")); i++) await pause(50);
     await pause(300);
-    must(fs.readFileSync(path.join(work, "saved", "e repaired.wav")).equals(wav(tone.slice(0, 8000), { channels: 2 })), `${what}: the second file that is saved is another one`);
+    must(fs.readFileSync(path.join(work, "saved", "e repaired.wav")).equals(wav(tone.slice(0, 8000), {channels: 2})),
+      `${what}: the second file that is saved is another one`);
     await tryLooks(browser, what);
     await drawn(browser, "a file of the table", () => browser.click("tbody tr:nth-child(1) button"));
-    must(await said(browser) === cut("16,000 frames (0:02.000)"), `${what}: of the first file it says ${await said(browser)}`);
+    must(await said(browser) === cut("16,000 frames (0:02.000)"),
+      `${what}: of the first file it says ${await said(browser)}`);
     must(await browser.evaluate(`document.getElementById("list").checkVisibility()`), `${what}: the table is gone`);
   }
   await drawn(browser, "two whole files", () => browser.choose(places[1], places[3]));
-  must(await said(browser) === "2 files, of which none can be repaired." && !await browser.evaluate(`document.getElementById("all").checkVisibility()`), `two whole files: it says ${await said(browser)}`);
+  must(await said(browser) === "2 files, of which none can be repaired." &&
+      !await browser.evaluate(`document.getElementById("all").checkVisibility()`),
+    `two whole files: it says ${await said(browser)}`);
   await give(browser, places[1], false);
-  must(await said(browser) === WHOLE && !await browser.evaluate(`document.getElementById("list").checkVisibility()`), "one file after several");
+  must(await said(browser) === WHOLE && !await browser.evaluate(`document.getElementById("list").checkVisibility()`),
+    "one file after several");
 }
 
 /** In the page: which of four places of the waveform are loud. */
 function loud() {
-  const canvas = document.querySelector("canvas"), pen = new OffscreenCanvas(canvas.width, canvas.height).getContext("2d", { willReadFrequently: true });
+  const canvas = document.querySelector("canvas"),
+        pen = new OffscreenCanvas(canvas.width, canvas.height).getContext("2d", {willReadFrequently: true});
   pen.drawImage(canvas, 0, 0);
-  return [1, 3, 5, 7].map((n) => pen.getImageData(canvas.width * n / 8, canvas.height * 0.3, 1, 1).data[3] ? 1 : 0).join("");
+  return [1, 3, 5, 7]
+    .map((n) => pen.getImageData(canvas.width * n / 8, canvas.height * 0.3, 1, 1).data[3] ? 1 : 0)
+    .join("");
 }
 
 /** A second of silence and one of noise, of which parts are shown. */
 async function tryZoom(browser) {
   const file = path.join(work, "zoom.wav");
-  fs.writeFileSync(file, wav(Array.from({ length: 16000 }, (_, i) => u16(i < 8000 ? 0 : i % 2 ? 20000 : 45536)).flat()));
+  fs.writeFileSync(file, wav(Array.from({length: 16000}, (_, i) => u16(i < 8000 ? 0 : i % 2 ? 20000 : 45536)).flat()));
   await give(browser, file);
   const shows = async (loudness, label, first) => {
     await once(browser, `(${loud})() === "${loudness}"`, `${loudness} is shown, ${label}`);
-    must(await browser.evaluate(`document.querySelector("canvas").getAttribute("aria-label")`) === `Waveform of 1 channel, 0:02 long${label}`, `the label${label}`);
+    must(await browser.evaluate(`document.querySelector("canvas").getAttribute("aria-label")`) ===
+        `Waveform of 1 channel, 0:02 long${label}`,
+      `the label${label}`);
     must(await browser.evaluate(`document.querySelector("#axis span").textContent`) === first, `the axis${label}`);
   };
   await shows("0011", "", "0:00.00");
-  for (const [button, loudness, label, first] of [
-    ["nearer", "0011", ", from 0:00.500 to 0:01.500", "0:00.60"], ["later", "1111", ", from 0:01.000 to 0:02.000", "0:01.00"],
-    ["nearer", "1111", ", from 0:01.250 to 0:01.750", "0:01.30"], ["earlier", "1111", ", from 0:01.000 to 0:01.500", "0:01.00"],
-    ["earlier", "0011", ", from 0:00.750 to 0:01.250", "0:00.80"], ["earlier", "0000", ", from 0:00.500 to 0:01.000", "0:00.50"],
-    ["wider", "0001", ", from 0:00.250 to 0:01.250", "0:00.40"],
+  for (const [button, loudness, label, first] of [["nearer", "0011", ", from 0:00.500 to 0:01.500", "0:00.60"],
+         ["later", "1111", ", from 0:01.000 to 0:02.000", "0:01.00"],
+         ["nearer", "1111", ", from 0:01.250 to 0:01.750", "0:01.30"],
+         ["earlier", "1111", ", from 0:01.000 to 0:01.500", "0:01.00"],
+         ["earlier", "0011", ", from 0:00.750 to 0:01.250", "0:00.80"],
+         ["earlier", "0000", ", from 0:00.500 to 0:01.000", "0:00.50"],
+         ["wider", "0001", ", from 0:00.250 to 0:01.250", "0:00.40"],
   ]) {
     await browser.click(`#${button}`);
     await shows(loudness, label, first);
@@ -590,10 +790,12 @@ async function tryLooks(browser, what) {
       await browser.setScheme(scheme);
       await browser.evaluate("scrollTo(0, 0)");
       await pause(200);
-      must(await browser.evaluate("document.documentElement.scrollWidth") <= width, `${what}, ${name}: wider than the window`);
+      must(await browser.evaluate("document.documentElement.scrollWidth") <= width,
+        `${what}, ${name}: wider than the window`);
       const low = await browser.evaluate(`(${contrasts})()`);
       must(low.length === 0, `${what}, ${name}, ${scheme}: too little contrast: ${low}`);
-      keep(`${browser.name.split(/[ /]/)[0]} ${what} ${name} ${scheme}.png`, Buffer.from(await browser.picture(), "base64"));
+      keep(`${browser.name.split(/[ /]/)[0]} ${what} ${name} ${scheme}.png`,
+        Buffer.from(await browser.picture(), "base64"));
     }
   }
   await browser.resize(1000);
@@ -602,32 +804,42 @@ async function tryLooks(browser, what) {
 /** In the page: the texts whose contrast with what is under them is less than 4.5, by WCAG 2. */
 function contrasts() {
   const light = (color) => {
-    const [r, g, b] = color.match(/\d+(\.\d+)?/g).map((n) => n / 255).map((n) => n <= 0.04045 ? n / 12.92 : ((n + 0.055) / 1.055) ** 2.4);
+    const [r, g, b] = color.match(/\d+(\.\d+)?/g)
+                        .map((n) => n / 255)
+                        .map((n) => n <= 0.04045 ? n / 12.92 : ((n + 0.055) / 1.055) ** 2.4);
     return 0.2126 * r + 0.7152 * g + 0.0722 * b;
   };
   const under = (node) => {
     const color = getComputedStyle(node).backgroundColor;
     return color === "rgba(0, 0, 0, 0)" && node.parentElement ? under(node.parentElement) : color;
   };
-  return [...document.querySelectorAll("main *")].filter((node) => node.checkVisibility() && [...node.childNodes].some((one) => one.nodeType === 3 && one.data.trim())).filter((node) => {
-    const [a, b] = [light(getComputedStyle(node).color), light(under(node))].sort((x, y) => y - x);
-    return (a + 0.05) / (b + 0.05) < 4.5;
-  }).map((node) => node.textContent.slice(0, 40));
+  return [...document.querySelectorAll("main *")]
+    .filter(
+      (node) => node.checkVisibility() && [...node.childNodes].some((one) => one.nodeType === 3 && one.data.trim()))
+    .filter((node) => {
+      const [a, b] = [light(getComputedStyle(node).color), light(under(node))].sort((x, y) => y - x);
+      return (a + 0.05) / (b + 0.05) < 4.5;
+    })
+    .map((node) => node.textContent.slice(0, 40));
 }
 
 /** Looks at what a screen reader has of the page, and at what the Tab key reaches. */
 async function tryReader(browser) {
-  const { nodes } = await browser.call("Accessibility.getFullAXTree");
-  const unnamed = nodes.filter(({ role, name, ignored }) => !ignored && ["button", "link", "image", "progressbar"].includes(role?.value) && !name?.value);
+  const {nodes} = await browser.call("Accessibility.getFullAXTree");
+  const unnamed = nodes.filter(({role, name, ignored}) => !ignored &&
+      ["button", "link", "image", "progressbar"].includes(role?.value) && !name?.value);
   must(unnamed.length === 0, `a screen reader has no name for ${JSON.stringify(unnamed)}`);
-  must(nodes.some(({ role, name }) => role?.value === "image" && name.value === "Waveform of 1 channel, 0:02 long"), "the waveform has another name");
+  must(nodes.some(({role, name}) => role?.value === "image" && name.value === "Waveform of 1 channel, 0:02 long"),
+    "the waveform has another name");
   const reached = new Set();
   await browser.evaluate("document.activeElement.blur()");
   for (let i = 0; i < 20; i++) {
-    for (const type of ["keyDown", "keyUp"]) await browser.call("Input.dispatchKeyEvent", { type, key: "Tab", code: "Tab", windowsVirtualKeyCode: 9 });
+    for (const type of ["keyDown", "keyUp"])
+      await browser.call("Input.dispatchKeyEvent", {type, key: "Tab", code: "Tab", windowsVirtualKeyCode: 9});
     reached.add(await browser.evaluate("document.activeElement.id || document.activeElement.localName"));
   }
-  for (const one of ["input", "save", "nearer", "wider", "earlier", "later", "audio"]) must(reached.has(one), `the Tab key doesn't reach ${one}: ${[...reached]}`);
+  for (const one of ["input", "save", "nearer", "wider", "earlier", "later", "audio"])
+    must(reached.has(one), `the Tab key doesn't reach ${one}: ${[...reached]}`);
 }
 
 /** Gives the page a file of so many bytes, most of which is a hole on the disk, and stops its drawing. */
@@ -644,20 +856,22 @@ async function giveLong(browser, name, header, length) {
 
 /** A file that fills a card of FAT32, and longer ones, of which one is RF64. */
 async function tryTooLong(browser) {
-  const header = wav([], { channels: 2, rate: 48000, counted: 0, riff: 0 });
+  const header = wav([], {channels: 2, rate: 48000, counted: 0, riff: 0});
   await browser.evaluate(`(() => {
     const make = URL.createObjectURL;
     URL.createObjectURL = (blob) => make.call(URL, globalThis.blob = blob);
   })()`);
   await giveLong(browser, "full", header, 4_294_967_295);
-  must(await said(browser) === cut("1,073,741,812 frames (6:12:49.621)", "none", " Of one more frame only 3 bytes are there."), `full: it says ${await said(browser)}`);
+  must(await said(browser) ===
+      cut("1,073,741,812 frames (6:12:49.621)", "none", " Of one more frame only 3 bytes are there."),
+    `full: it says ${await said(browser)}`);
   must(await browser.evaluate(`document.getElementById("save").checkVisibility()`), "full: it isn't saved");
-  const [size, ...beginning] = await browser.evaluate(`(async () => [blob.size, ...new Uint8Array(await blob.slice(0, 44).arrayBuffer())])()`);
-  must(size === 4_294_967_292 && wav([], { channels: 2, rate: 48000, counted: 4_294_967_248, riff: 4_294_967_284 }).equals(Buffer.from(beginning)), `full: it is repaired to ${size} bytes, and ${beginning}`);
-  for (const [name, beginning] of [
-    ["too long", "RIFF"],
-    ["long RF64", "RF64"],
-  ]) {
+  const [size, ...beginning] =
+    await browser.evaluate(`(async () => [blob.size, ...new Uint8Array(await blob.slice(0, 44).arrayBuffer())])()`);
+  must(size === 4_294_967_292 &&
+      wav([], {channels: 2, rate: 48000, counted: 4_294_967_248, riff: 4_294_967_284}).equals(Buffer.from(beginning)),
+    `full: it is repaired to ${size} bytes, and ${beginning}`);
+  for (const [name, beginning] of [["too long", "RIFF"], ["long RF64", "RF64"], ]) {
     const says = `${name}.wav is too large for a WAV file: it has 5,000,000,000 bytes. Keep it: an audio editor may read it as RF64, or import it as raw data, if you know its rate, channels and bits.`;
     const file = path.join(work, `${name}.wav`);
     fs.writeFileSync(file, Buffer.concat([Buffer.from(beginning), header.subarray(4)]));
@@ -667,12 +881,14 @@ async function tryTooLong(browser) {
   }
 }
 
-/** A recording of 500 MB with no sizes, most of which is a hole on the disk: its drawing is stopped, and it is saved. */
+/**
+ * A recording of 500 MB with no sizes, most of which is a hole on the disk: its drawing is stopped, and it is saved.
+ */
 async function tryLong(browser) {
   const repaired = path.join(work, "expected.wav"), length = 500_000_000;
-  fs.writeFileSync(repaired, wav([], { channels: 2, counted: length, riff: length + 36 }));
+  fs.writeFileSync(repaired, wav([], {channels: 2, counted: length, riff: length + 36}));
   fs.truncateSync(repaired, length + 44);
-  await giveLong(browser, "long", wav([], { channels: 2 }), length + 44);
+  await giveLong(browser, "long", wav([], {channels: 2}), length + 44);
   must(await said(browser) === cut("125,000,000 frames (4:20:25.000)"), "long: it says something else");
   const left = await saved(browser, "long repaired.wav", length + 44);
   must(spawnSync("cmp", [left, repaired]).status === 0, "long: the file that is saved is another one");
@@ -681,14 +897,25 @@ async function tryLong(browser) {
 /** Takes the picture of README: a recording of two channels that was cut off within a frame. */
 async function takePicture(browser) {
   const swell = (time, at, length, loud) => loud * Math.exp(-(((time - at) / length) ** 2)), words = [];
-  for (let i = 0; i < 40; i++) words.push([i + 0.4 * Math.sin(7 * i), 0.12 + 0.1 * Math.sin(3 * i) ** 2, 26000 * Math.abs(Math.sin(11 * i)) ** 1.5]);
-  const data = Array.from({ length: 297234 }, (_, i) => {
-    const wave = Math.sin(i / 6) * words.reduce((sum, word) => sum + swell(i / 8000, ...word), 300);
-    return [...u16(Math.round(wave) & 65535), ...u16(Math.round(0.7 * wave) & 65535)];
-  }).flat();
+  for (let i = 0; i < 40; i++)
+    words.push(
+      [i + 0.4 * Math.sin(7 * i), 0.12 + 0.1 * Math.sin(3 * i) ** 2, 26000 * Math.abs(Math.sin(11 * i)) ** 1.5]);
+  const data = Array
+                 .from({length: 297234},
+                   (_, i) => {
+                     const wave = Math.sin(i / 6) * words.reduce((sum, word) => sum + swell(i / 8000, ...word), 300);
+                     return [...u16(Math.round(wave) & 65535), ...u16(Math.round(0.7 * wave) & 65535)];
+                   })
+                 .flat();
   await browser.setScheme("light");
   await browser.resize(800, 810, 1);
-  await tryCase(browser, ["interview", wav([...data, 1, 2], { channels: 2, counted: 0, riff: 36 }), cut("297,234 frames (0:37.154)", "none", " Of one more frame only 2 bytes are there."), "0:37.154", wav(data, { channels: 2 })], false);
+  await tryCase(browser,
+    [
+      "interview", wav([...data, 1, 2], {channels: 2, counted: 0, riff: 36}),
+      cut("297,234 frames (0:37.154)", "none", " Of one more frame only 2 bytes are there."), "0:37.154",
+      wav(data, {channels: 2})
+    ],
+    false);
   await once(browser, `document.querySelector("audio").duration > 37`, "the player has the file");
   await browser.evaluate("document.activeElement.blur(), scrollTo(0, 0)");
   await pause(500);
@@ -699,14 +926,18 @@ async function takePicture(browser) {
 /** Tries the page in a browser; what Firefox's protocol hasn't is tried in Chromium alone. */
 async function tryIn(browser) {
   await browser.show(`file://${PAGE}`);
-  await once(browser, `document.readyState === "complete" && document.getElementById("said")?.textContent === ""`, "the page starts");
+  await once(browser, `document.readyState === "complete" && document.getElementById("said")?.textContent === ""`,
+    "the page starts");
   const promise = await browser.evaluate(`document.querySelector("p.soft").textContent`);
-  must(promise === "Files aren't changed and stay on this computer: this page has no connection.", `the page promises ${promise}`);
+  must(promise === "Files aren't changed and stay on this computer: this page has no connection.",
+    `the page promises ${promise}`);
   for (const [i, one] of CASES.entries()) await tryCase(browser, one, i % 2 === 0);
   await tryCase(browser, CASES.find(([name]) => name === "24 in 4"), true);
   await once(browser, `document.querySelector("audio").duration > 0`, "24 bits in four are played");
   await tryCase(browser, CASES.find(([name]) => name === "40 channels"), false);
-  await once(browser, `document.querySelector("audio").duration > 0 || document.getElementById("player").textContent === "This browser doesn't play such samples, nor a copy in 16 bits."`, "40 channels are played, or not");
+  await once(browser,
+    `document.querySelector("audio").duration > 0 || document.getElementById("player").textContent === "This browser doesn't play such samples, nor a copy in 16 bits."`,
+    "40 channels are played, or not");
   await triesToEnd(browser);
   await tryLooks(browser, "followed");
   await tryEnds(browser);
@@ -729,7 +960,7 @@ async function tryIn(browser) {
 
 async function main() {
   for (const [program, start] of [["chromium", chromium], ["firefox-esr", firefox]]) {
-    if (spawnSync(program, ["--version"], { env: { ...process.env, HOME: work } }).status !== 0) {
+    if (spawnSync(program, ["--version"], {env: {...process.env, HOME: work}}).status !== 0) {
       console.log(`page: passed over, since ${program} isn't here`);
       continue;
     }
@@ -746,10 +977,13 @@ async function main() {
 
 // Node 20 has WebSocket only with this flag.
 if (!globalThis.WebSocket && !process.execArgv.length) {
-  fs.rmSync(work, { recursive: true });
-  process.exit(spawnSync(process.execPath, ["--experimental-websocket", ...process.argv.slice(1)], { stdio: "inherit" }).status);
+  fs.rmSync(work, {recursive: true});
+  process.exit(
+    spawnSync(process.execPath, ["--experimental-websocket", ...process.argv.slice(1)], {stdio: "inherit"}).status);
 }
-main().catch((error) => {
-  console.error(`page: FAILED: ${error.message}`);
-  process.exitCode = 1;
-}).finally(() => fs.rmSync(work, { recursive: true, force: true, maxRetries: 5 }));
+main()
+  .catch((error) => {
+    console.error(`page: FAILED: ${error.message}`);
+    process.exitCode = 1;
+  })
+  .finally(() => fs.rmSync(work, {recursive: true, force: true, maxRetries: 5}));

@@ -4,8 +4,8 @@
 # bindings/tests/dropin, which fail at a difference that docs/USING.md doesn't list; and programs written for hound,
 # before and after the one change in Cargo.toml. HOUND_C_LIB says where the library is, as elsewhere.
 #   scripts/try_dropin.sh FOLDER [COUNT]     (COUNT files are read, and as many written: 300000)
-#   scripts/try_dropin.sh --wrong FOLDER     (the wrong versions of bindings/tests/dropin/wrong.tsv, which have to be found)
-#   scripts/try_dropin.sh --speed FOLDER     (nanoseconds of both; bindings/tests/dropin/slower.tsv has what takes longer, and why)
+#   scripts/try_dropin.sh --wrong FOLDER     (the wrong versions of bindings/tests/dropin/wrong.tsv, each to be found)
+#   scripts/try_dropin.sh --speed FOLDER     (nanoseconds of both; slower.tsv there has what takes longer, and why)
 set -eu -o pipefail
 cd "$(dirname "$0")/.."
 parts=(published beside users)
@@ -53,7 +53,8 @@ mod published {
         x.write(&mut io::sink(), 24)
     }
     pub fn channel_mask(channels: u16) -> u32 {
-        let spec = WavSpec { channels: channels, sample_rate: 1, bits_per_sample: 24, sample_format: SampleFormat::Int };
+        let spec = WavSpec { channels: channels, sample_rate: 1, bits_per_sample: 24, sample_format: SampleFormat::Int \
+            };
         match proved::header(&spec.into(), 0) {
             Ok(header) => header[40..44].iter().rev().fold(0, |mask, byte| mask << 8 | u32::from(*byte)),
             Err(_) => 0,
@@ -66,7 +67,8 @@ include!("lib.tests");
 RUST
     echo '#[cfg(test)] use super::*; include!("read.tests");' >> src/reader.rs
     echo '#[cfg(test)] use super::*; include!("write.tests");' >> src/writer.rs
-    cargo test -q --offline --lib 2>&1 | tee "$work/log" | grep -E '^(error|test .*FAILED|thread|test result)' || cat "$work/log"
+    cargo test -q --offline --lib 2>&1 | tee "$work/log" | grep -E '^(error|test .*FAILED|thread|test result)' \
+        || cat "$work/log"
     cd "$OLDPWD"
     grep -q "^test result: ok. $(cat "$original"/src/*.rs | grep -c '^ *#\[test\]') passed" "$work/log"
 }
@@ -78,18 +80,21 @@ beside() {
 programs() { # PACKAGE NAME..
     rm -rf "$work/beside" && cp -r bindings/tests/dropin "$work/beside"
     sed -i -e "s|ORIGINAL|$original|" -e "s|PACKAGE|$1|" "$work/beside/Cargo.toml" && shift
-    (cd "$work/beside" && cargo build -q --offline --release "${@/#/--bin=}" 2> "$work/log") || { cat "$work/log"; return 1; }
+    (cd "$work/beside" && cargo build -q --offline --release "${@/#/--bin=}" 2> "$work/log") \
+        || { cat "$work/log"; return 1; }
 }
 exact() { "$CARGO_TARGET_DIR/release/exact" "$1"; }
 histories() { "$CARGO_TARGET_DIR/release/histories" "$1"; }
 faults() { "$CARGO_TARGET_DIR/release/faults"; }
 speed() { programs "$PWD/bindings/hound" speed && "$CARGO_TARGET_DIR/release/speed" 15; }
 
-# The programs, and the own tests of both packages, over the packages as they are, which all pass, and over wrong versions.
+# The programs, and the own tests of both packages, over the packages as they are, which all pass, and over wrong
+# versions.
 wrong() {
     local what file old new found missed=0
     while IFS=$'\t' read -r what file old new; do
-        rm -rf "$work/wrong" && mkdir "$work/wrong" && cp -r bindings/{hound,rust} "$work/wrong" && rm -rf "$work"/wrong/*/target
+        rm -rf "$work/wrong" && mkdir "$work/wrong" && cp -r bindings/{hound,rust} "$work/wrong" \
+            && rm -rf "$work"/wrong/*/target
         ln -s "$PWD"/bindings/{c,lib} "$work/wrong"
         [ -z "$file" ] || python3 - "$work"/wrong/*/src/"$file" "$old" "$new" <<'PYTHON' || return 1
 import re, sys
@@ -109,30 +114,36 @@ first_failure() {
     local part
     for part in own_tests faults "histories 30000" "exact 9000"; do
         { [ "$part" = own_tests ] || programs "$work/wrong/hound" "${part% *}"; } \
-            && timeout 300 bash -c "$(declare -f exact histories faults own_tests) && $part" > "$work/log" 2>&1 || { echo "${part% *}" && return; }
+            && timeout 300 bash -c "$(declare -f exact histories faults own_tests) && $part" > "$work/log" 2>&1 \
+                || { echo "${part% *}" && return; }
     done
 }
-own_tests() { (cd "$work/wrong/rust" && cargo test -q --offline --test files && cd ../hound && cargo test -q --offline --tests); }
+own_tests() { (cd "$work/wrong/rust" && cargo test -q --offline --test files && cd ../hound \
+    && cargo test -q --offline --tests); }
 
-# Programs written for hound in a package of their own, which depends on the published crate by a registry, here a folder;
-# the one change is the patch. Then they do the same, and write the same files but for the pad byte.
+# Programs written for hound in a package of their own, which depends on the published crate by a registry, here a
+# folder; the one change is the patch. Then they do the same, and write the same files but for the pad byte.
 users() {
     local side user=$work/user program
     mkdir -p "$user/.cargo" "$work/registry/hound"
     cp -r "$original/src" "$work/registry/hound" && printf '{"files":{}}' > "$work/registry/hound/.cargo-checksum.json"
     printf '[package]\nname = "hound"\nversion = "3.5.1"\nedition = "2015"\n' > "$work/registry/hound/Cargo.toml"
-    printf '[source.crates-io]\nreplace-with = "registry"\n[source.registry]\ndirectory = "%s"\n' "$work/registry" > "$user/.cargo/config.toml"
-    printf '[package]\nname = "user"\nversion = "0.1.0"\nedition = "2021"\n[dependencies]\nhound = "3.5"\n' > "$user/Cargo.toml"
+    printf '[source.crates-io]\nreplace-with = "registry"\n[source.registry]\ndirectory = "%s"\n' "$work/registry" > \
+        "$user/.cargo/config.toml"
+    printf '[package]\nname = "user"\nversion = "0.1.0"\nedition = "2021"\n[dependencies]\nhound = "3.5"\n' > \
+        "$user/Cargo.toml"
     mkdir "$user/src" && cp -r bindings/tests/dropin/programs "$user/src/bin"
     for side in original package; do
         if [ $side = package ]; then
             printf '[patch.crates-io]\nhound = { path = "%s" }\n' "$PWD/bindings/hound" >> "$user/Cargo.toml"
             (cd "$user" && cargo update -q --offline -p hound 2> "$work/log") || { cat "$work/log"; return 1; }
         fi
-        (cd "$user" && cargo build -q --offline --target-dir "$CARGO_TARGET_DIR/user" 2> "$work/log") || { cat "$work/log"; return 1; }
+        (cd "$user" && cargo build -q --offline --target-dir "$CARGO_TARGET_DIR/user" 2> "$work/log") \
+            || { cat "$work/log"; return 1; }
         (cd "$user" && cargo tree --offline) | grep -q "hound v3.5.1$([ $side = original ] || echo +rattle)" || return 1
         mkdir "$work/$side"
-        (cd "$work/$side" && use "$CARGO_TARGET_DIR/user/debug") > "$work/$side.said" 2>&1 || { cat "$work/$side.said"; return 1; }
+        (cd "$work/$side" && use "$CARGO_TARGET_DIR/user/debug") > "$work/$side.said" 2>&1 \
+            || { cat "$work/$side.said"; return 1; }
     done
     cmp "$work/original.said" "$work/package.said"
     for program in "$work"/original/*; do
@@ -144,7 +155,8 @@ if len(other) == len(one) + 1 and len(one) % 2 == 1:  # The pad byte, which the 
 sys.exit(one != other and f"users: {sys.argv[2]} differs")
 PYTHON
     done
-    echo "users: $(ls "$work/original" | wc -l) files and what $(ls bindings/tests/dropin/programs | wc -l) programs said are the same"
+    echo "users: $(ls "$work/original" | wc -l) files and what $(ls bindings/tests/dropin/programs \
+        | wc -l) programs said are the same"
 }
 use() { # FOLDER
     local bits

@@ -81,9 +81,11 @@ CHECKS = []
 
 def check(name):
     """Marks a check of the program of this name."""
+
     def mark(function):
         CHECKS.append((name, function))
         return function
+
     return mark
 
 
@@ -212,6 +214,7 @@ def a_full_output_is_reported(tool):
         (["show"], MANY_FILE, MANY_SPEC + MANY_LINES),
     ]:
         for room in [0, 43, 20000]:
+
             def limit():
                 signal.signal(signal.SIGXFSZ, signal.SIG_IGN)
                 resource.setrlimit(resource.RLIMIT_FSIZE, (room, room))
@@ -230,7 +233,9 @@ def interrupted_writes_are_tried_again(tool):
         return
     interrupted = ["strace", "-qq", "-o", os.devnull, "-e", "trace=write", "-e", "inject=write:error=EINTR:when=1+2"]
     for words, given, wanted in [(PACK, MANY_LINES, MANY_FILE), (["show"], MANY_FILE, MANY_SPEC + MANY_LINES)]:
-        ran = subprocess.run([*interrupted, tool.file, *words], input=given, stdout=subprocess.PIPE, stderr=subprocess.PIPE)
+        ran = subprocess.run(
+            [*interrupted, tool.file, *words], input=given, stdout=subprocess.PIPE, stderr=subprocess.PIPE
+        )
         same((ran.returncode, ran.stdout, ran.stderr), (0, wanted, b""), words)
 
 
@@ -311,10 +316,15 @@ def record_has_each_checkpoint_in_the_file(example):
 def file_of(channels, rate, bits, data):
     """A file of integers, as the public format has it: an extensible fmt chunk for more than two channels or 16 bits."""
     frame = channels * bits // 8
-    tag, rest = (1, b"") if channels <= 2 and bits <= 16 else (0xFFFE, struct.pack("<HHI", 22, bits, (1 << channels) - 1))
+    tag, rest = (
+        (1, b"") if channels <= 2 and bits <= 16 else (0xFFFE, struct.pack("<HHI", 22, bits, (1 << channels) - 1))
+    )
     rest += bytes.fromhex("0100000000001000800000aa00389b71") if rest else b""
     fmt = struct.pack("<HHIIHH", tag, channels, rate, rate * frame, frame, bits) + rest
-    parts = b"".join(name + struct.pack("<I", len(part)) + part + b"\0" * (len(part) % 2) for name, part in [(b"fmt ", fmt), (b"data", data)])
+    parts = b"".join(
+        name + struct.pack("<I", len(part)) + part + b"\0" * (len(part) % 2)
+        for name, part in [(b"fmt ", fmt), (b"data", data)]
+    )
     return b"RIFF" + struct.pack("<I", 4 + len(parts)) + b"WAVE" + parts
 
 
@@ -327,7 +337,14 @@ def bytes_of(path):
 @check("hound_examples")
 def record_takes_raw_samples_of_each_width(example):
     path = path_of("raw")
-    for channels, rate, bits in [(1, 8000, 8), (2, 44100, 16), (3, 48000, 16), (1, 96000, 24), (2, 48000, 24), (5, 44100, 32)]:
+    for channels, rate, bits in [
+        (1, 8000, 8),
+        (2, 44100, 16),
+        (3, 48000, 16),
+        (1, 96000, 24),
+        (2, 48000, 24),
+        (5, 44100, 32),
+    ]:
         frame = channels * bits // 8
         data = bytes(at * 37 % 251 for at in range(9 * frame))
         words = [f"channels={channels}", f"rate={rate}", f"bits={bits}"]
@@ -355,7 +372,11 @@ def record_continues_after_errors(example):
             status, output, errors = example.run_over(given, ["record", path, "1000", *words], preexec_fn=limited)
         lines = output.decode().split("\n")
         same((status, errors, lines[:4], lines[-1]), (1, b"", ["1000", "2000", "3000", "4000"], ""), words)
-        same(int(lines[-2].split()[1]) + sum(int(line.split()[1]) for line in lines if line.startswith("lost")), 30000, lines)
+        same(
+            int(lines[-2].split()[1]) + sum(int(line.split()[1]) for line in lines if line.startswith("lost")),
+            30000,
+            lines,
+        )
         found = bytes_of(path)
         same(found[44:8044], raw(range(4000)), words)
         same(len(found) <= 9000 and int.from_bytes(found[40:44], "little") in (8000, 8956), True, words)
@@ -364,8 +385,19 @@ def record_continues_after_errors(example):
 @check("hound_examples")
 def record_rejects_other_words(example):
     usage = b"usage: record FILE COUNT [channels=N] [rate=N] [bits=N] [durable] [append]\n"
-    for words in [[], ["a.wav"], ["a.wav", "0"], ["a.wav", "one"], ["a.wav", "1", "bits=12"], ["a.wav", "1", "channels=0"],
-                  ["a.wav", "1", "channels=65536"], ["a.wav", "1", "rate=x"], ["a.wav", "1", "durable=0"], ["a.wav", "1", "bits"], ["a.wav", "1", "fast"]]:
+    for words in [
+        [],
+        ["a.wav"],
+        ["a.wav", "0"],
+        ["a.wav", "one"],
+        ["a.wav", "1", "bits=12"],
+        ["a.wav", "1", "channels=0"],
+        ["a.wav", "1", "channels=65536"],
+        ["a.wav", "1", "rate=x"],
+        ["a.wav", "1", "durable=0"],
+        ["a.wav", "1", "bits"],
+        ["a.wav", "1", "fast"],
+    ]:
         same(example.run(["record", *words]), (2, b"", usage), words)
     same(example.run(["record", path_of("none"), "1", "append"])[:2], (1, b""))
 
@@ -388,7 +420,12 @@ def convert_rounds_and_clips_as_sox(example):
 def write_floats(path, numbers):
     data = struct.pack(f"<{len(numbers)}f", *numbers)
     with open(path, "wb") as file:
-        file.write(b"RIFF" + struct.pack("<I", 36 + len(data)) + b"WAVEfmt " + struct.pack("<IHHIIHH", 16, 3, 1, 44100, 176400, 4, 32))
+        file.write(
+            b"RIFF"
+            + struct.pack("<I", 36 + len(data))
+            + b"WAVEfmt "
+            + struct.pack("<IHHIIHH", 16, 3, 1, 44100, 176400, 4, 32)
+        )
         file.write(b"data" + struct.pack("<I", len(data)) + data)
 
 
@@ -410,15 +447,6 @@ def convert_scales_floats(example):
         same(printed(example, ["convert", source, to, str(bits)]), b"%d samples clipped\n" % clipped)
         stored = [(one + 128 if bits == 8 else one % 2**bits).to_bytes(bits // 8, "little") for one in wanted]
         same(bytes_of(to), file_of(1, 44100, bits, b"".join(stored)), bits)
-
-
-@check("hound_examples")
-def join_is_that_of_sox(example):
-    ends, middle, joined = path_of("ends"), path_of("middle"), path_of("joined")
-    printed(example, ["record", ends, "1000"], RAMP)
-    printed(example, ["sine", middle])
-    printed(example, ["join", joined, ends, middle, ends])
-    same(taken_away(joined), (128244, 3473685490))
 
 
 @check("hound_examples")
@@ -492,26 +520,6 @@ def mend_puts_the_sizes_of_sox(example):
                 same(file.read(), wanted, f"{len(torn)} {words}")
 
 
-# The frames in the opposite order; each channel by itself, and both again.
-@check("hound_examples")
-def frames_are_reversed_split_and_merged(example):
-    two, other = path_of("two"), path_of("other")
-    channels = [path_of("left"), path_of("right")]
-    with open(two, "wb") as file:
-        file.write(FIVE)
-    frames = [FIVE[at : at + 4] for at in range(44, 64, 4)]
-    printed(example, ["reverse", two, other])
-    with open(other, "rb") as file:
-        same(file.read(), FIVE[:44] + b"".join(reversed(frames)))
-    printed(example, ["split", two, *channels])
-    for path, numbers in zip(channels, [(2, 5, 11, 17, 23), (-3, -7, -13, -19, -29)]):
-        with wave.open(path) as file:
-            same((file.getnchannels(), file.readframes(9)), (1, struct.pack("<5h", *numbers)))
-    printed(example, ["merge", other, *channels])
-    with open(other, "rb") as file:
-        same(file.read(), FIVE)
-
-
 # Mono, 44100 Hz, 24 bits in four bytes, as the original writes them.
 WIDE = bytes.fromhex(
     "52494646 4c000000 57415645 666d7420 28000000 feff 0100 44ac0000 10b10200 0400 2000 1600 1800"
@@ -521,23 +529,14 @@ WIDE = bytes.fromhex(
 
 @check("hound_examples")
 def containers_keep_their_width(example):
-    """24 bits in four bytes stay so where a file is reversed, split, joined or converted to itself."""
+    """24 bits in four bytes stay so where a file is converted to itself."""
     wide, other = path_of("wide"), path_of("other")
     # The original writes the highest byte as 0.
     samples = [struct.pack("<I", number & 0xFFFFFF) for number in [2, -3, 5, -7]]
     with open(wide, "wb") as file:
         file.write(WIDE + b"".join(samples))
-    for words, wanted in [
-        (["reverse", wide, other], samples[::-1]),
-        (["split", wide, other], samples),
-        (["merge", other, wide], samples),
-        (["convert", wide, other, "24"], samples),
-    ]:
-        if os.path.exists(other):
-            os.remove(other)
-        example.run(words)
-        with open(other, "rb") as file:
-            same(file.read(), WIDE + b"".join(wanted), words)
+    printed(example, ["convert", wide, other, "24"])
+    same(bytes_of(other), WIDE + b"".join(samples))
 
 
 def data_of(path, start):
@@ -559,35 +558,20 @@ def level(channel, numbers):
 # error is reported. Three frames are there, and a part of the fourth.
 @check("hound_examples")
 def frames_before_an_early_end_are_kept(example):
-    two, cut, to = path_of("two"), path_of("cut"), path_of("to")
-    left, right = path_of("left"), path_of("right")
+    cut, to = path_of("cut"), path_of("to")
     numbers = struct.unpack("<6h", FIVE[44:56])
 
     def run(words, output=b""):
         status, said, errors = example.run(words)
         same((status, said, errors[:15]), (1, output, b"Error: IoError("), words)
 
-    with open(two, "wb") as file:
-        file.write(FIVE)
     for length in range(56, 60):
         with open(cut, "wb") as file:
             file.write(FIVE[:length])
         run(["convert", cut, to, "24"], b"0 samples clipped\n")
         same(data_of(to, 68), b"".join(b"\0" + struct.pack("<h", number) for number in numbers), "convert")
-        run(["join", to, two, cut, two])
-        same(data_of(to, 44), FIVE[44:] + FIVE[44:56], "join")
-        run(["reverse", cut, to])
-        same(data_of(to, 44), FIVE[52:56] + FIVE[48:52] + FIVE[44:48], "reverse")
-        run(["split", cut, left, right])
-        same(data_of(left, 44) + data_of(right, 44), struct.pack("<6h", *numbers[::2], *numbers[1::2]), "split")
         lines = [level(1, numbers[::2] if length < 58 else [*numbers[::2], 17]), level(2, numbers[1::2])]
         run(["levels", cut], b"".join(lines))
-    for mono, end in [(left, 52), (right, 49)]:
-        with open(mono, "wb") as file:
-            file.write(FOUR[:end])
-    for words in [[left, right], [right, left]]:
-        run(["merge", to, *words])
-        same(data_of(to, 44), FOUR[44:46] * 2 + FOUR[46:48] * 2, "merge")
 
 
 # A stream that says the largest length, and one that is cut within a sample.
@@ -597,26 +581,6 @@ def stream_reads_from_a_pipe(example):
     same(printed(example, ["stream"], FIVE), b"10 samples, peak 29\n")
     same(printed(example, ["stream"], endless), b"10 samples, peak 29\n")
     same(printed(example, ["stream"], endless[:61]), b"8 samples, peak 19\n")
-
-
-@check("hound_examples")
-def floats_are_patterns_and_numbers(example):
-    path = path_of("floats")
-    data = struct.pack("<4f", 1, -0.5, float("inf"), 0.1) + bytes.fromhex("0000c07f")
-    fmt = struct.pack("<IHHIIHH", 16, 3, 1, 44100, 176400, 4, 32)
-    with open(path, "wb") as file:
-        file.write(b"RIFF" + struct.pack("<I", 56) + b"WAVEfmt " + fmt + b"data" + struct.pack("<I", 20) + data)
-    lines = b"3f800000 1\nbf000000 -0.5\n7f800000 inf\n3dcccccd 0.1\n7fc00000 NaN\n"
-    same(printed(example, ["floats", path]), lines)
-    with open(path, "wb") as file:
-        file.write(FIVE)
-    same(example.run(["floats", path])[:2], (1, b"it has integers\n"))
-
-
-@check("hound_examples")
-def memory_is_written_and_read(example):
-    same(printed(example, ["memory", "2", "-3"]), b"48 bytes\n2\n-3\n")
-    same(example.run(["memory", "2", "32768"])[:2], (2, b""))
 
 
 # The four samples and three more, by hand: only the sizes and the end differ.
@@ -632,102 +596,9 @@ def append_reads_back_what_it_appended(example):
     same(taken_away(path)[0], 58)
 
 
-# The sum of two samples, clipped to the bits; silence follows the shorter file.
-@check("hound_examples")
-def mix_is_the_clipped_sum(example):
-    one, other, to = path_of("one"), path_of("other"), path_of("to")
-    for bits in [16, 24, 32]:
-        half = 2 ** (bits - 1)
-        first = [at * 7919 * 2 ** (bits - 16) % 2**bits - half for at in range(900)]
-        second = [at * 104729 * 2 ** (bits - 16) % 2**bits - half for at in range(1000)]
-        for path, numbers in [(one, first), (other, second)]:
-            with open(path, "wb") as file:
-                file.write(file_of(2, 44100, bits, b"".join(number.to_bytes(bits // 8, "little", signed=True) for number in numbers)))
-        sums = [a + b for a, b in zip(first + [0] * 100, second)]
-        wanted = [max(-half, min(half - 1, one)) for one in sums]
-        clipped = sum(a != b for a, b in zip(sums, wanted))
-        same((printed(example, ["mix", one, other, to]), clipped > 10), (b"%d samples clipped\n" % clipped, True), bits)
-        same(bytes_of(to), file_of(2, 44100, bits, b"".join(number.to_bytes(bits // 8, "little", signed=True) for number in wanted)), bits)
-    same(example.run(["mix", one, to, to])[:2], (1, b""))
-
-
-def away(number):
-    """The nearest integer, of a half the one farther from 0, as C's `round`."""
-    return int(math.copysign(math.floor(abs(number) + 0.5), number))
-
-
-@check("hound_examples")
-def normalize_has_its_peak_at_one_decibel(example):
-    source, to = path_of("from"), path_of("to")
-    numbers = [at * 7919 % 20000 - 9000 for at in range(3000)]
-    with open(source, "wb") as file:
-        file.write(file_of(1, 8000, 16, raw(numbers)))
-    peak = max(map(abs, numbers)) / 32768
-    same(printed(example, ["normalize", source, to]), b"peak %.2f dBFS\n" % (20 * math.log10(peak)))
-    gain = 10 ** (-1 / 20) / peak
-    wanted = [away(number / 32768 * gain * 32767) for number in numbers]
-    same(bytes_of(to), file_of(1, 8000, 16, raw(wanted)))
-    same(max(map(abs, wanted)), away(10 ** (-1 / 20) * 32767))
-
-
-# 0.3 seconds are 2400 frames; -50 dBFS is a magnitude of 103.6.
-@check("hound_examples")
-def silences_cut_a_file(example):
-    source, prefix = path_of("from"), os.path.join(FOLDER.name, "part")
-    loud, quiet = [1000, -104], [103, -50]
-    with open(source, "wb") as file:
-        file.write(file_of(2, 8000, 16, raw(loud * 100 + quiet * 2500 + loud * 50 + quiet * 2399 + loud * 30 + quiet * 2400)))
-    same(printed(example, ["silences", source, prefix]), b"2 files\n")
-    for name, wanted in [("-001.wav", loud * 100), ("-002.wav", loud * 50 + quiet * 2399 + loud * 30)]:
-        same(bytes_of(prefix + name), file_of(2, 8000, 16, raw(wanted)), name)
-        os.remove(prefix + name)
-
-
-@check("hound_examples")
-def tone_is_a_sine_of_floats(example):
-    path = path_of("tone")
-    same(printed(example, ["tone", path]), b"48000 samples, peak -6.00 dBFS\n")
-    samples = struct.unpack("<48000f", data_of(path, 68))
-    for at, sample in enumerate(samples):
-        same(abs(sample - 10**-0.3 * math.sin(at / 48 * 2 * math.pi)) < 1e-3, True, at)
-
-
-@check("hound_examples")
-def pipe_says_no_length(example):
-    data = bytes(range(251))
-    wanted = b"RIFF\xff\xff\xff\xff" + FIVE[8:40] + b"\xff\xff\xff\xff" + data
-    same(printed(example, ["pipe", "2", "44100"], data), wanted)
-
-
 @check("hound_examples")
 def faulty_finds_no_wrong_run(example):
     same(printed(example, ["faulty"]), b"64 runs, 0 wrong\n")
-
-
-@check("hound_examples")
-def info_is_that_of_python(example):
-    path = path_of("info")
-    with open(path, "wb") as file:
-        file.write(FIVE)
-    lines = b"""\
-fmt  at byte 20, 16 bytes
-data at byte 44, 20 bytes
-channels 2, rate 44100, bits 16, format int
-samples 10, frames 5, seconds 0.000113
-"""
-    same(printed(example, ["info", path]), lines)
-    same(printed(example, ["info", os.path.join(TOP, "crates/hound_examples/data/list.wav")]), b"""\
-fmt  at byte 20, 16 bytes
-LIST at byte 44, 38 bytes
-data at byte 90, 10 bytes
-channels 1, rate 48000, bits 16, format int
-samples 5, frames 5, seconds 0.000104
-""")
-    # The original takes these thirty bytes and says the same.
-    with open(path, "wb") as file:
-        file.write(FIVE[:30])
-    status, _, errors = example.run(["info", path])
-    same((status, errors), (1, b"at byte 30: Failed to read enough bytes.\n"))
 
 
 # The sums are those that hound 3.5.1 gives, and one more where the RIFF size counts a pad byte,

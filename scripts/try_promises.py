@@ -1,11 +1,12 @@
 #!/usr/bin/env python3
-"""Tries the mutants that have a twin, among them those of the table in docs/PROVING.md: a mutant is a deliberate bug, and the
-prover has to reject it; its twin is a harmless edit of the same place, which the prover has to accept: so a mutant is
-rejected for what it does, and not for any change there. Only the functions with an edit are checked, and what they call in
-their crate, over the libraries below: those that `rt ci` leaves, or else what `rt lib` makes. All twins of a crate are tried
-at once, a mutant alone.
+"""Tries the mutants that have a twin, among them those of the table in docs/PROVING.md: a mutant is a deliberate bug,
+and the prover has to reject it; its twin is a harmless edit of the same place, which the prover has to accept: so a
+mutant is rejected for what it does, and not for any change there. Only the functions with an edit are checked, and what
+they call in their crate, over the libraries below: those that `rt ci` leaves, or else what `rt lib` makes. All twins of
+a crate are tried at once, a mutant alone.
 
-usage: scripts/try_promises.py [LOG]     (LOG is what an `rt ci` that is running says: each crate waits until those below it are proved)
+usage: scripts/try_promises.py [LOG]
+LOG is what an `rt ci` that is running says: each crate waits until those below it are proved.
 
 It writes a line for each mutant, and last 'promises: N of N mutants rejected, N of N twins accepted'."""
 import glob
@@ -18,7 +19,9 @@ import tempfile
 import time
 
 TOP = os.path.dirname(os.path.dirname(os.path.abspath(__file__)))
-KIT = os.path.dirname(os.path.dirname(os.path.realpath(shutil.which("rt") or sys.exit("promises: the Rattle kit isn't here"))))
+KIT = os.path.dirname(
+    os.path.dirname(os.path.realpath(shutil.which("rt") or sys.exit("promises: the Rattle kit isn't here")))
+)
 FUNCTION = re.compile(r"^( *)(?:pub(?:\([a-z]+\))? )?(?:const |extern \"C\" )?fn (\w+)", flags=re.M)
 BLOCK = re.compile(r"^impl(?:<[^>]*>)? (?:(\w+)(?:<[^>]*>)? for )?(\w+)", flags=re.M)
 
@@ -70,7 +73,17 @@ def is_ready(log, library):
 
 def words(name, static, libraries, log):
     """How rattle is called for a crate."""
-    found = ["--crate-name", name, "src/lib.rt", "--links", f"{name}=", "--extern", f"std={KIT}/rlibs/std.rlib", "-L", f"dependency={KIT}/rlibs"]
+    found = [
+        "--crate-name",
+        name,
+        "src/lib.rt",
+        "--links",
+        f"{name}=",
+        "--extern",
+        f"std={KIT}/rlibs/std.rlib",
+        "-L",
+        f"dependency={KIT}/rlibs",
+    ]
     for library in libraries:
         folder = os.path.join(TOP, "crates", library)
         if not os.path.isdir(folder):
@@ -86,11 +99,29 @@ def words(name, static, libraries, log):
 
 def says(words, functions, folder, kept):
     """What the prover says of functions of a crate: 'proved' if all are, 'not proved' if none is, or the end of all that where it is neither."""
-    logic = ["--antt-project", f"{KIT}/rattle/logic/antt-project.json", "--logic-built", f"{KIT}/logic_built", "--incremental", kept]
+    logic = [
+        "--antt-project",
+        f"{KIT}/rattle/logic/antt-project.json",
+        "--logic-built",
+        f"{KIT}/logic_built",
+        "--incremental",
+        kept,
+    ]
     only = [word for function in sorted(functions) for word in ("--only", function)]
-    run = subprocess.run([f"{KIT}/bin/rattle", "check", *words, *logic, "--jobs", "1", *only], cwd=folder, stdout=subprocess.PIPE, stderr=subprocess.STDOUT, text=True)
-    verdicts = [set(re.findall(rf"^fn [\w:]*\b{function}: (proved|not proved|no proof)", run.stdout, flags=re.M)) for function in functions]
-    if all(verdict == {"proved"} for verdict in verdicts) and re.search(r"^only=(\d+) proved=\1$", run.stdout, flags=re.M):
+    run = subprocess.run(
+        [f"{KIT}/bin/rattle", "check", *words, *logic, "--jobs", "1", *only],
+        cwd=folder,
+        stdout=subprocess.PIPE,
+        stderr=subprocess.STDOUT,
+        text=True,
+    )
+    verdicts = [
+        set(re.findall(rf"^fn [\w:]*\b{function}: (proved|not proved|no proof)", run.stdout, flags=re.M))
+        for function in functions
+    ]
+    if all(verdict == {"proved"} for verdict in verdicts) and re.search(
+        r"^only=(\d+) proved=\1$", run.stdout, flags=re.M
+    ):
         return "proved"
     if all(verdict in ({"not proved"}, {"no proof"}) for verdict in verdicts):
         return "not proved"

@@ -21,7 +21,9 @@ def main():
     printed = re.search(r"print (\d+)\.", page).group(1)
     with tempfile.TemporaryDirectory(prefix="hound_using_") as folder:
         # The page's commands are for a clone of this repository.
-        script = commands.replace("mkdir ../mine && scripts/vendor.sh ../mine", f"mkdir mine && {TOP}/scripts/vendor.sh mine > /dev/null").replace("cd ../mine", "cd mine")
+        script = commands.replace(
+            "mkdir ../mine && scripts/vendor.sh ../mine", f"mkdir mine && {TOP}/scripts/vendor.sh mine > /dev/null"
+        ).replace("cd ../mine", "cd mine")
         subprocess.run(["bash", "-eu", "-c", script], cwd=folder, check=True, capture_output=True)
         crate = os.path.join(folder, "mine", "crates", "mine")
         with open(os.path.join(crate, "src", "main.rt"), "w") as file:

@@ -21,7 +21,7 @@ static void perform(FIL *file, hound_effect *effect, const uint8_t *block) {
         result = f_lseek(file, (FSIZE_t)effect->place);
         if (result == FR_OK) result = f_write(file, bytes, count, &done);
         break;
-    case HOUND_CUT:
+    case HOUND_SHORTEN:
         result = is_there ? f_lseek(file, (FSIZE_t)effect->place) : FR_OK;
         if (is_there && result == FR_OK) result = f_truncate(file);
         done = count;

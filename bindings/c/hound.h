@@ -90,8 +90,8 @@ enum {
     HOUND_SYNC_FAILED = -28,      /* a sync failed, after which it is unknown what is stored: the recorder or
                                      the repairer has ended. A recording has at least the samples of its last
                                      checkpoint */
-    HOUND_IS_CUT_OFF = -29,       /* the recording was cut off, and the recorder may not mend it */
-    HOUND_CHUNKS_FOLLOW = -30,    /* chunks or a tag follow the data, and the recorder may not overwrite them */
+    HOUND_NEEDS_MEND = -29,       /* the recording was cut off, and the recorder may not mend it */
+    HOUND_NEEDS_OVERWRITE = -30,  /* chunks or a tag follow the data, and the recorder may not overwrite them */
     HOUND_NOT_PERFORMED = -31     /* an effect other than a sync was reported as failed */
 };
 
@@ -158,7 +158,7 @@ enum {
     HOUND_WRITE_BLOCK, /* write the caller's block, which has `length` bytes, at `place` */
     HOUND_SYNC,        /* sync the file. If that only passes the bytes on to the system, the file has all that comes
                           before it after a kill; only if it stores them, as fsync does, also after a loss of power */
-    HOUND_CUT,         /* cut the file off at `place`, where it is longer than that */
+    HOUND_SHORTEN,     /* cut the file off at `place`, where it is longer than that */
     HOUND_SYNC_FOLDER  /* sync the folder that holds the file's name, as fsync does. It does nothing where a sync
                           of the file stores the name, or where a loss of power may take the file */
 };
@@ -479,8 +479,8 @@ static inline const char *hound_error_text(int64_t code) {
     case HOUND_NEEDS_CHECKPOINT:
         return "a write failed or a checkpoint is not done, and no samples are written before one is";
     case HOUND_SYNC_FAILED: return "a sync failed, and it is unknown what is stored";
-    case HOUND_IS_CUT_OFF: return "the recording was cut off, and has to be repaired first";
-    case HOUND_CHUNKS_FOLLOW: return "chunks or a tag follow the data, and would be overwritten";
+    case HOUND_NEEDS_MEND: return "the recording was cut off, and has to be repaired first";
+    case HOUND_NEEDS_OVERWRITE: return "chunks or a tag follow the data, and would be overwritten";
     case HOUND_NOT_PERFORMED: return "the file could not be read or written";
     default: return code < 0 ? "unknown error" : "no error";
     }

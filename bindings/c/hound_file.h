@@ -283,7 +283,7 @@ static inline int hound_file_write_at(int descriptor, const uint8_t *bytes, size
 }
 
 /* Cuts a file off at a place, if it is longer: 0, or -1. */
-static inline int hound_file_cut(int descriptor, uint64_t place) {
+static inline int hound_file_shorten(int descriptor, uint64_t place) {
     uint64_t length;
     int is_regular;
     if (hound_file_find(descriptor, &length, &is_regular) < 0) return -1;
@@ -306,7 +306,7 @@ static inline int hound_file_perform(hound_file *file, hound_effect *effect, con
         is_done = hound_file_write_at(file->descriptor, block, effect->length, effect->place) == 0;
         break;
     case HOUND_SYNC: is_done = !file->is_durable || hound_file_sync(file->descriptor) == 0; break;
-    case HOUND_CUT: is_done = hound_file_cut(file->descriptor, effect->place) == 0; break;
+    case HOUND_SHORTEN: is_done = hound_file_shorten(file->descriptor, effect->place) == 0; break;
     default: errno = EPROTO;
     }
     if (is_done) effect->length = (uint32_t)count;
@@ -320,7 +320,7 @@ static inline int32_t hound_file_finish(hound_file *file, const uint8_t *block) 
     int32_t code;
     file->fault = 0;
     while ((code = hound_recorder_next(&file->recorder)) == 1) {
-        int is_cut = file->recorder.effect.kind == HOUND_CUT,
+        int is_cut = file->recorder.effect.kind == HOUND_SHORTEN,
             is_done = hound_file_perform(file, &file->recorder.effect, block);
         if (is_cut) file->has_rest = !is_done;
     }

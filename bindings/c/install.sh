@@ -23,7 +23,8 @@ root=${DESTDIR:-}$1
 shared=libhound_c.so
 major=$(sed -n 's/^#define HOUND_VERSION_MAJOR //p' "$here/hound.h")
 if [ -n "$is_removed" ]; then
-    rm -f "$root"/include/hound{,_file}.h "$root"/lib/libhound_c.a "$root/lib/$shared" "$root/lib/$shared.$major" "$root/lib/pkgconfig/hound.pc"
+    rm -f "$root"/include/hound{,_file}.h "$root"/lib/libhound_c.a "$root/lib/$shared" "$root/lib/$shared.$major" \
+        "$root/lib/pkgconfig/hound.pc"
     rm -f "$root"/lib/cmake/hound/hound-config{,-version}.cmake
     echo "removed from: $root"
     exit 0
@@ -51,7 +52,8 @@ fi
 if [ -e "$from/$shared" ]; then
     cp "$from/$shared" "$work/shared"
 elif [ "$(uname -s)" != Darwin ] && command -v "${cc[0]}" > /dev/null; then # macOS has shared libraries of another kind
-    "${cc[@]}" -shared "-Wl,-soname,$shared.$major" -Wl,--whole-archive "$from/libhound_c.a" -Wl,--no-whole-archive -o "$work/shared"
+    "${cc[@]}" -shared "-Wl,-soname,$shared.$major" -Wl,--whole-archive "$from/libhound_c.a" -Wl,--no-whole-archive -o \
+        "$work/shared"
 fi
 version=$(sed -n 's/^#define HOUND_VERSION "\(.*\)"$/\1/p' "$here/hound.h")
 for file in hound.pc hound-config-version.cmake; do sed "s/@VERSION@/$version/" "$here/$file.in" > "$work/$file"; done

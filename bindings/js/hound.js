@@ -49,8 +49,8 @@ const ERRORS = {
   ],
   NEEDS_CHECKPOINT: [27, "a write failed or a checkpoint is not done, and no samples are written before one is"],
   SYNC_FAILED: [28, "a sync failed, and it is unknown what is stored"],
-  IS_CUT_OFF: [29, "the recording was cut off, and has to be repaired first"],
-  CHUNKS_FOLLOW: [30, "chunks or a tag follow the data, and would be overwritten"],
+  NEEDS_MEND: [29, "the recording was cut off, and has to be repaired first"],
+  NEEDS_OVERWRITE: [30, "chunks or a tag follow the data, and would be overwritten"],
   NOT_PERFORMED: [31, "the file could not be read or written"],
   // The end of what is made from hound.h.
 };
@@ -61,8 +61,8 @@ const ADVICE = {
   TRUNCATED: "repair(file), { toEnd: true }",
   DATA_LENGTH: "repair(file), { toEnd: true }",
   FRAME_LENGTH: "repair(file), { toEnd: true }",
-  IS_CUT_OFF: "repair(file), repairFile(path)",
-  CHUNKS_FOLLOW: "{ overwrite: true }",
+  NEEDS_MEND: "repair(file), repairFile(path)",
+  NEEDS_OVERWRITE: "{ overwrite: true }",
 };
 const NAMES = new Map(Object.entries(ERRORS).map(([name, [code]]) => [code, name]));
 
@@ -118,7 +118,7 @@ function checked(code) {
 // The constants, and where fields are, made from hound.h by scripts/make_interface.py.
 const VERSION = 512;
 const [INT, FLOAT, EFFECT_BYTES, DONE, FAILED] = [0, 1, 40, 1, 2];
-const [READ, WRITE, WRITE_BLOCK, SYNC, CUT, SYNC_FOLDER] = [1, 2, 3, 4, 5, 6];
+const [READ, WRITE, WRITE_BLOCK, SYNC, SHORTEN, SYNC_FOLDER] = [1, 2, 3, 4, 5, 6];
 const [FIND_DAMAGE, REPAIR, REPAIR_TO_END, MAKE_CANONICAL, OVERWRITE] = [0, 1, 2, 3, 2];
 const [KIND_UNKNOWN, KIND_FLOAT64] = [65536, 65545];
 const STATES = ["whole", "cutOff", "hasChunksAfterData", "allCounted"];
@@ -720,7 +720,7 @@ class Overlay {
       case WRITE: return this.put(bytes.slice(), place);
       case WRITE_BLOCK: return this.put(block, place);
       case SYNC: return;
-      case CUT: this.parts = this.between(0, place); return;
+      case SHORTEN: this.parts = this.between(0, place); return;
       default: throw unknownEffect();
     }
   }
@@ -774,7 +774,7 @@ async function writeAt(handle, bytes, place) {
   }
 }
 
-async function cutAt(handle, place) {
+async function shortenAt(handle, place) {
   if ((await handle.stat()).size > place) await handle.truncate(place);
 }
 
@@ -785,7 +785,7 @@ function performOn(handle, durable, effect, block) {
     case WRITE: return writeAt(handle, effect.bytes, effect.place);
     case WRITE_BLOCK: return writeAt(handle, block, effect.place);
     case SYNC: return durable ? handle.sync() : undefined;
-    case CUT: return cutAt(handle, effect.place);
+    case SHORTEN: return shortenAt(handle, effect.place);
     default: throw unknownEffect();
   }
 }

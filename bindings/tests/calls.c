@@ -617,7 +617,7 @@ static void ends(hound_recorder *recorder, int32_t code, const char *what) {
    for the RIFF size, which is 0, too. */
 static void begins(const hound_spec *spec, size_t start, uint8_t *file) {
     uint8_t header[HOUND_HEADER_BYTES] = {0};
-    hound_effect wanted[] = {effect_of(HOUND_SYNC_FOLDER, 0, 0, 0), effect_of(HOUND_CUT, 0, 0, 0),
+    hound_effect wanted[] = {effect_of(HOUND_SYNC_FOLDER, 0, 0, 0), effect_of(HOUND_SHORTEN, 0, 0, 0),
                              effect_of(HOUND_SYNC, 0, 0, 0), effect_of(HOUND_WRITE, 0, HOUND_EFFECT_BYTES, 0),
                              effect_of(HOUND_WRITE, HOUND_EFFECT_BYTES, (uint32_t)start - HOUND_EFFECT_BYTES, 0),
                              effect_of(HOUND_NOTHING, 0, 0, 0)};
@@ -650,7 +650,7 @@ static void recorders(void) {
         ends(&recorder, 0, "nothing is requested once the header is stored");
         for (size_t n = 0, held = 0; held + n <= 4; held += n++) {
             hound_effect block = effect_of(HOUND_WRITE_BLOCK, start + held * width, (uint32_t)(n * width), 0);
-            hound_effect cut = effect_of(HOUND_CUT, start + held * width, 0, 0);
+            hound_effect cut = effect_of(HOUND_SHORTEN, start + held * width, 0, 0);
             must(hound_recorder_write(&recorder, n) == 0 && requests(&recorder, &block), "the place of a block");
             recorder.effect.report = HOUND_FAILED;
             must(requests(&recorder, &cut), "a block that failed is cut off");
@@ -720,7 +720,7 @@ static void counted_torn_frame(void) {
     hound_recorder_checkpoint(&recorder);
     for (size_t used = 50; hound_recorder_next(&recorder) == 1; recorder.effect.report = HOUND_DONE) {
         hound_effect *effect = &recorder.effect;
-        if (effect->kind == HOUND_CUT && effect->place < used) used = (size_t)effect->place;
+        if (effect->kind == HOUND_SHORTEN && effect->place < used) used = (size_t)effect->place;
         if (effect->kind == HOUND_WRITE) memcpy(file + effect->place, effect->bytes, effect->length);
         must(44 + le32(file + 40) <= used, "the header counts what is there");
     }
@@ -748,20 +748,20 @@ static void no_recorders(void) {
     found.data_length = 8, found.length = 65;
     must(hound_recorder_resume(&found, 3, &recorder) == HOUND_TRUNCATED, "a recorder of a file that lacks samples");
     found.length = 70, found.state = HOUND_CUT_OFF, found.frames = 3;
-    must(hound_recorder_resume(&found, HOUND_OVERWRITE, &recorder) == HOUND_IS_CUT_OFF,
+    must(hound_recorder_resume(&found, HOUND_OVERWRITE, &recorder) == HOUND_NEEDS_MEND,
          "a recorder over samples that aren't counted");
     found.state = HOUND_HAS_CHUNKS_AFTER_DATA;
-    must(hound_recorder_resume(&found, HOUND_MEND, &recorder) == HOUND_CHUNKS_FOLLOW, "a recorder over chunks");
+    must(hound_recorder_resume(&found, HOUND_MEND, &recorder) == HOUND_NEEDS_OVERWRITE, "a recorder over chunks");
     found.data_start = 19;
     must(hound_recorder_resume(&found, 3, &recorder) == HOUND_NOT_WRITABLE, "no file has its data there");
     must(!memcmp(&recorder, &before, sizeof before), "an error begins no recorder");
     /* Another sample, and no pad byte. */
     hound_repair_t byte = {{44100, 1, 8, 1, HOUND_INT}, 2, 0, HOUND_CUT_OFF, 44, 46, 1, 0};
-    must(hound_recorder_resume(&byte, 0, &recorder) == HOUND_IS_CUT_OFF && !memcmp(&recorder, &before, sizeof before),
+    must(hound_recorder_resume(&byte, 0, &recorder) == HOUND_NEEDS_MEND && !memcmp(&recorder, &before, sizeof before),
          "a recorder over a sample");
     found.data_start = 58, found.length = 66, found.state = HOUND_WHOLE, found.frames = 2;
-    hound_effect block = effect_of(HOUND_WRITE_BLOCK, 66, 4, 0), cut = effect_of(HOUND_CUT, 66, 0, 0),
-                 after = effect_of(HOUND_CUT, 70, 0, 0);
+    hound_effect block = effect_of(HOUND_WRITE_BLOCK, 66, 4, 0), cut = effect_of(HOUND_SHORTEN, 66, 0, 0),
+                 after = effect_of(HOUND_SHORTEN, 70, 0, 0);
     must(hound_recorder_resume(&found, 0, &recorder) == 0 && hound_recorder_write(&recorder, 2) == 0
              && requests(&recorder, &block),
          "a recorder that appends");

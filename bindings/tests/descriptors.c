@@ -51,7 +51,7 @@ static size_t make(const char *path, uint8_t *bytes) {
 static void open_to_append(const char *path) {
     uint8_t bytes[HOUND_HEADER_BYTES + sizeof LIST];
     size_t length = make(path, bytes), all;
-    hound_effect cut = {44, 0, HOUND_CUT, HOUND_PENDING, {0}};
+    hound_effect cut = {44, 0, HOUND_SHORTEN, HOUND_PENDING, {0}};
     file.descriptor = hound_file_open_at(path, O_RDWR | O_APPEND);
     expect("the recorder doesn't begin", hound_recorder_begin(&SPEC, &file.recorder) == 0);
     expect("a file that was opened to append is cut", IS_LATE || !hound_file_perform(&file, &cut, NULL));

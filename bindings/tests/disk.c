@@ -276,7 +276,7 @@ static int is_done_wrong(const hound_effect *effect, const uint8_t *bytes) {
     int is_riff = is_size && effect->place == 4, is_data = is_size && !is_riff;
     if (!fault) return 0;
     if (start == 0)
-        return (effect->kind == HOUND_CUT && has("a file isn't emptied"))
+        return (effect->kind == HOUND_SHORTEN && has("a file isn't emptied"))
                || (effect->kind == HOUND_SYNC && has("a file isn't synced once it is emptied"));
     switch (effect->kind) {
     case HOUND_SYNC:
@@ -289,7 +289,7 @@ static int is_done_wrong(const hound_effect *effect, const uint8_t *bytes) {
         if (has("a block a byte further")) return write_at(effect->place + 1, bytes, effect->length), 1;
         if (has("a block at the end of the file")) return write_at(now.length, bytes, effect->length), 1;
         return has("a block isn't written");
-    case HOUND_CUT: return has("no cut");
+    case HOUND_SHORTEN: return has("no cut");
     case HOUND_WRITE:
         if (is_riff && is_repair && has("a repair writes the data length first")) return put_off(effect, bytes);
         if (is_data && has("a size a frame too large")) return write_more(effect, bytes, frame);
@@ -312,7 +312,7 @@ static void perform_part(const hound_effect *effect, const uint8_t *bytes, size_
     if (effect->kind == HOUND_SYNC) {
         if (is_durable) store(1);
         are_sizes_written = 0, has_synced = 1;
-    } else if (effect->kind == HOUND_CUT) cut_at(effect->place);
+    } else if (effect->kind == HOUND_SHORTEN) cut_at(effect->place);
     else if (length > 0) {
         write_at(effect->place, bytes, length);
         torn_writes += !is_all, are_sizes_written |= is_size;
@@ -337,7 +337,8 @@ static int perform_read(hound_effect *effect) {
 /* Performs an effect, as far as the disk lets it, and reports it. */
 static int perform(hound_effect *effect) {
     const uint8_t *bytes = effect->kind == HOUND_WRITE_BLOCK ? block : effect->bytes;
-    int is_sync = effect->kind == HOUND_SYNC || effect->kind == HOUND_SYNC_FOLDER, is_cut = effect->kind == HOUND_CUT;
+    int is_sync = effect->kind == HOUND_SYNC || effect->kind == HOUND_SYNC_FOLDER;
+    int is_cut = effect->kind == HOUND_SHORTEN;
     effects++;
     if (effect->kind == HOUND_READ) return perform_read(effect);
     must(is_sync || is_cut || effect->kind == HOUND_WRITE || effect->kind == HOUND_WRITE_BLOCK, "an effect of hound.h");
@@ -398,7 +399,7 @@ static int32_t record(uint32_t most) {
         is_pending = recorder.effect.report == HOUND_PENDING, reported += !is_pending;
         if (is_pending && one_in(4)) return IS_LEFT;
         if (recorder.effect.report != HOUND_FAILED) continue;
-        if (recorder.effect.kind == HOUND_CUT) failed_cuts++;
+        if (recorder.effect.kind == HOUND_SHORTEN) failed_cuts++;
         else failed++;
     }
 }
@@ -480,7 +481,7 @@ static int32_t repair(uint32_t mode, hound_repair_t *found) {
             return code;
         }
         must(effect->kind == HOUND_READ || mode != HOUND_FIND_DAMAGE, "a look changes nothing");
-        must(effect->kind != HOUND_CUT && effect->kind != HOUND_WRITE_BLOCK, "a repair cuts nothing off");
+        must(effect->kind != HOUND_SHORTEN && effect->kind != HOUND_WRITE_BLOCK, "a repair cuts nothing off");
         must(reads <= now.length / 8 + 16 && (effect->kind == HOUND_READ || changed < 7),
              "a repair ends within as many effects as hound.h promises");
         asking = repairer;
@@ -653,10 +654,10 @@ static int32_t resume(uint32_t allowed) {
     int is_followed = file.state == HOUND_HAS_CHUNKS_AFTER_DATA && !ends_whole;
     int32_t wanted = 0;
     if (file.rest < counted) wanted = HOUND_TRUNCATED;
-    else if (is_cut_off && !(allowed & HOUND_MEND)) wanted = HOUND_IS_CUT_OFF;
+    else if (is_cut_off && !(allowed & HOUND_MEND)) wanted = HOUND_NEEDS_MEND;
     else if (is_cut_off && file.held < counted) wanted = HOUND_UNFINISHED_FRAME;
     else if (is_cut_off) kept = file.held;
-    else if (is_followed && !(allowed & HOUND_OVERWRITE)) wanted = HOUND_CHUNKS_FOLLOW;
+    else if (is_followed && !(allowed & HOUND_OVERWRITE)) wanted = HOUND_NEEDS_OVERWRITE;
     else if (is_followed && counted % frame != 0) wanted = HOUND_UNFINISHED_FRAME;
     if (has("a torn frame that is counted is cut off first") && is_cut_off && wanted == HOUND_UNFINISHED_FRAME) {
         cut_at(start + file.held);

@@ -75,7 +75,7 @@ int main(int argc, char **argv) {
         if (some(2)) must(hound_recorder_write(&recorder, some(100)) <= 0, "a block of any recorder");
         else hound_recorder_checkpoint(&recorder);
         next = hound_recorder_next(&recorder);
-        must(next <= 1 && next >= HOUND_CHUNKS_FOLLOW && (next == 1) == (recorder.effect.kind != HOUND_NOTHING),
+        must(next <= 1 && next >= HOUND_NEEDS_OVERWRITE && (next == 1) == (recorder.effect.kind != HOUND_NOTHING),
              "an effect of any recorder");
         must(recorder.effect.kind != HOUND_WRITE_BLOCK
                  || recorder.effect.place == recorder.data_start + recorder.data_length,

@@ -81,7 +81,7 @@ async function compare(bytes, kind) {
   put(bytes);
   const samples = new Int16Array(code < 0 || channels > 64 ? 0 : 2 * channels).fill(100);
   const longer = await given("append", hound.append(kind, samples, { overwrite: true }));
-  if (longer === "IS_CUT_OFF") return;
+  if (longer === "NEEDS_MEND") return;
   new Int16Array(memory.buffer, out, samples.length).set(samples);
   const size = call("append_i16", file, bytes.length + MORE, bytes.length, out, samples.length);
   // Where two errors hold, either is returned.

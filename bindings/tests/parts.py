@@ -18,8 +18,8 @@ import sys
 import tempfile
 import time
 
-TOP = os.path.dirname(os.path.dirname(os.path.dirname(os.path.abspath(__file__))))
-C = os.path.join(TOP, "bindings", "c")
+from recordings import TOP, Wrong, accepted_by, changed, compiled, contents_of, expect, part_name, parts_at, text_of
+
 CHANNELS, BITS, FRAME, HEADER = 6, 24, 18, 68
 FRAMES, PART = 100_000, 1000
 # No frame is like another one.
@@ -86,32 +86,6 @@ WRONG_DURABLE = {
 }
 
 
-class Wrong(Exception):
-    pass
-
-
-def expect(what, holds):
-    if not holds:
-        raise Wrong(what)
-
-
-def part_name(path, number):
-    return path if number == 1 else f"{path[:-4]}-{number:03}.wav"
-
-
-def parts_at(path):
-    """The files of a recording in their order; no other one is there."""
-    count = len(os.listdir(os.path.dirname(path)))
-    names = [part_name(path, number) for number in range(1, count + 1)]
-    expect("a file is missing, or another one is there", all(map(os.path.exists, names)))
-    return names
-
-
-def contents_of(path):
-    with open(path, "rb") as file:
-        return file.read()
-
-
 def counted_in(path):
     """The bytes of the samples that a file counts, all of which it holds; none where it has no whole header."""
     contents = contents_of(path)
@@ -153,19 +127,10 @@ class Recorders:
         else:
             print("parts: passed over, since node isn't here: the JavaScript package")
 
-    def compiled(self, name, changed=("", "")):
+    def compiled(self, name, *change):
         """A program of bindings/c, in which a part is changed."""
-        with open(os.path.join(C, name + ".c")) as file, open(os.path.join(C, "hound_file.h")) as performing:
-            text = file.read().replace('#include "hound_file.h"\n', performing.read())
-        if changed[0] and text.count(changed[0]) != 1:
-            sys.exit(f"parts: {name}.c has {text.count(changed[0])} times: {changed[0]}")
-        library = os.environ.get("HOUND_C_LIB") or os.path.join(TOP, "bindings", "lib", os.uname().machine + "-linux")
-        program = os.path.join(self.folder, name + str(len(os.listdir(self.folder))))
-        with open(program + ".c", "w") as file:
-            file.write(text.replace(*changed) if changed[0] else text)
-        words = [os.environ.get("CC", "cc"), "-O1", "-w", "-I" + C, program + ".c"]
-        subprocess.run([*words, os.path.join(library, "libhound_c.a"), "-o", program], check=True)
-        return program
+        text = changed(text_of(name), *change) if change else text_of(name)
+        return compiled(self.folder, name + str(len(os.listdir(self.folder))), text)
 
     def by_command(self, path):
         words = ["record", path, "--rate", SHAPE[0], "--channels", SHAPE[1], "--bits", SHAPE[2]]
@@ -234,18 +199,6 @@ def kills(recorders, kind, words_for, count):
     print(f"parts: {kind}: {count} kills, after {min(found)} to {max(found)} frames: nothing is lost", flush=True)
 
 
-def accepted_by(out, given):
-    """The samples that record.c says to have recorded, but for those that it says to have lost."""
-    for line in out.splitlines():
-        words = line.split()
-        if words[0] == b"lost":
-            count, place = 3 * int(words[1]), 3 * int(words[4])
-            given = given[:place] + given[place + count :]
-        elif words[0] == b"recorded":
-            given = given[: 3 * int(words[1])]
-    return given
-
-
 CALLS = ["pwrite64", "openat", "ftruncate", "fsync", "flock", "fcntl", "close", "newfstatat"]
 
 
@@ -274,7 +227,7 @@ def faults(recorders):
                         if not os.path.exists(path):
                             expect("nothing was recorded, and it isn't said", ran.returncode != 0)
                             continue
-                        look(path, recorders.repair, accepted_by(ran.stdout, given), ran)
+                        look(path, recorders.repair, accepted_by(ran.stdout, given, 3), ran)
                     except Wrong as error:
                         sys.exit(f"parts: {what}: {error}\n{ran.stdout.decode()}{ran.stderr.decode()}")
     said = f"in {runs} runs a call fails or kills it, {failed} of which end with an error"
@@ -386,8 +339,8 @@ def losses(recorders):
             durable = {"record.c": "--durable", "the Python package": "durable"}[what]
             lost(recorders, lambda path: [*words_for(path), durable], what, False)
     lost(recorders, recorders.kinds["record.c"], "record.c that syncs nothing", True)
-    for what, changed in WRONG_DURABLE.items():
-        words_for = recorders.by(recorders.compiled("record", changed))
+    for what, change in WRONG_DURABLE.items():
+        words_for = recorders.by(recorders.compiled("record", *change))
         lost(recorders, lambda path: [*words_for(path), "--durable"], what, True)
 
 
@@ -397,8 +350,8 @@ def main():
         recorders = Recorders(folder)
         for kind, words_for in recorders.kinds.items():
             kills(recorders, kind, words_for, count)
-        for what, changed in WRONG.items():
-            wrong = recorders.compiled("record", changed)
+        for what, change in WRONG.items():
+            wrong = recorders.compiled("record", *change)
             try:
                 for turn in range(5):
                     kill(recorders, recorders.by(wrong), random.Random(turn))

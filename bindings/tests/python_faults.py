@@ -27,9 +27,10 @@ from typing import NamedTuple
 from unittest import mock
 
 import hound_bindings as hound
-from hound_bindings import streams
+from hound_bindings import _calls, _library, _recorder, streams
 
 sys.path.insert(0, os.path.join(os.path.dirname(os.path.dirname(os.path.abspath(__file__))), "python", "tests"))
+import wav  # noqa: E402
 from interruptions import Interrupted, Interruption, in_threads  # noqa: E402
 
 # What every file holds, from its first sample on: bytes from 129 on, so that no zero, pad byte or tag is
@@ -72,10 +73,8 @@ CASES = [
 
 def head(case, length, after=b""):
     """The bytes before data of this length, after which there is a pad byte or none, and other bytes."""
-    rate = 44100
-    fmt = struct.pack("<IHHIIHH", 16, 1, case.channels, rate, rate * case.frame, case.frame, 8 * case.width)
-    parts = b"WAVEfmt " + fmt + case.chunks + b"data" + struct.pack("<I", length)
-    return b"RIFF" + struct.pack("<I", len(parts) + length + length % 2 + len(after)) + parts
+    start = wav.head(length, between=case.chunks, channels=case.channels, width=case.width, rate=44100)
+    return wav.with_riff(start, len(start) - 8 + length + length % 2 + len(after))
 
 
 def file_of(case, frames, after=b""):
@@ -184,7 +183,7 @@ def effects_forgotten():
 
     def perform_all(self, block=b""):
         recorder, fault = self._state.recorder, None
-        while (code := streams._recorder_next(ctypes.byref(recorder))) == 1:
+        while (code := _recorder._recorder_next(ctypes.byref(recorder))) == 1:
             effect = recorder.effect
             try:
                 hound.disk.perform(effect, self._file, self._durable, block)
@@ -192,7 +191,7 @@ def effects_forgotten():
                 fault, effect.report = error, hound.disk.FAILED if effect.kind == hound.disk.SYNC else hound.disk.DONE
         if fault is not None:
             raise fault
-        hound._checked(code)
+        _library.checked(code)
         return recorder
 
     hound.Writer._perform_all = perform_all
@@ -215,13 +214,13 @@ def kept_after_a_failure():
 
 def nobody_waits():
     """Recorders and readers that threads use at once."""
-    begin = streams._OneAtATime.__init__
+    begin = _calls.OneAtATime.__init__
 
     def unlocked(self):
         begin(self)
         self._lock = contextlib.nullcontext()
 
-    streams._OneAtATime.__init__ = unlocked
+    _calls.OneAtATime.__init__ = unlocked
 
 
 def at_one_place(perform, effect, *words):
@@ -250,7 +249,7 @@ CONTROLS = {
     "right": lambda: None,
     "a report before the effect": lambda: performed(late),
     "each report is that it is done": lambda: performed(reported),
-    "a block isn't cut off": lambda: performed(without(hound.disk.CUT)),
+    "a block isn't cut off": lambda: performed(without(hound.disk.SHORTEN)),
     "no block is written": lambda: performed(without(hound.disk.WRITE_BLOCK)),
     "counted early": counted_early,
     "effects forgotten": effects_forgotten,
@@ -318,7 +317,7 @@ def program(control, work, path, number, first, count, times):
     """The program that is killed, or whose calls fail: it prints how many frames it has reported."""
     CONTROLS[control]()
     case, end = CASES[int(number)], int(first)
-    hound.secrets.token_hex = lambda count: "part"
+    hound.files.secrets.token_hex = lambda count: "part"
     try:
         if "record" in work:
             record(work, path, case, end, int(count), int(times))

@@ -16,8 +16,8 @@ import sys
 import tempfile
 import time
 
-TOP = os.path.dirname(os.path.dirname(os.path.dirname(os.path.abspath(__file__))))
-C = os.path.join(TOP, "bindings", "c")
+from recordings import Wrong, accepted_by, changed, compiled, contents_of, expect, part_name, parts_at, text_of
+
 SHAPE = ["48000", "2", "16", "100"]
 CHUNK = b"LIST\4\0\0\0INFO"
 DATA = bytes(range(1, 251)) * 16  # 1,000 whole frames of two channels with 16 bits
@@ -70,8 +70,8 @@ WRONG = {
     ),
     "a device is taken for a file": ("S_ISREG(about.st_mode)", "1"),
     "a rejected block isn't cut off": (
-        "case HOUND_CUT: is_done = hound_file_cut(file->descriptor, effect->place) == 0;",
-        "case HOUND_CUT: is_done = 1;",
+        "case HOUND_SHORTEN: is_done = hound_file_shorten(file->descriptor, effect->place) == 0;",
+        "case HOUND_SHORTEN: is_done = 1;",
     ),
     "a report is taken for done": (
         "file->fault == 0) file->fault = errno;\n    effect->report = is_done ? HOUND_DONE : HOUND_FAILED;",
@@ -99,26 +99,6 @@ LOST = (
 )
 
 
-class Wrong(Exception):
-    pass
-
-
-def compiled(folder, name, text):
-    """The program of this text, with the library that the packages take."""
-    program = os.path.join(folder, name)
-    with open(program + ".c", "w") as file:
-        file.write(text)
-    library = os.environ.get("HOUND_C_LIB") or os.path.join(TOP, "bindings", "lib", os.uname().machine + "-linux")
-    words = [os.environ.get("CC", "cc"), "-O1", "-w", "-I" + C, program + ".c", os.path.join(library, "libhound_c.a")]
-    subprocess.run([*words, "-o", program], check=True)
-    return program
-
-
-def contents_of(path):
-    with open(path, "rb") as file:
-        return file.read()
-
-
 def counted_in(path):
     """How many samples the header of a file counts; its data begin at byte 44, and it holds them."""
     contents = contents_of(path)
@@ -130,11 +110,6 @@ def counted_in(path):
 
 def run(words, data=DATA, **options):
     return subprocess.run(words, input=data, stdout=subprocess.PIPE, stderr=subprocess.PIPE, timeout=20, **options)
-
-
-def expect(what, holds):
-    if not holds:
-        raise Wrong(what)
 
 
 def is_rejected(ran, sentence):
@@ -177,7 +152,7 @@ def two_programs(record, path):
     first.stdin.write(DATA)
     first.stdin.flush()
     first.stdout.readline()
-    repair = compiled(os.path.dirname(path), "repair", open(os.path.join(C, "repair.c")).read())
+    repair = compiled(os.path.dirname(path), "repair", text_of("repair"))
     rejected = [run([record, path, *SHAPE, word]) for word in ("--append", "--overwrite")]
     repaired = run([repair, path])
     first.communicate()
@@ -267,7 +242,7 @@ def counted_torn_frame(record, path):
     said = b"the header counts a part of a frame: repair the file first"
     expect("what to do isn't said", is_rejected(run([record, path, *SHAPE, "--append"]), said))
     expect("it changes", contents_of(path) == before)
-    repair = compiled(os.path.dirname(path), "repair", open(os.path.join(C, "repair.c")).read())
+    repair = compiled(os.path.dirname(path), "repair", text_of("repair"))
     expect("it isn't repaired", run([repair, path]).returncode == 0)
     expect("it isn't continued", run([record, path, *SHAPE, "--append"], DATA[4:400]).returncode == 0)
     expect("other samples are in it", counted_in(path) == 200)
@@ -394,14 +369,6 @@ def not_appended(record, path):
     expect("a pipe isn't left", stat.S_ISFIFO(os.stat(path).st_mode))
 
 
-def parts_at(path):
-    """The files of a recording."""
-    folder, stem = os.path.dirname(path), path[: -len(".wav")]
-    names = [path, *(f"{stem}-{number:03}.wav" for number in range(2, 1 + len(os.listdir(folder))))]
-    expect("other files are there", {os.path.basename(name) for name in names} == set(os.listdir(folder)))
-    return names
-
-
 def counted_in_parts(path):
     """How many frames each part counts, and the samples of all; each has a header of 44 bytes."""
     counts, data = [], b""
@@ -414,15 +381,10 @@ def counted_in_parts(path):
     return counts, data
 
 
-def accepted_by(ran):
+def left_by(ran):
     """The samples that a recorder of two channels of 16 bits doesn't say to have lost; and that it lost some."""
-    data, lost = DATA, 0
-    for line in ran.stdout.splitlines():
-        words = line.split()
-        if words[0] == b"lost":
-            count, place = 2 * int(words[1]), 2 * int(words[4])
-            data, lost = data[:place] + data[place + count :], lost + count
-    expect("what is lost isn't said", lost > 0)
+    data = accepted_by(ran.stdout, DATA, 2)
+    expect("what is lost isn't said", len(data) < len(DATA))
     return data
 
 
@@ -444,7 +406,7 @@ def in_parts(record, path):
 
 def part_that_exists(record, path):
     for number, sentence, counts in (2, b"the second file exists", []), (3, b"File exists", [300, 300]):
-        name = f"{path[:-4]}-00{number}.wav"
+        name = part_name(path, number)
         with open(name, "wb") as file:
             file.write(b"mine")
         ran = run([record, path, *SHAPE, "--split", "300"])
@@ -462,7 +424,7 @@ def part_that_can_t_be_ended(record, path):
     words = [record, path, *SHAPE[:-1], "1000", "--split", "100"]
     ran = run([*failing(path, f"pwrite64:error=EIO:when={writes_of(words, path)}"), *words])
     expect("the error isn't said", ran.returncode == 1 and b"record: Input/output error\n" in ran.stderr)
-    expect("the parts have other samples", counted_in_parts(path) == ([100] * 9, accepted_by(ran)))
+    expect("the parts have other samples", counted_in_parts(path) == ([100] * 9, left_by(ran)))
 
 
 def part_that_has_no_room(record, path):
@@ -471,9 +433,9 @@ def part_that_has_no_room(record, path):
     expect("it isn't recorded", ran.returncode == 0 and counted_in_parts(path) == ([100] * 10, DATA))
     for name in parts_at(path):
         os.remove(name)
-    second = f"{path[:-4]}-002.wav"
+    second = part_name(path, 2)
     ran = run([*failing(second, "pwrite64:error=ENOSPC:when=1"), record, path, *SHAPE, "--split", "100"])
-    expect("the part isn't made again", counted_in_parts(path) == ([100] * 9, accepted_by(ran)))
+    expect("the part isn't made again", counted_in_parts(path) == ([100] * 9, left_by(ran)))
     expect("it isn't said", ran.returncode == 1 and b"record: No space left on device\n" in ran.stderr)
 
 
@@ -516,8 +478,7 @@ def first_failure(record):
 def main():
     with tempfile.TemporaryDirectory() as folder:
         os.chmod(folder, 0o755)
-        with open(os.path.join(C, "record.c")) as program, open(os.path.join(C, "hound_file.h")) as performing:
-            text = program.read().replace('#include "hound_file.h"\n', performing.read())
+        text = text_of("record")
         failure = first_failure(compiled(folder, "record", text))
         if failure:
             sys.exit(f"recorder: {failure}")
@@ -525,9 +486,7 @@ def main():
         if failure:
             sys.exit(f"recorder: with reports that are lost: {failure}")
         for number, (what, (part, other)) in enumerate(WRONG.items()):
-            if text.count(part) != 1:
-                sys.exit(f"recorder: record.c has {text.count(part)} times: {part}")
-            if not first_failure(compiled(folder, f"wrong{number}", text.replace(part, other))):
+            if not first_failure(compiled(folder, f"wrong{number}", changed(text, part, other))):
                 sys.exit(f"recorder: this wrong version isn't found: {what}")
         print(f"recorder: {len(CHECKS)} checks, also with reports that are lost, and {len(WRONG)} wrong versions found")
 

@@ -17,8 +17,11 @@ import sys
 import tempfile
 
 import hound_bindings as hound
+import recordings
 from python_faults import CASES, LIST, STREAM, Wrong, file_of, head, leave
+from recordings import contents_of
 from rows import TOP, model, repaired_by_model, repairs
+from wav import with_riff
 
 HEADER = 44
 IN_CARGO = sys.argv[1:] == ["cargo"]
@@ -27,7 +30,7 @@ SOURCE = "rust/src/machines.rs" if IN_CARGO else "c/repair.c"
 CUT_OFF = head(CASES[1], 100) + STREAM[:1099]
 WHOLE, FOLLOWED = file_of(CASES[1], 1099), file_of(CASES[1], 1099, LIST)
 # As a program leaves one that writes no pad byte.
-ALL_COUNTED = b"RIFF" + struct.pack("<I", HEADER - 8 + 1099) + WHOLE[8:-1]
+ALL_COUNTED = with_riff(WHOLE[:-1], HEADER - 8 + 1099)
 WAYS = {"mend": [], "to_end": ["to_end"]} if IN_CARGO else {
     "mend": [],
     "to_end": ["--to-end"],
@@ -127,18 +130,7 @@ def compiled(folder, text):
         words = ["cargo", "build", "-q", "--offline", "--example", "repair", "--target-dir", copy]
         subprocess.run(words, cwd=os.path.join(copy, "hound"), check=True)
         return os.path.join(copy, "debug", "examples", "repair")
-    program = os.path.join(folder, "repair")
-    with open(program + ".c", "w") as file:
-        file.write(text)
-    library = os.environ.get("HOUND_C_LIB") or os.path.join(TOP, "bindings", "lib", os.uname().machine + "-linux")
-    words = [os.environ.get("CC", "cc"), "-O1", "-I" + os.path.join(TOP, "bindings", "c"), program + ".c"]
-    subprocess.run([*words, os.path.join(library, "libhound_c.a"), "-o", program], check=True)
-    return program
-
-
-def contents_of(path):
-    with open(path, "rb") as file:
-        return file.read()
+    return recordings.compiled(folder, "repair", text)
 
 
 def ended(words, **options):

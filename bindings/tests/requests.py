@@ -11,8 +11,9 @@ import struct
 import sys
 
 TOP = os.path.dirname(os.path.dirname(os.path.dirname(os.path.abspath(__file__))))
-sys.path.insert(0, os.path.join(TOP, "crates", "hound_rows"))
+sys.path[:0] = os.path.join(TOP, "crates", "hound_rows"), os.path.join(TOP, "bindings", "python", "tests")
 import expected as model  # noqa: E402
+import wav  # noqa: E402
 
 # Where things are in memory: a spec, what is found (before that a recorder or a repairer, and what one is begun by),
 # samples, what is decoded or written, and the file with room after it.
@@ -33,20 +34,14 @@ def of_rows():
                 yield bytes(model.bytes_of(words[1]))
 
 
-def wav(bits, width, is_float, channels, data):
-    """A file with a fmt chunk of 16 bytes."""
-    rates = 44100, 44100 * channels * width, channels * width
-    fmt = struct.pack("<HHIIHH", 3 if is_float else 1, channels, *rates, bits)
-    body = b"WAVEfmt \x10\0\0\0" + fmt + b"data" + struct.pack("<I", len(data)) + data + b"\0" * (len(data) % 2)
-    return b"RIFF" + struct.pack("<I", len(body)) + body
-
-
 def files(some):
     """All files, each once."""
     found = {file: None for file in of_rows() if len(file) < 4096}
     for bits, width, is_float in ((8, 1, 0), (16, 2, 0), (24, 3, 0), (24, 4, 0), (32, 4, 0), (32, 4, 1)):
         for channels in (1, 2):
-            file = wav(bits, width, is_float, channels, some.randbytes(5 * channels * width))
+            form = {"channels": channels, "width": width, "bits": bits, "tag": 3 if is_float else 1, "rate": 44100}
+            data = some.randbytes(5 * channels * width)
+            file = wav.by_hand(data, after=bytes(len(data) % 2), **form)
             found.update({file[:length]: None for length in range(len(file) + 1)})
     good = [file for file in found if len(file) > 44]
     for _ in range(1500):

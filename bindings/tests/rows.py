@@ -16,11 +16,12 @@ import sys
 import tempfile
 
 TOP = os.path.dirname(os.path.dirname(os.path.dirname(os.path.abspath(__file__))))
-sys.path.insert(0, os.path.join(TOP, "crates", "hound_rows"))
+sys.path[:0] = os.path.join(TOP, "crates", "hound_rows"), os.path.join(TOP, "bindings", "python", "tests")
 import expected as model  # noqa: E402
+import wav  # noqa: E402
 
 import hound_bindings as hound  # noqa: E402
-from hound_bindings import Cause, HoundError, streams  # noqa: E402
+from hound_bindings import Cause, HoundError, _library, _recorder, disk  # noqa: E402
 
 # The causes of a head, by the model's words.
 REASONS = {
@@ -51,6 +52,10 @@ ITEM = {
     model.ENDED: Cause.TRUNCATED,
 }
 CODES = list(Cause)
+SIZE, POINTER = ctypes.c_size_t, ctypes.c_void_p
+INFO = _library.function("info", POINTER, SIZE, POINTER, result=ctypes.c_int32)
+SIZE_OF = _library.function("size", POINTER, ctypes.c_uint64)
+READ_I32 = _library.function("read_i32", POINTER, SIZE, ctypes.c_uint64, POINTER, SIZE)
 met = set()
 
 
@@ -70,18 +75,28 @@ def modelled(data):
     return (reader.spec, start, reader.len, samples), None
 
 
+def info_by_c(data):
+    """What hound_info finds in a whole file."""
+    told = _library.CInfo()
+    with _library.address(data) as (address, length):
+        _library.checked(INFO(address, length, ctypes.byref(told)))
+    return _library.info_from(told.spec, told.samples // told.spec.channels, told.data_start)
+
+
 def found(data):
     """The same by the C interface, in blocks of seven."""
     try:
         info = hound.info(data)
+        if info_by_c(data) != info:
+            sys.exit(f"rows: hound_info finds something else than {info} in {data[:80].hex()} ..")
     except HoundError as error:
         met.add(error.cause)
         return None, error.cause
     spec = model.Spec(info.channels, info.sample_rate, info.bits_per_sample, info.bytes_per_sample, info.is_float)
     samples, block = [], array.array("i", bytes(28))
-    with hound.conversion.address(data) as (address, length), hound.conversion.address(block) as (out, _):
+    with _library.address(data) as (address, length), _library.address(block) as (out, _):
         while True:
-            n = hound._read["i32"](address, length, len(samples), out, len(block))
+            n = READ_I32(address, length, len(samples), out, len(block))
             if n <= 0:
                 break
             samples.extend(block[:n])
@@ -160,10 +175,9 @@ def check_cat(program, data):
 
 def check_kinds(program):
     """What cat.c says of what it doesn't read, also after a chunk."""
-    wav = b"RIFF\0\0\0\0WAVE%sfmt \x10\0\0\0\2\0" + bytes(14) + b"data\0\0\0\0"
     for data, name in [
-        (wav % b"", b"Microsoft ADPCM"),
-        (wav % (b"LIST\xa0\x0f\0\0" + bytes(4000)), b"Microsoft ADPCM"),
+        (wav.by_hand(b"", tag=2), b"Microsoft ADPCM"),
+        (wav.by_hand(b"", tag=2, before=b"LIST\xa0\x0f\0\0" + bytes(4000)), b"Microsoft ADPCM"),
         (b"fLaC" + bytes(60), b"FLAC"),
         (b"OggS", b"Ogg"),
         (b"just text, and more of it", None),
@@ -225,18 +239,17 @@ def repaired_by_model(how, data):
 
 
 # The calls of the C interface for the repairs of the rows.
-SIZE, POINTER = ctypes.c_size_t, ctypes.c_void_p
 REPAIRS = {
-    "mend": hound._function("repair", POINTER, SIZE, SIZE, POINTER),
-    "to_end": hound._function("repair_to_end", POINTER, SIZE, SIZE, POINTER),
+    "mend": _library.function("repair", POINTER, SIZE, SIZE, POINTER),
+    "to_end": _library.function("repair_to_end", POINTER, SIZE, SIZE, POINTER),
 }
-APPEND = hound._function("append_i16", POINTER, SIZE, SIZE, POINTER, SIZE)
+APPEND = _library.function("append_i16", POINTER, SIZE, SIZE, POINTER, SIZE)
 
 
 def repaired(how, data):
     """The same by the C interface, with room for a pad byte."""
-    memory, report = bytearray(data + b"U"), hound._Repair()
-    with hound.conversion.address(memory) as (address, capacity):
+    memory, report = bytearray(data + b"U"), _library.CRepair()
+    with _library.address(memory) as (address, capacity):
         n = REPAIRS[how](address, capacity, len(data), ctypes.byref(report))
     if n < 0:
         assert memory[len(data) :] == b"U"
@@ -271,7 +284,7 @@ def check_repairs():
 def other_codes():
     """The codes that no reading returns."""
     for cause, call in (
-        (Cause.TOO_LONG, lambda: hound._checked(hound._size(ctypes.byref(hound._Spec(1, 1, 16, 0, 0)), 2**31))),
+        (Cause.TOO_LONG, lambda: _library.checked(SIZE_OF(ctypes.byref(_library.CSpec(1, 1, 16, 0, 0)), 2**31))),
         (Cause.UNFINISHED_FRAME, lambda: hound.to_bytes(array.array("h", [1]), 1, 2)),
         (Cause.NOT_WRITABLE, lambda: hound.to_bytes(array.array("h", [1]), 1, 1, 12)),
         (Cause.TOO_WIDE, lambda: hound.to_bytes(array.array("i", [128]), 1, 1, 8)),
@@ -284,7 +297,7 @@ def other_codes():
             met.add(cause)
     file = hound.to_bytes(array.array("h", [1]), 1)
     samples = array.array("h", [1])
-    with hound.conversion.address(file) as (address, capacity), hound.conversion.address(samples) as (one, _):
+    with _library.address(file) as (address, capacity), _library.address(samples) as (one, _):
         assert APPEND(address, capacity, capacity, one, 1) == -Cause.NO_ROOM
         met.add(Cause.NO_ROOM)
     check_reports()
@@ -292,38 +305,39 @@ def other_codes():
 
 def check_reports():
     """The codes of a recorder and a repairer, by what is reported of their effects."""
-    spec, recorder, found = hound._Spec(44100, 1, 16, 2, 0), streams._Recorder(), hound._Repair()
-    streams._recorder_begin(ctypes.byref(spec), ctypes.byref(recorder))
+    spec, recorder, found = _library.CSpec(44100, 1, 16, 2, 0), _library.CRecorder(), _library.CRepair()
+    _recorder._recorder_begin(ctypes.byref(spec), ctypes.byref(recorder))
 
     def next_after(report):
         recorder.effect.report = report
-        return streams._recorder_next(ctypes.byref(recorder)), recorder.effect.kind, recorder.effect.place
+        return _recorder._recorder_next(ctypes.byref(recorder)), recorder.effect.kind, recorder.effect.place
 
-    assert streams._recorder_write(ctypes.byref(recorder), 3) == 0
-    assert next_after(0) == next_after(0) == (1, hound.disk.WRITE_BLOCK, 44) and recorder.effect.length == 6
-    assert next_after(hound.disk.FAILED) == (1, hound.disk.CUT, 44)
-    assert next_after(hound.disk.DONE)[0] == -Cause.NEEDS_CHECKPOINT
-    assert streams._recorder_write(ctypes.byref(recorder), 3) == 0 and next_after(0) == (1, hound.disk.SYNC, 0)
-    assert next_after(hound.disk.FAILED)[0] == streams._recorder_write(ctypes.byref(recorder), 3) == -Cause.SYNC_FAILED
+    assert _recorder._recorder_write(ctypes.byref(recorder), 3) == 0
+    assert next_after(0) == next_after(0) == (1, disk.WRITE_BLOCK, 44) and recorder.effect.length == 6
+    assert next_after(disk.FAILED) == (1, disk.SHORTEN, 44)
+    assert next_after(disk.DONE)[0] == -Cause.NEEDS_CHECKPOINT
+    assert _recorder._recorder_write(ctypes.byref(recorder), 3) == 0 and next_after(0) == (1, disk.SYNC, 0)
+    assert next_after(disk.FAILED)[0] == _recorder._recorder_write(ctypes.byref(recorder), 3) == -Cause.SYNC_FAILED
     assert next_after(0)[0] == next_after(0)[0] == -Cause.SYNC_FAILED
     file = hound.to_bytes(array.array("h", [1, 2]), 44100)
     for length, state, results in (
         (48, 0, [0, 0, 0, 0]),
         (46, 1, [-Cause.TRUNCATED] * 4),
-        (50, 1, [-Cause.IS_CUT_OFF, 0, -Cause.IS_CUT_OFF, 0]),
-        (56, 2, [-Cause.CHUNKS_FOLLOW, -Cause.CHUNKS_FOLLOW, 0, 0]),
+        (50, 1, [-Cause.NEEDS_MEND, 0, -Cause.NEEDS_MEND, 0]),
+        (56, 2, [-Cause.NEEDS_OVERWRITE, -Cause.NEEDS_OVERWRITE, 0, 0]),
     ):
-        found = hound._Repair(spec, (length - 44) // 2, 0, state, 44, length, 4)
+        found = _library.CRepair(spec, (length - 44) // 2, 0, state, 44, length, 4)
         begun = ctypes.byref(found), ctypes.byref(recorder)
-        resumed = [streams._recorder_resume(begun[0], allowed, begun[1]) for allowed in range(4)]
+        resumed = [_recorder._recorder_resume(begun[0], allowed, begun[1]) for allowed in range(4)]
         assert resumed == results, (length, state, resumed)
-    repairer = hound._Repairer()
-    hound._repairer_begin(len(file), hound._REPAIR, ctypes.byref(repairer))
-    assert hound._repairer_next(ctypes.byref(repairer), ctypes.byref(found)) == 1 and repairer.effect.length == 12
-    repairer.effect.report = hound.disk.FAILED
+    repairer = _library.CRepairer()
+    _recorder._repairer_begin(len(file), _library.REPAIR, ctypes.byref(repairer))
+    assert _recorder._repairer_next(ctypes.byref(repairer), ctypes.byref(found)) == 1 and repairer.effect.length == 12
+    repairer.effect.report = disk.FAILED
     for _ in range(2):
-        assert hound._repairer_next(ctypes.byref(repairer), ctypes.byref(found)) == -Cause.NOT_PERFORMED
-    met.update((Cause.NEEDS_CHECKPOINT, Cause.SYNC_FAILED, Cause.IS_CUT_OFF, Cause.CHUNKS_FOLLOW, Cause.NOT_PERFORMED))
+        assert _recorder._repairer_next(ctypes.byref(repairer), ctypes.byref(found)) == -Cause.NOT_PERFORMED
+    met.update((Cause.NEEDS_CHECKPOINT, Cause.SYNC_FAILED, Cause.NEEDS_MEND, Cause.NEEDS_OVERWRITE))
+    met.add(Cause.NOT_PERFORMED)
 
 
 def main():

@@ -221,7 +221,7 @@ REAL(int32_t, recorder_next, (hound_recorder *recorder)) {
     int is_said = recorder->health == 2 && recorder->effect.kind == HOUND_NOTHING && recorder->phase == 0;
     if (is_said && has("a failed sync is reported once")) return 0;
     int32_t code = __real_hound_recorder_next(recorder);
-    int is_left_out = (recorder->effect.kind == HOUND_CUT && has("no cut"))
+    int is_left_out = (recorder->effect.kind == HOUND_SHORTEN && has("no cut"))
                       || (recorder->effect.length == 1 && has("no pad byte in a checkpoint"))
                       || (recorder->effect.kind == HOUND_SYNC && recorder->number < 3 && has("sizes before a sync"));
     if (code == 1 && is_left_out) return *report = HOUND_DONE, __real_hound_recorder_next(recorder);

@@ -135,7 +135,8 @@ def script_of(sessions, system, size, left_out):
     early = "echo 5 > /proc/sys/vm/dirty_writeback_centisecs; echo 10 > /proc/sys/vm/dirty_expire_centisecs"
     in_file, in_header = "$(stat -c %s $file) / 2 - 22", "$(od -A n -t u4 -j 40 -N 4 $file) / 2"
     held = in_file if os.path.exists(RECORD_C) else in_header
-    lines = [f"""
+    lines = [
+        f"""
 mark() {{
     echo "mark $1 $2" | dd of=/dev/vda bs={SPARE} seek={size // SPARE} conv=sync,notrunc oflag=direct
 }}
@@ -164,7 +165,8 @@ ln -s /bin/hound_examples /bin/record # The name says which example runs.
 while usleep 20000; do
     dd if=/dev/urandom of=/disk/other bs=4096 count=25 {"" if system.is_early else "oflag=direct"} 2> /dev/null
 done &
-"""]
+"""
+    ]
     tracing = ["strace", "-o", "/dev/null", "-e", "trace=fsync,fdatasync"] if left_out else []
     for calls in left_out:
         tracing += ["-e", f"inject={calls}"]
@@ -406,6 +408,7 @@ class Trial:
         batches, batch = [], []
         folders = tempfile.TemporaryDirectory(prefix="hound_power_")
         with concurrent.futures.ThreadPoolExecutor(2) as pool, folders as folder:
+
             def begin():
                 place = os.path.join(folder, str(len(batches)))
                 os.mkdir(place)

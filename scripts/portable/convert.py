@@ -23,6 +23,7 @@ import struct
 import sys
 
 import addresses
+
 from module import (
     BLOCK, BR, BR_IF, BR_TABLE, CALL, END, F32_CONST, F64_CONST, GLOBAL_GET, GLOBAL_SET, I32_CONST, I32_EQZ, I64_ADD,
     I64_CONST, I64_GT_S, I64_LT_S, I64_SUB, LOADS, LOCAL_GET, LOCAL_SET, LOCAL_TEE, LOOP, MEMORY_COPY, MEMORY_FILL,
@@ -190,7 +191,7 @@ class Translator:
             self.push("i" if code == I32_CONST else "l", digits + suffix, number=number)
         elif number != number or abs(number) == math.inf:
             kind, text, form = PATTERNS[code]
-            bits, = struct.unpack("<" + form[1], struct.pack("<" + form[0], number))
+            (bits,) = struct.unpack("<" + form[1], struct.pack("<" + form[0], number))
             need(number == number or bits == NANS[code], "a NaN is the usual one")
             self.push(kind, text.format(bits), number=number)
         else:

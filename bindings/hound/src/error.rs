@@ -59,7 +59,7 @@ impl From<proved::Error> for Error {
         match error {
             Ended => early_end().into(),
             Truncated => io::Error::new(io::ErrorKind::UnexpectedEof, error).into(),
-            IsCutOff | ChunksFollow => io::Error::new(io::ErrorKind::InvalidData, error).into(),
+            NeedsMend | NeedsOverwrite => io::Error::new(io::ErrorKind::InvalidData, error).into(),
             Unsupported | NotWritable => Error::Unsupported,
             OtherFormat => Error::InvalidSampleFormat,
             TooWide => Error::TooWide,

@@ -31,7 +31,8 @@ def digest(text):
 def made():
     module = base64.b64encode(read("..", "..", "lib", "hound_c32.wasm")).decode()
     compiled = f'const module = () => WebAssembly.compile(Uint8Array.from(atob("{module}"), (c) => c.charCodeAt(0)));\n'
-    script = compiled + "".join(without_modules(read(*path).decode()) for path in (("..", "guess.js"), ("..", "hound.js"), ("page.js",)))
+    modules = (("..", "guess.js"), ("..", "hound.js"), ("page.js",))
+    script = compiled + "".join(without_modules(read(*path).decode()) for path in modules)
     page = read("page.html").decode()
     style = re.search(r"<style>(.*?)</style>", page, flags=re.S).group(1)
     for mark, text in (("@STYLE_HASH@", digest(style)), ("@SCRIPT_HASH@", digest(script)), ("@SCRIPT@", script)):

@@ -413,13 +413,13 @@ test("frames are appended", async () => {
 test("an append overwrites only what it may", async () => {
   const one = Int16Array.of(7), followed = byHand([1, 0], { after: LIST });
   for (const file of kinds(followed)) {
-    await fails(append(file, one), "CHUNKS_FOLLOW");
+    await fails(append(file, one), "NEEDS_OVERWRITE");
     assert.deepEqual(await bytes(await append(file, one, { overwrite: true })), byHand([1, 0, 7, 0]));
     assert.deepEqual(await bytes(await append(file, one.subarray(1), { overwrite: true })), byHand([1, 0]));
   }
   for (const overwrite of [false, true]) {
     for (const counted of [0, 3]) {
-      await fails(append(byHand([1, 0, 2, 0], { counted }), one, { overwrite }), "IS_CUT_OFF");
+      await fails(append(byHand([1, 0, 2, 0], { counted }), one, { overwrite }), "NEEDS_MEND");
     }
     await fails(append(byHand([1, 0], { counted: 4 }), one, { overwrite }), "TRUNCATED");
   }
@@ -427,7 +427,7 @@ test("an append overwrites only what it may", async () => {
 
 test("a byte after odd data that isn't 0 is a sample, and nothing is appended over it", async () => {
   for (const file of kinds(byHand([1, 2, 3], { bits: 8, after: [4] }))) {
-    await fails(append(file, Int8Array.of(5)), "IS_CUT_OFF");
+    await fails(append(file, Int8Array.of(5)), "NEEDS_MEND");
   }
 });
 

@@ -139,8 +139,8 @@ test("a file is appended to, by what append rejects elsewhere", async () => {
   }
   assert.deepEqual(await content(), fileOf([block(1), block(2), block(2)]));
   for (const [bytes, code] of [
-    [Buffer.concat([fileOf([block(1)]), Buffer.from("LIST\x04\0\0\0INFO", "latin1")]), "CHUNKS_FOLLOW"],
-    [Buffer.concat([fileOf([block(1)]), Buffer.alloc(8, 1)]), "IS_CUT_OFF"],
+    [Buffer.concat([fileOf([block(1)]), Buffer.from("LIST\x04\0\0\0INFO", "latin1")]), "NEEDS_OVERWRITE"],
+    [Buffer.concat([fileOf([block(1)]), Buffer.alloc(8, 1)]), "NEEDS_MEND"],
     [fileOf([block(1)]).subarray(0, 50), "TRUNCATED"],
     [Buffer.from("RIFX"), "NO_RIFF_TAG"],
   ]) {

@@ -36,5 +36,5 @@ export async function uses(blob: Blob, bytes: Uint8Array): Promise<string> {
   await write([left!, wide], head);
   // @ts-expect-error: the rate is missing.
   await write(wide, { channels: 2 });
-  return found.state === "cutOff" ? new HoundError("IS_CUT_OFF").code : `${head.frames} ${head.isFloat}`;
+  return found.state === "cutOff" ? new HoundError("NEEDS_MEND").code : `${head.frames} ${head.isFloat}`;
 }

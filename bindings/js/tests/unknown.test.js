@@ -7,7 +7,7 @@ import path from "node:path";
 import { append, appendTo, findDamage, info, read, record, repair, repairFile, write } from "../hound.js";
 
 // What hound.h has: where the kind and the report of an effect are, and the numbers of a report and of kinds.
-const [KIND, REPORT, DONE, READ, WRITE, WRITE_BLOCK, SYNC, CUT, SYNC_FOLDER] = [12, 14, 1, 1, 2, 3, 4, 5, 6];
+const [KIND, REPORT, DONE, READ, WRITE, WRITE_BLOCK, SYNC, SHORTEN, SYNC_FOLDER] = [12, 14, 1, 1, 2, 3, 4, 5, 6];
 const SPEC = { sampleRate: 8000, bitsPerSample: 16 };
 // The kind of which effects get another one, and which.
 let from, to;
@@ -53,7 +53,7 @@ test("over files in memory", async () => {
     for (const call of reads) await fails(READ, call);
     for (const effect of [WRITE, SYNC]) await fails(effect, () => repair(kind(cut)));
     for (const effect of [WRITE, WRITE_BLOCK, SYNC]) await fails(effect, () => append(kind(whole), one));
-    await fails(CUT, () => append(kind(followed), one, { overwrite: true }));
+    await fails(SHORTEN, () => append(kind(followed), one, { overwrite: true }));
     assert.deepEqual(await read(await append(kind(whole), one)), Int16Array.of(1, 2, 7));
   }
 });
@@ -63,7 +63,7 @@ test("over files at a path", async () => {
   for (const kind of [READ, WRITE, SYNC]) await fails(kind, () => repairFile(take));
   await fails(READ, () => appendTo(take));
   assert.ok((await fs.readFile(take)).equals(cut));
-  for (const kind of [SYNC_FOLDER, CUT, SYNC, WRITE]) await fails(kind, () => record(take, SPEC));
+  for (const kind of [SYNC_FOLDER, SHORTEN, SYNC, WRITE]) await fails(kind, () => record(take, SPEC));
   for (const [kind, frames] of [[WRITE_BLOCK, 0], [WRITE, 1], [SYNC, 0]]) {
     await fails(kind, async () => {
       from = undefined;

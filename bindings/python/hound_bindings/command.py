@@ -5,6 +5,7 @@ import array
 import contextlib
 import io
 import json
+import math
 import os
 import re
 import select
@@ -13,11 +14,12 @@ import signal
 import sys
 import time
 import warnings
-from typing import Any, Callable, Dict, Iterator, List, Optional, Tuple
+from typing import Any, Callable, Dict, Iterator, List, NamedTuple, Optional, Tuple
 
 import hound_bindings as hound
 
-from . import conversion, disk, lost, streams
+from . import conversion, disk, files, lost, repairs, streams
+from ._library import FIND_DAMAGE, FLOATS, HEADER_BYTES, INTEGERS, CRepair, named
 
 __all__ = ["main"]
 
@@ -32,8 +34,11 @@ _NOT_CANONICAL = "the RIFF size or the pad byte isn't as the format asks"
 _BLOCK = 1 << 16
 # What would end a line, or be more than text for a terminal, is written as Python does in a string.
 _ESCAPES = {code: repr(chr(code))[1:-1] for code in (*range(32), *range(127, 160), 0x2028, 0x2029)}
+_FLOAT_BITS = max(bits for bits, _ in FLOATS)
+# What many bytes are a multiple of if they are whole frames of each usual width.
+_ALL_WIDTHS = math.prod({width for _, width in INTEGERS + FLOATS})
 # How many bytes can be the first part of a file: whole frames of each usual width after a header of 44 or 68 bytes.
-_FIRST_PART = 44 + ((1 << 32) - 46) // 24 * 24
+_FIRST_PART = 44 + ((1 << 32) - 46) // _ALL_WIDTHS * _ALL_WIDTHS
 _HINTS = {
     hound.Cause.TOO_LONG: f"repair a copy of the first part of a file that is too long (head -c {_FIRST_PART} FILE > "
     f"PART.wav); record takes the rest as raw samples (tail -c +{_FIRST_PART + 1} FILE)",
@@ -47,7 +52,7 @@ _ADVICE = {
     hound.Cause.TRUNCATED: "hound-wav repair, or --to-end",
     hound.Cause.DATA_LENGTH: "hound-wav repair, or --to-end",
     hound.Cause.FRAME_LENGTH: "hound-wav repair, or --to-end",
-    hound.Cause.IS_CUT_OFF: "hound-wav repair",
+    hound.Cause.NEEDS_MEND: "hound-wav repair",
     hound.Cause.TOO_LONG: "a WAV file has less than 4 GiB, so the rest needs another one",
 }
 _USUAL_HINT = "where a header is lost or damaged, --guess or --like makes a copy with a new one"
@@ -59,7 +64,7 @@ class _Wrong(Exception):
 
 def _say(line: str, file: Any = None) -> None:
     """Prints what may have the name of a file in one line."""
-    with hound._named(file or sys.stdout):
+    with named(file or sys.stdout):
         print(line.translate(_ESCAPES), file=file or sys.stdout)
 
 
@@ -80,7 +85,7 @@ def _sentence(error: Exception) -> str:
 
 def _flush() -> None:
     """Writes what is printed; an error names standard output."""
-    with hound._named(sys.stdout):
+    with named(sys.stdout):
         sys.stdout.flush()
 
 
@@ -116,7 +121,7 @@ def _files_of(names: List[str]) -> List[str]:
 
 
 def _print_json(**facts: Any) -> None:
-    with hound._named(sys.stdout):
+    with named(sys.stdout):
         print(json.dumps(facts))
 
 
@@ -153,21 +158,21 @@ def _form(info: hound.Info) -> str:
     return f"{info.sample_rate} Hz, {info.channels} channel{'s' * (info.channels != 1)}, {bits}"
 
 
-def _header_of(name: str) -> hound.Info:
-    """What a header says; no frames where it counts none that are whole, as that of a stream does."""
-    with contextlib.suppress(hound.HoundError):
-        return hound.info(name)
-    with hound.open(name, to_end=True) as reader:
-        return reader.info
+class _Seen(NamedTuple):
+    """What the header of a file says; and unless it is a pipe or a device, which can be read only once, what is found
+    of it, and the chunks at its end that count as sound."""
+
+    info: hound.Info
+    found: Optional[hound.Repair] = None
+    chunks: Optional[lost.Chunks] = None
 
 
-def _found(name: str) -> Tuple[hound.Info, Optional[hound.Repair]]:
-    """What the header of a file says, and what is found of it, unless it is a pipe or a device: that can be read only
-    once."""
-    if name != "-" and os.path.isfile(name):
-        return _header_of(name), hound.find_damage(name)
-    with hound.open(_source(name)) as reader:
-        return reader.info, None
+def _look_at(name: str) -> _Seen:
+    if name == "-" or not os.path.isfile(name):
+        with hound.open(_source(name)) as reader:
+            return _Seen(reader.info)
+    with repairs.found_at(name, FIND_DAMAGE) as (file, found):
+        return _Seen(repairs.header_of(found), repairs.report_of(found), _chunks_counted(file, found))
 
 
 def _said_of(info: hound.Info, found: Optional[hound.Repair]) -> str:
@@ -184,11 +189,11 @@ def _said_of(info: hound.Info, found: Optional[hound.Repair]) -> str:
     return f"{found.info.duration:.3f} s, cut off: {held}"
 
 
-def _chunks_counted(name: str, found: Optional[hound.Repair]) -> Optional[lost.Chunks]:
+def _chunks_counted(file: disk.Descriptor, found: CRepair) -> Optional[lost.Chunks]:
     """The chunks that seem to end a file, and that a repair takes for sound since the header counts none or too few."""
-    if found is None or found.state != hound.State.CUT_OFF:
+    if found.state != hound.State.CUT_OFF:
         return None
-    return lost.chunks_at_end(name, found.info.data_start)
+    return lost.chunks_at_end(file, found.data_start, found.length)
 
 
 def _say_what_is_counted(name: str, chunks: Optional[lost.Chunks]) -> None:
@@ -203,8 +208,7 @@ def _info(options: argparse.Namespace) -> int:
     shown: List[hound.Info] = []
 
     def show(name: str) -> bool:
-        info, found = _found(name)
-        chunks = _chunks_counted(name, found)
+        info, found, chunks = _look_at(name)
         shown.append(info if found is None else found.info)
         if options.json:
             more = {} if found is None else {"state": _STATES[found.state], "frames_held": found.frames}
@@ -250,11 +254,11 @@ def _recover(options: argparse.Namespace) -> int:
         if options.guess and _has_header(name):
             raise ValueError(f"{name}: its header isn't lost, so nothing is guessed")
         guessed = hound.guess(name, skip=options.skip, rate=options.rate or _USUAL_RATE) if options.guess else None
-        form, copy = guessed or options.like, hound._copy_name(name)
+        form, copy = guessed or options.like, repairs.copy_name(name)
         skip = lost.start_of(name, form.data_start) if options.skip is None else options.skip
         found = None
         if not options.dry_run:
-            with hound._replaced(copy, options.durable) as part, _Bar(name, os.path.getsize(name)) as bar:
+            with files.replaced(copy, options.durable) as part, _Bar(name, os.path.getsize(name)) as bar:
                 for found in lost.recovered(name, part, form, skip, options.durable):
                     bar.show(found.place)
         frames, is_rate_assumed = found.frames if found else 0, bool(guessed) and not options.rate
@@ -285,21 +289,29 @@ def _repair(options: argparse.Namespace) -> int:
         return _recover(options)
     names, hints = _files_of(options.files), {}
 
+    def repaired(name: str) -> Tuple[hound.Repair, Optional[lost.Chunks], Optional[str]]:
+        """What is found of a file, which is opened once; and the name of its copy."""
+        how = {"to_end": options.to_end, "canonical": options.canonical}
+        mode = FIND_DAMAGE if options.dry_run or options.copy else repairs.mode_of(**how)
+        with repairs.found_at(name, mode, options.durable) as (file, seen):
+            found, chunks = repairs.report_of(seen), None if options.to_end else _chunks_counted(file, seen)
+            if not options.copy or not repairs.mends(found.state, **how):
+                return found, chunks, None
+            copy = repairs.copy_name(name)
+            if not options.dry_run:
+                found = repairs.copied(file, copy, options.durable, **how)
+            return found, chunks, copy
+
     def repair(name: str) -> bool:
         try:
-            found = hound.find_damage(name)
+            found, chunks, copy = repaired(name)
         except hound.HoundError as error:
             if error.held is None:
                 hints[_HINTS.get(error.cause, _USUAL_HINT)] = True
             raise
-        is_mended = hound._mends(found.state, options.to_end, options.canonical)
-        copy = hound._copy_name(name) if options.copy and is_mended else None
-        chunks = None if options.to_end else _chunks_counted(name, found)
         if not options.json:
             _say_what_is_counted(name, chunks)
-        if is_mended and not options.dry_run:
-            more = {"to_end": options.to_end, "canonical": options.canonical}
-            found = hound.repair(name, durable=options.durable, copy=copy, **more)
+        is_mended = repairs.mends(found.state, options.to_end, options.canonical)
         is_done, seconds = is_mended and not options.dry_run, found.info.duration
         if options.json:
             _print_json(file=name, state=_STATES[found.state], frames=found.frames, frames_counted=found.counted,
@@ -343,7 +355,7 @@ def _cat(options: argparse.Namespace) -> int:
     def write(name: str) -> bool:
         with hound.open(_source(name), to_end=options.to_end) as reader:
             for block in _blocks(name, reader, options.type):
-                with hound._named(sys.stdout):
+                with named(sys.stdout):
                     sys.stdout.buffer.write(block)
         return _is_whole(name, reader)
 
@@ -366,10 +378,10 @@ def _form_wanted(info: hound.Info, options: argparse.Namespace) -> hound.Info:
     channels = options.channels or info.channels
     if 1 not in (channels, info.channels) and channels != info.channels:
         raise _Wrong(f"{info.channels} channels aren't made {channels}: only one of all, or all of one")
-    if options.float and options.bits not in (None, 32):
-        raise _Wrong("floats have 32 bits")
+    if options.float and options.bits not in (None, _FLOAT_BITS):
+        raise _Wrong(f"floats have {_FLOAT_BITS} bits")
     if options.float:
-        return hound.Info(info.sample_rate, channels, 32, True)
+        return hound.Info(info.sample_rate, channels, _FLOAT_BITS, True)
     if options.bits:
         return hound.Info(info.sample_rate, channels, options.bits)
     return info._replace(channels=channels)
@@ -379,7 +391,7 @@ def _type_between(info: hound.Info, wanted: hound.Info, dither: int) -> Optional
     """A type that has all samples of a file exactly, as floats; None where they are written as they are."""
     if info[1:4] == wanted[1:4] and not dither:
         return None
-    return "float32" if info.is_float or info.bits_per_sample < 32 else "float64"
+    return "float32" if info.is_float else conversion.exact_in(("float32", "float64"), info.bits_per_sample)
 
 
 def _convert(options: argparse.Namespace) -> int:
@@ -390,7 +402,7 @@ def _convert(options: argparse.Namespace) -> int:
     if os.path.exists(options.target) and not options.overwrite:
         raise _Wrong(f"{options.target} exists: --overwrite replaces it")
     source, target = _source(options.source), options.target
-    with hound.open(source, to_end=options.to_end) as reader, hound._replaced(target, options.durable) as part:
+    with hound.open(source, to_end=options.to_end) as reader, files.replaced(target, options.durable) as part:
         info = reader.info
         wanted = _form_wanted(info, options)
         dither = (options.seed or 1) if options.dither else 0
@@ -411,10 +423,10 @@ def _convert(options: argparse.Namespace) -> int:
 
 def _whole(name: str) -> hound.Info:
     """What the header of a file says; an error where it doesn't count all that the file holds."""
-    info = hound.info(name)
-    if hound.find_damage(name).state == hound.State.CUT_OFF:
-        raise ValueError(f"{name}: the recording was cut off: hound-wav repair")
-    return info
+    with repairs.found_at(name, FIND_DAMAGE) as (_, found):
+        if found.state == hound.State.CUT_OFF:
+            raise ValueError(f"{name}: the recording was cut off: hound-wav repair")
+        return repairs.header_of(found)
 
 
 def _form_of_all(names: List[str]) -> hound.Info:
@@ -429,7 +441,7 @@ def _form_of_all(names: List[str]) -> hound.Info:
 def _check_order(names: List[str]) -> None:
     """An error where the first file of a recording comes after its second one, as by the shell's take*.wav."""
     for place, name in enumerate(names):
-        second = streams._part_name(name, 2)
+        second = streams.part_name(name, 2)
         if second in names[:place]:
             raise _Wrong(f"{name} comes before {second}: name it first")
 
@@ -439,7 +451,7 @@ def _join(options: argparse.Namespace) -> int:
         raise _Wrong(f"{options.target} exists: --overwrite replaces it")
     _check_order(options.files)
     form = _form_of_all(options.files)
-    with hound._replaced(options.target, options.durable) as part:
+    with files.replaced(options.target, options.durable) as part:
         with hound.create(part, like=form, exclusive=True, durable=options.durable) as writer:
             if form.frames > writer.frames_left:
                 raise hound.HoundError(hound.Cause.TOO_LONG)
@@ -496,7 +508,7 @@ def _recorded(writer: hound.Writer, every: float) -> int:
                 break
             held += piece
             count = len(held) // size
-            writer.write(streams.decoded(held, count * channels, spec))
+            writer.write(conversion.decoded(held, count * channels, spec))
             held = held[count * size :]
     finally:
         stop.restore()
@@ -600,7 +612,7 @@ _UNITS: Dict[str, Callable[[int, hound.Info], int]] = {
 def _frames_in(length: int, form: hound.Info) -> int:
     """How many frames a file of so many bytes has at most."""
     spec = conversion.spec_like(form)
-    return (length - hound._HEADER_BYTES) // int(form.channels * spec.bytes_per_sample)
+    return (length - HEADER_BYTES) // int(form.channels * spec.bytes_per_sample)
 
 
 def _split(text: str) -> Callable[[hound.Info], int]:
@@ -650,18 +662,17 @@ def _parser() -> argparse.ArgumentParser:
 
     add = command("cat", _cat, "write raw samples to standard output: int16, int32 where they are wider, or float32")
     add("files", nargs="+", metavar="FILE", help="- is standard input")
-    dtypes = ["int8", "int16", "int32", "float32", "float64"]
-    add("--type", choices=dtypes, help="of the samples; floats have the full scale 1")
+    add("--type", choices=conversion.READ_TYPES, help="of the samples; floats have the full scale 1")
     stream = {"help": "read all that follows the header, as of a stream that doesn't know its length", **flag}
     add("--to-end", **stream)
 
     add = command("convert", _convert, "write the samples of a file to a new one, in another form")
     add("source", metavar="IN", help="- is standard input")
     add("target", metavar="OUT", type=_file, help="gets its name when it is whole")
-    form = {"choices": [8, 16, 24, 32], "type": int}
+    form = {"choices": sorted({bits for bits, _ in INTEGERS}), "type": int}
     add("--to-end", **stream)
     add("--bits", help="integers of so many bits: rounded, and clipped, which is said", **form)
-    add("--float", help="floats of 32 bits", **flag)
+    add("--float", help=f"floats of {_FLOAT_BITS} bits", **flag)
     add("--channels", type=_positive, help="the mean of all as one, or one in all")
     add("--dither", help="add triangular noise before rounding", **flag)
     add("--seed", type=_positive, help="of that noise (1)")
@@ -682,7 +693,7 @@ def _parser() -> argparse.ArgumentParser:
     add("--rate", type=_positive, help="frames a second: needed, as --channels and --bits are, without --append")
     add("--channels", type=_positive)
     add("--bits", **form)
-    add("--float", help="floats, of 32 bits", **flag)
+    add("--float", help=f"floats, of {_FLOAT_BITS} bits", **flag)
     add("--append", help="continue a file, which says what its samples are", **flag)
     add("--overwrite", help="empty OUT if it is there", **flag)
     add("--durable", help="sync each checkpoint", **flag)

@@ -6,32 +6,38 @@ import ctypes
 import os
 import sys
 import warnings
-from typing import Any, Callable, ContextManager, Iterator, NamedTuple, Optional, Tuple
+from typing import Any, Callable, ContextManager, Dict, Iterator, NamedTuple, Optional, Tuple
 
-from . import _POINTER, _SIZE, _SPARE, Cause, HoundError, Info, _checked, _function, _integer, _Spec
+from ._library import (
+    POINTER, SIZE, SPARE, Cause, CSpec, HoundError, Info, address, checked, function, integer,
+)  # fmt: skip
 
 __all__ = [
-    "BLOCK", "CODES", "Given", "Room", "Scale", "TYPES", "Take", "address", "are_containers", "check_columns",
-    "form_of", "is_converted", "kind_of", "noise_of", "spec_like", "type_of", "warn_caller", "width_of",
+    "BLOCK", "Given", "READ_TYPES", "Room", "Scale", "TYPES", "Way", "Ways", "check_columns", "check_like",
+    "check_readable", "decoded", "encoded", "exact_in", "form_of", "noise_of", "room_of", "spec_like", "spec_of",
+    "type_of", "warn_caller", "width_of",
 ]  # fmt: skip
 
 
 class Type(NamedTuple):
-    """A type of samples: the code of its arrays, the calls that read and write it, and the bits of its files."""
+    """A type of samples: the code of its arrays, the calls that read and write it, the bits of its files, and of the
+    widest integers that all are exact in it."""
 
     code: str
     kind: str
     bits: int
+    exact: int
 
 
 TYPES = {
-    "int8": Type("b", "i16", 8),
-    "int16": Type("h", "i16", 16),
-    "int32": Type("i", "i32", 32),
-    "int64": Type("q", "i32", 16),  # It has the values of narrower ones.
-    "float32": Type("f", "f32", 32),
-    "float64": Type("d", "f32", 32),
+    "int8": Type("b", "i16", 8, 8),
+    "int16": Type("h", "i16", 16, 16),
+    "int32": Type("i", "i32", 32, 32),
+    "int64": Type("q", "i32", 16, 64),  # It has the values of narrower ones.
+    "float32": Type("f", "f32", 32, 24),
+    "float64": Type("d", "f32", 32, 53),
 }
+READ_TYPES = [name for name in TYPES if name != "int64"]
 CODES = {"i8": "b", "i16": "h", "i32": "i", "f32": "f"}
 _LIBRARYS = ("int16", "int32", "float32")
 _FORMATS = {("l", 4): "int32", ("l", 8): "int64"}
@@ -41,54 +47,27 @@ READ = "int8, int16, int32, float32 and float64 are read"
 GIVEN = "int8, int16, int32, int64, float32, float64 and lists are written"
 # How many samples are converted or encoded at once: so they stay in the processor's cache.
 BLOCK = 1 << 16
-# What decodes the samples of a file from a number on, to an address, at most so many, and returns how many there were.
-Take = Callable[[int, Any, int], int]
-
+_decode = {t: function("decode_" + t, POINTER, POINTER, SIZE, POINTER, SIZE) for t in ("i8", "i16", "i32", "f32")}
+_encode = {t: function("encode_" + t, POINTER, POINTER, SIZE, POINTER, SIZE) for t in ("i16", "i32", "f32")}
 _TO_SCALED = {
-    name: _function(call, _POINTER, _SIZE, ctypes.c_uint16, _POINTER, _SIZE)
+    name: function(call, POINTER, SIZE, ctypes.c_uint16, POINTER, SIZE)
     for name, call in (("float32", "to_f32"), ("float64", "to_f64"))
 }
 _FROM_SCALED = {
-    name: _function(call, _POINTER, _SIZE, ctypes.c_uint16, _POINTER, _SIZE, _POINTER)
+    name: function(call, POINTER, SIZE, ctypes.c_uint16, POINTER, SIZE, POINTER)
     for name, call in (("float32", "from_f32"), ("float64", "from_f64"))
 }
 _DITHER = {
-    name: _function(call, _POINTER, _SIZE, ctypes.c_uint16, _POINTER, _POINTER, _SIZE, _POINTER)
+    name: function(call, POINTER, SIZE, ctypes.c_uint16, POINTER, POINTER, SIZE, POINTER)
     for name, call in (("float32", "dither_f32"), ("float64", "dither_f64"))
 }
-_f32_to_f64 = _function("f32_to_f64", _POINTER, _SIZE, _POINTER, _SIZE)
-_f64_to_f32 = _function("f64_to_f32", _POINTER, _SIZE, _POINTER, _SIZE, _POINTER)
-
-
-class address:  # noqa: N801
-    """The address and the number of bytes of a buffer, or of a copy where the buffer is read-only, not
-    contiguous or not aligned. They live as long as the context."""
-
-    def __init__(self, buffer: Any, align: int = 1) -> None:
-        self._buffer, self._align = buffer, align
-
-    def __enter__(self) -> Tuple[Any, int]:
-        self._kept: Any = None
-        view = self._view = memoryview(self._buffer)
-        if view.nbytes == 0:
-            return ctypes.addressof(_SPARE), 0
-        if view.c_contiguous and not view.readonly:
-            start = ctypes.c_char.from_buffer(view)
-            if ctypes.addressof(start) % self._align == 0:
-                self._kept = start
-                return ctypes.addressof(start), view.nbytes
-            del start
-        self._kept = self._buffer if isinstance(self._buffer, bytes) else view.tobytes()
-        return ctypes.cast(ctypes.c_char_p(self._kept), _POINTER).value, len(self._kept)
-
-    def __exit__(self, *_: Any) -> None:
-        self._kept = None
-        self._view.release()
+_f32_to_f64 = function("f32_to_f64", POINTER, SIZE, POINTER, SIZE)
+_f64_to_f32 = function("f64_to_f32", POINTER, SIZE, POINTER, SIZE, POINTER)
 
 
 def _start(samples: "array.array[Any]") -> int:
     """The address of an array of this package, which nobody else resizes."""
-    return samples.buffer_info()[0] if samples else ctypes.addressof(_SPARE)
+    return samples.buffer_info()[0] if samples else ctypes.addressof(SPARE)
 
 
 def form_of(view: memoryview, name: str, taken: str) -> Tuple[str, Optional[int]]:
@@ -96,10 +75,12 @@ def form_of(view: memoryview, name: str, taken: str) -> Tuple[str, Optional[int]
     dtype = _FORMATS.get((view.format, view.itemsize)) or _FORMATS.get((view.format.lstrip("@=<"), view.itemsize))
     if dtype is None:
         raise TypeError(f"{name} has the format '{view.format}': {taken}, in this machine's byte order")
-    if view.ndim not in (1, 2):
+    if view.ndim == 1:
+        return dtype, None
+    if view.ndim != 2:
         raise ValueError(f"{name} has {view.ndim} dimensions, and not one or two")
     shape: Any = view.shape
-    return dtype, shape[1] if view.ndim == 2 else None
+    return dtype, shape[1]
 
 
 def check_columns(name: str, columns: Optional[int], channels: int) -> None:
@@ -120,26 +101,19 @@ def _is_of_numpy(dtype: Any) -> bool:
     return (dtype if isinstance(dtype, type) else type(dtype)).__module__.partition(".")[0] == "numpy"
 
 
-def type_of(dtype: Any, spec: _Spec) -> str:
+def exact_in(types: Tuple[str, ...], bits: int) -> str:
+    """The first of these types in which all integers of so many bits are exact, or the last one."""
+    return next((name for name in types if bits <= TYPES[name].exact), types[-1])
+
+
+def type_of(dtype: Any, spec: CSpec) -> str:
     """The name of a type that is requested, or of the narrowest from 16 bits on that reads a file."""
     if dtype is None:
-        return "float32" if spec.sample_format else ("int16" if spec.bits_per_sample <= 16 else "int32")
+        return "float32" if spec.sample_format else exact_in(("int16", "int32"), spec.bits_per_sample)
     name = _name_of(dtype)
-    if name not in TYPES or name == "int64":
+    if name not in READ_TYPES:
         raise TypeError(f"dtype is {dtype!r}: {READ}")
     return str(name)
-
-
-def _is_scaled(dtype: str, spec: _Spec) -> bool:
-    """Whether integers are floats, or become floats, whose full scale is 1."""
-    return TYPES[dtype].kind == "f32" and not spec.sample_format
-
-
-def kind_of(dtype: str, spec: _Spec) -> str:
-    """The calls that decode the samples of a file for a type."""
-    if _is_scaled(dtype, spec):
-        return "i32"
-    return "i8" if dtype == "int8" else TYPES[dtype].kind
 
 
 _ZEROS = {form.code: array.array(form.code, bytes(array.array(form.code).itemsize)) for form in TYPES.values()}
@@ -156,28 +130,72 @@ def width_of(dtype: str) -> int:
     return _WIDTHS[dtype]
 
 
-def is_converted(dtype: str, kind: str) -> bool:
-    """Whether what the calls of a kind decode is converted to a type."""
-    return CODES[kind] != TYPES[dtype].code
+class Way:
+    """How samples of a type are read from a file, or written to it: what follows from the type and the spec alone, so
+    that it is found once for all blocks."""
+
+    def __init__(self, dtype: str, spec: CSpec) -> None:
+        form, width = TYPES[dtype], width_of(dtype)
+        self.dtype, self.code, self.width, self.spec = dtype, form.code, width, ctypes.byref(spec)
+        self.channels, self.bits, is_float = spec.channels, spec.bits_per_sample, bool(spec.sample_format)
+        # How many bytes a sample has in the file.
+        self.size = spec.bytes_per_sample or (self.bits + 7) // 8
+        # Whether integers are floats, or become floats, whose full scale is 1.
+        self.is_scaled = form.kind == "f32" and not is_float
+        # The calls that decode the samples of the file, and whether what they give is converted to the type.
+        self.decodes = "i32" if self.is_scaled else "i8" if dtype == "int8" else form.kind
+        self.is_converted = CODES[self.decodes] != form.code
+        # The calls that encode the samples, and whether they take the type as it is.
+        self.encodes = "i32" if self.is_scaled else form.kind
+        self.is_taken = dtype in _LIBRARYS and not self.is_scaled
+        # Whether the samples are the containers of the file as they are, so that what decodes and encodes them copies
+        # them only: those of 8 bits aren't, since they have no sign in a file.
+        is_number = self.bits == 8 * width and self.size == width and width > 1 and sys.byteorder == "little"
+        self.are_containers = is_number and self.is_taken and (dtype == "float32") == is_float
+        # Whether the file has a container for each value of the type, so that no sample is an error.
+        is_narrow = dtype not in ("int64", "float64") and form.bits <= self.bits
+        self.fits = self.is_scaled or (is_narrow and (form.kind == "f32") == is_float)
 
 
-def are_containers(dtype: str, spec: _Spec) -> bool:
-    """Whether the samples of a type are the containers of a file as they are, so that what decodes and encodes them
-    copies them only: those of 8 bits aren't, since they have no sign in a file."""
-    width = _WIDTHS[dtype]
-    is_number = spec.bits_per_sample == 8 * width and spec.bytes_per_sample in (0, width) and width > 1
-    is_same = dtype in _LIBRARYS and (dtype == "float32") == bool(spec.sample_format)
-    return is_number and is_same and sys.byteorder == "little"
+class Ways:
+    """The ways of a file, by the type that is requested; and whether an array of numpy is."""
+
+    def __init__(self, spec: CSpec) -> None:
+        self._spec, self._known = spec, {}  # type: CSpec, Dict[Any, Tuple[Way, bool]]
+
+    def of(self, dtype: Any) -> Tuple[Way, bool]:
+        key = dtype, type(dtype)  # A type of numpy is equal to its name.
+        try:
+            known = self._known.get(key)
+        except TypeError:  # It has no hash.
+            return self._found(dtype)
+        if known is None:
+            known = self._known[key] = self._found(dtype)
+        return known
+
+    def _found(self, dtype: Any) -> Tuple[Way, bool]:
+        return Way(type_of(dtype, self._spec), self._spec), _is_of_numpy(dtype)
+
+    def of_given(self, dtype: str) -> Way:
+        """The way of samples that are given, also of a type that isn't read."""
+        known = self._known.get(dtype)
+        if known is None:
+            known = self._known[dtype] = Way(dtype, self._spec), False
+        return known[0]
 
 
-def _convert(part: "array.array[Any]", count: int, dtype: str, spec: _Spec, out: Any) -> None:
-    """Stores the first samples that the library decoded at an address, in another type."""
-    if _is_scaled(dtype, spec):
-        _checked(_TO_SCALED[dtype](_start(part), count, spec.bits_per_sample, out, count))
-    elif dtype == "float64":
-        _checked(_f32_to_f64(_start(part), count, out, count))
+def _convert(part: int, count: int, way: Way, out: int) -> None:
+    """Stores samples that the library decoded at an address, in another type."""
+    if way.is_scaled:
+        checked(_TO_SCALED[way.dtype](part, count, way.bits, out, count))
     else:
-        ctypes.memmove(out, part[:count].tobytes()[::2], count)  # The low bytes are those of int8.
+        checked(_f32_to_f64(part, count, out, count))
+
+
+def encoded(way: Way, start: int, count: int, out: Any) -> memoryview:
+    """The bytes of so many samples at an address, which are stored in this buffer."""
+    used = checked(_encode[way.encodes](way.spec, start, count, out, len(out)))
+    return memoryview(out)[:used]
 
 
 def _empty_of_numpy(count: int, dtype: str) -> Any:
@@ -207,21 +225,24 @@ def _shaped(samples: "array.array[Any]", channels: int, always_2d: bool) -> Any:
 
 class Room:
     """Where samples that are read are stored: a buffer of the caller, or a new array. It is `bound` to what a file is:
-    then `dtype` is the type of the samples, `kind` the calls that decode them, and `most` how many frames have room."""
+    then `way` is how they are read, and `most` how many frames have room."""
+
+    way: Way
+    most = sys.maxsize
+    _view: Optional[memoryview] = None
+    _array: Any = None
+    _part: Optional["array.array[Any]"] = None  # What is decoded, and then converted.
 
     def __init__(self, buffer: Any = None, name: str = "out") -> None:
-        self._view, self._name = None if buffer is None else memoryview(buffer), name
-        self._array: Any = array.array("b")
-        self._part: "array.array[Any]" = array.array("b")  # What is decoded, and then converted.
-        self._next: Any = None  # The address of the next sample.
-        self.most = sys.maxsize
-        if self._view is not None:
-            self._own_dtype, self._columns = form_of(self._view, name, READ)
-            if self._view.readonly or not self._view.c_contiguous:
-                raise TypeError(f"{name} isn't writable and contiguous")
-            with address(self._view) as (start, _):
-                if start % self._view.itemsize:
-                    raise TypeError(f"{name} isn't aligned")
+        if buffer is None:
+            return
+        self._view, self._name = memoryview(buffer), name
+        self._own_dtype, self._columns = form_of(self._view, name, READ)
+        if self._view.readonly or not self._view.c_contiguous:
+            raise TypeError(f"{name} isn't writable and contiguous")
+        with address(self._view) as (start, _):
+            if start % self._view.itemsize:
+                raise TypeError(f"{name} isn't aligned")
 
     def __enter__(self) -> "Room":
         return self
@@ -230,15 +251,14 @@ class Room:
         if self._view is not None:
             self._view.release()
 
-    def bound(self, spec: _Spec, dtype: Any) -> "Room":
-        self._channels, self._is_of_numpy = spec.channels, _is_of_numpy(dtype)
-        self.dtype = type_of(dtype, spec) if self._view is None or dtype is not None else self._own_dtype
-        self.kind = kind_of(self.dtype, spec)
+    def bound(self, ways: Ways, dtype: Any) -> "Room":
+        wanted = self._own_dtype if dtype is None and self._view is not None else dtype
+        self.way, self._is_of_numpy = ways.of(wanted)
         if self._view is not None:
-            if self.dtype != self._own_dtype:
+            if self.way.dtype != self._own_dtype:
                 raise TypeError(f"{self._name} has samples of the type {self._own_dtype}, and dtype is {dtype!r}")
-            check_columns(self._name, self._columns, spec.channels)
-            self.most = self._view.nbytes // self._view.itemsize // spec.channels
+            check_columns(self._name, self._columns, self.way.channels)
+            self.most = self._view.nbytes // self._view.itemsize // self.way.channels
         return self
 
     def place(self, count: int) -> ContextManager[Tuple[Any, int]]:
@@ -247,80 +267,104 @@ class Room:
             return address(self._view)
         self._allocate(count)
         start = _address_of_numpy(self._array) if self._is_of_numpy else _start(self._array)
-        return contextlib.nullcontext((start, count * width_of(self.dtype)))
+        return contextlib.nullcontext((start, count * self.way.width))
 
     def _allocate(self, count: int) -> None:
         """Makes the array. One of Python has to be filled first, and one of numpy has no values yet."""
-        if self._is_of_numpy:
-            self._array = _empty_of_numpy(count, self.dtype)
-        else:
-            self._array = _zeros(TYPES[self.dtype].code, count)
+        self._array = _empty_of_numpy(count, self.way.dtype) if self._is_of_numpy else _zeros(self.way.code, count)
 
-    def fill(self, out: Any, count: int, spec: _Spec, kind: str, take: Take) -> int:
-        """Stores at most so many samples of a file at an address, and returns how many. `take` decodes them by the
-        calls of this kind."""
-        if not is_converted(self.dtype, kind):
-            return take(0, out, count)
-        if len(self._part) < min(BLOCK, count):
-            self._part = _zeros(CODES[kind], min(BLOCK, count))
-        part = self._part
-        done, some, wanted = 0, 0, 0
-        while done < count and some == wanted:
-            wanted = min(BLOCK, count - done)
-            some = take(done, _start(part), wanted)
-            _convert(part, some, self.dtype, spec, out + done * width_of(self.dtype))
-            done += some
-        return done
-
-    def keeps_containers(self, spec: _Spec) -> bool:
-        """Whether the containers of a file are samples of this type."""
-        return are_containers(self.dtype, spec)
-
-    @contextlib.contextmanager
-    def bytes_of(self, count: int) -> Iterator[memoryview]:
-        """The bytes of the room for so many samples, while they are stored."""
+    def fill(self, count: int, read: Callable[[memoryview], int]) -> int:
+        """Lets a call store the bytes of at most so many samples, and returns how many bytes came."""
         if self._view is None:
             self._allocate(count)
-        with memoryview(self._array if self._view is None else self._view) as view:
-            with view.cast("B") if count else memoryview(b"") as content:
-                yield content[: count * width_of(self.dtype)]
+        if count == 0:
+            return 0
+        with memoryview(self._array if self._view is None else self._view) as view, view.cast("B") as content:
+            return read(content[: count * self.way.width])
 
-    @contextlib.contextmanager
-    def opened(self, count: int) -> Iterator[None]:
-        """In this context at most so many samples are stored, one after the other."""
-        with self.place(count) as (self._next, _):
-            yield
-
-    def add(self, content: Any, count: int, spec: _Spec, decode: Any) -> None:
-        """Stores the samples of the first containers in some bytes after those before them."""
-        size = spec.bytes_per_sample
-
-        def take(first: int, place: Any, some: int) -> int:
-            return _checked(decode(ctypes.byref(spec), start + first * size, some * size, place, some))
-
+    def decode(self, content: Any, count: int, out: int) -> None:
+        """Stores the samples of the first containers in some bytes at an address in the room."""
+        way = self.way
         with address(content) as (start, _):
-            self.fill(self._next, count, spec, self.kind, take)
-        self._next += count * width_of(self.dtype)
+            if not way.is_converted:
+                checked(_decode[way.decodes](way.spec, start, count * way.size, out, count))
+                return
+            part = self._part
+            if part is None or len(part) < min(BLOCK, count):
+                part = self._part = _zeros(CODES[way.decodes], min(BLOCK, count))
+            place = _start(part)
+            for first in range(0, count, BLOCK):
+                some = min(BLOCK, count - first)
+                checked(_decode[way.decodes](way.spec, start + first * way.size, some * way.size, place, some))
+                _convert(place, some, way, out + first * way.width)
 
     def result(self, count: int, always_2d: bool) -> Any:
         """The samples, of which there are so many."""
         if self._view is not None:
-            return self._view[: count // self._channels if self._columns else count]
+            return self._view[: count // self.way.channels if self._columns else count]
         if self._is_of_numpy:
-            return _as_numpy(self._array[:count], self._channels, always_2d)
+            return _as_numpy(self._array[:count], self.way.channels, always_2d)
         del self._array[count:]
-        return _shaped(self._array, self._channels, always_2d)
+        return _shaped(self._array, self.way.channels, always_2d)
 
 
-def spec_like(info: Info) -> _Spec:
+def check_readable(way: Way) -> int:
+    """A code: whether the samples of a file are read so."""
+    return int(_decode[way.decodes](way.spec, SPARE, 0, SPARE, 0))
+
+
+def decoded(content: bytes, count: int, spec: CSpec) -> "array.array[Any]":
+    """The first samples of these bytes."""
+    room = Room().bound(Ways(spec), None)
+    with room.place(count) as (start, _):
+        room.decode(content, count, start)
+    samples: "array.array[Any]" = room.result(count, False)
+    return samples
+
+
+def room_of(out: Any) -> Room:
+    return out if isinstance(out, Room) else Room(out)
+
+
+def spec_like(info: Info) -> CSpec:
     """The spec of a file, with the bytes of its containers."""
     width = info.bytes_per_sample or (info.bits_per_sample + 7) // 8
-    return _Spec(info.sample_rate, info.channels, info.bits_per_sample, width, info.is_float)
+    return CSpec(info.sample_rate, info.channels, info.bits_per_sample, width, info.is_float)
+
+
+def check_like(like: Any) -> None:
+    if not (like is None or isinstance(like, Info)):
+        raise TypeError(f"like is {like!r}, and not an Info")
+
+
+def spec_of(
+    rate: Optional[int],
+    channels: Optional[int],
+    bits: Optional[int],
+    width: int,
+    is_float: Optional[bool],
+    like: Optional[Info],
+) -> CSpec:
+    """A spec of these numbers, and of those of `like` that aren't given."""
+    check_like(like)
+    if like is not None:
+        rate = like.sample_rate if rate is None else rate
+        channels = like.channels if channels is None else channels
+        if bits in (None, like.bits_per_sample):
+            bits, width = like.bits_per_sample, width or like.bytes_per_sample
+            is_float = like.is_float if is_float is None else is_float
+    return CSpec(
+        integer("rate", rate, 1, 0xFFFFFFFF),
+        integer("channels", channels, 1, 0xFFFF),
+        integer("bits", bits, 1, 0xFFFF),
+        integer("bytes_per_sample", width, 0, 0xFFFF),
+        bool(is_float),
+    )
 
 
 def noise_of(dither: Any) -> Optional[int]:
     """The state of the noise of a seed, if it isn't 0."""
-    return _integer("dither", dither, 0, sys.maxsize) or None
+    return integer("dither", dither, 0, sys.maxsize) or None
 
 
 def warn_caller(sentence: str) -> None:
@@ -336,8 +380,10 @@ class Scale:
     state of some noise, which becomes that for the next ones, each gets noise of a triangular distribution, of at most
     one step."""
 
+    clipped = 0
+
     def __init__(self, bits: int, noise: Optional[int] = None) -> None:
-        self._bits, self.clipped = bits, 0
+        self._bits = bits
         self._noise = None if noise is None else ctypes.c_uint64(noise)
         self._integers = _zeros("i", 0)
 
@@ -353,9 +399,9 @@ class Scale:
             self._integers = _zeros("i", count)
         out = _start(self._integers), count, ctypes.byref(clipped)
         if self._noise is None:
-            _checked(_FROM_SCALED[dtype](start, count, self._bits, *out))
+            checked(_FROM_SCALED[dtype](start, count, self._bits, *out))
         else:
-            _checked(_DITHER[dtype](start, count, self._bits, ctypes.byref(self._noise), *out))
+            checked(_DITHER[dtype](start, count, self._bits, ctypes.byref(self._noise), *out))
         self.clipped += clipped.value
         return memoryview(self._integers)[:count]
 
@@ -369,7 +415,7 @@ def _rounded(start: Any, count: int) -> "array.array[float]":
     """The float32 that are nearest to float64 at an address; an error where one would be infinite and the sample
     isn't."""
     floats, infinite = _zeros("f", count), ctypes.c_uint64()
-    _checked(_f64_to_f32(start, count, _start(floats), count, ctypes.byref(infinite)))
+    checked(_f64_to_f32(start, count, _start(floats), count, ctypes.byref(infinite)))
     if infinite.value:
         raise HoundError(Cause.TOO_WIDE)
     return floats
@@ -406,8 +452,13 @@ class Given:
 
     def __init__(self, samples: Any, name: str = "samples") -> None:
         self._name, self.view = name, memoryview(_buffer_of(samples))
-        self.dtype, self.columns = form_of(self.view, name, GIVEN)
-        self.form, self.count = TYPES[self.dtype], self.view.nbytes // self.view.itemsize
+        view = self.view
+        self.dtype, self.columns = form_of(view, name, GIVEN)
+        self.count = view.nbytes // view.itemsize
+
+    @property
+    def form(self) -> Type:
+        return TYPES[self.dtype]
 
     def __enter__(self) -> "Given":
         return self
@@ -422,49 +473,41 @@ class Given:
         part.count = part.view.nbytes // part.view.itemsize
         return part
 
-    def fits(self, spec: _Spec) -> bool:
-        """Whether a file has a container for each value of this type, so that no sample is an error."""
-        is_float = self.form.kind == "f32"
-        is_narrow = self.dtype not in ("int64", "float64") and self.form.bits <= spec.bits_per_sample
-        return _is_scaled(self.dtype, spec) or (is_narrow and is_float == bool(spec.sample_format))
-
-    def scale(self, spec: _Spec, noise: Optional[int]) -> Scale:
+    def scale(self, way: Way, noise: Optional[int]) -> Scale:
         """What scales the samples for a file; an error where it has other channels, or noise can't be added to them."""
-        check_columns(self._name, self.columns, spec.channels)
-        if _is_scaled(self.dtype, spec):
-            return Scale(spec.bits_per_sample, noise)
+        if self.columns is not None:
+            check_columns(self._name, self.columns, way.channels)
+        if way.is_scaled:
+            return Scale(way.bits, noise)
         if noise is not None:
             raise ValueError("dither is for floats that become integers")
         return _UNSCALED
 
-    def containers(self, spec: _Spec) -> Optional[memoryview]:
+    def containers(self, way: Way) -> Optional[memoryview]:
         """The bytes of the samples, where they are the containers of a file."""
-        if self.count and self.view.c_contiguous and are_containers(self.dtype, spec):
+        if way.are_containers and self.count and self.view.c_contiguous:
             return self.view.cast("B")
         return None
 
-    def part(self, view: memoryview, spec: _Spec, scale: Scale) -> Tuple[str, Any]:
-        """Some of the samples as the library takes them: the calls, and a buffer."""
-        is_scaled = _is_scaled(self.dtype, spec)
-        if self.dtype in _LIBRARYS and not is_scaled:
-            return self.form.kind, view
-        return "i32" if is_scaled else self.form.kind, self._converted(view, spec, scale)
+    def part(self, view: memoryview, way: Way, scale: Scale) -> Any:
+        """A buffer of some of the samples, as the library takes them."""
+        return view if way.is_taken else self._converted(view, way, scale)
 
-    def parts(self, spec: _Spec, scale: Scale) -> Iterator[Tuple[str, Any]]:
+    def parts(self, way: Way, scale: Scale) -> Iterator[Any]:
         """All samples so: they are one part, or where they are converted, parts of whole frames."""
-        if self.dtype in _LIBRARYS and not _is_scaled(self.dtype, spec):
-            yield self.form.kind, self.view
+        if way.is_taken:
+            yield self.view
             return
-        rows = max(BLOCK // spec.channels, 1) * (1 if self.columns else spec.channels)
+        rows = max(BLOCK // way.channels, 1) * (1 if self.columns else way.channels)
         for first in range(0, len(self.view), rows):
-            yield self.part(self.view[first : first + rows], spec, scale)
+            yield self._converted(self.view[first : first + rows], way, scale)
 
-    def _converted(self, view: memoryview, spec: _Spec, scale: Scale) -> Any:
+    def _converted(self, view: memoryview, way: Way, scale: Scale) -> Any:
         """Samples in a type of the library, until the next ones."""
         if self.form.kind == "f32":
             with address(view, view.itemsize) as (start, length):
                 count = length // view.itemsize
-                if _is_scaled(self.dtype, spec):
+                if way.is_scaled:
                     return scale.integers(self.dtype, start, count)
                 return _rounded(start, count)
         samples: "array.array[int]" = array.array(self.form.code, view.tobytes())

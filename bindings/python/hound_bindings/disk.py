@@ -19,16 +19,13 @@ try:
 except ImportError:
     msvcrt = None  # type: ignore[assignment]
 
-__all__ = [
-    "CUT", "DONE", "Descriptor", "FAILED", "File", "Medium", "READ", "SYNC", "Stream", "WRITE", "WRITE_BLOCK",
-    "check_object", "descriptor_of", "folder_of", "opened", "perform", "piece_of", "place_of", "put", "put_here",
-    "read_at", "read_into", "replace", "sync", "sync_folder", "sync_once",
-]  # fmt: skip
+from ._library import DONE, FAILED, READ, SHORTEN, SYNC, SYNC_FOLDER, WRITE, WRITE_BLOCK
 
-# The kinds of effects, and how one ended, made from hound.h by scripts/make_interface.py.
-READ, WRITE, WRITE_BLOCK, SYNC, CUT, SYNC_FOLDER = 1, 2, 3, 4, 5, 6
-DONE, FAILED = 1, 2
-# The end of what is made from hound.h.
+__all__ = [
+    "DONE", "Descriptor", "FAILED", "File", "Medium", "Memory", "READ", "SHORTEN", "SYNC", "Stream", "WRITE",
+    "WRITE_BLOCK", "check_object", "descriptor_of", "folder_of", "opened", "perform", "piece_of", "place_of",
+    "put_here", "read_at", "read_into", "replace", "sync", "sync_folder", "sync_once",
+]  # fmt: skip
 
 _IS_LOCKED = "another program records to, appends to or repairs this file"
 # Without it Windows changes the bytes of lines' ends.
@@ -91,12 +88,8 @@ def read_into(descriptor: int, room: memoryview, place: int) -> int:
     return done
 
 
-def put(descriptor: int, content: Any, place: int) -> None:
-    """Writes all of this at a place of a file."""
-    write = getattr(os, "pwrite", _pwrite)
-    done = write(descriptor, content, place)
-    if done == len(content):
-        return
+def _put_rest(write: Any, descriptor: int, content: Any, place: int, done: int) -> None:
+    """Writes what is left once so many bytes are written."""
     with memoryview(content) as left:
         while done < len(left):
             count = write(descriptor, left[done:], place + done)
@@ -136,9 +129,11 @@ def perform(effect: Any, file: "Medium", durable: bool, block: Iterable[Any] = (
     elif kind == WRITE:
         file.put(bytes(effect.bytes)[: effect.length], place)
     elif kind == READ:
-        content = file.read_at(effect.length, place)
-        effect.length, effect.bytes[: len(content)] = len(content), content
-    elif kind == CUT:
+        room = effect.bytes
+        content = file.read_at(effect.length, place)[: len(room)]
+        ctypes.memmove(room, content, len(content))
+        effect.length = len(content)
+    elif kind == SHORTEN:
         file.cut(place)
     elif kind == SYNC:
         file.sync(durable)
@@ -179,17 +174,25 @@ def _check_no_pipe(path: Any) -> None:
         raise OSError(errno.ESPIPE, "a pipe can't be sought in", os.fspath(path))
 
 
-def opened(path: Any) -> io.FileIO:
-    """A file at a path, which is read at any place."""
-    _check_no_pipe(path)
-    return io.open(path, "rb", buffering=0)
-
-
 class Descriptor:
     """A file of the system that is open."""
 
     def __init__(self, file: Any) -> None:
         self._file = file
+
+    def __enter__(self) -> "Descriptor":
+        return self
+
+    def __exit__(self, *_: Any) -> None:
+        self.close()
+
+    def close(self) -> None:
+        self._file.close()
+
+    @property
+    def name(self) -> Any:
+        """That of the file, as errors have it."""
+        return self._file.name
 
     @property
     def descriptor(self) -> int:
@@ -200,10 +203,29 @@ class Descriptor:
         return int(os.fstat(self.descriptor).st_size)
 
     def read_at(self, count: int, place: int) -> bytes:
-        return read_at(self.descriptor, count, place)
+        return read_at(self._file.fileno(), count, place)
+
+    def read_into(self, room: memoryview, place: int) -> int:
+        return read_into(self._file.fileno(), room, place)
+
+    def pieces(self, place: int, length: int, most: int) -> Iterator[Any]:
+        """So many bytes from a place on, in pieces of this length, each of them until the next one."""
+        if length <= most:
+            yield self.read_at(length, place)
+            return
+        piece = memoryview(bytearray(most))
+        for done in range(0, length, most):
+            wanted = min(most, length - done)
+            came = self.read_into(piece[:wanted], place + done)
+            yield piece[:came]
+            if came < wanted:
+                return
 
     def put(self, content: Any, place: int) -> None:
-        put(self.descriptor, content, place)
+        descriptor, write = self._file.fileno(), getattr(os, "pwrite", _pwrite)
+        done = write(descriptor, content, place)
+        if done < len(content):
+            _put_rest(write, descriptor, content, place, done)
 
     def cut(self, place: int) -> None:
         cut(self.descriptor, place)
@@ -214,6 +236,44 @@ class Descriptor:
 
     def sync_folder(self, durable: bool) -> None:
         """Nothing, where its name isn't known."""
+
+
+def opened(path: Any) -> Descriptor:
+    """A file at a path, which is only read."""
+    _check_no_pipe(path)
+    return Descriptor(io.open(path, "rb", buffering=0))
+
+
+class Memory:
+    """A file whose bytes are in memory."""
+
+    def __init__(self, content: Any) -> None:
+        self._view = memoryview(content)
+        whole = self._view if self._view.c_contiguous else memoryview(self._view.tobytes())
+        self._bytes = whole.cast("B") if whole.nbytes else memoryview(b"")
+
+    def __enter__(self) -> "Memory":
+        return self
+
+    def __exit__(self, *_: Any) -> None:
+        self._bytes.release()
+        self._view.release()
+
+    def size(self) -> int:
+        return len(self._bytes)
+
+    def read_at(self, count: int, place: int) -> bytes:
+        return bytes(self._bytes[place : place + count])
+
+    def read_into(self, room: memoryview, place: int) -> int:
+        content = self._bytes[place : place + len(room)]
+        room[: len(content)] = content
+        return len(content)
+
+    def pieces(self, place: int, length: int, most: int) -> Iterator[Any]:
+        """So many bytes from a place on, in pieces of this length, as far as they are there."""
+        for done in range(0, length, most):
+            yield self._bytes[place + done : place + min(done + most, length)]
 
 
 def check_object(file: Any, method: str) -> None:
@@ -244,6 +304,11 @@ def place_of(file: Any) -> Optional[int]:
         return int(file.tell())
     except (AttributeError, OSError):
         return None
+
+
+def start_of(file: Any) -> Optional[int]:
+    """Where a file is that was opened just now, or None where it can't be sought in."""
+    return 0 if stat.S_ISREG(os.fstat(file.fileno()).st_mode) else place_of(file)
 
 
 def _appends(file: Any) -> bool:
@@ -384,12 +449,6 @@ class File(Descriptor):
                 self.close()
                 raise
             self.close()
-
-    def __enter__(self) -> "File":
-        return self
-
-    def __exit__(self, *_: Any) -> None:
-        self.close()
 
     def _lock(self) -> None:
         try:

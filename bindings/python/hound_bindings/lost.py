@@ -6,18 +6,23 @@ import operator
 import os
 from typing import Any, Iterator, List, NamedTuple, Optional, Tuple
 
-from . import _FRONT_BYTES, Info, Path, _guess_data, _integer, _named, conversion, disk, streams
+from . import conversion, disk, streams
+from ._library import FORMS, FRONT_BYTES, POINTER, SIZE, Info, Path, address, function, integer, named
 
-__all__ = ["copy", "guess", "recovered"]
+__all__ = ["chunks_at_end", "copy", "guess", "recovered", "start_of"]
+
+_guess_data = function("guess_data", POINTER, SIZE)
 
 _MOST = (1 << 63) - 1
 # The guess is that of bindings/js/guess.js, by the same arithmetic in the same order, so both have one answer for a
 # file; docs/BINDINGS.md says how it is made ("A header that is lost"). These are its constants.
 _BLOCKS, _BLOCK_LENGTH, _COMMON, _LEAST, _FEWEST = 16, 3072, 96, 1024, 16
 USUAL_START, _LONGER_STARTS = 44, (80, 68, 58)
-_FORMS = (16, False), (24, False), (32, True), (8, False), (32, False)
+# Of forms that are as predictable the one with the lower rank is taken, since it is more usual.
+_RANKS = {(16, False): 0, (24, False): 1, (32, True): 2, (8, False): 3, (32, False): 4}
+_TRIED = sorted(FORMS, key=_RANKS.__getitem__)
 _CHANNELS = {1: 0.0, 2: 0.25, 4: 2.0, 6: 2.0, 8: 2.0}
-_HIGHEST, _SPARE = 16, 1.9175
+_HIGHEST, SPARE = 16, 1.9175
 _TURNS, _LITTLE, _SOME = 1 / 3, 0.06, 0.1
 _USUAL, _SMALLEST, _LARGEST, _CLIP = 0.95, 1e-8, 2, 1 << 17
 
@@ -30,18 +35,18 @@ class Progress(NamedTuple):
     left_over: int
 
 
-def _read(file: Any, count: int, place: int) -> bytes:
+def _read(file: disk.Descriptor, count: int, place: int) -> bytes:
     """Bytes of a file, whose name an error has, and not that of its copy."""
-    with _named(file):
-        return disk.read_at(file.fileno(), count, place)
+    with named(file):
+        return file.read_at(count, place)
 
 
-def copy(path: Path, part: Path) -> None:
+def copy(file: disk.Descriptor, part: Path) -> None:
     """Copies a file to a new one."""
-    with disk.opened(path) as file, io.open(part, "xb", buffering=0) as new:
+    with disk.Descriptor(io.open(part, "xb", buffering=0)) as new:
         place = 0
         while content := _read(file, 1 << 20, place):
-            disk.put(new.fileno(), content, place)
+            new.put(content, place)
             place += len(content)
 
 
@@ -52,14 +57,14 @@ def recovered(path: Path, part: Path, like: Info, skip: int, durable: bool) -> I
         size, place, left = channels * spec.bytes_per_sample, skip, 0
         while content := _read(file, max((1 << 20) // size, 1) * size, place):
             place, left = place + len(content), len(content) % size
-            writer.write(streams.decoded(content, len(content) // size * channels, spec))
+            writer.write(conversion.decoded(content, len(content) // size * channels, spec))
             yield Progress(place, writer.tell(), left)
 
 
 def _blocks_of(path: Path, start: int) -> List[bytes]:
     """Blocks from all over a file, whose samples begin at a byte."""
     with disk.opened(path) as file:
-        length = os.fstat(file.fileno()).st_size - start
+        length = file.size() - start
         numbers = range(_BLOCKS) if length >= _LEAST else range(0)
         steps = [length * (2 * number + 1) // (2 * _BLOCKS * _COMMON) for number in numbers]
         return [_read(file, _BLOCK_LENGTH, start + _COMMON * step) for step in steps]
@@ -136,7 +141,7 @@ def _looked(blocks: List[List[int]], bits: int, is_float: bool, channels: int) -
             varies[channel] = varies[channel] or not one.is_constant
             needed += (one.bits + rest) * len(part)
         needed, count, sounding = needed + len(block), count + len(block), sounding + 1
-        noisy += not is_float and any(one.bits > highest - _SPARE for one in found)
+        noisy += not is_float and any(one.bits > highest - SPARE for one in found)
         is_signed = is_signed or min(block) < 0
     is_none = sounding == 0 or noisy * 8 > sounding or alone * 2 > sounding * channels
     if is_none or abs(turns) > _TURNS * pairs:
@@ -147,7 +152,7 @@ def _looked(blocks: List[List[int]], bits: int, is_float: bool, channels: int) -
 
 def _decoded(block: bytes, form: Info) -> "array.array[Any]":
     spec = conversion.spec_like(form)
-    return streams.decoded(block, len(block) // spec.bytes_per_sample, spec)
+    return conversion.decoded(block, len(block) // spec.bytes_per_sample, spec)
 
 
 def _are_usual(blocks: List["array.array[Any]"]) -> bool:
@@ -177,7 +182,7 @@ def _form_of(blocks: List[bytes], start: int, zeros: Optional[int]) -> Optional[
     """The form of blocks from a byte on, and where its samples begin; nothing if none is predictable. If `zeros` is
     None they begin at this byte, or else within a sample of it, and the file begins with so many zeros."""
     best = None
-    for bits, is_float in _FORMS:
+    for bits, is_float in _TRIED:
         for shift in range(1 if zeros is None else bits // 8):
             decoded = [_decoded(block[shift:], Info(1, 1, bits, is_float)) for block in blocks]
             if is_float and not _are_usual(decoded):
@@ -195,12 +200,12 @@ def _form_of(blocks: List[bytes], start: int, zeros: Optional[int]) -> Optional[
 
 def _front_of(path: Path) -> bytes:
     with disk.opened(path) as file:
-        return _read(file, _FRONT_BYTES, 0)
+        return _read(file, FRONT_BYTES, 0)
 
 
 def _start_in(front: bytes) -> int:
     """Where the samples begin by what looks like the header of their data; 0 where nothing does."""
-    with conversion.address(front) as place:
+    with address(front) as place:
         return max(int(_guess_data(*place)), 0)
 
 
@@ -218,7 +223,7 @@ def guess(path: Path, *, rate: int, skip: Optional[int] = None) -> Info:
     the data, or else near the end of a header of the usual length. What isn't predictable, as silence and noise, is a
     ValueError."""
     front = _front_of(path)
-    known = _start_in(front) or None if skip is None else _integer("skip", skip, 0, _MOST)
+    known = _start_in(front) or None if skip is None else integer("skip", skip, 0, _MOST)
     zeros = len(front) - len(front.lstrip(b"\0")) if known is None else None
     start = USUAL_START if known is None else known
     form = _form_of(_blocks_of(path, start), start, zeros)
@@ -239,13 +244,11 @@ class Chunks(NamedTuple):
     length: int
 
 
-def chunks_at_end(path: Path, data_start: int) -> Optional[Chunks]:
-    """The chunks after this byte whose last one ends exactly where a file does; nothing where there are none. A repair
-    of a header that counts no samples takes them for samples."""
-    with disk.opened(path) as file:
-        size = os.fstat(file.fileno()).st_size
-        start = max(size - _FRONT_BYTES, data_start)
-        end = _read(file, max(size - start, 0), start)
+def chunks_at_end(file: disk.Descriptor, data_start: int, length: int) -> Optional[Chunks]:
+    """The chunks after this byte whose last one ends exactly where a file of this length does; nothing where there are
+    none. A repair of a header that counts no samples takes them for samples."""
+    start = max(length - FRONT_BYTES, data_start)
+    end = _read(file, max(length - start, 0), start)
 
     def is_first(place: int) -> bool:
         if place + 8 > len(end) or end[place : place + 4] not in _NAMES:

@@ -16,13 +16,12 @@ import sys
 import time
 import unittest
 import unittest.mock
-import wave
 
 import hound_bindings as hound
-from hound_bindings import Info, State, command, lost
-from test_files import CHUNK, by_hand
-from test_floats import WIDE, Folder, as_float32, nearest, silently, wave_of
-from test_streams import SAMPLES, content_of, forked, made_by_wave
+from hound_bindings import Info, State, command, disk, lost
+from test_floats import WIDE, Folder, as_float32, nearest, silently
+from test_streams import SAMPLES, content_of, forked
+from wav import CHUNK, by_hand, made_by_wave, wave_of
 
 FORMS = [
     (bits, is_float, channels)
@@ -48,6 +47,10 @@ def stored(sample, bits, is_float):
 
 
 class Lost(Folder):
+    def chunks_after(self, start):
+        with disk.opened(self.path) as file:
+            return lost.chunks_at_end(file, start, file.size())
+
     def test_a_guess(self):
         for turn, (bits, is_float, channels) in enumerate([*FORMS, *FORMS[1:], *FORMS]):
             some = random.Random(turn)
@@ -87,10 +90,10 @@ class Lost(Folder):
             (b"LIST\1\0\0\0a\0cue ", None),
         ):  # fmt: skip
             self.leave(whole + chunks)
-            self.assertEqual(lost.chunks_at_end(self.path, 44), found, chunks)
-            self.assertIsNone(lost.chunks_at_end(self.path, 44 + len(whole) + len(chunks)))
+            self.assertEqual(self.chunks_after(44), found, chunks)
+            self.assertIsNone(self.chunks_after(44 + len(whole) + len(chunks)))
         self.leave(whole + b"LIST" + struct.pack("<I", 4089) + bytes(4089))  # Its name is a byte too far from the end.
-        self.assertIsNone(lost.chunks_at_end(self.path, 44))
+        self.assertIsNone(self.chunks_after(44))
 
     def test_a_header_that_is_lost(self):
         for bits, values in WIDE.items():
@@ -591,6 +594,27 @@ class Command(Folder):
         self.assertEqual((ended.returncode, hound.find_damage(self.path).state), (1, State.WHOLE), ended.stderr)
         self.assertIn(f" {kept} frames".encode(), ended.stderr)
         self.assertGreater(kept, 0)
+
+    def test_a_file_is_looked_at_once(self):
+        """What is written is decided by what was found under the lock: it is opened, locked and walked over once."""
+        counting = (
+            "import fcntl, io, os, sys; from hound_bindings import command; noted = []; "
+            "note = lambda call: lambda *words, **more: (noted.append((call, *words)), call(*words, **more))[1]; "
+            "before = io.open, os.pread, fcntl.flock; io.open, os.pread, fcntl.flock = map(note, before); "
+            "command.main(sys.argv[1:]); "
+            "opened = sum(call is before[0] and words[0] == 'a.wav' for call, *words in noted); "
+            "heads = sum(call is before[1] and words[2] == 0 for call, *words in noted); "
+            "locks = sum(call is before[2] and words[1] & fcntl.LOCK_EX == 2 for call, *words in noted); "
+            "print(opened, heads, locks)"
+        )
+        env = {**os.environ, "PYTHONPATH": os.path.dirname(os.path.dirname(hound.__file__))}
+        # A copy has a name of its own, and its front is copied before it is walked over.
+        for words, counts in (["info"], "1 1 0"), (["repair", "--dry-run"], "1 1 0"), (["repair"], "1 1 1"):
+            self.leave_as("a.wav", by_hand(bytes(20) + b"LIST\4\0\0\0INFO", 4))
+            command = [sys.executable, "-c", counting, *words, "a.wav"]
+            ended = subprocess.run(command, capture_output=True, env=env, cwd=self.folder)
+            self.assertIn(b"last 12 bytes look like a LIST chunk", ended.stderr)
+            self.assertEqual(ended.stdout.split(b"\n")[-2].decode(), counts, words)
 
     def limited(self, *words):
         """A command that may write no more than 65580 bytes to a file."""

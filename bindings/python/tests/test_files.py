@@ -23,28 +23,9 @@ import wave
 from unittest import mock
 
 import hound_bindings as hound
-from hound_bindings import Cause, HoundError, State
+from hound_bindings import Cause, HoundError, State, _library
 from interruptions import Interrupted, Interruption
-
-CHUNK = b"LIST" + struct.pack("<I", 4) + b"INFO"
-
-
-def by_hand(data, counted=None, after=b"", riff=None, channels=1, width=2):
-    """The bytes of a file with these data, whose header may count others."""
-    counted = len(data) if counted is None else counted
-    fmt = struct.pack("<IHHIIHH", 16, 1, channels, 8000, 8000 * channels * width, channels * width, 8 * width)
-    rest = b"WAVEfmt " + fmt + b"data" + struct.pack("<I", counted) + data + after
-    return b"RIFF" + struct.pack("<I", len(rest) if riff is None else riff) + rest
-
-
-def with_riff(content, size):
-    """The same bytes with this RIFF size."""
-    return content[:4] + struct.pack("<I", size) + content[8:]
-
-
-def with_chunk(content, chunk):
-    """A file with a chunk before its fmt chunk."""
-    return with_riff(content[:12] + chunk + content[12:], len(content) + len(chunk) - 8)
+from wav import CHUNK, by_hand, with_chunk, with_riff
 
 
 class Pipe:
@@ -177,21 +158,21 @@ class Files(unittest.TestCase):
         one, followed = array.array("h", [7]), by_hand(b"\1\2\3\4", after=CHUNK)
         for samples in one, array.array("h"):
             self.leave(followed)
-            self.fails(Cause.CHUNKS_FOLLOW, lambda: hound.append(self.path, samples))
+            self.fails(Cause.NEEDS_OVERWRITE, lambda: hound.append(self.path, samples))
             self.assert_file(followed)
         self.assertEqual(hound.append(self.path, one, overwrite=True), 50)
         self.assert_file(by_hand(b"\1\2\3\4\7\0"))
         self.leave(by_hand(b"\1\2", after=b"TAG" + bytes(125)))
-        self.fails(Cause.CHUNKS_FOLLOW, lambda: hound.append(self.path, one))
+        self.fails(Cause.NEEDS_OVERWRITE, lambda: hound.append(self.path, one))
 
     def test_an_append_to_what_was_cut_off(self):
         held = array.array("h", range(-24000, 24000)).tobytes()
         for cut_off, frames, cause in (
-            (by_hand(held, 0, riff=36), 48000, Cause.IS_CUT_OFF),  # as a recorder leaves it that was killed
-            (by_hand(held, 4), 48000, Cause.IS_CUT_OFF),
+            (by_hand(held, 0, riff=36), 48000, Cause.NEEDS_MEND),  # as a recorder leaves it that was killed
+            (by_hand(held, 4), 48000, Cause.NEEDS_MEND),
             (by_hand(held)[:-2], 47999, Cause.TRUNCATED),
             (by_hand(held, 0xFFFFFFFE), 48000, Cause.TRUNCATED),
-            (by_hand(held, 95999), 48000, Cause.IS_CUT_OFF),  # no whole frames
+            (by_hand(held, 95999), 48000, Cause.NEEDS_MEND),  # no whole frames
         ):
             for samples in array.array("h", [7]), array.array("h"):
                 for overwrite in False, True:
@@ -201,16 +182,16 @@ class Files(unittest.TestCase):
             self.assertEqual(hound.repair(self.path)[:2], (State.CUT_OFF, frames))
             self.assertEqual(hound.append(self.path, array.array("h", [7])), 44 + 2 * frames + 2)
             self.assert_file(by_hand(held[: 2 * frames] + b"\7\0"))
-        self.assertIn("repair", str(HoundError(Cause.IS_CUT_OFF)))
+        self.assertIn("repair", str(HoundError(Cause.NEEDS_MEND)))
         self.leave(by_hand(b"\x81\x82\x83", 0, width=1))  # A repair adds a pad byte.
-        self.fails(Cause.IS_CUT_OFF, lambda: hound.append(self.path, array.array("b", [4])))
+        self.fails(Cause.NEEDS_MEND, lambda: hound.append(self.path, array.array("b", [4])))
 
     def test_an_append_to_what_is_no_file_of_frames(self):
         torn = by_hand(b"\1\2\3", after=b"\0" + CHUNK)
         for contents, overwrite, cause in (
             (b"RIFX" + bytes(60), False, Cause.NO_RIFF_TAG),
             (b"RIFX" + bytes(60), True, Cause.NO_RIFF_TAG),
-            (torn, False, Cause.CHUNKS_FOLLOW),
+            (torn, False, Cause.NEEDS_OVERWRITE),
             (torn, True, Cause.UNFINISHED_FRAME),
         ):
             self.leave(contents)
@@ -347,10 +328,8 @@ class Files(unittest.TestCase):
         self.assertEqual((hound.repair(self.path).counted, hound.repair(self.path).added), (12, 0))
 
     def test_what_is_in_a_file_that_is_rejected(self):
-        def tagged(tag, bits=16, size=16, extra=b""):
-            fmt = struct.pack("<IHHIIHH", size + len(extra), tag, 1, 8000, 8000, 1, bits) + extra
-            rest = b"WAVEfmt " + fmt + b"data" + struct.pack("<I", 4) + bytes(4)
-            return b"RIFF" + struct.pack("<I", len(rest)) + rest
+        def tagged(tag, bits, extra=b""):
+            return by_hand(bytes(4), width=1, tag=tag, bits=bits, extra=extra)
 
         def converting(codec):
             source, target = f"'{self.folder.name}/a b.wav'", f"'{self.folder.name}/a b.pcm.wav'"
@@ -488,7 +467,7 @@ class Files(unittest.TestCase):
                     call()
         self.leave(content)
 
-        class Faulty(hound.io.FileIO):
+        class Faulty(io.FileIO):
             def read(self, count=-1):
                 raise fault
 
@@ -545,7 +524,8 @@ class Files(unittest.TestCase):
     def test_repairs_look_at_few_parts(self):
         """What is found over them is what is found over the whole file."""
         some, pread, counts = random.Random(5), os.pread, []
-        calls = [hound._function(name, *[ctypes.c_void_p, ctypes.c_size_t] * 2) for name in ("repair", "repair_to_end")]
+        given = [ctypes.c_void_p, ctypes.c_size_t] * 2
+        calls = [_library.function(name, *given) for name in ("repair", "repair_to_end")]
         for call in calls:
             call.argtypes = ctypes.c_void_p, ctypes.c_size_t, ctypes.c_size_t, ctypes.c_void_p
 
@@ -565,7 +545,7 @@ class Files(unittest.TestCase):
                 content = content[: some.choice((len(content), len(content), some.randrange(len(content) + 1)))]
                 for to_end in False, True:
                     self.leave(content)
-                    found = hound._Repair()
+                    found = _library.CRepair()
                     memory = bytearray(content + b"U")
                     with hound.conversion.address(memory) as (start, room):
                         size = calls[to_end](start, room, len(content), ctypes.byref(found))
@@ -714,7 +694,7 @@ class Files(unittest.TestCase):
         version = "int hound_version(void) { return %d; }"
         for source, why in (
             ("", "it lacks hound_version"),
-            (version % (major << 16 | minor << 8 | patch), "it lacks hound_info"),
+            (version % (major << 16 | minor << 8 | patch), "it lacks hound_kind"),
             (version % (major << 16 | minor << 8 | patch + 1), f"it is that of version {major}.{minor}.{patch + 1}"),
             (version % (1 << 16 | 2 << 8 | 34), "it is that of version 1.2.34"),
         ):
@@ -883,6 +863,15 @@ class Files(unittest.TestCase):
         self.assertEqual(hound.read(self.path, out=good, dtype="int16"), memoryview(samples[:200]))
         good.append(1)  # Nothing holds it.
 
+    def test_a_header_that_is_longer_than_what_is_read_at_once(self):
+        """Each of its parts may be across the end of the first 4096 bytes, or after it."""
+        for length in range(4096 - 60, 4096 + 20):
+            content = by_hand(b"\1\0\2\0", before=b"JUNK" + struct.pack("<I", length) + bytes(length + length % 2))
+            self.leave(content)
+            for file in self.path, content, io.BytesIO(content):
+                samples, info = hound.read_with_info(file)
+                self.assertEqual((list(samples), info.data_start), ([1, 2], len(content) - 4))
+
     def test_a_large_file_that_is_shorter_than_its_header_says(self):
         """It needs no memory for what isn't there, and the whole frames that are there are read."""
         data, samples = self.large(2, 2, 200003)
@@ -912,12 +901,10 @@ class Files(unittest.TestCase):
     def test_all_types_of_a_file_and_of_an_object(self):
         """A file at a path is read to where its samples belong, and an object by pieces that are decoded."""
         some = random.Random(11)
-        for form, tag, width in ((8, 1, 1), (16, 1, 2), (24, 1, 3), (32, 1, 4), (32, 3, 4)):
+        for tag, width in ((1, 1), (1, 2), (1, 3), (1, 4), (3, 4)):
             for count in 0, 1, 5, 4099, 150001:
                 data = some.randbytes(width * count * 2)
-                fmt = struct.pack("<IHHIIHH", 16, tag, 2, 8000, 8000 * 2 * width, 2 * width, form)
-                content = b"WAVEfmt " + fmt + b"data" + struct.pack("<I", len(data)) + data
-                content = b"RIFF" + struct.pack("<I", len(content)) + content
+                content = by_hand(data, channels=2, width=width, tag=tag)
                 self.leave(content)
                 for dtype in None, "int8", "int16", "int32", "float32", "float64":
                     with contextlib.suppress(HoundError):

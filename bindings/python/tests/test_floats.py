@@ -17,13 +17,13 @@ import tracemalloc
 import unittest
 import unittest.mock
 import warnings
-import wave
 
 import hound_bindings as hound
 from hound_bindings import Cause, Info
 from interruptions import Interrupted, Interruption
-from test_files import by_hand, two_d
-from test_streams import SAMPLES, Case, content_of, made_by_wave
+from test_files import two_d
+from test_streams import SAMPLES, Case, content_of
+from wav import by_hand, made_by_wave, wave_of
 
 WIDE = {
     8: [-128, -1, 0, 1, 127],
@@ -32,16 +32,6 @@ WIDE = {
     32: [-(2**31), -1, 0, 123456789, 2**31 - 1],
 }
 TOP = 32768.0
-
-
-def wave_of(bits, values, channels=1):
-    """The bytes of a file of these integers, by `wave`."""
-    top, width, file = 1 << (bits - 1), bits // 8, io.BytesIO()
-    with wave.open(file, "wb") as other:
-        other.setparams((channels, width, 8000, 0, "NONE", ""))
-        stored = [value + 128 if width == 1 else value % (2 * top) for value in values]
-        other.writeframes(b"".join(value.to_bytes(width, "little") for value in stored))
-    return file.getvalue()
 
 
 def nearest(sample, bits):

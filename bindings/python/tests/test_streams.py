@@ -3,6 +3,7 @@ import array
 import copy
 import errno
 import fcntl
+import functools
 import gc
 import io
 import itertools
@@ -24,27 +25,12 @@ import warnings
 import wave
 
 import hound_bindings as hound
-from hound_bindings import Cause, HoundError
+from hound_bindings import Cause, HoundError, _library
 from interruptions import Interrupted, Interruption, in_threads
+from wav import by_hand, made_by_wave
 
 SAMPLES = array.array("h", [2, -3, 5, -7, 32767, -32768, 0, 1, 100, -100])
-
-
-def by_hand(data, chunk=b"", channels=2, bits=16, tag=1, counted=None):
-    """The bytes of a file with these data, and maybe a chunk before its fmt chunk."""
-    width = (bits + 7) // 8
-    fmt = struct.pack("<IHHIIHH", 16, tag, channels, 8000, 8000 * channels * width, channels * width, bits)
-    length = struct.pack("<I", len(data) if counted is None else counted)
-    rest = b"WAVE" + chunk + b"fmt " + fmt + b"data" + length + data
-    return b"RIFF" + struct.pack("<I", len(rest)) + rest
-
-
-def made_by_wave(samples, channels=2):
-    file = io.BytesIO()
-    with wave.open(file, "wb") as other:
-        other.setparams((channels, 2, 8000, 0, "NONE", ""))
-        other.writeframes(samples.tobytes())
-    return file.getvalue()
+stereo = functools.partial(by_hand, channels=2)
 
 
 class Slow(io.RawIOBase):
@@ -94,8 +80,8 @@ class Streams(Case):
             self.assertTrue(reader._source.closed)
 
     def test_types(self):
-        eight = by_hand(bytes([0, 127, 128, 255]), bits=8)
-        floats = by_hand(struct.pack("<2f", 0.5, -0.25), channels=1, bits=32, tag=3)
+        eight = stereo(bytes([0, 127, 128, 255]), width=1)
+        floats = by_hand(struct.pack("<2f", 0.5, -0.25), width=4, tag=3)
         for file, dtype, code, values in (
             (eight, "int8", "b", [-128, -1, 0, 127]),
             (eight, None, "h", [-128, -1, 0, 127]),
@@ -108,7 +94,7 @@ class Streams(Case):
 
     def test_a_stream_of_unknown_length(self):
         for counted in 0, 1, 0x7FFFF000, 0x7FFFFFFF, 0xFFFFFFFF:
-            stream = by_hand(SAMPLES.tobytes(), counted=counted)
+            stream = stereo(SAMPLES.tobytes(), counted)
             for file in io.BytesIO(stream), Slow(stream):
                 with hound.open(file, to_end=True) as reader:
                     self.assertEqual((reader.info[:6], reader.info.frames), ((8000, 2, 16, False, 0, 44), 0))
@@ -132,7 +118,7 @@ class Streams(Case):
 
         def feed():
             with open(outer, "wb") as file:
-                file.write(by_hand(SAMPLES.tobytes(), chunk) + b"rest")
+                file.write(stereo(SAMPLES.tobytes(), before=chunk) + b"rest")
 
         thread = threading.Thread(target=feed)
         thread.start()
@@ -159,7 +145,7 @@ class Streams(Case):
             def seek(self, place, whence=0):
                 return place
 
-        content = by_hand(SAMPLES.tobytes(), b"LIST" + struct.pack("<I", 1000) + bytes(1000))
+        content = stereo(SAMPLES.tobytes(), before=b"LIST" + struct.pack("<I", 1000) + bytes(1000))
         for opened in Pipe, lambda pipe: io.BufferedReader(Pipe(pipe), 64):
             inner, outer = os.pipe()
             os.write(outer, content + b"rest")
@@ -201,7 +187,7 @@ class Streams(Case):
         samples = array.array("h", range(1, 21))
         inner, outer = os.pipe()
         os.set_blocking(inner, False)
-        content = by_hand(samples.tobytes(), channels=1)
+        content = by_hand(samples.tobytes())
         os.write(outer, content[:55])  # five samples and a half
         with open(inner, "rb", buffering=0) as source:
             reader = hound.open(source)
@@ -344,7 +330,7 @@ class Streams(Case):
                 self.assertEqual(reader.tell(), 10)
 
     def test_a_file_that_ends_early(self):
-        reader = hound.open(io.BytesIO(by_hand(SAMPLES.tobytes()[:-3], counted=20)))
+        reader = hound.open(io.BytesIO(stereo(SAMPLES.tobytes()[:-3], 20)))
         self.assertEqual(list(reader.read(3)), list(SAMPLES[:6]))
         self.assertEqual(list(reader.read(3)), list(SAMPLES[6:8]))
         self.fails(Cause.TRUNCATED, reader.read)
@@ -354,7 +340,7 @@ class Streams(Case):
         for length in range(44):
             self.fails(Cause.ENDED, lambda: hound.open(io.BytesIO(whole[:length])))
         self.fails(Cause.NO_RIFF_TAG, lambda: hound.open(Slow(b"RIFX" + whole[4:])))
-        self.fails(Cause.FRAME_LENGTH, lambda: hound.open(io.BytesIO(by_hand(bytes(6), channels=2))))
+        self.fails(Cause.FRAME_LENGTH, lambda: hound.open(io.BytesIO(stereo(bytes(6)))))
         with self.assertRaises(FileNotFoundError):
             hound.open("none.wav")
         others = (io.StringIO("RIFF"), "is opened as text"), (b"RIFF", "is of type bytes"), (7, "is of type int")
@@ -385,7 +371,7 @@ class Streams(Case):
 
     def test_memory_stays_small(self):
         with tempfile.TemporaryFile() as file:
-            file.write(by_hand(b"", counted=256 << 20))
+            file.write(stereo(b"", 256 << 20))
             file.truncate(44 + (256 << 20))
             file.seek(0)
             tracemalloc.start()
@@ -506,7 +492,7 @@ class Effects(Case):
             sync=lambda *_: None,
             sync_folder=lambda *_: None,
         )
-        effect = hound._Effect(kind=kind, report=0)
+        effect = _library.CEffect(kind=kind, report=0)
         hound.disk.perform(effect, file, True)
         return effect.report
 
@@ -531,14 +517,14 @@ class Effects(Case):
         file = io.BytesIO()
         writer, reports = hound.create(file, 8000, 2, 16), []
         before = file.getvalue()
-        with unittest.mock.patch("hound_bindings.streams._recorder_next", requests):
+        with unittest.mock.patch("hound_bindings._recorder._recorder_next", requests):
             self.assertRaises(NotImplementedError, writer.flush)
         self.assertEqual((reports, file.getvalue()), ([0], before))
         writer.close()
         for name, call in ("_walk_next", hound.open), ("_repairer_next", hound.repair):
             reports.clear()
             file.seek(0)
-            with unittest.mock.patch(f"hound_bindings.{name}", requests):
+            with unittest.mock.patch(f"hound_bindings._recorder.{name}", requests):
                 self.assertRaises(NotImplementedError, lambda: call(file))
             self.assertEqual(reports, [0])
 
@@ -583,7 +569,7 @@ class Recordings(Case):
         ):
             with hound.create(self.path, 8000, 1, bits, is_float=is_float) as writer:
                 writer.write(block)
-            wanted = bytearray(by_hand(data, channels=1, bits=bits, tag=tag))
+            wanted = bytearray(by_hand(data, width=bits // 8, tag=tag))
             wanted += bytes(len(data) % 2)  # a pad byte, which the RIFF size counts
             wanted[4:8] = struct.pack("<I", len(wanted) - 8)
             self.assertEqual(content_of(self.path), bytes(wanted))
@@ -594,14 +580,14 @@ class Recordings(Case):
     def test_append_to(self):
         chunk = b"LIST" + struct.pack("<I", 3) + b"abc\0"
         for first in (0, 4, 10):
-            self.leave(by_hand(SAMPLES[:first].tobytes(), chunk))
+            self.leave(stereo(SAMPLES[:first].tobytes(), before=chunk))
             with hound.append_to(self.path) as writer:
                 writer.write(SAMPLES[first:])
-            self.assertEqual(content_of(self.path), by_hand(SAMPLES.tobytes(), chunk))
+            self.assertEqual(content_of(self.path), stereo(SAMPLES.tobytes(), before=chunk))
         for content, cause in (
-            (by_hand(SAMPLES.tobytes(), counted=8), Cause.IS_CUT_OFF),
-            (by_hand(SAMPLES.tobytes()) + chunk, Cause.CHUNKS_FOLLOW),
-            (by_hand(SAMPLES.tobytes(), counted=7), Cause.IS_CUT_OFF),
+            (stereo(SAMPLES.tobytes(), 8), Cause.NEEDS_MEND),
+            (stereo(SAMPLES.tobytes()) + chunk, Cause.NEEDS_OVERWRITE),
+            (stereo(SAMPLES.tobytes(), 7), Cause.NEEDS_MEND),
             (b"RIFX" + bytes(60), Cause.NO_RIFF_TAG),
         ):
             self.leave(content)
@@ -911,7 +897,7 @@ class Recordings(Case):
         """Also where a size can't be written: so it can be done again. After a sync that failed nothing is written."""
         for bits, durable in itertools.product((8, 16), (False, True)):
             contents = (bytes(range(1, 1 + count)) for count in (8, 8 + 3 * bits // 8))
-            before, after = (by_hand(content, channels=1, bits=bits) for content in contents)
+            before, after = (by_hand(content, width=bits // 8) for content in contents)
             after += bytes(len(after) % 2)
             after = after[:4] + struct.pack("<I", len(after) - 8) + after[8:]
             for nth in itertools.count(1):
@@ -1148,7 +1134,7 @@ class Recordings(Case):
 
         def late(descriptor, operation):
             if not replaced:
-                replaced.append(hound.os.replace(self.path + "2", self.path))
+                replaced.append(os.replace(self.path + "2", self.path))
             return lock(descriptor, operation)
 
         replaced = []
@@ -1174,11 +1160,11 @@ class Recordings(Case):
         """Where frames have one byte, what isn't zero there is a sample."""
         for bits, channels, last in ((8, 1, b"\0"), (8, 1, b"\x4d"), (8, 3, b"\x4d"), (24, 1, b"\x4d")):
             is_cut_off = (bits, channels, last) == (8, 1, b"\x4d")
-            content = by_hand(bytes(range(1, 4)), channels=channels, bits=bits)
+            content = by_hand(bytes(range(1, 4)), channels=channels, width=bits // 8)
             self.leave(content + last)
             for call in (lambda: hound.append_to(self.path).close(), lambda: hound.append(self.path, array.array("b"))):
                 if is_cut_off:
-                    self.fails(Cause.IS_CUT_OFF, call)
+                    self.fails(Cause.NEEDS_MEND, call)
                     self.assertEqual(content_of(self.path), content + last)
                 else:
                     call()

@@ -101,7 +101,8 @@ hound = imported()
 import test_files  # noqa: E402
 import test_floats  # noqa: E402
 import test_streams  # noqa: E402
-from test_streams import SAMPLES, content_of, made_by_wave  # noqa: E402
+from test_streams import SAMPLES, content_of  # noqa: E402
+from wav import made_by_wave  # noqa: E402
 
 
 class Windows(test_streams.Case):

@@ -75,8 +75,8 @@ errors! {
          (a recording that was cut off can be repaired, a stream of unknown length can be read to its end)";
     NeedsCheckpoint = -27, "a write failed or a checkpoint is not done, and no samples are written before one is";
     SyncFailed = -28, "a sync failed, and it is unknown what is stored";
-    IsCutOff = -29, "the recording was cut off, and has to be repaired first";
-    ChunksFollow = -30, "chunks or a tag follow the data, and would be overwritten";
+    NeedsMend = -29, "the recording was cut off, and has to be repaired first";
+    NeedsOverwrite = -30, "chunks or a tag follow the data, and would be overwritten";
     NotPerformed = -31, "the file could not be read or written";
     // The end of what is made from hound.h.
 }
@@ -180,7 +180,7 @@ mod c {
     pub const WRITE: u16 = 2;
     pub const WRITE_BLOCK: u16 = 3;
     pub const SYNC: u16 = 4;
-    pub const CUT: u16 = 5;
+    pub const SHORTEN: u16 = 5;
     pub const SYNC_FOLDER: u16 = 6;
     pub const PENDING: u16 = 0;
     pub const DONE: u16 = 1;

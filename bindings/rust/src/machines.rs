@@ -17,7 +17,7 @@ pub enum Kind {
     /// kill; only if it stores them, as [`File::sync_data`](fs::File::sync_data) does, also after a loss of power.
     Sync,
     /// It cuts the file off, where it is longer than its place.
-    Cut,
+    Shorten,
     /// It syncs the folder that holds the file's name.
     SyncFolder,
     /// What only a newer library requests. It has to be reported as failed.
@@ -42,7 +42,7 @@ impl Effect {
             c::WRITE => Kind::Write,
             c::WRITE_BLOCK => Kind::WriteBlock,
             c::SYNC => Kind::Sync,
-            c::CUT => Kind::Cut,
+            c::SHORTEN => Kind::Shorten,
             c::SYNC_FOLDER => Kind::SyncFolder,
             _ => Kind::Unknown,
         }
@@ -105,7 +105,7 @@ impl Effect {
                 self.failed(); // unless it returns
                 medium.sync()
             }
-            Kind::Cut => medium.cut(place),
+            Kind::Shorten => medium.cut(place),
             Kind::SyncFolder => medium.sync_folder(),
             Kind::Unknown => Err(unknown_effect()),
         };
@@ -287,7 +287,7 @@ trait Machine {
         loop {
             match self.next_effect() {
                 Ok(Next::Effect(effect)) => {
-                    let may_fail = effect.kind() == Kind::Cut;
+                    let may_fail = effect.kind() == Kind::Shorten;
                     let result = effect.perform(medium, block);
                     if !may_fail {
                         fault = fault.or(result.err());
@@ -564,10 +564,11 @@ impl Recorder {
 
     /// A recorder of a file as a repairer of [`Mode::FindDamage`], or [`find_damage`](crate::find_damage), found it.
     /// One that ends with the samples that its header counts, or with their pad byte, needs nothing that is allowed.
-    /// Else the error is [`IsCutOff`](crate::Error::IsCutOff) or [`ChunksFollow`](crate::Error::ChunksFollow); where
-    /// samples are missing that the header counts it is [`Truncated`](crate::Error::Truncated). Where the header counts
-    /// a part of a frame it is [`UnfinishedFrame`](crate::Error::UnfinishedFrame), also with `mend`, since a recorder
-    /// never cuts off what is counted: repair the file first.
+    /// Else the error is [`NeedsMend`](crate::Error::NeedsMend) or [`NeedsOverwrite`](crate::Error::NeedsOverwrite), by
+    /// what is lacking in `allowed`; where samples are missing that the header counts it is
+    /// [`Truncated`](crate::Error::Truncated). Where the header counts a part of a frame it is
+    /// [`UnfinishedFrame`](crate::Error::UnfinishedFrame), also with `mend`, since a recorder never cuts off what is
+    /// counted: repair the file first.
     pub fn resume(found: &Repair, allowed: Allowed) -> Result<Recorder> {
         let Allowed { mend, overwrite } = allowed;
         let (mut recorder, allowed) =

@@ -481,7 +481,7 @@ fn what_the_header_does_not_count_is_overwritten() {
     assert_eq!(append_to(&mut file, 50, &[9i16]), Ok(48));
     assert_eq!(read::<i16>(&file[..48]).unwrap(), [1, 9]);
     let found = find_damage(&repaired).unwrap();
-    assert_eq!(Recorder::resume(&found, OVERWRITE).err(), Some(Error::IsCutOff));
+    assert_eq!(Recorder::resume(&found, OVERWRITE).err(), Some(Error::NeedsMend));
     assert_eq!(Recorder::resume(&found, MEND).unwrap().samples(), 3);
     assert_eq!(repair(&mut repaired, 50).unwrap().frames, 3);
     repaired.extend([0; 2]);
@@ -821,14 +821,14 @@ fn a_recorder_continues_a_file_as_it_is_allowed_to() {
     assert_eq!(resume(&file, Allowed::default()), Ok(3));
     assert_eq!(resume(&file[..48], OVERWRITE), Err(Error::Truncated));
     let longer = [&file[..], &[7, 0]].concat();
-    assert_eq!((resume(&longer, Allowed::default()), resume(&longer, MEND)), (Err(Error::IsCutOff), Ok(4)));
+    assert_eq!((resume(&longer, Allowed::default()), resume(&longer, MEND)), (Err(Error::NeedsMend), Ok(4)));
     let with_chunk = [&file[..], b"LIST\x04\0\0\0INFO"].concat();
-    assert_eq!((resume(&with_chunk, MEND), resume(&with_chunk, OVERWRITE)), (Err(Error::ChunksFollow), Ok(3)));
+    assert_eq!((resume(&with_chunk, MEND), resume(&with_chunk, OVERWRITE)), (Err(Error::NeedsOverwrite), Ok(3)));
     // A byte that isn't 0 is no pad byte, but a sample, which nobody counted.
     let bytes = write(&Spec { bits_per_sample: 8, ..SPEC }, &[2i16, 3, 5]).unwrap();
     assert_eq!((resume(&bytes, Allowed::default()), resume(&bytes[..47], Allowed::default())), (Ok(3), Ok(3)));
     let uncounted = [&bytes[..47], &[130]].concat();
-    assert_eq!((resume(&uncounted, Allowed::default()), resume(&uncounted, MEND)), (Err(Error::IsCutOff), Ok(4)));
+    assert_eq!((resume(&uncounted, Allowed::default()), resume(&uncounted, MEND)), (Err(Error::NeedsMend), Ok(4)));
     // What is overwritten is cut off first.
     let mut recorder = Recorder::resume(&find_damage(&with_chunk).unwrap(), OVERWRITE).unwrap();
     let mut medium = Memory::of(with_chunk);

@@ -4,7 +4,7 @@ use Rattle.std.proofs.lemmas.Bool.{false≢true}
 use Rattle.std.proofs.Common.{◌≡◌, ℕ, zero, suc, ◌+◌, ◌%◌, ◌<◌, ◌≤◌, Bool, true, false, List, [], ◌∷◌, ◌++◌, length, inl, inr, None, Some, Result, Ok, Err, refl, sym, ap, ◌∙◌, subst, arith}
 use Rattle.hound_writer.specs.{Advances, GoesOn, HasEnded, MaySave, ThenGoesOn, cuts_next, effects_of, nth, pad_effects, size_effects}
 use Rattle.hound_writer.specs.declared.effects.Action.{Action}
-use Rattle.hound_writer.specs.declared.effects.Action.TheVariants.{Cut, Perform, Read, WriteBlock}
+use Rattle.hound_writer.specs.declared.effects.Action.TheVariants.{Shorten, Perform, Read, WriteBlock}
 use Rattle.hound_writer.specs.declared.effects.Effect.{Effect}
 use Rattle.hound_writer.specs.declared.effects.Report.{Report}
 use Rattle.hound_writer.specs.declared.effects.Report.TheVariants.{Pending, Done, Failed}
@@ -32,7 +32,7 @@ few_effects r =
 
 -- an action is requested only where something is under way
 not_idle : (mid new : Recorder) (action : Action) → GoesOn mid new (Ok (Some action)) → mid.phase ≡ Idle → ⊥
-not_idle mid new (Cut at) (cuts, same, there) idle =
+not_idle mid new (Shorten at) (cuts, same, there) idle =
     false≢true (subst (λ phase. cuts_next phase mid.has_rest ≡ true) idle cuts)
 not_idle mid new (Read at len) never idle = never
 not_idle mid new (Perform effect) ((rest, inl saving), same, r, next) idle = cc (saving, idle)
@@ -62,7 +62,7 @@ block_left mid new at len (n, r, (rest, inr (inr (waiting, next))), (there, long
 
 -- a request leaves no more actions
 not_more : (mid new : Recorder) (action : Action) → GoesOn mid new (Ok (Some action)) → actions_left new ≤ actions_left mid
-not_more mid new (Cut at) (cuts, same, there) = subst (λ (x : Recorder). actions_left x ≤ actions_left mid) (sym same) (omega arith)
+not_more mid new (Shorten at) (cuts, same, there) = subst (λ (x : Recorder). actions_left x ≤ actions_left mid) (sym same) (omega arith)
 not_more mid new (Read at len) never = absurd never
 not_more mid new (Perform effect) (saving, same, r, next) =
     subst (λ (x : Recorder). actions_left x ≤ actions_left mid) (sym same) (omega arith)
@@ -88,7 +88,7 @@ after_effect (Writing n) cuts number never inside = absurd never
 -- the block comes where no effect is left
 block_next : (old new : Recorder) (action : Action) → GoesOn old new (Ok (Some action)) → MaySave old.phase
     → old.has_rest ≡ false → nth (effects_of old) old.number ≡ None → actions_left new < actions_left old
-block_next old new (Cut at) (cuts, same, there) may none last =
+block_next old new (Shorten at) (cuts, same, there) may none last =
     absurd (by old.phase may (subst (λ rest. cuts_next old.phase rest ≡ true) none cuts))
   where
     by : (phase : Phase) → MaySave phase → cuts_next phase false ≡ true → ⊥

@@ -1,7 +1,7 @@
 // The functions of `callers` and `reading`, each run once.
 use hound::{Decode, Source, WavReader, WavWriter};
 use hound_callers::{
-    give_up_batch, look_and_repair, open_written, publish, read_block, read_from, read_memory,
+    look_and_repair, open_written, publish, read_block, read_from, read_memory,
     record_at_once, reopen, sample_at, samples_of, written_and_read,
 };
 use hound_test_helpers::{FOUR_SAMPLES, NO_SAMPLES, empty_tape, name_of, sixteen, tape_of};
@@ -21,7 +21,6 @@ const CUT_OFF: &[u8] = b"RIFF\0\0\0\0WAVEfmt \x10\0\0\0\
 #[test]
 fn a_recorder_publishes_each_sample(rt: HostRuntime) -> Result<(), Fail> {
     let mut writer = WavWriter::new(empty_tape(rt.alloc()), sixteen(1))?;
-    give_up_batch(rt.alloc(), &mut writer, 9)?;
     for sample in [2i16, -3, 5, -7] {
         record_at_once(&mut writer, &[sample])?;
     }

@@ -4,7 +4,7 @@ use hound::{
 };
 use hound_callers::{
     Twelve, append_blocks, append_by_effects, begin_by_effects, continue_by_effects, finish,
-    finish_durable, opened_meanwhile, pack_one, publish_and_continue, publish_durably, record,
+    finish_durable, opened_meanwhile, pack_one, publish_and_continue, record,
     record_at_once, record_batch, record_by_effects, record_checkpoints, record_in_parts,
     record_steps, write_if_short,
 };
@@ -317,7 +317,7 @@ fn ends_durably(alloc: Global) -> hound::Result<bool> {
     let mut writer = WavWriter::new(Durable::new(journal), sixteen(1))?;
     record_at_once(&mut writer, &[2i16, -3])?;
     writer.write_samples(&[5i16, -7])?;
-    publish_durably(&mut writer)?;
+    writer.flush()?;
     let (journal, result) = finish_durable(writer);
     result?;
     let taken = journal.taken();

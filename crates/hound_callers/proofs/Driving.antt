@@ -6,11 +6,11 @@ use Rattle.std.proofs.lemmas.List.{append-nil}
 use Rattle.std.proofs.Common.{List, [], ◌∷◌, ◌++◌, length, is_ok, ◌≡◌, ◌⊎◌, ◌<◌, ◌≤◌, ◌+◌, ◌-◌, ℕ, Bool, true, false, inl, inr, Option, None, Some, Result, Ok, Err, refl, sym, ◌∙◌, ap, subst, arith}
 use Rattle.std.specs.Prelude.{⊤}
 use Rattle.hound.specs.{Action, Asked, Begun, Directed, Effect, Known, Log, MediumState, Performs, PutsAt, WavSpecEx, block_known, cut_known, marked, publish, whole_containers, write, EffectEnds, GoesOn, HandsOut, HasData, HasEnded, IsAlive, IsDue, MaySave, NextEffect, Phase, Recorder, RecorderError, Report, Settles, Advances, ThenGoesOn, after_block, cuts_next, doubted, end_place}
-use Rattle.hound.specs.declared.Action.TheVariants.{Cut, Perform, Read, WriteBlock}
+use Rattle.hound.specs.declared.Action.TheVariants.{Shorten, Perform, Read, WriteBlock}
 use Rattle.hound.specs.declared.Health.TheVariants.{Sound, Suspect}
 use Rattle.hound.specs.declared.Phase.TheVariants.{Idle, Saving, Requested, Writing, Cleaning}
 use Rattle.hound.specs.declared.Report.TheVariants.{Done, Failed, Pending}
-use Rattle.hound.specs.declared.RecorderError.TheVariants.{NotWritable, UnfinishedFrame, TooLong, Truncated, CutOff, HasChunksAfterData, NeedsCheckpoint, SyncFailed}
+use Rattle.hound.specs.declared.RecorderError.TheVariants.{NotWritable, UnfinishedFrame, TooLong, Truncated, NeedsMend, NeedsOverwrite, NeedsCheckpoint, SyncFailed}
 use Rattle.hound.proofs.Recorders.{same_next}
 use Rattle.hound_callers.specs.Recorder.{IsAsked, asked_as, length_after, once_done, report_for}
 
@@ -83,7 +83,7 @@ pub record Laws (asked : Recorder) (report : Report) (before after : Option Bool
       → asked.phase ≡ Requested n → report ≡ report_for b → before None r → r ≡ record asked { phase = Writing n }
       → GoesOn r r (Ok (Some (WriteBlock at len))) → does (WriteBlock at len) → HasEnded b r mid outcome → after (Some b) mid
   pub cut : (b : Bool) (r mid : Recorder) (at : ℕ) (outcome : Result (Unit {0}) RecorderError)
-      → before (Some false) r → cuts_next r.phase r.has_rest ≡ true → does (Cut at) → HasEnded b r mid outcome → after (Some false) mid
+      → before (Some false) r → cuts_next r.phase r.has_rest ≡ true → does (Shorten at) → HasEnded b r mid outcome → after (Some false) mid
   pub handed : (mid r : Recorder) (at len : ℕ) → mid.number ≡ 0 → after None mid
       → GoesOn mid r (Ok (Some (WriteBlock at len))) → after None r
   pub saved : (mid r : Recorder) → asked.phase ≡ Saving → mid.phase ≡ Saving → after None mid → GoesOn mid r (Ok None)
@@ -98,8 +98,8 @@ fails after last NotWritable n has (is, _, none) = grind (arith, common_steps)
 fails after last TooLong n has (is, _, none) = grind (arith, common_steps)
 fails after last UnfinishedFrame n has (is, _, never) = absurd never
 fails after last Truncated n has (is, _, never) = absurd never
-fails after last CutOff n has (is, _, never) = absurd never
-fails after last HasChunksAfterData n has (is, _, never) = absurd never
+fails after last NeedsMend n has (is, _, never) = absurd never
+fails after last NeedsOverwrite n has (is, _, never) = absurd never
 
 -- what the end of an effect makes of the recorder
 abbrev pub Shape : Result (Unit {0}) RecorderError → Recorder → Recorder → Type 0
@@ -168,7 +168,7 @@ effect_phase mid r effect phase is ((rest, inr (n, waiting, first)), same, after
 
 -- something is cut off only in its phase
 pub cut_phase : (mid r : Recorder) (at : ℕ) (phase : Phase) (rest : Bool) → mid.phase ≡ phase → mid.has_rest ≡ rest
-    → GoesOn mid r (Ok (Some (Cut at))) → cuts_next phase rest ≡ true
+    → GoesOn mid r (Ok (Some (Shorten at))) → cuts_next phase rest ≡ true
 cut_phase mid r at phase rest is follows (cuts, same, there) =
     subst (λ (x : Phase × Bool). cuts_next x.0 x.1 ≡ true) (λ i. (is i, follows i)) cuts
 
@@ -285,7 +285,7 @@ module _ (asked : Recorder) (n : ℕ) (is_asked : IsAsked asked n) where
         (laws.performed r mid effect outcome saving (subst (λ o. before o r) none known) goes did settles)
     over_by b reported r mid over outcome (WriteBlock at len) (inl (saving, is, none)) known goes did ended settles =
         absurd (block_phase r r at len Saving (phase_of r _ is ∙ saving) goes)
-    over_by b reported r mid over outcome (Cut at) (inl (saving, is, none)) known goes did ended settles =
+    over_by b reported r mid over outcome (Shorten at) (inl (saving, is, none)) known goes did ended settles =
         absurd (false≢true (cut_phase r r at Saving false (phase_of r _ is ∙ saving) (rest_of r _ is ∙ is_asked.2) goes))
     over_by b reported r mid over outcome (Read at len) within known goes did ended settles = absurd goes
     over_by b reported r mid over outcome action (inr (inl (k, waiting, pending, is, none))) known goes did ended settles =
@@ -296,9 +296,9 @@ module _ (asked : Recorder) (n : ℕ) (is_asked : IsAsked asked n) where
         (laws.wrote b r mid k at len outcome waiting reported (subst (λ o. before o r) none known) is goes did ended)
     over_by b reported r mid over outcome (Perform effect) (inr (inr (inl (k, waiting, is, none)))) known goes did ended settles =
         absurd (effect_phase r r effect (Writing k) (phase_of r _ is) goes)
-    over_by b reported r mid over outcome (Cut at) (inr (inr (inl (k, waiting, is, none)))) known goes did ended settles =
+    over_by b reported r mid over outcome (Shorten at) (inr (inr (inl (k, waiting, is, none)))) known goes did ended settles =
         absurd (false≢true (cut_phase r r at (Writing k) false (phase_of r _ is) (rest_of r _ is ∙ is_asked.2) goes))
-    over_by b reported r mid over outcome (Cut at) (inr (inr (inr (k, waiting, is, lost)))) known goes did ended settles =
+    over_by b reported r mid over outcome (Shorten at) (inr (inr (inr (k, waiting, is, lost)))) known goes did ended settles =
         cut_over b r mid outcome (phase_of r _ is) (ap (λ (x : Recorder). x.number) is ∙ is_asked.0) ended
         (laws.cut b r mid at outcome (subst (λ o. before o r) lost known) goes.0 did ended)
     over_by b reported r mid over outcome (Perform effect) (inr (inr (inr (k, waiting, is, lost)))) known goes did ended settles =
@@ -372,7 +372,7 @@ module _ (asked : Recorder) (n : ℕ) (is_asked : IsAsked asked n) where
         rw same (over, (λ _. inl (saving, is, none)), known, (phase, refl, x, next))
     goes_on mid r over (WriteBlock at len) (inl (inl (saving, is, none))) known goes =
         absurd (block_phase mid r at len Saving (phase_of mid _ is ∙ saving) goes)
-    goes_on mid r over (Cut at) (inl (inl (saving, is, none))) known goes =
+    goes_on mid r over (Shorten at) (inl (inl (saving, is, none))) known goes =
         absurd (false≢true (cut_phase mid r at Saving false (phase_of mid _ is ∙ saving) (rest_of mid _ is ∙ is_asked.2) goes))
     goes_on mid r over (Perform effect) (inl (inr (inl (k, waiting, _, is, none)))) known goes =
         absurd (clear goes)
@@ -388,7 +388,7 @@ module _ (asked : Recorder) (n : ℕ) (is_asked : IsAsked asked n) where
         let (one, same) = as_asked mid saved k samples waiting is due in
         handed_on mid r saved k at len waiting same (subst (λ n. HandsOut n saved r (WriteBlock at len)) one handed)
         (laws.handed mid r at len (number ∙ is_asked.0) (subst (λ o. after o mid) none known) (samples, saved, due, handed))
-    goes_on mid r over (Cut at) (inl (inr (inl (k, waiting, _, is, none)))) known goes =
+    goes_on mid r over (Shorten at) (inl (inr (inl (k, waiting, _, is, none)))) known goes =
         absurd (false≢true (cut_phase mid r at (Requested k) false (phase_of mid asked is ∙ waiting) (rest_of mid asked is ∙ is_asked.2) goes))
     goes_on mid r over (Perform effect) (inl (inr (inr (inl (k, waiting, is, none))))) known goes =
         absurd (effect_phase mid r effect (Writing k) (phase_of mid _ is) goes)
@@ -397,9 +397,9 @@ module _ (asked : Recorder) (n : ℕ) (is_asked : IsAsked asked n) where
         let (one, same) = as_handed mid saved k samples is due in
         handed_on mid r saved k at len waiting same (subst (λ n. HandsOut n saved r (WriteBlock at len)) one handed)
         (laws.handed mid r at len (number ∙ is_asked.0) (subst (λ o. after o mid) none known) (samples, saved, due, handed))
-    goes_on mid r over (Cut at) (inl (inr (inr (inl (k, waiting, is, none))))) known goes =
+    goes_on mid r over (Shorten at) (inl (inr (inr (inl (k, waiting, is, none))))) known goes =
         absurd (false≢true (cut_phase mid r at (Writing k) false (phase_of mid _ is) (rest_of mid _ is ∙ is_asked.2) goes))
-    goes_on mid r over (Cut at) (inl (inr (inr (inr (k, waiting, is, lost))))) known (cuts, same, place) =
+    goes_on mid r over (Shorten at) (inl (inr (inr (inr (k, waiting, is, lost))))) known (cuts, same, place) =
         rw same (over, (λ _. inr (inr (inr (k, waiting, is, lost)))), known, (cuts, refl, place))
     goes_on mid r over (Perform effect) (inl (inr (inr (inr (k, waiting, is, lost))))) known goes =
         absurd (effect_phase mid r effect Cleaning (phase_of mid _ is) goes)
@@ -409,7 +409,7 @@ module _ (asked : Recorder) (n : ℕ) (is_asked : IsAsked asked n) where
         absurd (effect_phase mid r effect Idle (phase_of mid _ is) goes)
     goes_on mid r over (WriteBlock at len) (inr (k, waiting, is, ok)) known goes =
         absurd (block_phase mid r at len Idle (phase_of mid _ is) goes)
-    goes_on mid r over (Cut at) (inr (k, waiting, is, ok)) known goes =
+    goes_on mid r over (Shorten at) (inr (k, waiting, is, ok)) known goes =
         absurd (false≢true (cut_phase mid r at Idle mid.has_rest (phase_of mid _ is) refl goes))
 
     -- all of it is done

@@ -6,7 +6,7 @@ use Rattle.std.proofs.Common.{List, [], ◌∷◌, ◌++◌, is_ok, take, ◌≡
 use Rattle.std.specs.Prelude.{if◌then◌else◌, IfErr}
 use Rattle.hound.specs.{Begun, Directed, Effect, EffectEnds, FoundFile, IsAlive, is_sound, Goes, IsCutOff, IsSynced, Resumes, ResumesAfter, kept_length, pad_effects, recorder_of, resumed_recorder, riff_size, size_effects, GoesOn, HasData, HasEnded, Log, MediumState, NextEffect, Performed, Performs, Recorder, RecorderError, Repeats, Report, Settles, effects_of, nth}
 use Rattle.hound.specs.declared.Action.TheVariants.{Perform}
-use Rattle.hound.specs.declared.RecorderError.TheVariants.{NotWritable, UnfinishedFrame, TooLong, Truncated, CutOff, HasChunksAfterData, NeedsCheckpoint, SyncFailed}
+use Rattle.hound.specs.declared.RecorderError.TheVariants.{NotWritable, UnfinishedFrame, TooLong, Truncated, NeedsMend, NeedsOverwrite, NeedsCheckpoint, SyncFailed}
 use Rattle.hound.specs.declared.Effect.TheVariants.{Pad, Size, Sync}
 use Rattle.hound.specs.declared.Phase.TheVariants.{Idle, Saving}
 use Rattle.hound.specs.declared.Report.TheVariants.{Pending}
@@ -135,8 +135,8 @@ no_error r new NotWritable has low (is, _, never) = grind (arith, common_steps)
 no_error r new TooLong has low (is, _, never) = grind (arith, common_steps)
 no_error r new UnfinishedFrame has low (is, _, never) = never
 no_error r new Truncated has low (is, _, never) = never
-no_error r new CutOff has low (is, _, never) = never
-no_error r new HasChunksAfterData has low (is, _, never) = never
+no_error r new NeedsMend has low (is, _, never) = never
+no_error r new NeedsOverwrite has low (is, _, never) = never
 
 pub effects_not_failed : (asked : Recorder) (start : Log) (m : MediumState) (new : Recorder) (error : RecorderError)
     (over : Option Bool) (mid : Recorder) → PerformedAt asked start m over mid → IsAlive mid

@@ -11,7 +11,7 @@ use Rattle.hound.specs.{Abandons, AreBytes, AsksForBlock, Asked, Begun, Directed
 use Rattle.hound.specs.declared.Phase.{Phase}
 use Rattle.hound.specs.declared.Phase.TheVariants.{Idle, Saving, Requested, Writing, Cleaning}
 use Rattle.hound.specs.declared.Report.TheVariants.{Pending}
-use Rattle.hound.specs.declared.RecorderError.TheVariants.{NotWritable, UnfinishedFrame, TooLong, Truncated, CutOff, HasChunksAfterData, NeedsCheckpoint, SyncFailed}
+use Rattle.hound.specs.declared.RecorderError.TheVariants.{NotWritable, UnfinishedFrame, TooLong, Truncated, NeedsMend, NeedsOverwrite, NeedsCheckpoint, SyncFailed}
 use Rattle.hound_callers.specs.Recorder.{IsDirected, IsFree, IsReady, IsRejected, ReadsBlocks, Saves, Stops, StopsAt, StopsIn, samples_of}
 use Rattle.hound_callers.specs.Recording.{published_calls}
 use Rattle.hound_callers.proofs.Publishing.{accepted, last_call}
@@ -66,8 +66,8 @@ not_taken r new block error whole ready (end, gives, takes) =
     by NotWritable (same, alive, inr thin) = absurd (let wide = ready.6 in omega (arith, wide, thin))
     by NeedsCheckpoint (same, alive, never) = absurd never
     by Truncated (same, alive, never) = absurd never
-    by CutOff (same, alive, never) = absurd never
-    by HasChunksAfterData (same, alive, never) = absurd never
+    by NeedsMend (same, alive, never) = absurd never
+    by NeedsOverwrite (same, alive, never) = absurd never
 
 -- what holds at an Ok, or at an Err
 pub on_ok : {T E P : Type 0} (r : Result T E) → (is_ok r ≡ true → P) → OnOk r P

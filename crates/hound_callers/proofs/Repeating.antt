@@ -4,7 +4,7 @@ use Rattle.std.proofs.Common.{List, [], ◌∷◌, length, is_ok, ◌≡◌, ◌
 use Rattle.std.specs.Prelude.{⊤}
 use Rattle.std.specs.declared.io.Error.{Error as IoFault}
 use Rattle.hound.specs.{Action, Advances, AreBytes, Begun, Directed, Effect, Flushes, Known, WavSpecEx, GoesOn, IsAlive, IsClear, IsDue, IsSaid, Log, MediumState, NextEffect, PutsAt, Recorder, RecorderError, Repeats, Report, SavesFirst, Settles, bytes_of, end_place, ThenGoesOn, written_first}
-use Rattle.hound.specs.declared.Action.TheVariants.{Cut, Perform, Read, WriteBlock}
+use Rattle.hound.specs.declared.Action.TheVariants.{Shorten, Perform, Read, WriteBlock}
 use Rattle.hound.specs.declared.Effect.TheVariants.{Pad, Size, Sync}
 use Rattle.hound.specs.declared.Health.TheVariants.{Dead}
 use Rattle.hound.specs.declared.Phase.TheVariants.{Idle, Saving, Requested, Writing}
@@ -17,7 +17,7 @@ use Rattle.hound_callers.proofs.Driving.{DoesAction, HasAction, IsWithin, KnownA
 -- a write was begun, once or more often, and a beginning of its bytes is there
 abbrev pub Tried : Action → List ℕ → MediumState → MediumState → Type 0
 Tried (Perform Sync) block m now = Repeats m now
-Tried (Cut at) block m now = Repeats m now
+Tried (Shorten at) block m now = Repeats m now
 Tried (Read at len) block m now = Repeats m now
 Tried action block m now = (n : ℕ) × (n ≤ length (bytes_for action block))
     × Repeats (written_first (place_for action) (bytes_for action block) n m) now
@@ -53,7 +53,7 @@ module _ (laws : Again) (block : List ℕ) where
   begun (Perform (Pad at)) m now repeats = (0, omega arith, laws.begun at (0 ∷ []) m now repeats)
   begun (Perform (Size at size)) m now repeats = (0, omega arith, laws.begun at (bytes_of 4 size) m now repeats)
   begun (WriteBlock at len) m now repeats = (0, omega arith, laws.begun at block m now repeats)
-  begun (Cut at) m now repeats = repeats
+  begun (Shorten at) m now repeats = repeats
   begun (Read at len) m now repeats = repeats
 
   -- a write, by its report
@@ -92,7 +92,7 @@ module _ (laws : Again) (block : List ℕ) where
       writes at (bytes_of 4 size) m old new report result small was is puts
   comes (WriteBlock at len) report m old new small was (result, is, puts) =
       writes at block m old new report result small was is puts
-  comes (Cut at) report m old new small was same = rests report m old new was same
+  comes (Shorten at) report m old new small was same = rests report m old new was same
   comes (Read at len) report m old new small was same = rests report m old new was same
 
   -- a recorder that returned an action returns no other, and doesn't end
@@ -107,9 +107,9 @@ module _ (laws : Again) (block : List ℕ) where
       let (is, same) = same_next r after other (Some effect) (Ok None) next none in cc
 
   -- what is cut off, and what is done else, exclude each other
-  cuts_alone : (r x y : Recorder) (at : ℕ) (other : Action) → GoesOn r x (Ok (Some (Cut at))) → GoesOn r y (Ok (Some other))
-      → ((to : ℕ) → other ≡ Cut to → ⊥) → ⊥
-  cuts_alone r x y at (Cut to) goes again never = never to refl
+  cuts_alone : (r x y : Recorder) (at : ℕ) (other : Action) → GoesOn r x (Ok (Some (Shorten at))) → GoesOn r y (Ok (Some other))
+      → ((to : ℕ) → other ≡ Shorten to → ⊥) → ⊥
+  cuts_alone r x y at (Shorten to) goes again never = never to refl
   cuts_alone r x y at (Read to size) goes again never = again
   cuts_alone r x y at (Perform e) goes ((rest, inl saving), _, _, _) never =
       false≢true (cut_phase r x at Saving false saving rest goes)
@@ -139,7 +139,7 @@ module _ (laws : Again) (block : List ℕ) where
       by (inr (n, waiting, first)) (inl (writing, _)) = cc (waiting, writing)
       by (inr (n, waiting, inl doubtful)) (inr (inl (_, clear, _))) = doubtful clear.0
       by (inr (n, waiting, inr some)) (inr (inl (_, clear, _))) = omega (arith, some, clear.1)
-  goes_same r new (Perform e) (Cut at) m now goes cuts was = absurd (cuts_alone r new r at (Perform e) cuts goes (λ to is. cc is))
+  goes_same r new (Perform e) (Shorten at) m now goes cuts was = absurd (cuts_alone r new r at (Perform e) cuts goes (λ to is. cc is))
   goes_same r new (Perform e) (Read at len) m now goes never was = absurd never
   goes_same r new (WriteBlock at len) (Perform f) m now (k, saved, due, (there, long, is)) effect was =
       absurd (effect_phase r new f (Writing k) (ap (λ (x : Recorder). x.phase) is) effect)
@@ -149,14 +149,14 @@ module _ (laws : Again) (block : List ℕ) where
       let two = due_same k n r saved2 writing due2 in
       let place : at ≡ to = there ∙ ap end_place (one ∙ sym two) ∙ sym there2 in
       subst (λ at. Tried (WriteBlock at len) block m now) place was
-  goes_same r new (WriteBlock at len) (Cut to) m now goes cuts was =
+  goes_same r new (WriteBlock at len) (Shorten to) m now goes cuts was =
       absurd (cuts_alone r new r to (WriteBlock at len) cuts goes (λ to is. cc is))
   goes_same r new (WriteBlock at len) (Read to size) m now goes never was = absurd never
-  goes_same r new (Cut at) (Perform f) m now cuts goes was = absurd (cuts_alone r r new at (Perform f) cuts goes (λ to is. cc is))
-  goes_same r new (Cut at) (WriteBlock to size) m now cuts goes was =
+  goes_same r new (Shorten at) (Perform f) m now cuts goes was = absurd (cuts_alone r r new at (Perform f) cuts goes (λ to is. cc is))
+  goes_same r new (Shorten at) (WriteBlock to size) m now cuts goes was =
       absurd (cuts_alone r r new at (WriteBlock to size) cuts goes (λ to is. cc is))
-  goes_same r new (Cut at) (Cut to) m now goes again was = was
-  goes_same r new (Cut at) (Read to size) m now goes never was = absurd never
+  goes_same r new (Shorten at) (Shorten to) m now goes again was = was
+  goes_same r new (Shorten at) (Read to size) m now goes never was = absurd never
   goes_same r new (Read at len) b m now never again was = absurd never
 
   goes_none : (r new : Recorder) (a : Action) → GoesOn r r (Ok (Some a)) → GoesOn r new (Ok None) → ⊥
@@ -164,8 +164,8 @@ module _ (laws : Again) (block : List ℕ) where
   goes_none r new (Perform e) (saving, same, after, next) (inr (one, _, x, none, _)) = not_done r after x e next none
   goes_none r new (WriteBlock at len) goes (inl (idle, _)) = block_phase r r at len Idle idle goes
   goes_none r new (WriteBlock at len) goes (inr (saving, _, _, _, _)) = block_phase r r at len Saving saving goes
-  goes_none r new (Cut at) goes (inl (idle, _)) = false≢true (cut_phase r r at Idle r.has_rest idle refl goes)
-  goes_none r new (Cut at) goes (inr (saving, rest, _, _, _)) = false≢true (cut_phase r r at Saving false saving rest goes)
+  goes_none r new (Shorten at) goes (inl (idle, _)) = false≢true (cut_phase r r at Idle r.has_rest idle refl goes)
+  goes_none r new (Shorten at) goes (inr (saving, rest, _, _, _)) = false≢true (cut_phase r r at Saving false saving rest goes)
   goes_none r new (Read at len) never none = absurd never
 
   -- without a report it continues from where it was, unless a sync has failed

@@ -6,7 +6,7 @@ use Rattle.std.specs.Prelude.{if◌then◌else◌, nat_lt}
 use Rattle.hound.specs.{AppendsRecorder, ContinuesAfter, Error, FoundFile, Readable, Recorder, RecorderError, Resumes, ResumesAfter, WavSpecEx, ends_whole, found_frame, greatest_u32, kept_as, padded}
 use Rattle.hound.specs.declared.Error.TheVariants.{Unsupported}
 use Rattle.hound.specs.declared.RepairState.TheVariants.{HasChunksAfterData as Followed}
-use Rattle.hound.specs.declared.RecorderError.TheVariants.{NotWritable, UnfinishedFrame, TooLong, Truncated, CutOff, HasChunksAfterData, NeedsCheckpoint, SyncFailed}
+use Rattle.hound.specs.declared.RecorderError.TheVariants.{NotWritable, UnfinishedFrame, TooLong, Truncated, NeedsMend, NeedsOverwrite, NeedsCheckpoint, SyncFailed}
 use Rattle.hound.proofs.Recorders.{readable_frames}
 use Rattle.hound_callers.specs.Recorder.{IsErrorOf, IsNotResumed}
 
@@ -14,7 +14,7 @@ use Rattle.hound_callers.specs.Recorder.{IsErrorOf, IsNotResumed}
 abbrev pub IsOneOf : FoundFile → Result Recorder RecorderError → Type 0
 IsOneOf f result = ((f.length < f.data_start + f.data_length) × (result ≡ Err Truncated))
     ⊎ ((f.data_start + f.data_length ≤ f.length) × ContinuesAfter f f.data_length result)
-    ⊎ ((ends_whole f ≡ false) × (result ≡ Err HasChunksAfterData))
+    ⊎ ((ends_whole f ≡ false) × (result ≡ Err NeedsOverwrite))
 
 pub one_of : (f : FoundFile) (result : Result Recorder RecorderError) → f.state ≡ Followed
     → Resumes f false false result → IsOneOf f result
@@ -68,7 +68,7 @@ not_resumed f contents samples error e readable counted all frames state some wi
         let same : error ≡ Truncated = cc in
         inr (f.spec_ex, samples, f.data_start, readable, inr (inl (lacks less, subst (λ x. IsErrorOf x e) same named)))
     by error (inr (inr (ends, is))) named =
-        let same : error ≡ HasChunksAfterData = cc in
+        let same : error ≡ NeedsOverwrite = cc in
         let product : f.data_length ≡ f.frames * found_frame f =
         counted ∙ in_frames samples f.spec_ex.spec.channels f.spec_ex.bytes_per_sample
         (readable_frames f.spec_ex samples f.data_start contents readable)
@@ -83,11 +83,11 @@ not_resumed f contents samples error e readable counted all frames state some wi
           inr (inr (rw (counted, all) at follows, subst (λ x. IsErrorOf x e) same named)),
         )
     by Truncated (inr (inl (enough, less))) named = absurd (omega (arith, enough, less))
-    by HasChunksAfterData (inr (inl (enough, (never, _)))) named = cc
+    by NeedsOverwrite (inr (inl (enough, (never, _)))) named = cc
     by NotWritable (inr (inl (enough, is))) named = because NotWritable is named
     by UnfinishedFrame (inr (inl (enough, is))) named = because UnfinishedFrame is named
     by TooLong (inr (inl (enough, is))) named = because TooLong is named
-    by CutOff (inr (inl (enough, is))) named = because CutOff is named
+    by NeedsMend (inr (inl (enough, is))) named = because NeedsMend is named
     by NeedsCheckpoint (inr (inl (enough, is))) named = because NeedsCheckpoint is named
     by SyncFailed (inr (inl (enough, is))) named = because SyncFailed is named
 

@@ -4,11 +4,11 @@ use Rattle.std.specs.declared.io.Error.{Error as IoFault}
 use Rattle.std.specs.Borrow.{Bor}
 use Rattle.std.specs.List.{AllByRecursion, flat_map}
 use Rattle.hound.specs.{Action, AppendsRecorder, Counts, DoesBeginnings, Ghosts, IsIoError, IsWritable, WhereTells, beginning, data_start, Kept, accepted_by_all, SurvivesLoss, accepted_samples, field, mix, FoundFile, HasData, Head, IsAlive, IsSoundSpec, LeavesWriter, Resumes, mark_of, resumed_file, writer_of, Asked, Begun, Directed, Error, Flushes, IsRejection, IsSaid, KeptWithin, Known, Log, MediumState, Performed, Phase, PutsAt, ReadsAs, Readable, Repeats, Recorder, RecorderError, Rejection, Report, Unreadable, WavSpecEx, bytes_of, effects_of, found_in, greatest_u32, if_marked, log_kind, padded, publish, riff_size, seen, start_of, whole_containers, write}
-use Rattle.hound.specs.declared.Action.TheVariants.{Cut, Perform, Read, WriteBlock}
+use Rattle.hound.specs.declared.Action.TheVariants.{Shorten, Perform, Read, WriteBlock}
 use Rattle.hound.specs.declared.Effect.TheVariants.{Pad, Size, Sync}
 use Rattle.hound.specs.declared.Health.TheVariants.{Sound}
 use Rattle.hound.specs.declared.Phase.TheVariants.{Idle, Saving, Requested}
-use Rattle.hound.specs.declared.RecorderError.TheVariants.{Truncated, HasChunksAfterData}
+use Rattle.hound.specs.declared.RecorderError.TheVariants.{Truncated, NeedsOverwrite}
 use Rattle.hound.specs.declared.Report.TheVariants.{Done, Failed, Pending}
 use Rattle.hound.specs.declared.Error.TheVariants.{FormatError, Unsupported}
 use Rattle.hound_callers.specs.Recording.{published_calls}
@@ -41,7 +41,7 @@ abbrev pub TriesAction : Action → List ℕ → Report → MediumState → Medi
 TriesAction (Perform Sync) block report old new = (result said : Result (Unit {0}) IoFault)
     × IsSaid said result × (report ≡ report_for (is_ok said)) × Flushes result old new
 TriesAction (Read at len) block report old new = new ≡ old
-TriesAction (Cut at) block report old new = new ≡ old
+TriesAction (Shorten at) block report old new = new ≡ old
 TriesAction action block report old new = (result : Result (Unit {0}) IoFault) × IsReportOf result report
     × PutsAt true (place_for action) (bytes_for action block) result old new
 
@@ -134,7 +134,7 @@ SaysFormat said _ = ⊥
 -- the error for one of a recorder
 abbrev pub IsErrorOf : RecorderError → Error → Type 0
 IsErrorOf Truncated e = SaysFormat (codes "the data are cut off") e
-IsErrorOf HasChunksAfterData e = SaysFormat (codes "more follows the data") e
+IsErrorOf NeedsOverwrite e = SaysFormat (codes "more follows the data") e
 IsErrorOf _ e = e ≡ Unsupported
 
 -- Why a file with these contents isn't recorded further: they can't be read, no recorder begins with

@@ -162,22 +162,6 @@ pub fn open_written(bytes: &[u8]) -> hound::Result<WavReader<&[u8]>>
     WavReader::new(bytes)
 }
 
-/// Begins a batch, writes a sample to it and gives it up: nothing was accepted (`same`). An error is that
-/// of the batch that wasn't begun (`err`).
-pub fn give_up_batch<M: Medium>(
-    alloc: Global,
-    writer: &mut WavWriter<M>,
-    value: i16,
-) -> hound::Result<()>
-    requires { IsSixteen writer.old.spec_ex }
-    ensures same { IsSameFile writer.old writer.new }
-    ensures err { IfErr result (IsNoBatch writer.old 1) }
-{
-    let mut batch = writer.get_i16_writer(alloc, 1)?;
-    batch.write_sample(value);
-    Ok(())
-}
-
 /// A program may perform the effects of a repair itself, and may be stopped at any of them: another repair of what it
 /// left finds the frames that were found at first.
 pub fn a_repair_by_hand_is_done_again()

@@ -12,7 +12,7 @@ mod recording;
 mod twelve;
 
 pub use callers::{
-    a_repair_by_hand_is_done_again, finish, give_up_batch, look_and_repair, open_written, publish,
+    a_repair_by_hand_is_done_again, finish, look_and_repair, open_written, publish,
     repair_recording, sample_at, samples_of,
 };
 pub use editing::append_blocks;
@@ -24,7 +24,7 @@ pub use recorder::{
     record_by_effects,
 };
 pub use recording::{
-    finish_durable, pack_one, publish_and_continue, publish_durably, record, record_at_once,
+    finish_durable, pack_one, publish_and_continue, record, record_at_once,
     record_batch, record_checkpoints, record_steps, write_if_short,
 };
 pub use twelve::Twelve;

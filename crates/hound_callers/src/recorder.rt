@@ -1,7 +1,7 @@
 // Recorders whose caller performs the effects, on a medium.
-ghost use Rattle.std.specs.Prelude.{◌≡◌, ◌⊎◌, ◌≤◌, ◌+◌, ℕ, List, [], ◌++◌, ◌∷◌, Bool, true, false, if◌then◌else◌, IfErr, IfOk, OnErr, OnOk, Result, drop, is_ok, length, slice_index_or, take};
+ghost use Rattle.std.specs.Prelude.{◌≡◌, ◌⊎◌, ◌≤◌, ◌+◌, ℕ, List, [], ◌++◌, ◌∷◌, Bool, Ok, true, false, if◌then◌else◌, IfErr, IfOk, OnErr, OnOk, Result, drop, is_ok, length, slice_index_or, take};
 ghost use Rattle.std.specs.declared.io.Error.{Error as IoFault};
-ghost use Rattle.hound.specs.{Asked, Begun, DoesBeginning, DoesBeginnings, Flushes, IsIoError, IsSaid, IsWritable, Opened, at_beginning, beginning, HasData, IsSynced, Known, Log, Repeats, Readable, Recorder, WavSpecEx, one_more, WhereKeeps, WhereTells, new_file, resumed_file, seen};
+ghost use Rattle.hound.specs.{Asked, Begun, DoesBeginning, DoesBeginnings, Flushes, IsIoError, IsSaid, IsWritable, at_beginning, beginning, HasData, IsSynced, Known, Log, Repeats, Readable, Recorder, WavSpecEx, one_more, WhereKeeps, WhereTells, new_file, resumed_file, seen};
 ghost use Rattle.hound.specs.declared.Phase.TheVariants.{Saving};
 ghost use Rattle.hound.specs.declared.Report.TheVariants.{Pending};
 ghost use Rattle.hound.specs.{Directed, MediumState, PutsAt, end_of, overlay, placed};
@@ -57,7 +57,7 @@ fn perform<M: Medium>(medium: &mut M, action: Action, block: &[u8], is_lost: boo
             put_all_at(medium, place, &size.to_le_bytes()).is_ok()
         }
         Action::WriteBlock(place, _) => put_all_at(medium, place, block).is_ok(),
-        Action::Read(..) | Action::Cut(_) => false,
+        Action::Read(..) | Action::Shorten(_) => false,
     };
     report_of(is_done, is_lost)
 }
@@ -199,12 +199,13 @@ fn begin_from<M: Medium>(medium: &mut M, spec_ex: WavSpecEx, number: u32) -> io:
     begin_from(medium, spec_ex, number + 1)
 }
 
-/// Begins a file by the effects that are requested for it. A new one has at most its header then, and counts no sample,
-/// also after a loss of power (`survives`). Where one of them fails it isn't begun (`rejected`).
+/// Begins a file by the effects that are requested for it: at an Ok all of them were performed (`opened`). A new one
+/// has at most its header then, and counts no sample, also after a loss of power (`survives`). Where one of them fails
+/// it isn't begun (`rejected`).
 pub fn begin_by_effects<M: Medium>(medium: &mut M, spec_ex: WavSpecEx) -> hound::Result<()>
     ensures rejected { IfErr result (λ e. IsNotBegunBy M.Placed spec_ex medium.old medium.new e) }
-    ensures opened { IfOk result (λ _. IsWritable spec_ex
-        × WhereKeeps M.tells M.keeps (Opened spec_ex (M.state medium.old) (M.state medium.new))) }
+    ensures opened { IfOk result (λ _. IsWritable spec_ex × WhereTells M.tells (DoesBeginnings M.keeps spec_ex
+        beginning (Ok tt) (M.state medium.old) (M.state medium.new))) }
     ensures survives { IsWritable spec_ex → WhereKeeps M.tells M.keeps
         (LeavesNoSample spec_ex (M.state medium.old) (M.state medium.new)) }
 {
@@ -309,7 +310,7 @@ fn error_of(error: RecorderError) -> Error
 {
     match error {
         RecorderError::Truncated => Error::FormatError("the data are cut off"),
-        RecorderError::HasChunksAfterData => Error::FormatError("more follows the data"),
+        RecorderError::NeedsOverwrite => Error::FormatError("more follows the data"),
         _ => Error::Unsupported,
     }
 }

@@ -326,20 +326,6 @@ pub fn write_if_short<M: Medium>(batch: &mut SampleWriter16<'_, M>, value: i32) 
     true
 }
 
-/// Publishes over a medium that may lose its power, and the writer stays in use: whatever sectors keep what
-/// was written since the medium was flushed, what is left counts, and has lost no sample that a flush has
-/// published.
-pub fn publish_durably<M: Medium>(writer: &mut WavWriter<Durable<M>>) -> hound::Result<()>
-    ensures { let durable = ⟦<Durable<M> as Placed>⟧ in WhereKeeps M.tells M.keeps (
-        (s : WavSpecEx) (file : Begun) (known : List Known) → Recorded durable s file known writer.old →
-        KeptWithin durable s file (known ++ returned publish result ∷ []) writer.new.medium
-        (within writer.new.medium)) }
-{
-    what_is_kept::<Durable<M>>();
-    what_a_loss_leaves::<M>();
-    writer.flush()
-}
-
 /// Ends a recording over a durable medium, and takes the medium out: the result is that of the end
 /// (`finishes`). At an Ok all that was written to it is flushed, and in any case what was written since
 /// its last flush went to ascending places.

@@ -19,8 +19,8 @@ use Rattle.hound_text.specs.{integer_line}
 use Rattle.hound_commands.proofs.Outputs.{appends-none, gets-more, gets-none, gets-stopped, gets-then, gets-written}
 use Rattle.hound_commands.specs.Commands.{failure_of}
 use Rattle.hound_commands.specs.Showing.{AnswersSamples, GetsBeginning, GetsBuffered, AreShowable, Shows, ShowsSamples, ShowsUntil, StopsAt, StopsSamples, spec_line, line_for, sample_line, sample_lines, show_rejection}
-use Rattle.hound_commands.specs.declared.failure.Failure.{Failure}
-use Rattle.hound_commands.specs.declared.failure.Failure.TheVariants.{BadNumber, InputOrOutput, Rejected}
+use Rattle.hound_commands.specs.declared.error.CommandError.{CommandError}
+use Rattle.hound_commands.specs.declared.error.CommandError.TheVariants.{BadNumber, InputOrOutput, Rejected}
 
 -- one sample more
 lines-more : (s : WavSpecEx) (k : ℕ) (xs : List ℕ) → sample_lines s (suc k) xs
@@ -176,7 +176,7 @@ whole_stops : (s : WavSpecEx) (n : ℕ) (bytes first text : List ℕ) → AreSho
 whole_stops s n bytes first text showable text_is =
     (n, omega arith, showable, starts_with_of_eq _ text (sym text_is))
 
-faulted : (s : WavSpecEx) (n : ℕ) (failure : Failure) (bytes first text : List ℕ)
+faulted : (s : WavSpecEx) (n : ℕ) (failure : CommandError) (bytes first text : List ℕ)
     → StopsAt s n failure bytes first text → StopsAt s n InputOrOutput bytes first text
 faulted s n BadNumber bytes first text stops = absurd stops
 faulted s n InputOrOutput bytes first text stops = stops
@@ -184,7 +184,7 @@ faulted s n (Rejected e) bytes first text (some, rejected, text_is) =
     (0, omega arith, none_showable s bytes, starts_with_of_eq _ text (append-nil first ∙ sym text_is))
 
 -- a fault, whatever was returned before it
-pub stopped : (s : WavSpecEx) (n : ℕ) (result : Result (Unit {0}) Failure) (left old new : Option (List ℕ)) (first last : List ℕ)
+pub stopped : (s : WavSpecEx) (n : ℕ) (result : Result (Unit {0}) CommandError) (left old new : Option (List ℕ)) (first last : List ℕ)
     → AnswersSamples s n result left old new first last → StopsSamples s n InputOrOutput left old new first last
 stopped s n (Ok x) left old new first last shown =
     IfSome_then left shown (λ bytes (showable, got). (
@@ -197,7 +197,7 @@ stopped s n (Err failure) left old new first last stops =
     (λ bytes (text, here, got). (text, faulted s n failure bytes first text here, got))
 
 -- the failure that `?` returns
-pub stops_as : (s : WavSpecEx) (n : ℕ) (result : Result (Unit {0}) Failure) (failure : Failure)
+pub stops_as : (s : WavSpecEx) (n : ℕ) (result : Result (Unit {0}) CommandError) (failure : CommandError)
     (left old new : Option (List ℕ)) (first last : List ℕ) → IsErrAnd result (λ e. e ≡ failure)
     → StopsSamples s n failure left old new first last → AnswersSamples s n result left old new first last
 stops_as s n (Ok x) failure left old new first last is stops = absurd is
@@ -347,7 +347,7 @@ file_shown (Some xs) (Some ys) s n spec samples out0 out1 out2 head first last s
     )
 
 -- the samples are not all shown, and the buffer was written
-pub file_stops : (input left : Option (List ℕ)) (s : WavSpecEx) (n : ℕ) (failure : Failure) (spec : WavSpec)
+pub file_stops : (input left : Option (List ℕ)) (s : WavSpecEx) (n : ℕ) (failure : CommandError) (spec : WavSpec)
     (samples : ℕ) (out0 out1 out2 : Option (List ℕ)) (head first last : List ℕ)
     → spec ≡ s.spec → samples ≡ n → Opened input left s n → head ≡ [] → first ≡ head ++ spec_line spec samples
     → StopsSamples s n failure left out0 out1 first last → Appends out1 out2 last → ShowsUntil input failure out0 out2
@@ -367,7 +367,7 @@ file_stops (Some xs) (Some ys) s n failure spec samples out0 out1 out2 head firs
     )
 
 -- the failure that `?` returns
-pub err_is : {T : Type 0} (Q : Failure → Type 0) (result : Result T Failure) (failure : Failure)
+pub err_is : {T : Type 0} (Q : CommandError → Type 0) (result : Result T CommandError) (failure : CommandError)
     → IsErrAnd result (λ e. e ≡ failure) → Q failure → IfErr result Q
 err_is Q (Ok x) failure is holds = absurd is
 err_is Q (Err e) failure is holds = subst Q (sym is) holds

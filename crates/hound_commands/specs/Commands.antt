@@ -2,10 +2,10 @@
 -- which there is none, and which failure an error is.
 use Rattle.hound_spec.specs.declared.error.Error.{Error}
 use Rattle.hound_spec.specs.declared.error.Error.TheVariants.{IoError, OutOfMemory, TooLong, TooWide, UnfinishedSample, Unsupported}
-use Rattle.hound_text.specs.declared.Rejection.{Rejection as TextRejection}
-use Rattle.hound_text.specs.declared.Rejection.TheVariants.{BadNumber as TextBadNumber, InputOrOutput as TextInputOrOutput, TooLong as TextTooLong, OutOfMemory as TextOutOfMemory}
-use Rattle.hound_commands.specs.declared.failure.Failure.{Failure}
-use Rattle.hound_commands.specs.declared.failure.Failure.TheVariants.{BadNumber, InputOrOutput, Rejected}
+use Rattle.hound_text.specs.declared.TextError.{TextError}
+use Rattle.hound_text.specs.declared.TextError.TheVariants as text
+use Rattle.hound_commands.specs.declared.error.CommandError.{CommandError}
+use Rattle.hound_commands.specs.declared.error.CommandError.TheVariants.{BadNumber, InputOrOutput, Rejected}
 use Rattle.std.specs.Prelude.{◌≡◌, ℕ, ℤ, ◌%◌, ◌≤◌, ⊤, List, [], ◌∷◌, length, Result, Ok, Err, ◌⊎◌, IfSome, Option, codes}
 use Rattle.std.specs.List.{concat}
 use Rattle.hound_sample.specs.{Rejection, too_wide, int_container}
@@ -21,16 +21,16 @@ use Rattle.hound_text.specs.{SaysNoNumbers, SaysNumbers}
 use Rattle.hound_commands.specs.Showing.{GetsBeginning}
 
 -- the failure of an error of the library: an `IoError` is one of the input or the output
-abbrev pub failure_of : Error → Failure
+abbrev pub failure_of : Error → CommandError
 failure_of (IoError fault) = InputOrOutput
 failure_of error = Rejected error
 
 -- the failure of a text that is no list of numbers: too long an input is one of the input
-abbrev pub rejection_of : TextRejection → Failure
-rejection_of TextBadNumber = BadNumber
-rejection_of TextInputOrOutput = InputOrOutput
-rejection_of TextTooLong = InputOrOutput
-rejection_of TextOutOfMemory = Rejected OutOfMemory
+abbrev pub rejection_of : TextError → CommandError
+rejection_of text.BadNumber = BadNumber
+rejection_of text.InputOrOutput = InputOrOutput
+rejection_of text.TooLong = InputOrOutput
+rejection_of text.OutOfMemory = Rejected OutOfMemory
 
 -- the containers of numbers, in their order, or why the first that has none has none
 abbrev pub containers_of : WavSpecEx → List ℤ → Result (List (List ℕ)) Rejection
@@ -78,7 +78,7 @@ IsPackError s numbers e = IsWritable s × IsRejected s numbers e
 
 -- The same of a failure, where the numbers were read; a fault of the input or the output may come
 -- at any time.
-abbrev pub IsPackFailure : WavSpecEx → List ℤ → Failure → Type 0
+abbrev pub IsPackFailure : WavSpecEx → List ℤ → CommandError → Type 0
 IsPackFailure s numbers BadNumber = ⊥
 IsPackFailure s numbers InputOrOutput = ⊤
 IsPackFailure s numbers (Rejected e) = IsPackError s numbers e
@@ -94,7 +94,7 @@ Packs s input old new =
     × Appends old new file
 
 -- why `pack` fails: the input's text says no numbers, its numbers can't be packed, or there is no memory
-abbrev pub IsNotPacked : WavSpecEx → Option (List ℕ) → Failure → Type 0
+abbrev pub IsNotPacked : WavSpecEx → Option (List ℕ) → CommandError → Type 0
 IsNotPacked s input BadNumber = IfSome input SaysNoNumbers
 IsNotPacked s input InputOrOutput = ⊤
 IsNotPacked s input (Rejected e) =
@@ -103,7 +103,7 @@ IsNotPacked s input (Rejected e) =
 module _ {O : Type 0} where
   -- what `pack` leaves at a failure: the output as it was, and the cause; or, at a fault while the
   -- file is written, a beginning of the file
-  abbrev pub PacksUntil : (O → Option (List ℕ)) → WavSpecEx → Option (List ℕ) → Failure → O → O → Type 0
+  abbrev pub PacksUntil : (O → Option (List ℕ)) → WavSpecEx → Option (List ℕ) → CommandError → O → O → Type 0
   PacksUntil contents s input InputOrOutput old new = (new ≡ old)
       ⊎ ((numbers : List ℤ) × (file : List ℕ) × AreNumbersOf input numbers × IsPacked s numbers file
       × GetsBeginning (contents old) (contents new) file)

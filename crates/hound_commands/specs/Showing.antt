@@ -12,8 +12,8 @@ use Rattle.hound_spec.specs.declared.spec.SampleFormat.{SampleFormat}
 use Rattle.hound_spec.specs.declared.spec.SampleFormat.TheVariants.{Float, Int}
 use Rattle.hound_spec.specs.declared.spec.WavSpec.{WavSpec}
 use Rattle.hound_spec.specs.declared.spec.WavSpecEx.{WavSpecEx}
-use Rattle.hound_commands.specs.declared.failure.Failure.{Failure}
-use Rattle.hound_commands.specs.declared.failure.Failure.TheVariants.{BadNumber, InputOrOutput, Rejected}
+use Rattle.hound_commands.specs.declared.error.CommandError.{CommandError}
+use Rattle.hound_commands.specs.declared.error.CommandError.TheVariants.{BadNumber, InputOrOutput, Rejected}
 use Rattle.hound_text.specs.{integer_line, pattern_line}
 
 -- the output got a beginning of a text, and no other byte
@@ -84,7 +84,7 @@ RejectsSamples s e =
 
 -- What is written where the samples are not all shown, after the text `first`: at a fault, a
 -- beginning of the lines of samples that are there; at any other error, no line of a sample.
-abbrev pub StopsAt : WavSpecEx → ℕ → Failure → List ℕ → List ℕ → List ℕ → Type 0
+abbrev pub StopsAt : WavSpecEx → ℕ → CommandError → List ℕ → List ℕ → List ℕ → Type 0
 StopsAt s count BadNumber bytes first text = ⊥
 StopsAt s count InputOrOutput bytes first text = (shown : ℕ) × (shown ≤ count)
     × AreShowable s shown bytes × StartsWith (first ++ sample_lines s shown bytes) text
@@ -92,13 +92,13 @@ StopsAt s count (Rejected e) bytes first text =
     (0 < count) × RejectsSamples s e × (text ≡ first)
 
 -- the same of the output and the buffer, which held `first`
-abbrev pub StopsSamples : WavSpecEx → ℕ → Failure → Option (List ℕ) → Option (List ℕ)
+abbrev pub StopsSamples : WavSpecEx → ℕ → CommandError → Option (List ℕ) → Option (List ℕ)
     → Option (List ℕ) → List ℕ → List ℕ → Type 0
 StopsSamples s count failure left old new first buffered = IfSome left (λ bytes. (text : List ℕ)
     × StopsAt s count failure bytes first text × GetsBuffered old new buffered text)
 
 -- what was shown of so many samples, by the result
-abbrev pub AnswersSamples : WavSpecEx → ℕ → Result (Unit {0}) Failure → Option (List ℕ) → Option (List ℕ)
+abbrev pub AnswersSamples : WavSpecEx → ℕ → Result (Unit {0}) CommandError → Option (List ℕ) → Option (List ℕ)
     → Option (List ℕ) → List ℕ → List ℕ → Type 0
 AnswersSamples s count (Ok x) left old new first buffered = ShowsSamples s count left old new first buffered
 AnswersSamples s count (Err failure) left old new first buffered =
@@ -118,13 +118,13 @@ abbrev pub Shows : Option (List ℕ) → Option (List ℕ) → Option (List ℕ)
 Shows input old new = IfSome input (λ bytes. (text : List ℕ) × IsShown bytes text × Appends old new text)
 
 -- why nothing is shown: the head of the file is rejected, or there was a fault
-abbrev pub IsHeadFailure : List ℕ → Failure → Type 0
+abbrev pub IsHeadFailure : List ℕ → CommandError → Type 0
 IsHeadFailure bytes BadNumber = ⊥
 IsHeadFailure bytes InputOrOutput = ⊤
 IsHeadFailure bytes (Rejected e) = (cause : Cause) × Unreadable bytes cause × Names e cause
 
 -- The bytes are a file that is not shown to its end, and this is the text until then.
-pub record IsShownPart (bytes : List ℕ) (failure : Failure) (text : List ℕ) : Type 0 where
+pub record IsShownPart (bytes : List ℕ) (failure : CommandError) (text : List ℕ) : Type 0 where
   pub s : WavSpecEx
   pub samples : ℕ
   pub start : ℕ
@@ -132,7 +132,7 @@ pub record IsShownPart (bytes : List ℕ) (failure : Failure) (text : List ℕ) 
   pub stops : StopsAt s samples failure (drop start bytes) (spec_line s.spec samples) text
 
 -- at a failure the output got nothing, or a part of the lines of the file that the input's bytes are
-abbrev pub ShowsUntil : Option (List ℕ) → Failure → Option (List ℕ) → Option (List ℕ) → Type 0
+abbrev pub ShowsUntil : Option (List ℕ) → CommandError → Option (List ℕ) → Option (List ℕ) → Type 0
 ShowsUntil input failure old new = IfSome input (λ bytes. (text : List ℕ)
     × ((IsHeadFailure bytes failure × (text ≡ [])) ⊎ IsShownPart bytes failure text)
     × Appends old new text)

@@ -5,9 +5,9 @@ ghost use Rattle.hound_spec.specs.declared.spec.SampleFormat.TheVariants.{Int};
 ghost use Rattle.hound_spec.specs.declared.spec.WavSpec.{WavSpec};
 ghost use Rattle.hound_commands.specs.Commands.{AreNumbersOf, IsCommand, IsPackCommand, IsShowCommand, Packs, PacksUntil, SaySpec};
 ghost use Rattle.hound_commands.specs.Showing.{Shows, ShowsUntil};
-ghost use Rattle.hound_commands.specs.declared.failure.Failure.{Failure};
+ghost use Rattle.hound_commands.specs.declared.error.CommandError.{CommandError};
 
-use crate::failure::Failure;
+use crate::error::CommandError;
 use crate::packing::file_of;
 use crate::showing::show;
 use hound_medium::Tape;
@@ -49,7 +49,7 @@ pub fn run<R: io::Read, O: io::Write, E: io::Write>(
         (O.contents output.new)) }
     ensures shown { result ≡ 0 → IsShowCommand words.now → Shows (R.remaining input.old)
         (O.contents output.old) (O.contents output.new) }
-    ensures failed { result ≡ 1 → (failure : Failure) × ((IsShowCommand words.now
+    ensures failed { result ≡ 1 → (failure : CommandError) × ((IsShowCommand words.now
         × ShowsUntil (R.remaining input.old) failure (O.contents output.old)
         (O.contents output.new)) ⊎ ((spec : WavSpec) × IsPackCommand words.now spec
         × PacksUntil O.contents (with_default_width spec) (R.remaining input.old) failure
@@ -87,7 +87,7 @@ pub fn run_append<R: io::Read, E: io::Write>(
 }
 
 // The status of a result; a failure has its line on `errors`.
-fn status_of<E: io::Write>(outcome: Result<(), Failure>, errors: &mut E) -> u8
+fn status_of<E: io::Write>(outcome: Result<(), CommandError>, errors: &mut E) -> u8
     ensures { MatchResult outcome (λ _. result ≡ 0) (λ _. result ≡ 1) }
 {
     match outcome {
@@ -134,7 +134,7 @@ fn pack<R: io::Read, O: io::Write>(
     spec: WavSpec,
     input: &mut R,
     output: &mut O,
-) -> Result<(), Failure>
+) -> Result<(), CommandError>
     requires integers { spec.sample_format ≡ Int }
     ensures packed { OnOk result (Packs (with_default_width spec) (R.remaining input.old)
         (O.contents output.old) (O.contents output.new)) }
@@ -153,7 +153,7 @@ fn append<R: io::Read>(
     alloc: Global,
     path: Path<'_>,
     input: &mut R,
-) -> Result<(), Failure>
+) -> Result<(), CommandError>
     ensures { OnOk result ((numbers : List ℤ) × AreNumbersOf (R.remaining input.old) numbers) }
 {
     let numbers = read_numbers(alloc, input)?;

@@ -3,7 +3,7 @@
 #![tactic(auto)]
 
 mod commands;
-mod failure;
+mod error;
 mod packing;
 mod showing;
 

@@ -4,7 +4,7 @@ ghost use Rattle.hound_spec.specs.{with_default_width};
 ghost use Rattle.hound_spec.specs.declared.spec.SampleFormat.TheVariants.{Int};
 ghost use Rattle.hound_commands.specs.Commands.{IsPacked, IsPackFailure};
 
-use crate::failure::Failure;
+use crate::error::CommandError;
 use hound_medium::{Placed, Tape};
 use hound_spec::WavSpec;
 use hound_writer::WavWriter;
@@ -12,7 +12,7 @@ use std::alloc::Global;
 
 /// The whole file of these samples, or the first cause for which there is none: the spec, a number
 /// that is too wide, the length, an unfinished frame.
-pub fn file_of(alloc: Global, spec: WavSpec, numbers: &[i32]) -> Result<Tape, Failure>
+pub fn file_of(alloc: Global, spec: WavSpec, numbers: &[i32]) -> Result<Tape, CommandError>
     requires integers { spec.sample_format ≡ Int }
     ensures made { IfOk result (λ file. IsPacked (with_default_width spec) numbers.now
         (⟦<Tape as Placed>⟧.state file).contents) }

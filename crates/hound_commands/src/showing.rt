@@ -5,7 +5,7 @@ ghost use Rattle.hound_reader.specs.{meaning_at, rejection_at};
 ghost use Rattle.hound_commands.specs.Showing.{AnswersSamples, PushesOut, Shows, ShowsUntil, sample_line, show_rejection, spec_line};
 ghost use Rattle.hound_text.specs.{HasLineRoom, integer_line, pattern_line};
 
-use crate::failure::Failure;
+use crate::error::CommandError;
 use hound_reader::WavReader;
 use hound_sample::{FloatBits, Sample};
 use hound_spec::{SampleFormat, WavSpec};
@@ -17,7 +17,7 @@ use std::io::Write;
 const BLOCK_LENGTH: usize = 1024;
 
 /// Writes the lines of a file, that of its spec and those of its samples, as far as it can be read.
-pub fn show<R: io::Read, O: io::Write>(input: &mut R, output: &mut O) -> Result<(), Failure>
+pub fn show<R: io::Read, O: io::Write>(input: &mut R, output: &mut O) -> Result<(), CommandError>
     ensures shown { OnOk result (Shows (R.remaining input.old) (O.contents output.old)
         (O.contents output.new)) }
     ensures until { IfErr result (λ failure. ShowsUntil (R.remaining input.old) failure
@@ -88,7 +88,7 @@ fn show_samples<R: io::Read, O: io::Write>(
     reader: &mut WavReader<&mut R>,
     lines: &mut Lines,
     output: &mut O,
-) -> Result<(), Failure>
+) -> Result<(), CommandError>
     requires fresh { reader.old.samples_read ≡ 0 }
     ensures { AnswersSamples reader.old.spec_ex reader.old.num_samples result
         (R.remaining reader.old.reader.now) (O.contents output.old) (O.contents output.new)
@@ -108,7 +108,7 @@ fn show_blocks<S: Line, R: io::Read, O: io::Write>(
     block: &mut [S],
     lines: &mut Lines,
     output: &mut O,
-) -> Result<(), Failure>
+) -> Result<(), CommandError>
     requires fresh { reader.old.samples_read ≡ 0 }
     requires some { 0 < length block.old }
     requires rejection { rejection_at S.rejection reader.old.spec_ex ≡ show_rejection reader.old.spec_ex }

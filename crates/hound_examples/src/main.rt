@@ -6,23 +6,11 @@
 mod append;
 mod convert;
 mod faulty;
-mod floats;
-mod info;
-mod join;
 mod levels;
-mod memory;
 mod mend;
-mod merge;
-mod mix;
-mod normalize;
-mod pipe;
 mod record;
-mod reverse;
-mod silences;
 mod sine;
-mod split;
 mod stream;
-mod tone;
 
 use std::env;
 use std::process::ExitCode;
@@ -35,28 +23,13 @@ fn main(rt: HostRuntime) -> hound::Result<ExitCode> {
         "append" => append::main(rt),
         "convert" => convert::main(rt),
         "faulty" => faulty::main(rt),
-        "floats" => floats::main(rt),
-        "info" => info::main(rt),
-        "join" => join::main(rt),
         "levels" => levels::main(rt),
-        "memory" => memory::main(rt),
         "mend" => mend::main(rt),
-        "merge" => merge::main(rt),
-        "mix" => mix::main(rt),
-        "normalize" => normalize::main(rt),
-        "pipe" => pipe::main(rt),
         "record" => record::main(rt),
-        "reverse" => reverse::main(rt),
-        "silences" => silences::main(rt),
         "sine" => sine::main(rt),
-        "split" => split::main(rt),
         "stream" => stream::main(rt),
-        "tone" => tone::main(rt),
         _ => {
-            println!(rt;
-                "append convert faulty floats info join levels memory mend merge mix normalize pipe record \
-                 reverse silences sine split stream tone"
-            )?;
+            println!(rt; "append convert faulty levels mend record sine stream")?;
             Ok(ExitCode::SUCCESS)
         }
     }

@@ -13,11 +13,11 @@ use Rattle.hound_repair.specs.Held.{held}
 use Rattle.hound_repair.specs.Repairing.{IsNotFound, IsRepairFault, Repairs, is_mended}
 use Rattle.hound_repair.specs.Steps.{IsNotRepaired, IsRejectedFor, IsRepair, Mends, MendsAtEach, MendsThroughLoss, PartlyMended, PerformedOn, effects_of_task, effects_where, looks_for_chunks, mending, mending_effects, mends_for, rejected_for}
 use Rattle.hound_repair.specs.declared.look.Damage.{Damage}
-use Rattle.hound_repair.specs.declared.steps.Task.{Task}
+use Rattle.hound_repair.specs.declared.stages.Task.{Task}
 use Rattle.hound_writer.specs.declared.resuming.RepairState.{RepairState}
 use Rattle.hound_writer.specs.declared.resuming.RepairState.TheVariants.{HasChunksAfterData}
-use Rattle.hound_repair.specs.declared.steps.Rejection.{Rejection}
-use Rattle.hound_repair.specs.declared.steps.Rejection.TheVariants as rejections
+use Rattle.hound_repair.specs.declared.stages.Rejection.{Rejection}
+use Rattle.hound_repair.specs.declared.stages.Rejection.TheVariants as rejections
 use Rattle.hound_repair.proofs.Lost.{first_sector, kept_loss, mending_is_safe, same_sector, survives}
 use Rattle.hound_repair.proofs.Mending.{length_is, put_ok, repairs_kept}
 use Rattle.hound_repair.proofs.Performing.{allowed, faults_of, mends, spans}

@@ -7,10 +7,10 @@ use Rattle.hound_writer.specs.declared.effects.Report.TheVariants.{Done}
 use Rattle.hound_repair.specs.Held.{missing_pad}
 use Rattle.hound_repair.specs.Steps.{AsksAfter, AsksNext, effects_left, effects_of_task, effects_where, mends_for, pads, steps_left}
 use Rattle.hound_repair.specs.declared.look.Damage.{Damage}
-use Rattle.hound_repair.specs.declared.steps.RepairStep.TheVariants.{Asks}
-use Rattle.hound_repair.specs.declared.steps.Repairing.{Repairing}
-use Rattle.hound_repair.specs.declared.steps.Repairing.TheVariants as states
-use Rattle.hound_repair.specs.declared.steps.Task.{Task}
+use Rattle.hound_repair.specs.declared.machine.RepairStep.TheVariants.{Asks}
+use Rattle.hound_repair.specs.declared.machine.Repairing.{Repairing}
+use Rattle.hound_repair.specs.declared.machine.Repairing.TheVariants as states
+use Rattle.hound_repair.specs.declared.stages.Task.{Task}
 
 -- a list has an element at each number below its length alone
 nth_inside : (list : List Effect) (k : ℕ) (effect : Effect) → nth list k ≡ Some effect → k < length list

@@ -18,8 +18,8 @@ use Rattle.hound_repair.specs.Repairing.{repair_fault, size_fault, state_of}
 use Rattle.hound_repair.specs.Steps.{IsAtChunk, IsFoundAs, IsLengthOf, IsMeasured, IsNotWhole, IsShown, LooksTo, else_followed, followed, has_all, has_right, steps_left, tagged}
 use Rattle.hound_writer.specs.declared.resuming.RepairState.TheVariants.{HasChunksAfterData}
 use Rattle.hound_repair.specs.declared.look.Damage.{Damage}
-use Rattle.hound_repair.specs.declared.steps.LookStep.TheVariants.{Found}
-use Rattle.hound_repair.specs.declared.steps.Stage.TheVariants as stages
+use Rattle.hound_repair.specs.declared.stages.LookStep.TheVariants.{Found}
+use Rattle.hound_repair.specs.declared.stages.Stage.TheVariants as stages
 use Rattle.hound_repair.specs.Damages.{IsSoundDamage, shown_of}
 use Rattle.hound_writer.specs.{field, too_long}
 use Rattle.hound_writer.proofs.Heads.{head_inside}

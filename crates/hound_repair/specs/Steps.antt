@@ -1,8 +1,7 @@
 -- A repair whose caller reads and writes the file.
 use Rattle.std.specs.Prelude.{◌≡◌, ℕ, ◌^◌, min, ◌+◌, ◌-◌, ◌/◌, ◌≤◌, ◌<◌, ◌⊎◌, ⊤, MatchResult, Bool, not, true, false, ◌==◌, ◌||◌, ◌&&◌, List, [], ◌∷◌, ◌++◌, length, take, drop, Result, Ok, Err, Option, None, Some}
 use Rattle.hound_spec.specs.{greatest_u32, riff_size}
-use Rattle.hound_walk.specs.{Rejected as HasNoHead}
-use Rattle.hound_walk.specs.{Head, IsAt, IsDataPlace, IsSoundOption, IsSoundSpec, part_length, part_start, parts_left}
+use Rattle.hound_walk.specs.{Head, IsAt, IsDataPlace, IsSoundOption, IsSoundSpec, Rejected, part_length, part_start, parts_left}
 use Rattle.hound_walk.specs.declared.cause.Cause.TheVariants as causes
 use Rattle.hound_repair.specs.declared.look.SeenHead.{SeenHead}
 use Rattle.std.specs.declared.io.Error.{Error as IoFault}
@@ -19,28 +18,31 @@ use Rattle.hound_repair.specs.declared.look.Damage.{Damage}
 use Rattle.hound_repair.specs.declared.sizes.Repair.{Repair}
 use Rattle.hound_writer.specs.declared.resuming.RepairState.{RepairState}
 use Rattle.hound_writer.specs.declared.resuming.RepairState.TheVariants.{HasChunksAfterData}
-use Rattle.hound_repair.specs.declared.steps.Rejection.{Rejection}
-use Rattle.hound_repair.specs.declared.steps.Rejection.TheVariants as rejections
-use Rattle.hound_repair.specs.declared.steps.Stage.{Stage}
-use Rattle.hound_repair.specs.declared.steps.Stage.TheVariants as stages
+use Rattle.hound_repair.specs.declared.stages.Rejection.{Rejection}
+use Rattle.hound_repair.specs.declared.stages.Rejection.TheVariants as rejections
+use Rattle.hound_repair.specs.declared.stages.Stage.{Stage}
+use Rattle.hound_repair.specs.declared.stages.Stage.TheVariants as stages
 use Rattle.hound_spec.specs.declared.error.Error.{Error}
 use Rattle.hound_writer.specs.{nth}
 use Rattle.hound_writer.specs.declared.effects.Action.{Action}
 use Rattle.hound_writer.specs.declared.effects.Action.TheVariants.{Read, Perform}
 use Rattle.hound_writer.specs.declared.effects.Report.{Report}
-use Rattle.hound_writer.specs.declared.effects.Report.TheVariants.{Pending, Done, Failed as NotDone}
-use Rattle.hound_repair.specs.declared.steps.RepairStep.{RepairStep}
-use Rattle.hound_repair.specs.declared.steps.RepairStep.TheVariants.{Asks, Found as Found_so}
-use Rattle.hound_repair.specs.declared.steps.Failure.{Failure}
-use Rattle.hound_repair.specs.declared.steps.Failure.TheVariants.{Sync as SyncFailed, Call as CallFailed}
-use Rattle.hound_repair.specs.declared.steps.Task.{Task}
-use Rattle.hound_repair.specs.declared.steps.Task.TheVariants.{FindDamage, Repair as RepairFile, RepairToEnd}
-use Rattle.hound_repair.specs.declared.steps.RepairError.{RepairError}
-use Rattle.hound_repair.specs.declared.steps.RepairError.TheVariants.{Rejected as rejected, Failed as failed}
-use Rattle.hound_repair.specs.declared.steps.Repairing.{Repairing}
-use Rattle.hound_repair.specs.declared.steps.Repairing.TheVariants.{Looks as Looks_for, Mends as Mends_now, Found as Found_now, Failed as Failed_with}
-use Rattle.hound_repair.specs.declared.steps.LookStep.{LookStep}
-use Rattle.hound_repair.specs.declared.steps.LookStep.TheVariants.{Next, Found}
+use Rattle.hound_writer.specs.declared.effects.Report.TheVariants as reports
+use Rattle.hound_writer.specs.declared.effects.Report.TheVariants.{Pending, Done}
+use Rattle.hound_repair.specs.declared.machine.RepairStep.{RepairStep}
+use Rattle.hound_repair.specs.declared.machine.RepairStep.TheVariants as steps
+use Rattle.hound_repair.specs.declared.machine.RepairStep.TheVariants.{Asks}
+use Rattle.hound_repair.specs.declared.machine.Failure.{Failure}
+use Rattle.hound_repair.specs.declared.machine.Failure.TheVariants as failures
+use Rattle.hound_repair.specs.declared.stages.Task.{Task}
+use Rattle.hound_repair.specs.declared.stages.Task.TheVariants as tasks
+use Rattle.hound_repair.specs.declared.stages.Task.TheVariants.{FindDamage, RepairToEnd}
+use Rattle.hound_repair.specs.declared.machine.RepairError.{RepairError}
+use Rattle.hound_repair.specs.declared.machine.RepairError.TheVariants as errors
+use Rattle.hound_repair.specs.declared.machine.Repairing.{Repairing}
+use Rattle.hound_repair.specs.declared.machine.Repairing.TheVariants as states
+use Rattle.hound_repair.specs.declared.stages.LookStep.{LookStep}
+use Rattle.hound_repair.specs.declared.stages.LookStep.TheVariants.{Next, Found}
 
 -- where the part is that a look asks for, and how many bytes it has
 abbrev pub stage_place : Stage → ℕ → ℕ
@@ -149,7 +151,7 @@ rejected_for rejections.TooLong = too_long
 
 -- the bytes have that fault: they have no head for its cause, or one that fails a check
 abbrev pub IsRejectedFor : List ℕ → Rejection → Type 0
-IsRejectedFor bytes (rejections.Head cause) = HasNoHead bytes cause
+IsRejectedFor bytes (rejections.Head cause) = Rejected bytes cause
 IsRejectedFor bytes rejections.Unsupported = HasUnfitHead bytes (by_bytes causes.Unsupported)
 IsRejectedFor bytes rejections.TooLong = HasUnfitHead bytes too_long
 
@@ -327,19 +329,19 @@ SurvivesMending looks state old result =
 
 -- a repair, between two calls, over every file
 abbrev pub IsSoundRepairing : Repairing → Type 0
-IsSoundRepairing (Looks_for stage) = IsSoundStage stage
-IsSoundRepairing (Mends_now head number) = IsSoundHead head
-IsSoundRepairing (Found_now head state) = IsSoundHead head
-IsSoundRepairing (Failed_with failure) = ⊤
+IsSoundRepairing (states.Looks stage) = IsSoundStage stage
+IsSoundRepairing (states.Mends head number) = IsSoundHead head
+IsSoundRepairing (states.Found head state) = IsSoundHead head
+IsSoundRepairing (states.Failed failure) = ⊤
 
 -- over every file: the sizes of what is found are right
 abbrev pub IsSoundRepairStep : RepairStep → Type 0
 IsSoundRepairStep (Asks action) = ⊤
-IsSoundRepairStep (Found_so d) = IsSoundDamage d
+IsSoundRepairStep (steps.Found d) = IsSoundDamage d
 
 -- at a fault of the bytes a repair stays where it is, over every file
 abbrev pub StaysAt : Result RepairStep RepairError → Repairing → Repairing → Type 0
-StaysAt (Err (rejected why)) old new = new ≡ old
+StaysAt (Err (errors.Rejected why)) old new = new ≡ old
 StaysAt _ old new = ⊤
 
 -- whether chunks after the data are looked for
@@ -351,12 +353,12 @@ looks_for_chunks _ = true
 -- canonical form
 abbrev pub mends_for : Task → RepairState → Bool
 mends_for FindDamage state = false
-mends_for RepairFile state = is_mended false state
+mends_for tasks.Repair state = is_mended false state
 mends_for _ state = is_mended true state
 
 -- a task that repairs a file as the two calls do
 abbrev pub IsRepair : Task → Type 0
-IsRepair task = (task ≡ RepairFile) ⊎ (task ≡ RepairToEnd)
+IsRepair task = (task ≡ tasks.Repair) ⊎ (task ≡ RepairToEnd)
 
 -- what is to be done to a file that was found so
 abbrev pub effects_of_task : Task → Damage → List Effect
@@ -364,17 +366,17 @@ effects_of_task task d = effects_where (mends_for task d.state) d
 
 -- what it means that an effect failed
 abbrev pub failure_of : Effect → Failure
-failure_of Sync = SyncFailed
-failure_of _ = CallFailed
+failure_of Sync = failures.Sync
+failure_of _ = failures.Call
 
 -- Table: what a repairer requests, by what it does (It, Report, Then).
 -- the effect with a number is requested, or all are done
 abbrev pub AsksEffect : Task → Damage → ℕ → RepairStep → Repairing → Type 0
 AsksEffect task d number (Asks action) new = (effect : Effect)
     × (nth (effects_of_task task d) number ≡ Some effect) × (action ≡ Perform effect)
-    × (new ≡ Mends_now d.head number)
-AsksEffect task d number (Found_so found) new = (nth (effects_of_task task d) number ≡ None)
-    × (found ≡ d) × (new ≡ Found_now d.head d.state)
+    × (new ≡ states.Mends d.head number)
+AsksEffect task d number (steps.Found found) new = (nth (effects_of_task task d) number ≡ None)
+    × (found ≡ d) × (new ≡ states.Found d.head d.state)
 
 -- where an effect leads whose number is given
 -- | Mends | done | the next effect; after the last one what was found, and Found |
@@ -386,8 +388,8 @@ AsksAfter task d number Pending effect new result =
     MatchResult result (λ ask. AsksEffect task d number ask new) (λ _. ⊥)
 AsksAfter task d number Done (Some effect) new result =
     MatchResult result (λ ask. AsksEffect task d (number + 1) ask new) (λ _. ⊥)
-AsksAfter task d number NotDone (Some effect) new result =
-    (result ≡ Err (failed (failure_of effect))) × (new ≡ Failed_with (failure_of effect))
+AsksAfter task d number reports.Failed (Some effect) new result =
+    (result ≡ Err (errors.Failed (failure_of effect))) × (new ≡ states.Failed (failure_of effect))
 AsksAfter task d number report None new result =
     MatchResult result (λ ask. AsksEffect task d number ask new) (λ _. ⊥)
 
@@ -412,16 +414,16 @@ AreEnough _ bytes = ⊤
 -- | Looks, at bytes that aren't repaired | done | their error, and stays as it is |
 abbrev pub AsksPart : Task → ℕ → List ℕ → Stage → Repairing → Result RepairStep RepairError → Type 0
 AsksPart task n bytes stage new (Ok ask) = AreEnough stage bytes
-    × (((next : Stage) × (new ≡ Looks_for next) × (ask ≡ Asks (asks_for next n))
+    × (((next : Stage) × (new ≡ states.Looks next) × (ask ≡ Asks (asks_for next n))
     × (steps_left n next < steps_left n stage)
     × WhereRead task n bytes stage (λ file. IsAtStage (looks_for_chunks task) file next))
     ⊎ ((d : Damage) × IsSoundDamage d × AsksEffect task d 0 ask new
     × WhereRead task n bytes stage (λ file.
     IsFoundAt (looks_for_chunks task) file (repair_of d) d.head.data_length d.head.data_start
     × (d.held ≡ held d.head.data_start file) × IsShown file d.head)))
-AsksPart task n bytes stage new (Err (rejected why)) = (new ≡ Looks_for stage)
+AsksPart task n bytes stage new (Err (errors.Rejected why)) = (new ≡ states.Looks stage)
     × WhereRead task n bytes stage (λ file. IsRejectedFor file why)
-AsksPart task n bytes stage new (Err (failed failure)) = ⊥
+AsksPart task n bytes stage new (Err (errors.Failed failure)) = ⊥
 
 -- over each file of so many bytes of which this was found, as it was looked at
 abbrev pub WhereFound : ℕ → SeenHead → (List ℕ → Type 0) → Type 0
@@ -438,35 +440,35 @@ abbrev pub Remeasures : ℕ → SeenHead → Repairing → Repairing → Result 
 Remeasures n head old new result P =
     ((d : Damage) × IsSoundDamage d × IsUnfollowed d × (d.head ≡ head) × P d
     × WhereFound n head (λ file. IsMeasured file d))
-    ⊎ ((why : Rejection) × (result ≡ Err (rejected why)) × (new ≡ old)
+    ⊎ ((why : Rejection) × (result ≡ Err (errors.Rejected why)) × (new ≡ old)
     × WhereFound n head (λ file. IsRejectedFor file why))
 
 -- what comes of a part, by how its read has ended
 -- | Looks | none | the same part again |
 -- | Looks | failed | Failed, with the error of a call that wasn't performed |
 abbrev pub AsksOfLook : Task → ℕ → List ℕ → Stage → Repairing → Result RepairStep RepairError → Report → Type 0
-AsksOfLook task n bytes stage new result Pending = (new ≡ Looks_for stage)
+AsksOfLook task n bytes stage new result Pending = (new ≡ states.Looks stage)
     × (result ≡ Ok (Asks (asks_for stage n)))
 AsksOfLook task n bytes stage new result Done = AsksPart task n bytes stage new result
-AsksOfLook task n bytes stage new result NotDone =
-    (result ≡ Err (failed CallFailed)) × (new ≡ Failed_with CallFailed)
+AsksOfLook task n bytes stage new result reports.Failed =
+    (result ≡ Err (errors.Failed failures.Call)) × (new ≡ states.Failed failures.Call)
 
 -- What a call leads to, whatever is handed in. What is found is that of each file of which the parts were read.
 -- | Found | any | what was found again |
 -- | Failed | any | the same error again |
 abbrev pub AsksNext : Task → ℕ → List ℕ → Report → Repairing → Repairing → Result RepairStep RepairError → Type 0
-AsksNext task n bytes report (Looks_for stage) new result =
+AsksNext task n bytes report (states.Looks stage) new result =
     AsksOfLook task n bytes stage new result report
-AsksNext task n bytes report (Mends_now head number) new result =
-    Remeasures n head (Mends_now head number) new result (λ d. AsksMore task d number report new result)
-AsksNext task n bytes report (Found_now head state) new result = (new ≡ Found_now head state)
-    × Remeasures n head (Found_now head state) new result
-    (λ d. result ≡ Ok (Found_so (record d { state = state })))
-AsksNext task n bytes report (Failed_with failure) new result =
-    (result ≡ Err (failed failure)) × (new ≡ Failed_with failure)
+AsksNext task n bytes report (states.Mends head number) new result =
+    Remeasures n head (states.Mends head number) new result (λ d. AsksMore task d number report new result)
+AsksNext task n bytes report (states.Found head state) new result = (new ≡ states.Found head state)
+    × Remeasures n head (states.Found head state) new result
+    (λ d. result ≡ Ok (steps.Found (record d { state = state })))
+AsksNext task n bytes report (states.Failed failure) new result =
+    (result ≡ Err (errors.Failed failure)) × (new ≡ states.Failed failure)
 
 -- how many effects a repair still requests, at most: parts of a file of n bytes, then up to seven that mend it
 abbrev pub effects_left : ℕ → Repairing → ℕ
-effects_left n (Looks_for stage) = 8 + steps_left n stage
-effects_left n (Mends_now head number) = 7 - number
+effects_left n (states.Looks stage) = 8 + steps_left n stage
+effects_left n (states.Mends head number) = 7 - number
 effects_left n _ = 0

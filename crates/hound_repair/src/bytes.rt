@@ -6,7 +6,7 @@ ghost use Rattle.hound_repair.specs.Damages.{FindsDamage, IsSoundDamage, LacksRo
 ghost use Rattle.hound_repair.specs.Steps.{IsRejectedFor, IsRepair, looks_for_chunks};
 
 use crate::look::Damage;
-use crate::steps::{LookStep, Rejection, Stage, Task, take_asked};
+use crate::stages::{LookStep, Rejection, Stage, Task, take_asked};
 use hound_number::le_u32;
 use hound_walk::bytes_at;
 

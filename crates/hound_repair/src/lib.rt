@@ -9,10 +9,12 @@ mod bytes;
 mod file;
 mod laws;
 mod look;
+mod machine;
 mod mend;
+mod performer;
 mod read_at;
 mod sizes;
-mod steps;
+mod stages;
 
 pub use bytes::{find_damage_in_bytes, repair_bytes, set_sizes};
 pub use file::{find_damage_in_file, repair_file, repair_file_to_end};
@@ -22,6 +24,7 @@ pub use laws::{
     a_second_repair_writes_nothing, a_stopped_repair_is_done_again, effects_mend,
 };
 pub use look::{Damage, SeenHead, find_damage};
+pub use machine::{Failure, RepairError, RepairStep, Repairing, repair_next};
 pub use mend::{repair, repair_to_end};
 pub use sizes::Repair;
-pub use steps::{Failure, Rejection, RepairError, RepairStep, Repairing, Stage, Task, repair_next};
+pub use stages::{Rejection, Stage, Task};

@@ -9,7 +9,8 @@ ghost use Rattle.hound_repair.specs.Held.{has_known_tag, has_tag, is_printable, 
 ghost use Rattle.hound_repair.specs.Repairing.{Finds, IsNotFound, Looks};
 
 use crate::sizes::{Repair, Sizes};
-use crate::steps::{Task, look_by_parts};
+use crate::performer::look_by_parts;
+use crate::stages::Task;
 use hound_medium::Source;
 use hound_number::u32_at;
 use hound_spec::{Error, WavSpecEx};

@@ -6,7 +6,8 @@ ghost use Rattle.hound_writer.specs.{IsMediumError};
 ghost use Rattle.hound_repair.specs.Steps.{MendsMedium, PerformsRepair, RepairsMedium, SurvivesMending};
 
 use crate::sizes::Repair;
-use crate::steps::{Task, repair_by_effects};
+use crate::performer::repair_by_effects;
+use crate::stages::Task;
 use hound_medium::{Medium, Source};
 use hound_spec::Error;
 use std::result;

@@ -1,10 +1,10 @@
 -- What a step of a repairer is, whatever its parts are computed from.
 use Rattle.std.proofs.Common.{◌≡◌, ℕ, List, Result, subst, sym}
 use Rattle.hound_repair.specs.{AsksNext}
-use Rattle.hound_repair.specs.declared.steps.RepairError.{RepairError}
-use Rattle.hound_repair.specs.declared.steps.RepairStep.{RepairStep}
-use Rattle.hound_repair.specs.declared.steps.Repairing.{Repairing}
-use Rattle.hound_repair.specs.declared.steps.Task.{Task}
+use Rattle.hound_repair.specs.declared.machine.RepairError.{RepairError}
+use Rattle.hound_repair.specs.declared.machine.RepairStep.{RepairStep}
+use Rattle.hound_repair.specs.declared.machine.Repairing.{Repairing}
+use Rattle.hound_repair.specs.declared.stages.Task.{Task}
 use Rattle.hound_writer.specs.declared.effects.Report.{Report}
 use Rattle.hound_slices.specs.Repairers.{GivesStep}
 use Rattle.hound_slices.specs.declared.error.CallError.{CallError}

@@ -4,10 +4,10 @@ use Rattle.hound_walk.specs.declared.cause.Cause.{Cause}
 use Rattle.hound_walk.specs.declared.cause.Cause.TheVariants.{Ended, Format, Unsupported}
 use Rattle.hound_walk.specs.declared.cause.Reason.{Reason}
 use Rattle.hound_walk.specs.declared.cause.Reason.TheVariants.{NoRiffTag, NoWaveTag, NoDataChunk, NoFmtChunk, FmtSize, UnexpectedFmtSize, ZeroChannels, BitsExceedWidth, Inconsistent, BitsNotWholeBytes, ZeroBits, BitsNot8Or16, ExSize, BitsNot32, ExtensibleSize, DataLength, FrameLength}
-use Rattle.hound_repair.specs.declared.steps.Rejection.{Rejection}
-use Rattle.hound_repair.specs.declared.steps.Rejection.TheVariants as rejections
+use Rattle.hound_repair.specs.declared.stages.Rejection.{Rejection}
+use Rattle.hound_repair.specs.declared.stages.Rejection.TheVariants as rejections
 use Rattle.hound_writer.specs.declared.recorder.RecorderError.{RecorderError}
-use Rattle.hound_writer.specs.declared.recorder.RecorderError.TheVariants.{NotWritable, TooLong as TooLongToRecord, UnfinishedFrame as HalfFrame, Truncated as LacksSamples, NeedsCheckpoint, SyncFailed, CutOff, HasChunksAfterData}
+use Rattle.hound_writer.specs.declared.recorder.RecorderError.TheVariants as recorder_errors
 use Rattle.hound_slices.specs.declared.error.CallError.{CallError}
 use Rattle.hound_slices.specs.declared.error.CallError.TheVariants.{Head, OtherFormat, TooWide, NotWritable, Truncated, TooLong, UnfinishedFrame, NoRoom, NotPerformed, Recorder}
 
@@ -42,14 +42,14 @@ error_code TooLong = negsuc 6
 error_code UnfinishedFrame = negsuc 7
 error_code NoRoom = negsuc 8
 error_code NotPerformed = negsuc 30
-error_code (Recorder NotWritable) = negsuc 4
-error_code (Recorder TooLongToRecord) = negsuc 6
-error_code (Recorder HalfFrame) = negsuc 7
-error_code (Recorder LacksSamples) = negsuc 5
-error_code (Recorder NeedsCheckpoint) = negsuc 26
-error_code (Recorder SyncFailed) = negsuc 27
-error_code (Recorder CutOff) = negsuc 28
-error_code (Recorder HasChunksAfterData) = negsuc 29
+error_code (Recorder recorder_errors.NotWritable) = negsuc 4
+error_code (Recorder recorder_errors.TooLong) = negsuc 6
+error_code (Recorder recorder_errors.UnfinishedFrame) = negsuc 7
+error_code (Recorder recorder_errors.Truncated) = negsuc 5
+error_code (Recorder recorder_errors.NeedsCheckpoint) = negsuc 26
+error_code (Recorder recorder_errors.SyncFailed) = negsuc 27
+error_code (Recorder recorder_errors.NeedsMend) = negsuc 28
+error_code (Recorder recorder_errors.NeedsOverwrite) = negsuc 29
 
 -- the error of bytes that are rejected by a look at them
 abbrev pub error_of_rejection : Rejection → CallError

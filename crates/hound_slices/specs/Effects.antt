@@ -4,10 +4,10 @@ use Rattle.hound_number.specs.{bytes_of}
 use Rattle.hound_spec.specs.declared.spec.WavSpecEx.{WavSpecEx}
 use Rattle.hound_writer.specs.{BeginsWith, header_part}
 use Rattle.hound_writer.specs.declared.effects.BeginningEffect.{BeginningEffect}
-use Rattle.hound_writer.specs.declared.effects.BeginningEffect.TheVariants.{Empty, Sync as SyncFile, SyncFolder, Header}
+use Rattle.hound_writer.specs.declared.effects.BeginningEffect.TheVariants as beginnings
 use Rattle.hound_writer.specs.declared.recorder.RecorderError.{RecorderError}
 use Rattle.hound_writer.specs.declared.effects.Action.{Action}
-use Rattle.hound_writer.specs.declared.effects.Action.TheVariants.{Read, Perform, WriteBlock, Cut}
+use Rattle.hound_writer.specs.declared.effects.Action.TheVariants.{Read, Perform, WriteBlock, Shorten}
 use Rattle.hound_writer.specs.declared.effects.Effect.TheVariants.{Sync, Pad, Size}
 use Rattle.hound_writer.specs.declared.effects.Report.{Report}
 use Rattle.hound_writer.specs.declared.effects.Report.TheVariants.{Pending, Done, Failed}
@@ -26,17 +26,17 @@ effect_of (Some (Perform (Pad at))) = effect_with 2 at 1 (replicate 40 0)
 effect_of (Some (Perform (Size at size))) = effect_with 2 at 4 (bytes_of 4 size ++ replicate 36 0)
 effect_of (Some (WriteBlock at len)) = effect_with 3 at len (replicate 40 0)
 effect_of (Some (Perform Sync)) = effect_with 4 0 0 (replicate 40 0)
-effect_of (Some (Cut at)) = effect_with 5 at 0 (replicate 40 0)
+effect_of (Some (Shorten at)) = effect_with 5 at 0 (replicate 40 0)
 
 -- what begins a file, as C has it
 abbrev pub beginning_of : WavSpecEx → Option BeginningEffect → HoundEffect
 beginning_of s None = effect_with 0 0 0 (replicate 40 0)
-beginning_of s (Some (Header first)) =
+beginning_of s (Some (beginnings.Header first)) =
     let bytes = header_part s first in
     effect_with 2 first (length bytes) (bytes ++ replicate (40 - length bytes) 0)
-beginning_of s (Some SyncFile) = effect_with 4 0 0 (replicate 40 0)
-beginning_of s (Some Empty) = effect_with 5 0 0 (replicate 40 0)
-beginning_of s (Some SyncFolder) = effect_with 6 0 0 (replicate 40 0)
+beginning_of s (Some beginnings.Sync) = effect_with 4 0 0 (replicate 40 0)
+beginning_of s (Some beginnings.Empty) = effect_with 5 0 0 (replicate 40 0)
+beginning_of s (Some beginnings.SyncFolder) = effect_with 6 0 0 (replicate 40 0)
 
 -- what the call for one of these does: the effect is the one with this number, or stays if the spec can't be written
 abbrev pub GivesBeginning : WavSpecEx → ℕ → HoundEffect → HoundEffect

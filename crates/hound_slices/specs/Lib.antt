@@ -3,7 +3,7 @@ pub use Rattle.hound_slices.specs.Codes.{IsHeadError, Records, Returns, code_for
 pub use Rattle.hound_slices.specs.Reading.{Decodes, DecodesSamples, IsCutBefore, IsOtherType, IsReadError, ReadsInto, ReadsSamples, read_check, rejection_error, stored, whole}
 pub use Rattle.hound_slices.specs.Writing.{AppendsInPlace, AppendsSamples, Encodes, GivesHeader, GivesSizes, HasPlace, IsAppendingError, IsEncodeError, IsExplicit, IsFile, IsRejectedBy, IsSizeError, IsUnencoded, IsWriteError, Sizes, WritesFile, file_size, spec_from_c}
 pub use Rattle.hound_slices.specs.Repairing.{FindsInFile, HasHeadOf, IsDamageError, IsFileError, IsReported, RepairsFile, state_code, state_of_code}
-pub use Rattle.hound_slices.specs.Walks.{AnswersPart, AreAsked, Asks, AsksAgain, AsksOn, FindsHead, HasNoHead, IsHeadOf, Steps, TakesPart, bytes_of_part, found_of, part_end, part_of, walk_of, walk_with}
+pub use Rattle.hound_slices.specs.Walks.{AnswersPart, AreAsked, Asks, AsksAgain, AsksOn, FindsHead, HasNoHead, IsHeadOf, IsStepNumber, Steps, TakesPart, bytes_of_part, found_of, part_end, part_of, walk_of, walk_with}
 pub use Rattle.hound_slices.specs.Scaling.{AreBits, IsScaleError, IsSmall, NarrowsFloats, ScalesToFloats, ScalesToIntegers, WidensFloats, becomes_infinite}
 pub use Rattle.hound_slices.specs.Dithering.{TakesNumbers, folded, halves, noise, number_of, state_after}
 unfoldable pub use Rattle.hound_slices.specs.Dithering.{with_noise}

@@ -4,17 +4,17 @@ use Rattle.hound_spec.specs.{greatest_u32}
 use Rattle.hound_spec.specs.declared.spec.WavSpecEx.{WavSpecEx}
 use Rattle.hound_repair.specs.{AsksNext, asked_count, frame_length, repair_of}
 use Rattle.hound_repair.specs.declared.look.SeenHead.{SeenHead}
-use Rattle.hound_repair.specs.declared.steps.Failure.{Failure}
-use Rattle.hound_repair.specs.declared.steps.Failure.TheVariants.{Sync, Call}
-use Rattle.hound_repair.specs.declared.steps.RepairError.{RepairError}
-use Rattle.hound_repair.specs.declared.steps.RepairError.TheVariants.{Rejected, Failed}
-use Rattle.hound_repair.specs.declared.steps.RepairStep.{RepairStep}
-use Rattle.hound_repair.specs.declared.steps.RepairStep.TheVariants.{Asks, Found}
-use Rattle.hound_repair.specs.declared.steps.Repairing.{Repairing}
-use Rattle.hound_repair.specs.declared.steps.Repairing.TheVariants as states
-use Rattle.hound_repair.specs.declared.steps.Stage.TheVariants as stages
-use Rattle.hound_repair.specs.declared.steps.Task.{Task}
-use Rattle.hound_repair.specs.declared.steps.Task.TheVariants.{FindDamage, MakeCanonical, Repair, RepairToEnd}
+use Rattle.hound_repair.specs.declared.machine.Failure.{Failure}
+use Rattle.hound_repair.specs.declared.machine.Failure.TheVariants.{Sync, Call}
+use Rattle.hound_repair.specs.declared.machine.RepairError.{RepairError}
+use Rattle.hound_repair.specs.declared.machine.RepairError.TheVariants.{Rejected, Failed}
+use Rattle.hound_repair.specs.declared.machine.RepairStep.{RepairStep}
+use Rattle.hound_repair.specs.declared.machine.RepairStep.TheVariants.{Asks, Found}
+use Rattle.hound_repair.specs.declared.machine.Repairing.{Repairing}
+use Rattle.hound_repair.specs.declared.machine.Repairing.TheVariants as states
+use Rattle.hound_repair.specs.declared.stages.Stage.TheVariants as stages
+use Rattle.hound_repair.specs.declared.stages.Task.{Task}
+use Rattle.hound_repair.specs.declared.stages.Task.TheVariants.{FindDamage, MakeCanonical, Repair, RepairToEnd}
 use Rattle.hound_writer.specs.declared.recorder.RecorderError.TheVariants.{SyncFailed}
 use Rattle.hound_slices.specs.Codes.{error_of_rejection}
 use Rattle.hound_slices.specs.Effects.{effect_of, report_of}

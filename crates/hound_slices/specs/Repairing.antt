@@ -10,7 +10,8 @@ use Rattle.hound_writer.specs.declared.resuming.RepairState.{RepairState}
 use Rattle.hound_writer.specs.declared.resuming.RepairState.TheVariants.{Whole, CutOff, HasChunksAfterData, AllCounted}
 use Rattle.hound_slices.specs.Writing.{IsExplicit, spec_from_c}
 use Rattle.hound_slices.specs.declared.error.CallError.{CallError}
-use Rattle.hound_slices.specs.declared.error.CallError.TheVariants.{Head as NoHead, NotWritable, TooLong, NoRoom}
+use Rattle.hound_slices.specs.declared.error.CallError.TheVariants as errors
+use Rattle.hound_slices.specs.declared.error.CallError.TheVariants.{NotWritable, TooLong, NoRoom}
 use Rattle.hound_slices.specs.declared.spec.HoundRepair.{HoundRepair}
 
 -- the number of how a file was found
@@ -47,7 +48,7 @@ FindsInFile bytes c = (found : Repair) × IsReported found c × HasHeadOf bytes 
 -- why a file isn't looked at: it has no head for this cause, or it has one of samples that aren't
 -- written, or whose sizes don't fit
 abbrev pub IsDamageError : List ℕ → CallError → Type 0
-IsDamageError bytes (NoHead cause) = Rejected bytes cause
+IsDamageError bytes (errors.Head cause) = Rejected bytes cause
 IsDamageError bytes NotWritable = HasUnfitHead bytes (by_bytes Unsupported)
 IsDamageError bytes TooLong = HasUnfitHead bytes too_long
 IsDamageError bytes _ = ⊥

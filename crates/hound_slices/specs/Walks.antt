@@ -1,5 +1,5 @@
 -- The walk of a caller who reads the file.
-use Rattle.std.specs.Prelude.{◌≡◌, Bool, true, false, ℕ, ◌+◌, ◌*◌, ◌≤◌, ◌<◌, ℤ, pos, List, min, take, Option, Some, None, ◌==◌, nat_lt, if◌then◌else◌}
+use Rattle.std.specs.Prelude.{◌≡◌, ◌⊎◌, Bool, true, false, ℕ, ◌+◌, ◌*◌, ◌≤◌, ◌<◌, ℤ, pos, List, min, take, Option, Some, None, ◌==◌, nat_lt, if◌then◌else◌}
 use Rattle.hound_spec.specs.{greatest_u16}
 use Rattle.hound_spec.specs.declared.spec.WavSpecEx.{WavSpecEx}
 use Rattle.hound_walk.specs.{Head, IsAt, Readable, Rejected, Unreadable, part_bytes, part_length, part_start, parts_left}
@@ -9,7 +9,7 @@ use Rattle.hound_walk.specs.declared.parts.Part.{Part}
 use Rattle.hound_walk.specs.declared.parts.Part.TheVariants.{Front, Header, Last, Fmt}
 use Rattle.hound_writer.specs.declared.effects.Action.TheVariants.{Read}
 use Rattle.hound_writer.specs.declared.effects.Report.{Report}
-use Rattle.hound_writer.specs.declared.effects.Report.TheVariants.{Pending, Done, Failed as NotDone}
+use Rattle.hound_writer.specs.declared.effects.Report.TheVariants.{Pending, Done, Failed}
 use Rattle.hound_slices.specs.Codes.{error_code}
 use Rattle.hound_slices.specs.Effects.{effect_of, report_of}
 use Rattle.hound_slices.specs.Writing.{IsExplicit, spec_from_c}
@@ -109,14 +109,21 @@ pub record AsksAgain (number : ℤ) (old new : HoundWalk) : Type 0 where
 -- what comes of a part, by how its read has ended
 abbrev pub AnswersPart : Bool → Report → ℤ → HoundWalk → HoundWalk → HoundInfo → Type 0
 AnswersPart is_counted Pending number old new info = AsksAgain number old new
-AnswersPart is_counted NotDone number old new info = number ≡ error_code errors.NotPerformed
+AnswersPart is_counted Failed number old new info = number ≡ error_code errors.NotPerformed
 AnswersPart is_counted Done number old new info = (number ≡ pos 1 → AsksOn old new)
     × ((file : List ℕ) → IsAt file (walk_of old) → AreAsked old file → Steps is_counted file number new info)
+
+-- what a walk returns of a part that was read, also of a file that has changed since: 1, 0, or a cause that a file
+-- may have
+abbrev pub IsStepNumber : ℤ → Type 0
+IsStepNumber number = (number ≡ pos 1) ⊎ (number ≡ pos 0)
+    ⊎ ((cause : Cause) × (number ≡ error_code (errors.Head cause)))
 
 -- What a call does that takes a part. Unless it asks for another one, the walk stays as it is, and unless the
 -- data begin, so does what the caller has of them.
 pub record TakesPart (is_counted : Bool) (number : ℤ) (old new : HoundWalk) (was info : HoundInfo) : Type 0 where
   pub answers : AnswersPart is_counted (report_of old.effect) number old new info
+  pub named : report_of old.effect ≡ Done → IsStepNumber number
   pub found : number ≡ pos 0 → FindsHead old info
   pub stays : (number ≡ pos 1 → ⊥) → new ≡ old
   pub kept : (number ≡ pos 0 → ⊥) → info ≡ was

@@ -57,7 +57,7 @@ pub fn effect_for_c(action: Option<Action>) -> HoundEffect
         },
         Some(Action::WriteBlock(place, length)) => without_bytes(3, place, length),
         Some(Action::Perform(Effect::Sync)) => without_bytes(4, 0, 0),
-        Some(Action::Cut(place)) => without_bytes(5, place, 0),
+        Some(Action::Shorten(place)) => without_bytes(5, place, 0),
     }
 }
 

@@ -75,8 +75,8 @@ pub fn code_of_error(error: CallError) -> i32
         CallError::Recorder(RecorderError::Truncated) => -6,
         CallError::Recorder(RecorderError::NeedsCheckpoint) => -27,
         CallError::Recorder(RecorderError::SyncFailed) => -28,
-        CallError::Recorder(RecorderError::CutOff) => -29,
-        CallError::Recorder(RecorderError::HasChunksAfterData) => -30,
+        CallError::Recorder(RecorderError::NeedsMend) => -29,
+        CallError::Recorder(RecorderError::NeedsOverwrite) => -30,
     }
 }
 

@@ -1,8 +1,8 @@
 // The repair of a caller who reads and writes the file.
 ghost use Rattle.std.specs.Prelude.{◌≡◌, ◌≤◌, Some, IfSome, IfOk};
 ghost use Rattle.hound_repair.specs.{IsSoundHead, IsSoundRepairing};
-ghost use Rattle.hound_repair.specs.declared.steps.Repairing.TheVariants as states;
-ghost use Rattle.hound_repair.specs.declared.steps.Stage.TheVariants as stages;
+ghost use Rattle.hound_repair.specs.declared.machine.Repairing.TheVariants as states;
+ghost use Rattle.hound_repair.specs.declared.stages.Stage.TheVariants as stages;
 ghost use Rattle.hound_slices.specs.Effects.{effect_of};
 ghost use Rattle.hound_slices.specs.Repairers.{BeginsRepairer, StepsRepairer, after_head, count_of, failure_of_code, error_of, head_of, repairing_of, task_of};
 

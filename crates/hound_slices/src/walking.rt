@@ -1,8 +1,9 @@
 // The walk of a caller who reads the file.
 ghost use Rattle.std.specs.Prelude.{◌≡◌, ◌<◌, pos};
 ghost use Rattle.hound_walk.specs.{IsSoundOption};
+ghost use Rattle.hound_writer.specs.declared.effects.Report.TheVariants.{Done};
 ghost use Rattle.hound_slices.specs.Effects.{report_of};
-ghost use Rattle.hound_slices.specs.Walks.{AnswersPart, Asks, FindsHead, bytes_of_part, found_of, part_of, walk_of, walk_with};
+ghost use Rattle.hound_slices.specs.Walks.{AnswersPart, Asks, FindsHead, IsStepNumber, bytes_of_part, found_of, part_of, walk_of, walk_with};
 
 use crate::effect::{effect_for_c, report_of};
 use crate::error::{CallError, code_of_error};
@@ -113,6 +114,7 @@ fn walk_for_c(walk: HeadWalk) -> HoundWalk
 #[inline(always)]
 pub fn step_walk(walk: &mut HoundWalk, info: &mut HoundInfo, is_counted: bool) -> i32
     ensures answers { AnswersPart is_counted (report_of walk.old.effect) result walk.old walk.new info.new }
+    ensures named { report_of walk.old.effect ≡ Done → IsStepNumber result }
     ensures found { result ≡ pos 0 → FindsHead walk.old info.new }
     ensures stays { (result ≡ pos 1 → ⊥) → walk.new ≡ walk.old }
     ensures kept { (result ≡ pos 0 → ⊥) → info.new ≡ info.old }

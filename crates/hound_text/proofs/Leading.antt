@@ -6,8 +6,8 @@ use Rattle.hound_text.specs.Reading.{Breaks, Follows, before, ended, numbers_fro
 use Rattle.hound_text.specs.Text.{SaysNoNumbers, SaysNumbers}
 use Rattle.hound_text.specs.declared.numbers.Place.{Place}
 use Rattle.std.specs.Result.{IsErrAnd}
-use Rattle.hound_text.specs.declared.numbers.Rejection.{Rejection}
-use Rattle.hound_text.specs.declared.numbers.Rejection.TheVariants.{BadNumber, InputOrOutput, TooLong, OutOfMemory}
+use Rattle.hound_text.specs.declared.numbers.TextError.{TextError}
+use Rattle.hound_text.specs.declared.numbers.TextError.TheVariants.{BadNumber, InputOrOutput, TooLong, OutOfMemory}
 use Rattle.hound_text.proofs.Saying.{said, unsaid}
 
 -- at the end of the input its numbers are those so far, and that of the word that ends there
@@ -43,7 +43,7 @@ silent_where_broken (Some text) (Some us) (Some vs) p ns bytes xs ys follows rea
     (read ∙ (ap (λ t. t ++ vs) split ∙ append_assoc xs ys vs)) ∙ ap (before ns) (breaks (ys ++ vs))))
 
 -- why a text says no numbers: what breaks it
-pub rejected : {T : Type 0} (result : Result T Rejection) (rejection : Rejection) (breaks : Type 0) (old : Option (List ℕ))
+pub rejected : {T : Type 0} (result : Result T TextError) (rejection : TextError) (breaks : Type 0) (old : Option (List ℕ))
     → IsErrAnd result (λ e. e ≡ rejection) → IsTextRejection rejection breaks → (breaks → IfSome old SaysNoNumbers)
     → IfErr result (λ e. IfSome old (IsRejected e))
 rejected (Ok x) rejection breaks old is text silent = tt
@@ -54,7 +54,7 @@ rejected (Err e) rejection breaks old is text silent =
     always None P h = tt
     always (Some text) P h = h text
 
-    by_cause : (rejection : Rejection) (old : Option (List ℕ)) → IsTextRejection rejection breaks → (breaks → IfSome old SaysNoNumbers) → IfSome old (IsRejected rejection)
+    by_cause : (rejection : TextError) (old : Option (List ℕ)) → IsTextRejection rejection breaks → (breaks → IfSome old SaysNoNumbers) → IfSome old (IsRejected rejection)
     by_cause BadNumber old text silent = silent text
     by_cause OutOfMemory old text silent = always old (IsRejected OutOfMemory) (λ _. tt)
     by_cause InputOrOutput old text silent = absurd text

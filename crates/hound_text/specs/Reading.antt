@@ -6,8 +6,8 @@ use Rattle.std.specs.Int.{is_in_range}
 use Rattle.hound_text.specs.Text.{is_separator, signed_value, SaysNoNumbers}
 use Rattle.hound_text.specs.declared.numbers.Place.{Place}
 use Rattle.hound_text.specs.declared.numbers.Place.TheVariants.{Between, AfterMinus, Inside}
-use Rattle.hound_text.specs.declared.numbers.Rejection.{Rejection}
-use Rattle.hound_text.specs.declared.numbers.Rejection.TheVariants.{BadNumber, InputOrOutput, TooLong, OutOfMemory}
+use Rattle.hound_text.specs.declared.numbers.TextError.{TextError}
+use Rattle.hound_text.specs.declared.numbers.TextError.TheVariants.{BadNumber, InputOrOutput, TooLong, OutOfMemory}
 
 -- so many more bytes of a text may be read, of 4294967295 in all; this is left of it
 abbrev pub MayRead : Option (List ℕ) → Option (List ℕ) → ℕ → Type 0
@@ -76,14 +76,14 @@ Follows (Some text) None place numbers = ⊥
 Follows (Some text) (Some left) place numbers = numbers_from Between text ≡ before numbers (numbers_from place left)
 
 -- an error of the text itself: this breaks it; or there is too little memory for its numbers
-abbrev pub IsTextRejection : Rejection → Type 0 → Type 0
+abbrev pub IsTextRejection : TextError → Type 0 → Type 0
 IsTextRejection BadNumber breaks = breaks
 IsTextRejection OutOfMemory breaks = ⊤
 IsTextRejection _ breaks = ⊥
 
 -- the error for an input with this text; a fault of the input or too little memory may come at any
 -- time
-abbrev pub IsRejected : Rejection → List ℕ → Type 0
+abbrev pub IsRejected : TextError → List ℕ → Type 0
 IsRejected BadNumber text = SaysNoNumbers text
 IsRejected TooLong text = 4294967295 < length text
 IsRejected InputOrOutput text = ⊤

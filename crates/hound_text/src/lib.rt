@@ -7,5 +7,5 @@ mod numbers;
 mod output;
 
 pub use lines::Lines;
-pub use numbers::{Rejection, digits, read_numbers};
+pub use numbers::{TextError, digits, read_numbers};
 pub use output::write_text;

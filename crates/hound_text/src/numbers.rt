@@ -5,7 +5,7 @@ ghost use Rattle.std.specs.Str.Parse.{IsNumeral, digits_value};
 ghost use Rattle.hound_text.specs.Reading.{IsRejected, IsTextRejection, Breaks, Leads, before, begins_with_digit, ended, is_digit, numbers_from};
 ghost use Rattle.hound_text.specs.Text.{SaysNumbers};
 ghost use Rattle.hound_text.specs.declared.numbers.Place.TheVariants.{Between, Inside};
-ghost use Rattle.hound_text.specs.declared.numbers.Rejection.TheVariants.{BadNumber};
+ghost use Rattle.hound_text.specs.declared.numbers.TextError.TheVariants.{BadNumber};
 
 use std::alloc::Global;
 use std::io;
@@ -16,7 +16,7 @@ const INPUT_LENGTH: usize = 16384;
 /// Why a text isn't read. It has one byte, where an error that holds an `io::Error` has a hundred,
 /// and it is part of the result for each number.
 #[derive(Clone, Copy)]
-pub enum Rejection {
+pub enum TextError {
     /// A byte that no number has at its place, or a number beyond `i32`.
     BadNumber,
     /// The input failed.
@@ -63,7 +63,7 @@ fn take_digits(place: Place, mut bytes: &[u8]) -> Option<(Place, &[u8])>
 
 // Takes a byte that is no digit, and appends the number that it ends.
 #[inline(always)]
-fn take_byte(place: Place, byte: u8, numbers: &mut Vec<i32>) -> Result<Place, Rejection>
+fn take_byte(place: Place, byte: u8, numbers: &mut Vec<i32>) -> Result<Place, TextError>
     requires { is_digit byte ≡ false }
     ensures taken { IfOk result (λ later.
         Leads place (byte ∷ []) numbers.old.items later [] numbers.new.items) }
@@ -72,12 +72,12 @@ fn take_byte(place: Place, byte: u8, numbers: &mut Vec<i32>) -> Result<Place, Re
     match (place, byte) {
         (Place::Between, b'-') => Ok(Place::AfterMinus),
         (_, b' ' | b'\t' | b'\r' | b'\n') => end_of_word(place, numbers).and(Ok(Place::Between)),
-        _ => Err(Rejection::BadNumber),
+        _ => Err(TextError::BadNumber),
     }
 }
 
 // Appends the number that ends with a word, or with the text.
-fn end_of_word(place: Place, numbers: &mut Vec<i32>) -> Result<(), Rejection>
+fn end_of_word(place: Place, numbers: &mut Vec<i32>) -> Result<(), TextError>
     ensures ended { OnOk result (before numbers.old.items (ended place) ≡ Some numbers.new.items) }
     ensures rejected { IfErr result (λ rejection. IsTextRejection rejection (ended place ≡ None)) }
 {
@@ -87,8 +87,8 @@ fn end_of_word(place: Place, numbers: &mut Vec<i32>) -> Result<(), Rejection>
         Place::Inside(false, magnitude) => i32::try_from(magnitude).ok(),
         Place::Inside(true, magnitude) => 0_i32.checked_sub_unsigned(magnitude),
     };
-    let number = number.ok_or(Rejection::BadNumber)?;
-    numbers.push(number).or(Err(Rejection::OutOfMemory))
+    let number = number.ok_or(TextError::BadNumber)?;
+    numbers.push(number).or(Err(TextError::OutOfMemory))
 }
 
 // Takes bytes of the text, in order.
@@ -96,14 +96,14 @@ fn take_bytes(
     mut place: Place,
     mut bytes: &[u8],
     numbers: &mut Vec<i32>,
-) -> Result<Place, Rejection>
+) -> Result<Place, TextError>
     ensures taken { IfOk result (λ later.
         Leads place bytes.now numbers.old.items later [] numbers.new.items) }
     ensures rejected { IfErr result (λ rejection. IsTextRejection rejection (Breaks place bytes.now)) }
 {
     while let Some((byte, rest)) = bytes.split_first() {
         if let b'0'..=b'9' = *byte {
-            (place, bytes) = take_digits(place, bytes).ok_or(Rejection::BadNumber)?;
+            (place, bytes) = take_digits(place, bytes).ok_or(TextError::BadNumber)?;
         } else {
             place = take_byte(place, *byte, numbers)?;
             bytes = rest;
@@ -117,7 +117,7 @@ fn take_bytes(
 /// They are separated by spaces, tabs, carriage returns and line feeds: an optional `-`, and then
 /// digits, within `i32`. The first byte that breaks this is `BadNumber`. A fault of the input is
 /// `InputOrOutput`, and more than 4294967295 bytes of it are `TooLong`.
-pub fn read_numbers<R: io::Read>(alloc: Global, input: &mut R) -> Result<Vec<i32>, Rejection>
+pub fn read_numbers<R: io::Read>(alloc: Global, input: &mut R) -> Result<Vec<i32>, TextError>
     ensures end { OnOk result (IsAtEnd (R.remaining input.new)) }
     ensures numbers { IfOk result (λ numbers.
         IfSome (R.remaining input.old) (λ text. SaysNumbers text numbers.items)) }
@@ -130,7 +130,7 @@ pub fn read_numbers<R: io::Read>(alloc: Global, input: &mut R) -> Result<Vec<i32
     let mut room = u32::MAX as usize;
     loop {
         let Ok(count) = input.read(&mut buffer) else {
-            return Err(Rejection::InputOrOutput);
+            return Err(TextError::InputOrOutput);
         };
         if count == 0 {
             end_of_word(place, &mut numbers)?;
@@ -139,7 +139,7 @@ pub fn read_numbers<R: io::Read>(alloc: Global, input: &mut R) -> Result<Vec<i32
         let taken = count.min(room);
         place = take_bytes(place, &buffer[..taken], &mut numbers)?;
         if taken < count {
-            return Err(Rejection::TooLong);
+            return Err(TextError::TooLong);
         }
         room -= taken;
     }

@@ -23,7 +23,7 @@ use Rattle.hound_writer.specs.declared.recorder.Phase.{Phase}
 use Rattle.hound_writer.specs.declared.recorder.Phase.TheVariants.{Idle, Saving, Requested, Writing, Cleaning}
 use Rattle.hound_writer.specs.declared.recorder.Recorder.{Recorder}
 use Rattle.hound_writer.specs.declared.recorder.RecorderError.{RecorderError}
-use Rattle.hound_writer.specs.declared.recorder.RecorderError.TheVariants.{NotWritable, UnfinishedFrame, TooLong, Truncated, CutOff, HasChunksAfterData, NeedsCheckpoint, SyncFailed}
+use Rattle.hound_writer.specs.declared.recorder.RecorderError.TheVariants.{NotWritable, UnfinishedFrame, TooLong, Truncated, NeedsMend, NeedsOverwrite, NeedsCheckpoint, SyncFailed}
 use Rattle.hound_writer.specs.declared.resuming.FoundFile.{FoundFile}
 use Rattle.hound_writer.proofs.Directing.{at_none, readable_frames, step_block, step_cut, step_effect, step_new, step_resumed, step_save}
 
@@ -142,8 +142,8 @@ same_next r a b effect (Err NotWritable) (low, so, has, at, is) (is2, low2, none
 same_next r a b effect (Err TooLong) (low, so, has, at, is) (is2, low2, none) = grind (arith, common_steps)
 same_next r a b effect (Err UnfinishedFrame) (low, so, has, at, is) (is2, low2, none) = absurd none
 same_next r a b effect (Err Truncated) (low, so, has, at, is) (is2, low2, none) = absurd none
-same_next r a b effect (Err CutOff) (low, so, has, at, is) (is2, low2, none) = absurd none
-same_next r a b effect (Err HasChunksAfterData) (low, so, has, at, is) (is2, low2, none) = absurd none
+same_next r a b effect (Err NeedsMend) (low, so, has, at, is) (is2, low2, none) = absurd none
+same_next r a b effect (Err NeedsOverwrite) (low, so, has, at, is) (is2, low2, none) = absurd none
 
 -- the recorder's data
 abbrev IsAs : Recorder → Recorder → Type 0
@@ -161,8 +161,8 @@ keeps_data ok a b (Err NotWritable) (is, _, _) = rw is (refl, refl, refl)
 keeps_data ok a b (Err TooLong) (is, _, _) = rw is (refl, refl, refl)
 keeps_data ok a b (Err UnfinishedFrame) (is, _, _) = rw is (refl, refl, refl)
 keeps_data ok a b (Err Truncated) (is, _, _) = rw is (refl, refl, refl)
-keeps_data ok a b (Err CutOff) (is, _, _) = rw is (refl, refl, refl)
-keeps_data ok a b (Err HasChunksAfterData) (is, _, _) = rw is (refl, refl, refl)
+keeps_data ok a b (Err NeedsMend) (is, _, _) = rw is (refl, refl, refl)
+keeps_data ok a b (Err NeedsOverwrite) (is, _, _) = rw is (refl, refl, refl)
 
 -- the recorder has the same data, and does something else
 moved : (s : WavSpecEx) (file : Begun) (known more : List Known) (old r : Recorder) (m next : MediumState)
@@ -328,8 +328,8 @@ no_failure s file known old new m TooLong d low (is, _, never) =
     let sound = d.idle.sound in let none = d.idle.none in let fields = d.is in grind (arith, common_steps)
 no_failure s file known old new m UnfinishedFrame d low (is, _, never) = absurd never
 no_failure s file known old new m Truncated d low (is, _, never) = absurd never
-no_failure s file known old new m CutOff d low (is, _, never) = absurd never
-no_failure s file known old new m HasChunksAfterData d low (is, _, never) = absurd never
+no_failure s file known old new m NeedsMend d low (is, _, never) = absurd never
+no_failure s file known old new m NeedsOverwrite d low (is, _, never) = absurd never
 
 pub directing_failed : (s : WavSpecEx) (file : Begun) (known : List Known) (old new : Recorder)
     (m : MediumState) (error : RecorderError) → Directed s file known old m → IsAlive old

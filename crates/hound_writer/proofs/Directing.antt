@@ -29,7 +29,7 @@ use Rattle.hound_writer.specs.declared.recorder.Health.{Health}
 use Rattle.hound_writer.specs.declared.recorder.Health.TheVariants.{Sound, Suspect, Dead}
 use Rattle.hound_writer.specs.declared.recorder.Recorder.{Recorder}
 use Rattle.hound_writer.specs.declared.recorder.RecorderError.{RecorderError}
-use Rattle.hound_writer.specs.declared.recorder.RecorderError.TheVariants.{NotWritable, UnfinishedFrame, TooLong, Truncated, CutOff, HasChunksAfterData, NeedsCheckpoint, SyncFailed}
+use Rattle.hound_writer.specs.declared.recorder.RecorderError.TheVariants.{NotWritable, UnfinishedFrame, TooLong, Truncated, NeedsMend, NeedsOverwrite, NeedsCheckpoint, SyncFailed}
 use Rattle.hound_writer.specs.declared.resuming.FoundFile.{FoundFile}
 use Rattle.hound_writer.proofs.Accepting.{accepts_all, accepts_none, sound_more, still}
 use Rattle.hound_writer.proofs.Appending.{follows, sound_head, at_most_on}
@@ -404,8 +404,8 @@ step_cut s file known old new ok m TooLong d low (is, _, never) =
     let sound = d.idle.sound in let none = d.idle.none in let fields = d.is in grind (arith, common_steps)
 step_cut s file known old new ok m UnfinishedFrame d low (is, _, never) = absurd never
 step_cut s file known old new ok m Truncated d low (is, _, never) = absurd never
-step_cut s file known old new ok m CutOff d low (is, _, never) = absurd never
-step_cut s file known old new ok m HasChunksAfterData d low (is, _, never) = absurd never
+step_cut s file known old new ok m NeedsMend d low (is, _, never) = absurd never
+step_cut s file known old new ok m NeedsOverwrite d low (is, _, never) = absurd never
 
 -- within a checkpoint, too, places ascend
 pub step_ascends : (s : WavSpecEx) (file : Begun) (known : List Known) (r : Recorder) (ok : Bool)

@@ -3,7 +3,7 @@
 use Rattle.std.specs.Prelude.{min, ◌≡◌, ◌⊎◌, ℕ, ◌+◌, ◌-◌, ◌^◌, ◌%◌, ◌<◌, ◌≤◌, Bool, true, false, Option, None, Some, Result, Ok, Err}
 use Rattle.hound_writer.specs.Recorder.{HasData, HasNoData, IsAlive, IsClear, NextEffect, length_with}
 use Rattle.hound_writer.specs.declared.effects.Action.{Action}
-use Rattle.hound_writer.specs.declared.effects.Action.TheVariants.{Perform, WriteBlock, Cut, Read}
+use Rattle.hound_writer.specs.declared.effects.Action.TheVariants.{Perform, WriteBlock, Shorten, Read}
 use Rattle.hound_writer.specs.declared.effects.Effect.{Effect}
 use Rattle.hound_writer.specs.declared.effects.Report.{Report}
 use Rattle.hound_writer.specs.declared.effects.Report.TheVariants.{Pending, Done, Failed}
@@ -87,7 +87,7 @@ HasStopped error old new = IsSaving old × (r : Recorder) × NextEffect true old
 -- the table of what there is to do
 abbrev pub GoesOn : Recorder → Recorder → Result (Option Action) RecorderError → Type 0
 GoesOn old new (Ok None) = HasNothing old new ⊎ HasSaved old new
-GoesOn old new (Ok (Some (Cut at))) = CutsOff at old new
+GoesOn old new (Ok (Some (Shorten at))) = CutsOff at old new
 GoesOn old new (Ok (Some (Perform effect))) = HasEffect effect old new
 GoesOn old new (Ok (Some (WriteBlock at len))) = HasBlock at len old new
 GoesOn old new (Ok (Some (Read at len))) = ⊥

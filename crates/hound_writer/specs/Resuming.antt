@@ -4,9 +4,9 @@ use Rattle.hound_writer.specs.Recorder.{AppendsRecorder, recorder_of}
 use Rattle.hound_writer.specs.declared.recorder.Health.TheVariants.{Sound, Suspect}
 use Rattle.hound_writer.specs.declared.recorder.Recorder.{Recorder}
 use Rattle.hound_writer.specs.declared.recorder.RecorderError.{RecorderError}
-use Rattle.hound_writer.specs.declared.recorder.RecorderError.TheVariants.{CutOff, HasChunksAfterData, Truncated, UnfinishedFrame}
+use Rattle.hound_writer.specs.declared.recorder.RecorderError.TheVariants.{NeedsMend, NeedsOverwrite, Truncated, UnfinishedFrame}
 use Rattle.hound_writer.specs.declared.resuming.RepairState.{RepairState}
-use Rattle.hound_writer.specs.declared.resuming.RepairState.TheVariants.{Whole, CutOff as WasCutOff, HasChunksAfterData as HasChunks, AllCounted}
+use Rattle.hound_writer.specs.declared.resuming.RepairState.TheVariants as states
 use Rattle.hound_writer.specs.declared.resuming.FoundFile.{FoundFile}
 
 -- how many bytes a frame of the file has
@@ -24,16 +24,16 @@ ends_whole f = nat_lt 0 (found_frame f) && ((f.data_length % found_frame f == 0)
 -- | `Whole` or `AllCounted` | nothing | continues after the samples that are counted, and cuts the rest off |
 -- | `CutOff`, whose header counts whole frames | to mend | continues after all whole frames, by a checkpoint |
 -- | `CutOff`, whose header counts a part of a frame | to mend | none: `UnfinishedFrame`, to be repaired first |
--- | `CutOff` | nothing | none: `CutOff` |
+-- | `CutOff` | nothing | none: `NeedsMend` |
 -- | `HasChunksAfterData` | to overwrite | continues after the samples that are counted, and cuts the chunks off |
--- | `HasChunksAfterData` | nothing | none: `HasChunksAfterData` |
+-- | `HasChunksAfterData` | nothing | none: `NeedsOverwrite` |
 abbrev pub kept_as : RepairState → FoundFile → Bool → Bool → Result ℕ RecorderError
-kept_as Whole f mends overwrites = Ok f.data_length
-kept_as WasCutOff f mends overwrites =
+kept_as states.Whole f mends overwrites = Ok f.data_length
+kept_as states.CutOff f mends overwrites =
     if mends then (if nat_le f.data_length (f.frames * found_frame f) then Ok (f.frames * found_frame f)
-    else Err UnfinishedFrame) else Err CutOff
-kept_as AllCounted f mends overwrites = Ok f.data_length
-kept_as HasChunks f mends overwrites = if overwrites then Ok f.data_length else Err HasChunksAfterData
+    else Err UnfinishedFrame) else Err NeedsMend
+kept_as states.AllCounted f mends overwrites = Ok f.data_length
+kept_as states.HasChunksAfterData f mends overwrites = if overwrites then Ok f.data_length else Err NeedsOverwrite
 
 -- how many bytes of data are kept, where samples lack or nothing follows those that the header counts; else as above
 -- | any that lacks samples which are counted | nothing | none: `Truncated` |

@@ -33,7 +33,7 @@ pub enum Action {
     WriteBlock(u64, u32),
 
     /// To cut the file off at this place, unless it is no longer than that.
-    Cut(u64),
+    Shorten(u64),
 }
 
 /// What the caller does to begin a new file.

@@ -169,9 +169,9 @@ impl Recorder {
     {
         match self.phase {
             Phase::Idle => Ok(None),
-            Phase::Cleaning => Ok(Some(Action::Cut(self.end()))),
+            Phase::Cleaning => Ok(Some(Action::Shorten(self.end()))),
             Phase::Saving | Phase::Requested(_) | Phase::Writing(_) if self.has_rest => {
-                Ok(Some(Action::Cut(self.end())))
+                Ok(Some(Action::Shorten(self.end())))
             }
             Phase::Saving => {
                 let next = self.save()?;

@@ -22,10 +22,10 @@ pub enum RecorderError {
     Truncated,
 
     /// The recording was cut off, and isn't to be mended.
-    CutOff,
+    NeedsMend,
 
     /// Chunks or a tag follow the data, and aren't to be overwritten.
-    HasChunksAfterData,
+    NeedsOverwrite,
 
     /// A write failed, or a checkpoint isn't done: one has to be, before samples are written.
     NeedsCheckpoint,

@@ -102,9 +102,9 @@ impl FoundFile {
             RepairState::Whole | RepairState::AllCounted => Ok(counted),
             RepairState::CutOff if mends && held >= counted => Ok(held),
             RepairState::CutOff if mends => Err(RecorderError::UnfinishedFrame),
-            RepairState::CutOff => Err(RecorderError::CutOff),
+            RepairState::CutOff => Err(RecorderError::NeedsMend),
             RepairState::HasChunksAfterData if overwrites => Ok(counted),
-            RepairState::HasChunksAfterData => Err(RecorderError::HasChunksAfterData),
+            RepairState::HasChunksAfterData => Err(RecorderError::NeedsOverwrite),
         }
     }
 }

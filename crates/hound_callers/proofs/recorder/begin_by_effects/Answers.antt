@@ -15,7 +15,7 @@ returns-in_err-begin_from-clause-survives g c writable tells keeps empty sector 
 
 pub returns-clause-opened : goal.returns-clause-opened
 returns-clause-opened g c =
-    (c.is_writable.ensures.0 c.if-not-is_writable.false, λ tells keeps. rw keeps at (c.in_ok-begin_from.ensures tells))
+    (c.is_writable.ensures.0 c.if-not-is_writable.false, λ tells. c.in_ok-begin_from.ensures tells)
 
 pub returns-clause-survives : goal.returns-clause-survives
 returns-clause-survives g c writable tells keeps empty sector left lost =

@@ -12,7 +12,7 @@ returns-clause-saved g c tells keeps =
     let file = new_file (at_beginning old) in
     let mid = c.begin_by_effects.new.medium in
     let log = log_of _ (g.met.M.Medium.replays mid tells keeps) (g.met.M.Placed.bytes mid tells) in
-    let opened = c.in_ok-begin_by_effects.ensures.opened.1 tells keeps in
+    let opened = rw keeps at (c.in_ok-begin_by_effects.ensures.opened.1 tells) in
     let begun = c.a_recorder_directs.ensures.new s old log c.in-Ok.recorder opened c.in-Ok.ensures in
     let once = c.an_effect_may_be_repeated.ensures.once log.state (begun_within s old log.state opened) in
     saves s file c.args.blocks.now c.save_blocks.result c.save_blocks.new.recorder _ c.save_blocks.ensures.within

@@ -4,15 +4,15 @@ use Rattle.std.specs.Borrow.{Bor}
 use Rattle.hound_spec.specs.declared.spec.WavSpec.{WavSpec}
 use Rattle.hound_commands.specs.Commands.{IsPackCommand, IsShowCommand, PacksUntil, SaySpec}
 use Rattle.hound_commands.specs.Showing.{ShowsUntil}
-use Rattle.hound_commands.specs.declared.failure.Failure.{Failure}
+use Rattle.hound_commands.specs.declared.error.CommandError.{CommandError}
 use Rattle.hound_spec.specs.{with_default_width}
 use Rattle.hound_commands.proofs.commands.run.Goals as goal
 use Rattle.hound_commands.proofs.commands.run.Goals.{in-show, in-pack+in-Some}
 
 -- status 1 is that of a failure
-failure_of_one : {T : Type 0} (P : Failure → Type 0) (result outcome : Result T Failure) (status : ℕ)
+failure_of_one : {T : Type 0} (P : CommandError → Type 0) (result outcome : Result T CommandError) (status : ℕ)
     → result ≡ outcome → MatchResult result (λ _. status ≡ 0) (λ _. status ≡ 1) → status ≡ 1 → IfErr outcome P
-    → (failure : Failure) × P failure
+    → (failure : CommandError) × P failure
 failure_of_one P result (Ok x) status is tells one holds =
     absurd (let h : status ≡ 0 = subst (λ r. MatchResult r (λ _. status ≡ 0) (λ _. status ≡ 1)) is tells in cc)
 failure_of_one P result (Err failure) status is tells one holds = (failure, holds)

@@ -6,12 +6,12 @@ use Rattle.hound_commands.proofs.ShowAnswers.{err_is, file_shown, file_stops, he
 use Rattle.hound_spec.specs.declared.spec.WavSpecEx.{WavSpecEx}
 use Rattle.hound_commands.specs.Commands.{failure_of}
 use Rattle.hound_commands.specs.Showing.{AnswersSamples}
-use Rattle.hound_commands.specs.declared.failure.Failure.{Failure}
-use Rattle.hound_commands.specs.declared.failure.Failure.TheVariants.{InputOrOutput}
+use Rattle.hound_commands.specs.declared.error.CommandError.{CommandError}
+use Rattle.hound_commands.specs.declared.error.CommandError.TheVariants.{InputOrOutput}
 use Rattle.hound_commands.proofs.showing.show.Goals as goal
 
 -- what was shown, once the result is known
-answered : (s : WavSpecEx) (n : ℕ) (r known : Result (Unit {0}) Failure) (left old new : Option (List ℕ)) (first last : List ℕ)
+answered : (s : WavSpecEx) (n : ℕ) (r known : Result (Unit {0}) CommandError) (left old new : Option (List ℕ)) (first last : List ℕ)
     → r ≡ known → AnswersSamples s n r left old new first last → AnswersSamples s n known left old new first last
 answered s n r known left old new first last is holds =
     subst (λ r. AnswersSamples s n r left old new first last) is holds

@@ -1,7 +1,7 @@
 use Rattle.std.proofs.Common.{rules, ◌≡◌, ◌<◌, OnOk, length, min, refl, sym, subst, arith, length-take}
 use Rattle.hound_reader.specs.{samples_left}
 use Rattle.hound_commands.specs.Commands.{failure_of}
-use Rattle.hound_commands.specs.declared.failure.Failure.TheVariants.{InputOrOutput}
+use Rattle.hound_commands.specs.declared.error.CommandError.TheVariants.{InputOrOutput}
 use Rattle.hound_commands.proofs.ShowAnswers.{all_shown, block_fails, block_shown, block_stops, stops_as, Shown, none_shown}
 use Rattle.hound_commands.proofs.showing.show_blocks.Goals as goal
 

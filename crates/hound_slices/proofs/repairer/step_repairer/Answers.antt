@@ -1,8 +1,8 @@
 use Rattle.std.proofs.lemmas.Grind.{common_steps}
 use Rattle.std.proofs.Common.{◌≡◌, Err, Ok, refl, sym, subst, ap, ◌∙◌, arith, rules}
 use Rattle.hound_repair.specs.{StaysAt}
-use Rattle.hound_repair.specs.declared.steps.RepairError.TheVariants.{Failed, Rejected}
-use Rattle.hound_repair.specs.declared.steps.RepairStep.TheVariants.{Asks, Found}
+use Rattle.hound_repair.specs.declared.machine.RepairError.TheVariants.{Failed, Rejected}
+use Rattle.hound_repair.specs.declared.machine.RepairStep.TheVariants.{Asks, Found}
 use Rattle.hound_slices.specs.Codes.{error_of_rejection}
 use Rattle.hound_slices.proofs.Stepped.{gives_for, step_is}
 use Rattle.hound_slices.proofs.repairer.step_repairer.Goals as goal

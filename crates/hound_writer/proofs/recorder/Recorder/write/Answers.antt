@@ -4,7 +4,7 @@ use Rattle.hound_writer.specs.Machine.{TakesBlock}
 use Rattle.hound_writer.specs.Recorder.{HasNoData, IsAlive, length_with}
 use Rattle.hound_writer.specs.declared.recorder.Recorder.{Recorder}
 use Rattle.hound_writer.specs.declared.recorder.RecorderError.{RecorderError}
-use Rattle.hound_writer.specs.declared.recorder.RecorderError.TheVariants.{NotWritable, UnfinishedFrame, TooLong, Truncated, CutOff, HasChunksAfterData, NeedsCheckpoint, SyncFailed}
+use Rattle.hound_writer.specs.declared.recorder.RecorderError.TheVariants.{NotWritable, UnfinishedFrame, TooLong, Truncated, NeedsMend, NeedsOverwrite, NeedsCheckpoint, SyncFailed}
 use Rattle.hound_writer.proofs.Answers.{is_error}
 use Rattle.hound_writer.proofs.recorder.Recorder.write.Goals as goal
 
@@ -15,8 +15,8 @@ no_room samples end TooLong low is = (refl, low, is)
 no_room samples end SyncFailed low never = absurd never
 no_room samples end UnfinishedFrame low never = absurd never
 no_room samples end Truncated low never = absurd never
-no_room samples end CutOff low never = absurd never
-no_room samples end HasChunksAfterData low never = absurd never
+no_room samples end NeedsMend low never = absurd never
+no_room samples end NeedsOverwrite low never = absurd never
 no_room samples end NeedsCheckpoint low never = absurd never
 
 pub returns-in_err-length_with : goal.returns-in_err-length_with

@@ -1,0 +1,390 @@
+// Which parts of a file a look at it asks for, and where each leads.
+ghost use Rattle.std.specs.Prelude.{◌≡◌, ℕ, ◌+◌, ◌-◌, ◌≤◌, Bool, List, Ok, true, IfOk, length, nat_lt, slice_index, take, drop};
+ghost use Rattle.hound_walk.specs.{Head, IsAt, IsDataPlace, IsSoundOption, IsSoundSpec, part_bytes};
+ghost use Rattle.hound_repair.specs.Damages.{IsSoundDamage};
+ghost use Rattle.hound_repair.specs.Repairing.{unfollowed_state};
+ghost use Rattle.hound_repair.specs.Steps.{AreEnough, IsAsked, IsAtChunk, IsAtEnd, IsAtStage, IsFoundAs, IsLengthOf, IsMeasured, IsNotWhole, IsSoundHead, IsSoundLook, IsSoundStage, IsUnfollowed, IsShown, LooksTo, MeasuresTo, StageNearer, asked_count, asks_for, stage_place, looks_for_chunks, mends_for, else_followed, followed, steps_left};
+ghost use Rattle.hound_repair.specs.declared.stages.Stage.TheVariants as stages;
+
+use crate::look::{Damage, ID3_LENGTH, ID3_TAG, SeenHead, chunk_content, has_known_tag};
+use crate::read_at::LIMIT;
+use crate::sizes::{Repair, right_sizes};
+use hound_number::u32_at;
+use hound_spec::is_pair;
+use hound_walk::{Cause, FileHead, HeadWalk, Part, Step, take_part};
+use hound_writer::{Action, RepairState};
+
+/// What a caller requests of a file.
+#[derive(Clone, Copy, Debug, PartialEq, Eq)]
+pub enum Task {
+    /// What [`find_damage`](crate::find_damage) does.
+    FindDamage,
+
+    /// What [`repair`](crate::repair) does.
+    Repair,
+
+    /// What [`repair_to_end`](crate::repair_to_end) does.
+    RepairToEnd,
+
+    /// What [`repair`](crate::repair) does, and the same to a file whose samples are all counted: its RIFF size
+    /// and its pad byte become those of the canonical form.
+    MakeCanonical,
+}
+
+impl Task {
+    /// Whether it mends a file that was found so.
+    pub(crate) fn mends(self, state: RepairState) -> bool
+        ensures { result ≡ mends_for self state }
+    {
+        match state {
+            RepairState::CutOff => self != Task::FindDamage,
+            RepairState::AllCounted => { self == Task::RepairToEnd || self == Task::MakeCanonical }
+            RepairState::Whole | RepairState::HasChunksAfterData => false,
+        }
+    }
+}
+
+/// Why a file isn't repaired, by its bytes.
+#[derive(Clone, Copy, Debug, PartialEq, Eq)]
+pub enum Rejection {
+    /// It has no head.
+    Head(Cause),
+
+    /// Its samples are not written with these bits, bytes and format.
+    Unsupported,
+
+    /// The RIFF size of its frames would pass 4294967295.
+    TooLong,
+}
+
+/// Which part of a file a look at it asks for.
+#[derive(Clone, Copy)]
+pub enum Stage {
+    /// A part of the header.
+    Head(HeadWalk),
+
+    /// The single byte after the data, of a file with this head.
+    Last(SeenHead),
+
+    /// The RIFF size.
+    Size(SeenHead),
+
+    /// What may be a chunk's header at this place; `true` if those after the pad byte come first.
+    Chunk(SeenHead, u64, bool),
+
+    /// What may be an ID3v1 tag at the end.
+    Tag(SeenHead),
+}
+
+// Where one part leads.
+#[derive(Clone, Copy)]
+pub(crate) enum LookStep {
+    // To another part.
+    Next(Stage),
+
+    // To what was found.
+    Found(Damage),
+}
+
+impl Stage {
+    /// What a look at a file asks for first.
+    pub fn first() -> Stage
+        ensures sound { IsSoundStage result }
+        ensures at { (looks : Bool) (file : List ℕ) → IsAtStage looks file result }
+    {
+        Stage::Head(HeadWalk {
+            found: None,
+            taken: 0,
+            part: Part::Front,
+        })
+    }
+
+    /// The place of the part that a look at a file of so many bytes asks for.
+    pub fn place(self, length: u64) -> u64
+        requires { IsSoundStage self }
+        ensures { result ≡ stage_place self length }
+    {
+        match self {
+            Stage::Head(walk) => walk.start(),
+            Stage::Last(head) => head.data_start + head.data_length as u64,
+            Stage::Size(_) => 4,
+            Stage::Chunk(_, place, _) => place,
+            Stage::Tag(_) => length.saturating_sub(ID3_LENGTH),
+        }
+    }
+
+    /// How many bytes it has; fewer only at the end of the file.
+    pub fn count(self) -> usize
+        ensures is { result ≡ asked_count self }
+        ensures few { result ≤ 40 }
+    {
+        match self {
+            Stage::Head(walk) => walk.length(),
+            Stage::Last(_) => 1,
+            Stage::Size(_) => 4,
+            Stage::Chunk(..) => 8,
+            Stage::Tag(_) => 3,
+        }
+    }
+
+    /// What its caller does.
+    pub fn action(self, length: u64) -> Action
+        requires { IsSoundStage self }
+        ensures { result ≡ asks_for self length }
+    {
+        Action::Read(self.place(length), self.count() as u32)
+    }
+}
+
+// How a file is found that isn't whole, and whose data nothing follows.
+fn unfollowed_state(counts_all: bool) -> RepairState
+    ensures { result ≡ unfollowed_state counts_all }
+{
+    if counts_all {
+        RepairState::AllCounted
+    } else {
+        RepairState::CutOff
+    }
+}
+
+// What is found of a file of so many bytes with this head that isn't whole, and whose data nothing follows.
+pub(crate) fn measured(size: u64, head: SeenHead) -> Result<Damage, Rejection>
+    requires sound { IsSoundHead head }
+    ensures measures { (file : List ℕ) → IsLengthOf size file
+        → Head file head.spec_ex head.data_length head.data_start → IsShown file head
+        → MeasuresTo file result }
+    ensures sound { IfOk result IsSoundDamage }
+    ensures head { IfOk result (λ d. d.head ≡ head) }
+    ensures unfollowed { IfOk result IsUnfollowed }
+    ensures inside { IfOk result (λ d. d.head.data_start + d.held ≤ size) }
+{
+    let spec = head.spec_ex.spec;
+    let width = head.spec_ex.bytes_per_sample;
+    if !is_pair(spec.sample_format, spec.bits_per_sample, width) {
+        return Err(Rejection::Unsupported);
+    }
+    let size = size.min(LIMIT);
+    if head.data_start > size {
+        return Err(Rejection::Head(Cause::Ended));
+    }
+    let held = size - head.data_start;
+    let sizes = right_sizes(head, head.shown(), held).ok_or(Rejection::TooLong)?;
+    let state = unfollowed_state(head.data_length == sizes.data_length);
+    Ok(Damage {
+        head,
+        held,
+        sizes,
+        state,
+    })
+}
+
+// A file that is found as this.
+fn found_as(damage: Damage, state: RepairState) -> LookStep
+    requires sound { IsSoundDamage damage }
+    ensures leads { (looks : Bool) (file : List ℕ) → IsMeasured file damage
+        → IsFoundAs looks file damage.head state → LooksTo looks file (Ok result) }
+    ensures sound { IsSoundLook result }
+    ensures nearer { (n left : ℕ) → StageNearer n left result }
+{
+    LookStep::Found(Damage { state, ..damage })
+}
+
+// On, where no chunk begins after the data.
+fn at_end(damage: Damage) -> LookStep
+    requires sound { IsSoundDamage damage }
+    ensures leads { (looks : Bool) (file : List ℕ) → IsMeasured file damage
+        → IsAtEnd looks file damage.head → LooksTo looks file (Ok result) }
+    ensures sound { IsSoundLook result }
+    ensures nearer { (n left : ℕ) → 2 ≤ left → StageNearer n left result }
+{
+    let length = damage.head.data_length as u64;
+    if length + ID3_LENGTH <= damage.held {
+        return LookStep::Next(Stage::Tag(damage.head));
+    }
+    LookStep::Found(damage)
+}
+
+// On, where no chunk begins at a place, which was that after the pad byte.
+fn at_no_chunk(damage: Damage, padded: bool) -> LookStep
+    requires sound { IsSoundDamage damage }
+    ensures leads { (looks : Bool) (file : List ℕ) → IsMeasured file damage
+        → IsNotWhole looks file damage.head
+        → (followed file damage.head ≡ else_followed padded file damage.head)
+        → LooksTo looks file (Ok result) }
+    ensures sound { IsSoundLook result }
+    ensures nearer { (n place : ℕ) → damage.head.data_start + damage.held ≤ n
+        → StageNearer n (steps_left n (stages.Chunk damage.head place padded)) result }
+{
+    let length = damage.head.data_length as u64;
+    if padded && length < damage.held {
+        let place = damage.head.data_start + length;
+        return LookStep::Next(Stage::Chunk(damage.head, place, false));
+    }
+    at_end(damage)
+}
+
+// On, where the sizes aren't right and chunks are looked for.
+fn after_sizes(damage: Damage) -> LookStep
+    requires sound { IsSoundDamage damage }
+    ensures leads { (looks : Bool) (file : List ℕ) → IsMeasured file damage
+        → IsNotWhole looks file damage.head → LooksTo looks file (Ok result) }
+    ensures sound { IsSoundLook result }
+    ensures nearer { (n : ℕ) → damage.head.data_start + damage.held ≤ n
+        → StageNearer n (steps_left n (stages.Size damage.head)) result }
+{
+    let length = damage.head.data_length as u64;
+    let padded = length + length % 2;
+    if padded < damage.held {
+        let place = damage.head.data_start + padded;
+        return LookStep::Next(Stage::Chunk(damage.head, place, true));
+    }
+    at_no_chunk(damage, true)
+}
+
+// Takes the RIFF size.
+fn take_size(task: Task, damage: Damage, bytes: &[u8]) -> Result<LookStep, Rejection>
+    requires sound { IsSoundDamage damage }
+    ensures leads { (file : List ℕ) → IsMeasured file damage → (bytes.now ≡ take 4 (drop 4 file))
+        → LooksTo (looks_for_chunks task) file result }
+    ensures sound { IfOk result IsSoundLook }
+    ensures nearer { (n : ℕ) → damage.head.data_start + damage.held ≤ n
+        → IfOk result (StageNearer n (steps_left n (stages.Size damage.head))) }
+    ensures enough { IfOk result (λ _. 4 ≤ length bytes.now) }
+{
+    if bytes.len() < 4 {
+        return Err(Rejection::Head(Cause::Ended));
+    }
+    let sizes = damage.sizes;
+    if u32_at(bytes, 0) == sizes.riff_size && damage.head.data_length == sizes.data_length {
+        return Ok(found_as(damage, RepairState::Whole));
+    }
+    if task == Task::RepairToEnd {
+        return Ok(LookStep::Found(damage));
+    }
+    Ok(after_sizes(damage))
+}
+
+// Takes what may be the header of a chunk at this place.
+fn take_chunk(damage: Damage, place: u64, padded: bool, bytes: &[u8]) -> LookStep
+    requires sound { IsSoundDamage damage }
+    ensures leads { (looks : Bool) (file : List ℕ) → IsMeasured file damage
+        → IsAtChunk looks file damage.head place padded → (bytes.now ≡ take 8 (drop place file))
+        → LooksTo looks file (Ok result) }
+    ensures sound { IsSoundLook result }
+    ensures nearer { (n : ℕ) → damage.head.data_start + damage.held ≤ n
+        → StageNearer n (steps_left n (stages.Chunk damage.head place padded)) result }
+{
+    let end = damage.head.data_start + damage.held;
+    if place >= end || has_known_tag(bytes) {
+        return found_as(damage, RepairState::HasChunksAfterData);
+    }
+    if bytes.len() < 8 {
+        return at_no_chunk(damage, padded);
+    }
+    match chunk_content(bytes, end - place) {
+        Some(content) => LookStep::Next(Stage::Chunk(damage.head, place + 8 + content, padded)),
+        None => at_no_chunk(damage, padded),
+    }
+}
+
+// Takes what may be an ID3v1 tag.
+fn take_tag(damage: Damage, bytes: &[u8]) -> LookStep
+    requires sound { IsSoundDamage damage }
+    ensures leads { (looks : Bool) (file : List ℕ) → IsMeasured file damage
+        → IsAtStage looks file (stages.Tag damage.head)
+        → (bytes.now ≡ take 3 (drop (length file - 128) file)) → LooksTo looks file (Ok result) }
+    ensures sound { IsSoundLook result }
+    ensures nearer { (n left : ℕ) → StageNearer n left result }
+{
+    if bytes == ID3_TAG.as_slice() {
+        return found_as(damage, RepairState::HasChunksAfterData);
+    }
+    LookStep::Found(damage)
+}
+
+// What is requested once the head is found: the byte after the data, if it is the only one, or the RIFF
+// size.
+fn after_head(length: u64, head: FileHead) -> Stage
+    requires place { IsDataPlace head.data_start }
+    requires sound { IsSoundSpec head.spec_ex }
+    ensures at { (looks : Bool) (file : List ℕ) → IsLengthOf length file
+        → Head file head.spec_ex head.data_length head.data_start → IsAtStage looks file result }
+    ensures sound { IsSoundStage result }
+    ensures near { steps_left length result ≤ 5 + length + length }
+{
+    let seen = SeenHead {
+        spec_ex: head.spec_ex,
+        data_length: head.data_length,
+        data_start: head.data_start,
+        has_more: false,
+    };
+    if length == head.data_start + head.data_length as u64 + 1 {
+        return Stage::Last(seen);
+    }
+    Stage::Size(seen)
+}
+
+// Whether a single byte after the data, which is this if there is one, is a sample.
+fn is_sample(bytes: &[u8]) -> bool
+    ensures { length bytes.now ≡ 1 → result ≡ nat_lt 0 (slice_index bytes.now 0) }
+{
+    bytes.len() == 1 && bytes[0] != 0
+}
+
+// Takes the byte after the data.
+fn take_last(head: SeenHead, bytes: &[u8]) -> LookStep
+    requires sound { IsSoundHead head }
+    ensures leads { (looks : Bool) (file : List ℕ) → IsAtStage looks file (stages.Last head)
+        → (bytes.now ≡ take 1 (drop (head.data_start + head.data_length) file))
+        → LooksTo looks file (Ok result) }
+    ensures sound { IsSoundLook result }
+    ensures nearer { (n : ℕ) → StageNearer n (steps_left n (stages.Last head)) result }
+{
+    LookStep::Next(Stage::Size(SeenHead {
+        has_more: is_sample(bytes),
+        ..head
+    }))
+}
+
+// Takes a part of the header.
+fn take_header(length: u64, walk: HeadWalk, bytes: &[u8]) -> Result<LookStep, Rejection>
+    requires sound { IsSoundOption walk.found }
+    ensures leads { (looks : Bool) (file : List ℕ) → IsLengthOf length file → IsAt file walk
+        → (bytes.now ≡ part_bytes walk file) → LooksTo looks file result }
+    ensures sound { IfOk result IsSoundLook }
+    ensures nearer { IfOk result (StageNearer length (steps_left length (stages.Head walk))) }
+{
+    match take_part(walk, bytes) {
+        Ok(Step::Next(next)) => Ok(LookStep::Next(Stage::Head(next))),
+        Ok(Step::Data(head)) => Ok(LookStep::Next(after_head(length, head))),
+        Err(cause) => Err(Rejection::Head(cause)),
+    }
+}
+
+// Takes the bytes that a look asks for, fewer only at the end of the file, and returns where they
+// lead: to another part, or to what `repair` finds. At an error the look has ended.
+pub(crate) fn take_asked(
+    length: u64,
+    task: Task,
+    stage: Stage,
+    bytes: &[u8],
+) -> Result<LookStep, Rejection>
+    requires sound { IsSoundStage stage }
+    ensures leads { (file : List ℕ) → IsLengthOf length file
+        → IsAtStage (looks_for_chunks task) file stage → IsAsked length stage file bytes.now
+        → LooksTo (looks_for_chunks task) file result }
+    ensures sound { IfOk result IsSoundLook }
+    ensures nearer { IfOk result (StageNearer length (steps_left length stage)) }
+    ensures enough { IfOk result (λ _. AreEnough stage bytes.now) }
+{
+    match stage {
+        Stage::Head(walk) => take_header(length, walk, bytes),
+        Stage::Last(head) => Ok(take_last(head, bytes)),
+        Stage::Size(head) => take_size(task, measured(length, head)?, bytes),
+        Stage::Chunk(head, place, padded) => {
+            let damage = measured(length, head)?;
+            Ok(take_chunk(damage, place, padded, bytes))
+        }
+        Stage::Tag(head) => Ok(take_tag(measured(length, head)?, bytes)),
+    }
+}
