@@ -161,7 +161,8 @@ class Ways:
     """The ways of a file, by the type that is requested; and whether an array of numpy is."""
 
     def __init__(self, spec: CSpec) -> None:
-        self._spec, self._known = spec, {}  # type: CSpec, Dict[Any, Tuple[Way, bool]]
+        self._spec = spec
+        self._known: Dict[Any, Tuple[Way, bool]] = {}
 
     def of(self, dtype: Any) -> Tuple[Way, bool]:
         key = dtype, type(dtype)  # A type of numpy is equal to its name.

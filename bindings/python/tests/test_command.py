@@ -616,6 +616,16 @@ class Command(Folder):
             self.assertIn(b"last 12 bytes look like a LIST chunk", ended.stderr)
             self.assertEqual(ended.stdout.split(b"\n")[-2].decode(), counts, words)
 
+    def test_a_file_that_is_recorded_to_isn_t_repaired(self):
+        """Also where it is whole just now: what was found before the lock would be out of date."""
+        with hound.create(self.path, 8000, 2, 16) as writer:
+            writer.write(SAMPLES)
+            writer.flush()
+            self.assertIn(b"whole", self.run_command("repair", "--dry-run", "a.wav"))
+            self.run_command("repair", "a.wav", status=1)
+            self.assertIn(b"another program records to", self.said)
+        self.assertIn(b"whole", self.run_command("repair", "a.wav"))
+
     def limited(self, *words):
         """A command that may write no more than 65580 bytes to a file."""
         limit = lambda: resource.setrlimit(resource.RLIMIT_FSIZE, (65580, 65580))
