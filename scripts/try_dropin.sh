@@ -53,8 +53,8 @@ mod published {
         x.write(&mut io::sink(), 24)
     }
     pub fn channel_mask(channels: u16) -> u32 {
-        let spec = WavSpec { channels: channels, sample_rate: 1, bits_per_sample: 24, sample_format: SampleFormat::Int \
-            };
+        let sample_format = SampleFormat::Int;
+        let spec = WavSpec { channels: channels, sample_rate: 1, bits_per_sample: 24, sample_format: sample_format };
         match proved::header(&spec.into(), 0) {
             Ok(header) => header[40..44].iter().rev().fold(0, |mask, byte| mask << 8 | u32::from(*byte)),
             Err(_) => 0,
