@@ -14,7 +14,7 @@ use lib.Pow.{pow_mono, pow_pos, shl_lt}
 use lib.Signed.{lt_z}
 use borrow.Author.Differences.{ints, neg_is, same_in, sum_is_lem}
 use borrow.Author.Tests.{le-leb, lt-ltb, ltb-false, ltb-true}
-use lib.Ieee.{Float, Format, binary64, nan, inf, fin, prec, low, emax, up, down, odd, size, nearest, units, round, sum, add, neg, div, unlike, lt, of_bits, of_int, in_signed, to_signed, whole}
+use lib.Ieee.{Float, Format, binary32, binary64, nan, inf, fin, prec, low, emax, up, down, odd, size, nearest, units, round, sum, add, neg, mul, div, unlike, lt, of_bits, of_int, in_signed, to_signed, whole}
 use lib.Ieee.Digits.{size-le, size-lt}
 use lib.Ieee.Exact.{HasValue, round_exact, units_val}
 use lib.Ieee.Fits.{core, down_pos, nearest-le, round_is}
@@ -47,35 +47,33 @@ of_positive : (f : Format) (z : ℤ) → lt_z z (pos 0) ≡ false → of_int f (
 of_positive f (pos n) h = refl
 of_positive f (negsuc n) h = absurd (true≢false h)
 
--- the sign of a quotient is that of either
+-- the sign of a product is that of either
 unlike-not : (s t : Bool) → unlike s (not t) ≡ unlike (not s) t
 unlike-not true true = refl
 unlike-not true false = refl
 unlike-not false true = refl
 unlike-not false false = refl
 
-div-neg : (f : Format) (x y : Float) → div f x (neg y) ≡ div f (neg x) y
-unfolding div neg
-div-neg f nan y = refl
-div-neg f (inf s) nan = refl
-div-neg f (inf s) (inf t) = refl
-div-neg f (inf s) (fin t n d) = ap inf (unlike-not s t)
-div-neg f (fin s m e) nan = refl
-div-neg f (fin s m e) (inf t) = ap (λ u. fin u 0 (pos 0)) (unlike-not s t)
-div-neg f (fin s m e) (fin t n d) =
-    ap (λ u. cond (eqb n 0) (cond (eqb m 0) nan (inf u)) (round f u (m * up e * down d) (n * up d * down e)))
-    (unlike-not s t)
+mul-neg : (f : Format) (x y : Float) → mul f x (neg y) ≡ mul f (neg x) y
+unfolding mul neg
+mul-neg f nan y = refl
+mul-neg f (inf s) nan = refl
+mul-neg f (inf s) (inf t) = ap inf (unlike-not s t)
+mul-neg f (inf s) (fin t n d) = ap (λ u. cond (eqb n 0) nan (inf u)) (unlike-not s t)
+mul-neg f (fin s m e) nan = refl
+mul-neg f (fin s m e) (inf t) = ap (λ u. cond (eqb m 0) nan (inf u)) (unlike-not s t)
+mul-neg f (fin s m e) (fin t n d) = ap (λ u. round f u (m * up e * (n * up d)) (down e * down d)) (unlike-not s t)
 
--- the size of an integer over a divisor, whose sign is looked up, is the integer over the divisor
-pub signed_quotient : (f : Format) (z : ℤ) (y : Float)
-    → div f (of_int f (pos (nat_abs z))) (slice_index_or (y ∷ neg y ∷ []) (bool_byte (lt_z z (pos 0))) nan)
-    ≡ div f (of_int f z) y
-signed_quotient f z y = by (lt_z z (pos 0)) refl
+-- the size of an integer times a factor, whose sign is looked up, is the integer times the factor
+pub signed_product : (f : Format) (z : ℤ) (y : Float)
+    → mul f (of_int f (pos (nat_abs z))) (slice_index_or (y ∷ neg y ∷ []) (bool_byte (lt_z z (pos 0))) nan)
+    ≡ mul f (of_int f z) y
+signed_product f z y = by (lt_z z (pos 0)) refl
   where
     by : (b : Bool) → lt_z z (pos 0) ≡ b
-        → div f (of_int f (pos (nat_abs z))) (slice_index_or (y ∷ neg y ∷ []) (bool_byte b) nan) ≡ div f (of_int f z) y
-    by true h = div-neg f (of_int f (pos (nat_abs z))) y ∙ ap (λ x. div f x y) (of_negative f z h)
-    by false h = ap (λ x. div f x y) (of_positive f z h)
+        → mul f (of_int f (pos (nat_abs z))) (slice_index_or (y ∷ neg y ∷ []) (bool_byte b) nan) ≡ mul f (of_int f z) y
+    by true h = mul-neg f (of_int f (pos (nat_abs z))) y ∙ ap (λ x. mul f x y) (of_negative f z h)
+    by false h = ap (λ x. mul f x y) (of_positive f z h)
 
 -- a float that is a whole number n, of sign s: without a sign its cast loses nothing, and it is n with that sign
 abbrev Whole : Float → Bool → ℕ → Type 0
@@ -320,3 +318,264 @@ module _ (x : Float) (above : lt (neg (of_bits binary64 0x4320_0000_0000_0000)) 
 
   pub rest_is_nearest : to_z w64 (of_z w64 rest) ≡ to_signed 63 (round_ties_even binary64 x)
   rest_is_nearest = to_z-of_z {w = w64} {z = rest} rest_fits ∙ rest_is ∙ (difference near.0 near.1 near.2).1 ∙ sym near.4
+
+-- ---- a power of two as a divisor, and 1 over it as a factor
+
+-- the exponent of 1 over 2^k
+abbrev below : ℕ → ℤ
+below zero = pos 0
+below (suc k) = negsuc k
+
+-- a float times 1 over 2^k is the float over 2^k
+product_is : (f : Format) (k : ℕ) (x : Float) → mul f x (fin false 1 (below k)) ≡ div f x (fin false 1 (pos k))
+unfolding mul div
+product_is f zero nan = refl
+product_is f zero (inf s) = refl
+product_is f zero (fin s m e) = (λ i. round f (unlike s false) (m * up e * 1) (by i))
+  where
+    by : down e * 1 ≡ 1 * 1 * down e
+    by = omega arith
+product_is f (suc k) nan = refl
+product_is f (suc k) (inf s) = refl
+product_is f (suc k) (fin s m e) = (λ i. round f (unlike s false) (m * up e * 1) (by i))
+  where
+    by : down e * 2 ^ suc k ≡ 1 * 2 ^ suc k * down e
+    by = omega arith
+
+-- what holds of each number below n holds of one
+abbrev AllBelow : (ℕ → Type 0) → ℕ → Type 0
+AllBelow P zero = Unit {0}
+AllBelow P (suc n) = P n × AllBelow P n
+
+one_below : (P : ℕ → Type 0) (n k : ℕ) → AllBelow P n → k < n → P k
+one_below P zero k all low = absurd (omega (arith, low))
+one_below P (suc n) k (last, others) low = by (ltb k n) refl (λ h. one_below P n k others h)
+  where
+    by : (b : Bool) → ltb k n ≡ b → (k < n → P k) → P k
+    by true h before = before (ltb-true _ _ h)
+    by false h before = subst P (omega (arith, low, ltb-false _ _ h)) last
+
+-- 2^k as a float, and 1 over it, which is a float, too
+abbrev IsPower : Format → ℕ → ℕ → Type 0
+IsPower f one k = (of_int f (pos (2 ^ k)) ≡ fin false 1 (pos k))
+    × (div f (of_bits f one) (fin false 1 (pos k)) ≡ fin false 1 (below k))
+
+powers32 : AllBelow (IsPower binary32 0x3f80_0000) 32
+unfolding of_int of_bits div round units odd size
+powers32 = (
+  (refl, refl),
+  (
+    (refl, refl),
+    (
+      (refl, refl),
+      (
+        (refl, refl),
+        (
+          (refl, refl),
+          (
+            (refl, refl),
+            (
+              (refl, refl),
+              (
+                (refl, refl),
+                (
+                  (refl, refl),
+                  (
+                    (refl, refl),
+                    (
+                      (refl, refl),
+                      (
+                        (refl, refl),
+                        (
+                          (refl, refl),
+                          (
+                            (refl, refl),
+                            (
+                              (refl, refl),
+                              (
+                                (refl, refl),
+                                (
+                                  (refl, refl),
+                                  (
+                                    (refl, refl),
+                                    (
+                                      (refl, refl),
+                                      (
+                                        (refl, refl),
+                                        (
+                                          (refl, refl),
+                                          (
+                                            (refl, refl),
+                                            (
+                                              (refl, refl),
+                                              (
+                                                (refl, refl),
+                                                (
+                                                  (refl, refl),
+                                                  (
+                                                    (refl, refl),
+                                                    (
+                                                      (refl, refl),
+                                                      (
+                                                        (refl, refl),
+                                                        (
+                                                          (refl, refl),
+                                                          (
+                                                            (refl, refl),
+                                                            (
+                                                              (refl, refl),
+                                                              (
+                                                                (refl, refl),
+                                                                tt,
+                                                              ),
+                                                            ),
+                                                          ),
+                                                        ),
+                                                      ),
+                                                    ),
+                                                  ),
+                                                ),
+                                              ),
+                                            ),
+                                          ),
+                                        ),
+                                      ),
+                                    ),
+                                  ),
+                                ),
+                              ),
+                            ),
+                          ),
+                        ),
+                      ),
+                    ),
+                  ),
+                ),
+              ),
+            ),
+          ),
+        ),
+      ),
+    ),
+  ),
+)
+
+powers64 : AllBelow (IsPower binary64 0x3ff0_0000_0000_0000) 32
+unfolding of_int of_bits div round units odd size
+powers64 = (
+  (refl, refl),
+  (
+    (refl, refl),
+    (
+      (refl, refl),
+      (
+        (refl, refl),
+        (
+          (refl, refl),
+          (
+            (refl, refl),
+            (
+              (refl, refl),
+              (
+                (refl, refl),
+                (
+                  (refl, refl),
+                  (
+                    (refl, refl),
+                    (
+                      (refl, refl),
+                      (
+                        (refl, refl),
+                        (
+                          (refl, refl),
+                          (
+                            (refl, refl),
+                            (
+                              (refl, refl),
+                              (
+                                (refl, refl),
+                                (
+                                  (refl, refl),
+                                  (
+                                    (refl, refl),
+                                    (
+                                      (refl, refl),
+                                      (
+                                        (refl, refl),
+                                        (
+                                          (refl, refl),
+                                          (
+                                            (refl, refl),
+                                            (
+                                              (refl, refl),
+                                              (
+                                                (refl, refl),
+                                                (
+                                                  (refl, refl),
+                                                  (
+                                                    (refl, refl),
+                                                    (
+                                                      (refl, refl),
+                                                      (
+                                                        (refl, refl),
+                                                        (
+                                                          (refl, refl),
+                                                          (
+                                                            (refl, refl),
+                                                            (
+                                                              (refl, refl),
+                                                              (
+                                                                (refl, refl),
+                                                                tt,
+                                                              ),
+                                                            ),
+                                                          ),
+                                                        ),
+                                                      ),
+                                                    ),
+                                                  ),
+                                                ),
+                                              ),
+                                            ),
+                                          ),
+                                        ),
+                                      ),
+                                    ),
+                                  ),
+                                ),
+                              ),
+                            ),
+                          ),
+                        ),
+                      ),
+                    ),
+                  ),
+                ),
+              ),
+            ),
+          ),
+        ),
+      ),
+    ),
+  ),
+)
+
+-- a float times 1 over 2^k, by what the code has of both
+times_step : (f : Format) (one k : ℕ) → IsPower f one k → (x : Float)
+    → mul f x (div f (of_bits f one) (of_int f (pos (2 ^ k)))) ≡ div f x (of_int f (pos (2 ^ k)))
+times_step f one k (power, step) x =
+    ap (λ y. mul f x (div f (of_bits f one) y)) power
+    ∙ ap (mul f x) step
+    ∙ product_is f k x
+    ∙ ap (div f x) (sym power)
+
+pub times_step32 : (k : ℕ) → k < 32 → (x : Float)
+    → mul binary32 x (div binary32 (of_bits binary32 0x3f80_0000) (of_int binary32 (pos (2 ^ k))))
+    ≡ div binary32 x (of_int binary32 (pos (2 ^ k)))
+times_step32 k low = times_step binary32 0x3f80_0000 k (one_below (IsPower binary32 0x3f80_0000) 32 k powers32 low)
+
+pub times_step64 : (k : ℕ) → k < 32 → (x : Float)
+    → mul binary64 x (div binary64 (of_bits binary64 0x3ff0_0000_0000_0000) (of_int binary64 (pos (2 ^ k))))
+    ≡ div binary64 x (of_int binary64 (pos (2 ^ k)))
+times_step64 k low =
+    times_step binary64 0x3ff0_0000_0000_0000 k (one_below (IsPower binary64 0x3ff0_0000_0000_0000) 32 k powers64 low)

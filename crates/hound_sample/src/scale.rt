@@ -22,10 +22,10 @@ pub fn int_to_float(sample: i32, bits: u16) -> f32
     requires most { bits ≤ 32 }
     ensures { result ≡ float_of_int bits sample }
 {
-    let full_scale = nearest_u32_to_f32(two_to(bits - 1));
+    let step = 1.0 / nearest_u32_to_f32(two_to(bits - 1));
     // A sign that is looked up needs no branch, which would be guessed wrong for each second sample.
-    let divisors = [full_scale, -full_scale];
-    nearest_u32_to_f32(sample.unsigned_abs()) / divisors[(sample < 0) as usize]
+    let steps = [step, -step];
+    nearest_u32_to_f32(sample.unsigned_abs()) * steps[(sample < 0) as usize]
 }
 
 /// The same of an integer that is a float itself, which takes less time.
@@ -36,7 +36,8 @@ pub fn small_int_to_float(sample: i32, bits: u16) -> f32
     requires small { nat_abs sample ≤ 2 ^ 24 }
     ensures { result ≡ float_of_int bits sample }
 {
-    sample as f32 / nearest_u32_to_f32(two_to(bits - 1))
+    // A product takes less time, and 1 over full scale, a power of two, is exact.
+    sample as f32 * (1.0 / nearest_u32_to_f32(two_to(bits - 1)))
 }
 
 /// The same as a float of 64 bits, which is the quotient itself.
@@ -46,7 +47,7 @@ pub fn int_to_double(sample: i32, bits: u16) -> f64
     requires most { bits ≤ 32 }
     ensures { result ≡ double_of_int bits sample }
 {
-    f64::from(sample) / f64::from(two_to(bits - 1))
+    f64::from(sample) * (1.0 / f64::from(two_to(bits - 1)))
 }
 
 /// A float whose full scale is 1 as an integer of so many bits, and whether it was clipped.
