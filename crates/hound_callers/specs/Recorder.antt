@@ -3,7 +3,7 @@ use Rattle.std.specs.Prelude.{◌≡◌, ◌⊎◌, ℕ, ◌+◌, ◌-◌, ◌*�
 use Rattle.std.specs.declared.io.Error.{Error as IoFault}
 use Rattle.std.specs.Borrow.{Bor}
 use Rattle.std.specs.List.{AllByRecursion, flat_map}
-use Rattle.hound.specs.{Action, AppendsRecorder, Counts, DoesBeginnings, Ghosts, IsIoError, IsWritable, WhereTells, beginning, data_start, Kept, accepted_by_all, SurvivesLoss, accepted_samples, field, mix, FoundFile, HasData, Head, IsAlive, IsSoundSpec, LeavesWriter, Resumes, mark_of, resumed_file, writer_of, Asked, Begun, Directed, Error, Flushes, IsRejection, IsSaid, KeptWithin, Known, Log, MediumState, Performed, Phase, PutsAt, ReadsAs, Readable, Repeats, Recorder, RecorderError, Rejection, Report, Unreadable, WavSpecEx, bytes_of, effects_of, found_in, greatest_u32, if_marked, log_kind, padded, publish, riff_size, seen, start_of, whole_containers, write}
+use Rattle.hound.specs.{Action, AppendsRecorder, Counts, DoesBeginnings, Ghosts, IsIoError, IsWritable, WhereTells, beginning, data_start, Kept, accepted_by_all, SurvivesLoss, accepted_samples, field, mix, FoundFile, HasData, Head, IsAlive, IsSoundSpec, LeavesWriter, Resumes, mark_of, resumed_file, writer_of, Asked, Begun, Directed, Error, Flushes, IsRejection, IsSaid, KeptWithin, Known, Log, MediumState, Performed, Phase, PutsAt, ReadsAs, Readable, Repeats, Recorder, RecorderError, Rejection, Report, Unreadable, WavSpecEx, bytes_of, effects_of, found_in, greatest_u32, if_marked, log_kind, padded, publish, riff_size, seen, start_of, whole_containers, write, one_more}
 use Rattle.hound.specs.declared.Action.TheVariants.{Shorten, Perform, Read, WriteBlock}
 use Rattle.hound.specs.declared.Effect.TheVariants.{Pad, Size, Sync}
 use Rattle.hound.specs.declared.Health.TheVariants.{Sound}
@@ -75,11 +75,12 @@ abbrev pub once_done : Recorder → Recorder
 once_done r = record r { data_length = length_after r.phase r; number = 0; health = Sound; phase = Idle }
 
 -- Why a file isn't begun, and what it holds then: its spec can't be written, and the medium is as it was; or an effect
--- of its beginning has failed.
+-- of its beginning has failed, by a fault that the medium counted.
 abbrev pub IsNotBegunBy : {M : Type 0} → Ghosts M → WavSpecEx → M → M → Error → Type 0
 IsNotBegunBy kind s old new e = ((IsWritable s → ⊥) × (e ≡ Unsupported) × (new ≡ old))
     ⊎ (IsWritable s × IsIoError e × WhereTells kind.tells
-    ((fault : IoFault) × DoesBeginnings kind.keeps s beginning (Err fault) (kind.state old) (kind.state new)))
+    (((kind.state new).faults ≡ one_more (kind.state old).faults)
+    × (fault : IoFault) × DoesBeginnings kind.keeps s beginning (Err fault) (kind.state old) (kind.state new)))
 
 -- a loss of power leaves no sample of a file without bytes that is being begun, and no length of one
 abbrev pub LeavesNoSample : WavSpecEx → MediumState → MediumState → Type 0

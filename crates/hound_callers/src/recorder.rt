@@ -1,7 +1,7 @@
 // Recorders whose caller performs the effects, on a medium.
 ghost use Rattle.std.specs.Prelude.{◌≡◌, ◌⊎◌, ◌≤◌, ◌+◌, ℕ, List, [], ◌++◌, ◌∷◌, Bool, Ok, true, false, if◌then◌else◌, IfErr, IfOk, OnErr, OnOk, Result, drop, is_ok, length, slice_index_or, take};
 ghost use Rattle.std.specs.declared.io.Error.{Error as IoFault};
-ghost use Rattle.hound.specs.{Asked, Begun, DoesBeginning, DoesBeginnings, Flushes, IsIoError, IsSaid, IsWritable, at_beginning, beginning, HasData, IsSynced, Known, Log, Repeats, Readable, Recorder, WavSpecEx, one_more, WhereKeeps, WhereTells, new_file, resumed_file, seen};
+ghost use Rattle.hound.specs.{Asked, Begun, DoesBeginning, DoesBeginnings, Flushes, IsIoError, IsSaid, IsWritable, at_beginning, beginning, faults_after, HasData, IsSynced, Known, Log, Repeats, Readable, Recorder, WavSpecEx, one_more, WhereKeeps, WhereTells, new_file, resumed_file, seen};
 ghost use Rattle.hound.specs.declared.Phase.TheVariants.{Saving};
 ghost use Rattle.hound.specs.declared.Report.TheVariants.{Pending};
 ghost use Rattle.hound.specs.{Directed, MediumState, PutsAt, end_of, overlay, placed};
@@ -172,8 +172,10 @@ fn perform_beginning<M: Medium>(
     effect: BeginningEffect,
 ) -> io::Result<()>
     requires { IsWritable spec_ex }
-    ensures { WhereTells M.tells
+    ensures does { WhereTells M.tells
         (DoesBeginning M.keeps spec_ex effect result (M.state medium.old) (M.state medium.new)) }
+    ensures faults { WhereTells M.tells
+        ((M.state medium.new).faults ≡ faults_after result (M.state medium.old).faults) }
 {
     match effect {
         BeginningEffect::SyncFolder | BeginningEffect::Empty => Ok(()),
@@ -189,8 +191,10 @@ fn perform_beginning<M: Medium>(
 fn begin_from<M: Medium>(medium: &mut M, spec_ex: WavSpecEx, number: u32) -> io::Result<()>
     requires writable { IsWritable spec_ex }
     requires within { number ≤ 5 }
-    ensures { WhereTells M.tells (DoesBeginnings M.keeps spec_ex (drop number beginning) result
+    ensures does { WhereTells M.tells (DoesBeginnings M.keeps spec_ex (drop number beginning) result
         (M.state medium.old) (M.state medium.new)) }
+    ensures faults { WhereTells M.tells
+        ((M.state medium.new).faults ≡ faults_after result (M.state medium.old).faults) }
 {
     let Ok(Some(effect)) = beginning_effect(spec_ex, number) else {
         return Ok(());

@@ -83,7 +83,7 @@ fn failure_of(effect: Effect) -> Failure
 {
     match effect {
         Effect::Sync => Failure::Sync,
-        _ => Failure::Call,
+        Effect::Pad(_) | Effect::Size(..) => Failure::Call,
     }
 }
 

@@ -11,11 +11,11 @@ returns-in_err-begin_from-clause-survives g c writable tells keeps empty sector 
     let old = c.args.medium.now in
     c.a_recording_is_kept.ensures.begun c.args.spec_ex (M.state old) (M.state c.begin_from.new.medium)
     (Err c.in_err-begin_from.field-0.0) (sym (g.met.M.Medium.replays old tells keeps) ∙ empty)
-    (rw keeps at (c.in_err-begin_from.ensures tells)) sector left lost
+    (rw keeps at (c.in_err-begin_from.ensures.does tells)) sector left lost
 
 pub returns-clause-opened : goal.returns-clause-opened
 returns-clause-opened g c =
-    (c.is_writable.ensures.0 c.if-not-is_writable.false, λ tells. c.in_ok-begin_from.ensures tells)
+    (c.is_writable.ensures.0 c.if-not-is_writable.false, λ tells. c.in_ok-begin_from.ensures.does tells)
 
 pub returns-clause-survives : goal.returns-clause-survives
 returns-clause-survives g c writable tells keeps empty sector left lost =
@@ -23,4 +23,4 @@ returns-clause-survives g c writable tells keeps empty sector left lost =
     let old = c.args.medium.now in
     c.a_recording_is_kept.ensures.begun c.args.spec_ex (M.state old) (M.state c.begin_from.new.medium)
     (Ok tt) (sym (g.met.M.Medium.replays old tells keeps) ∙ empty)
-    (rw keeps at (c.in_ok-begin_from.ensures tells)) sector left lost
+    (rw keeps at (c.in_ok-begin_from.ensures.does tells)) sector left lost
