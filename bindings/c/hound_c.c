@@ -1,6 +1,6 @@
 /* The functions of hound.h in C99 (and C++11), for computers that bindings/lib has no library for.
    scripts/portable/convert.py makes this file from the proved module hound_c.wasm, whose sha256 is
-   439894c9c2fa9de72d31d32091c92c4118b495b6f900ee2cfc3c23c8d63f6b30: don't edit it.
+   b37d93a4e7e3bf7c6ee366a442630937c9fe551c2bb082bb9af69ced7402f25d: don't edit it.
      cc -O3 -c bindings/c/hound_c.c
 
    Numbers are the module's: an i32 is a uint32_t, an i64 or an address a uint64_t, and an address is
@@ -55,8 +55,8 @@ enum {
     HOUND_FRAME_LENGTH = -26,
     HOUND_NEEDS_CHECKPOINT = -27,
     HOUND_SYNC_FAILED = -28,
-    HOUND_IS_CUT_OFF = -29,
-    HOUND_CHUNKS_FOLLOW = -30,
+    HOUND_NEEDS_MEND = -29,
+    HOUND_NEEDS_OVERWRITE = -30,
     HOUND_NOT_PERFORMED = -31
 };
 enum { HOUND_INT = 0, HOUND_FLOAT = 1 };
@@ -96,7 +96,7 @@ enum {
     HOUND_WRITE,
     HOUND_WRITE_BLOCK,
     HOUND_SYNC,
-    HOUND_CUT,
+    HOUND_SHORTEN,
     HOUND_SYNC_FOLDER
 };
 enum { HOUND_PENDING, HOUND_DONE, HOUND_FAILED };
@@ -3369,7 +3369,7 @@ L3:;
 L1:;
 }
 
-/* hound_repair::steps::take_asked */
+/* hound_repair::stages::take_asked */
 static void f21_take_asked(uint64_t sp, uint64_t l0, uint64_t l1, uint32_t l2, uint64_t l3, uint64_t l4, uint64_t l5) {
     uint32_t l7 = 0, l8 = 0, l11 = 0, l12 = 0, l17 = 0, l18 = 0, l19 = 0, l20 = 0, l21 = 0, l22 = 0, l29 = 0, l30 = 0, l31 = 0, l32 = 0, l33 = 0, l34 = 0, t1, t2, t3, t4;
     uint64_t l6 = 0, l9 = 0, l10 = 0, l13 = 0, l14 = 0, l15 = 0, l16 = 0, l23 = 0, l24 = 0, l25 = 0, l26 = 0, l27 = 0, l28 = 0;
@@ -4078,7 +4078,7 @@ L2:;
 L1:;
 }
 
-/* hound_repair::steps::measured */
+/* hound_repair::stages::measured */
 static void f22_measured(uint64_t sp, uint64_t l0, uint64_t l1, uint64_t l2) {
     uint32_t l4 = 0, l5 = 0, l8 = 0, l9 = 0, l10 = 0, l11 = 0, l12 = 0, l13 = 0, l14 = 0, l15 = 0;
     uint64_t l3 = 0, l6 = 0, l7 = 0, l16 = 0, l17 = 0, l18 = 0, l19 = 0;
@@ -9578,7 +9578,7 @@ L3:;
 static uint64_t f113_hound_to_f32(uint64_t sp, uint64_t l0, uint64_t l1, uint32_t l2, uint64_t l3, uint64_t l4) {
     uint32_t l7 = 0, l9 = 0, l12 = 0, t1, t2, t3, t4;
     uint64_t l5 = 0, l6 = 0, l8 = 0, l10 = 0, l11 = 0;
-    float l13 = 0, l14 = 0;
+    float l13 = 0, l14 = 0, t5;
     l5 = sp - 16ull;
     if (((l2 - 33u) & 65535u) >= 65504u) goto L3;
     return 0xfffffffffffffffbull;
@@ -9623,7 +9623,7 @@ L7:;
 L6:;
     l4 = l3 + l6;
     l12 = 1u << ((((l2 - 1u) & 65535u) & 31));
-    l13 = ((float)(l12 & 65535u)) + (((float)(l12 >> 16)) * (65536.0f));
+    l13 = (1.0f) / (((float)(l12 & 65535u)) + (((float)(l12 >> 16)) * (65536.0f)));
     if ((l9 & 1u) != 0) goto L10;
     if (l7 == 0) goto L12;
     l11 = 0ull;
@@ -9635,8 +9635,8 @@ L12:;
     l5 = l4;
     l8 = l0;
 L13:;
-    store_f32(l5, ((float)s32(load32(l8))) / l13);
-    store_f32(l5 + 4ull, ((float)s32(load32(l8 + 4ull))) / l13);
+    store_f32(l5, l13 * ((float)s32(load32(l8))));
+    store_f32(l5 + 4ull, l13 * ((float)s32(load32(l8 + 4ull))));
     l5 = l5 + 8ull;
     l8 = l8 + 8ull;
     l11 = l11 + 2ull;
@@ -9644,7 +9644,7 @@ L13:;
     if (l6 == 0) goto L1;
 L11:;
     l5 = l11 << 2;
-    store_f32(l4 + l5, ((float)s32(load32(l0 + l5))) / l13);
+    store_f32(l4 + l5, l13 * ((float)s32(load32(l0 + l5))));
     goto L1;
 L10:;
     l14 = neg_f32(l13);
@@ -9654,8 +9654,9 @@ L14:;
     store_f32(l5 + 12, l14);
     store_f32(l5 + 8, l13);
     l12 = shr_s32(l9, 31);
-    l12 = (l9 ^ l12) - l12;
-    store_f32(l4, (((float)(l12 & 65535u)) + (((float)(l12 >> 16)) * (65536.0f))) / (load_f32((l5 + 8ull) + ((uint64_t)((l9 >> 29) & 4u)))));
+    t5 = load_f32((l5 + 8ull) + ((uint64_t)((l9 >> 29) & 4u)));
+    l9 = (l9 ^ l12) - l12;
+    store_f32(l4, t5 * (((float)(l9 & 65535u)) + (((float)(l9 >> 16)) * (65536.0f))));
     l0 = l0 + 4ull;
     l4 = l4 + 4ull;
     l8 = l8 - 1ull;
@@ -9681,7 +9682,7 @@ L3:;
 L4:;
     l5 = l3 + (l3 == 0 ? 4096ull : 0ull);
     l6 = l0 + (l0 == 0 ? 4096ull : 0ull);
-    l7 = (double)(1u << ((((l2 - 1u) & 65535u) & 31)));
+    l7 = (1.0) / ((double)(1u << ((((l2 - 1u) & 65535u) & 31))));
     l0 = 0ull;
     if (l1 == 1ull) goto L6;
     l8 = l1 & 1ull;
@@ -9690,15 +9691,15 @@ L4:;
     l4 = l5;
     l3 = l6;
 L7:;
-    store_f64(l4, ((double)s32(load32(l3))) / l7);
-    store_f64(l4 + 8ull, ((double)s32(load32(l3 + 4ull))) / l7);
+    store_f64(l4, l7 * ((double)s32(load32(l3))));
+    store_f64(l4 + 8ull, l7 * ((double)s32(load32(l3 + 4ull))));
     l4 = l4 + 16ull;
     l3 = l3 + 8ull;
     l0 = l0 + 2ull;
     if (l9 != l0) goto L7;
     if (l8 == 0) goto L5;
 L6:;
-    store_f64(l5 + (l0 << 3), ((double)s32((load32(l6 + (l0 << 2))))) / l7);
+    store_f64(l5 + (l0 << 3), l7 * ((double)s32((load32(l6 + (l0 << 2))))));
 L5:;
     return l1;
     TRAP();
