@@ -1,8 +1,8 @@
 // The functions of `callers` and `reading`, each run once.
 use hound::{Decode, Source, WavReader, WavWriter};
 use hound_callers::{
-    look_and_repair, open_written, publish, read_block, read_from, read_memory,
-    record_at_once, reopen, sample_at, samples_of, written_and_read,
+    look_and_repair, open_written, publish, read_block, read_from, read_memory, record_at_once,
+    reopen, sample_at, samples_of, written_and_read,
 };
 use hound_test_helpers::{FOUR_SAMPLES, NO_SAMPLES, empty_tape, name_of, sixteen, tape_of};
 use std::alloc::Global;

@@ -4,9 +4,9 @@ use hound::{
 };
 use hound_callers::{
     Twelve, append_blocks, append_by_effects, begin_by_effects, continue_by_effects, finish,
-    finish_durable, opened_meanwhile, pack_one, publish_and_continue, record,
-    record_at_once, record_batch, record_by_effects, record_checkpoints, record_in_parts,
-    record_steps, write_if_short,
+    finish_durable, opened_meanwhile, pack_one, publish_and_continue, record, record_at_once,
+    record_batch, record_by_effects, record_checkpoints, record_in_parts, record_steps,
+    write_if_short,
 };
 use hound_test_helpers::{FOUR_SAMPLES, empty_tape, integers, read_all, sixteen, tape_of};
 use std::alloc::Global;

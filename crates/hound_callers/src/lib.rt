@@ -24,7 +24,7 @@ pub use recorder::{
     record_by_effects,
 };
 pub use recording::{
-    finish_durable, pack_one, publish_and_continue, record, record_at_once,
-    record_batch, record_checkpoints, record_steps, write_if_short,
+    finish_durable, pack_one, publish_and_continue, record, record_at_once, record_batch,
+    record_checkpoints, record_steps, write_if_short,
 };
 pub use twelve::Twelve;

@@ -8,8 +8,8 @@ ghost use Rattle.hound_repair.specs.Damages.{IsSoundDamage, repair_of, shown_of}
 ghost use Rattle.hound_repair.specs.Held.{has_known_tag, has_tag, is_printable, said_length, held, missing_pad};
 ghost use Rattle.hound_repair.specs.Repairing.{Finds, IsNotFound, Looks};
 
-use crate::sizes::{Repair, Sizes};
 use crate::performer::look_by_parts;
+use crate::sizes::{Repair, Sizes};
 use crate::stages::Task;
 use hound_medium::Source;
 use hound_number::u32_at;

@@ -5,8 +5,8 @@ ghost use Rattle.hound_medium.specs.{WhereKeeps, WhereTells};
 ghost use Rattle.hound_writer.specs.{IsMediumError};
 ghost use Rattle.hound_repair.specs.Steps.{MendsMedium, PerformsRepair, RepairsMedium, SurvivesMending};
 
-use crate::sizes::Repair;
 use crate::performer::repair_by_effects;
+use crate::sizes::Repair;
 use crate::stages::Task;
 use hound_medium::{Medium, Source};
 use hound_spec::Error;
