@@ -188,8 +188,8 @@ class Floats(Folder):
         self.assertEqual(hound.read(self.path), first)
 
     def test_dither_is_that_of_a_model(self):
-        """By fractions: the states of the generator, the difference of their upper two sixteen bits, and one rounding to
-        a double. A block that failed takes no noise."""
+        """By fractions: the states of the generator, the difference of their upper two 16 bits, and one
+        rounding to a double. A block that failed takes no noise."""
         some = random.Random(8)
         for bits in 8, 16, 24, 32:
             steps = [some.randrange(-(1 << bits), 1 << bits) / 2.0**bits for _ in range(200)]

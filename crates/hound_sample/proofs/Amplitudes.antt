@@ -1,8 +1,8 @@
 -- Floats that are stored as integers, one after the other, with noise or without.
 use mathlib.Core.Path.{◌≡◌, refl, sym, ap, ◌∙◌}
-use Prim.Native.Nat.{ℕ, zero, suc, ◌+◌, ◌-◌, ◌*◌, ◌<◌, ◌≤◌, ◌^◌}
+use Prim.Native.Nat.{ℕ, zero, suc, ◌+◌, ◌<◌}
 use native.Mathlib.Omega.{arith}
-use Rattle.std.proofs.Common.{ℤ, pos, negsuc, Bool, true, false, cond, IsTrue, List, [], ◌∷◌, ◌++◌, length, drop, get_or, map, rules, slice_index_or, take, Result, Ok, Err, IsOk, is_ok, subst}
+use Rattle.std.proofs.Common.{ℤ, Bool, true, false, cond, List, [], ◌∷◌, ◌++◌, length, drop, get_or, map, rules, slice_index_or, take, Ok, Err, is_ok}
 use Rattle.std.proofs.lemmas.List.{append-nil, drop_more, map-append, take_more}
 use Rattle.std.proofs.lemmas.List.Sums.{count_by_more_no, count_by_more_yes}
 use Rattle.std.proofs.lemmas.Grind.{flat_map-append}
@@ -10,9 +10,9 @@ use Rattle.std.specs.List.{count_by, flat_map}
 use mir.Val.{bool_byte}
 use Rattle.std.specs.Float.{Float, binary64}
 use lib.Ieee.{add, nan}
-use Rattle.hound_spec.specs.{IsPair, is_pair}
+use Rattle.hound_spec.specs.{IsPair}
 use Rattle.hound_spec.specs.declared.spec.SampleFormat.TheVariants.{Int}
-use Rattle.hound_sample.specs.Container.{Rejection, all_containers, and_more, bytes_in, fits, if_fits, int_bytes, int_container, joined_containers, unsupported}
+use Rattle.hound_sample.specs.Container.{Rejection, bytes_in, fits, if_fits, int_bytes, int_container, joined_containers, unsupported}
 use Rattle.hound_sample.specs.Dithering.{next_state, noise, state_after, with_noise}
 use Rattle.hound_sample.specs.Scale.{scaled_to}
 

@@ -1,8 +1,8 @@
 -- Noise that is added to floats before they become integers, from the linear congruential generator of Knuth's MMIX.
 use Rattle.std.specs.Prelude.{ℕ, zero, suc, ℤ, pos, ◌+◌, ◌*◌, ◌/◌, ◌%◌, ◌^◌, ◌-ℤ◌, List, [], ◌∷◌}
 use Rattle.std.specs.Float.{Float, binary64}
-use lib.Ieee.{add, div, of_int}
-use Rattle.hound_sample.specs.Scale.{double_of_int, full_scale}
+use lib.Ieee.{add}
+use Rattle.hound_sample.specs.Scale.{double_of_int}
 
 -- the state of the generator after another one
 abbrev pub next_state : ℕ → ℕ

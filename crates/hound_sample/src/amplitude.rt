@@ -1,4 +1,4 @@
-// Floats whose full scale is 1, in containers of integers: decoded from them, and stored in them, with noise or without.
+// Floats whose full scale is 1: decoded from containers of integers, and stored in them, with or without noise.
 ghost use Rattle.std.specs.Prelude.{◌≡◌, ◌+◌, ◌*◌, ◌≤◌, Ok, length, map, not, pos, take, true};
 ghost use Rattle.std.specs.Float.{Float};
 ghost use Rattle.std.specs.List.{count_by};

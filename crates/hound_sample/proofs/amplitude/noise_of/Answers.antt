@@ -1,5 +1,5 @@
 use mathlib.Core.Path.{◌≡◌, ap, ◌∙◌}
-use Rattle.std.proofs.Common.{◌+◌, ◌-◌, arith, of_z, pos, rules, to_z, to_z-of_z, w32}
+use Rattle.std.proofs.Common.{◌+◌, ◌-◌, arith, of_z, rules, to_z, to_z-of_z, w32}
 use lib.Ieee.{binary64, mul, of_int}
 use Rattle.hound_sample.proofs.Floats.{times_one_over}
 use Rattle.hound_sample.specs.Dithering.{difference}

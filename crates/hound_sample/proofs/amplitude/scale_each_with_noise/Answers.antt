@@ -1,11 +1,10 @@
 use mathlib.Core.Path.{ap, refl, sym, ◌∙◌}
-use Rattle.std.proofs.Common.{Ok, arith, drop, length, map, not, rules, slice_index_or, of_z, take, to_z, to_z-of_z, w32, ◌+◌, ◌++◌, ◌*◌, ◌<◌, ◌≡◌}
+use Rattle.std.proofs.Common.{arith, drop, length, map, not, rules, slice_index_or, of_z, take, to_z, to_z-of_z, w32, ◌+◌, ◌++◌, ◌*◌, ◌<◌, ◌≡◌}
 use Rattle.std.proofs.lemmas.List.{take_all}
-use Rattle.std.proofs.lemmas.Grind.{common_steps}
 use Rattle.std.specs.List.{count_by}
 use lib.Ieee.{add, binary64, nan}
 use Rattle.hound_sample.specs.Container.{fits, int_container, joined_containers}
-use Rattle.hound_sample.specs.Dithering.{next_state, noise, state_after, with_noise}
+use Rattle.hound_sample.specs.Dithering.{next_state, noise, with_noise}
 use Rattle.hound_sample.specs.Scale.{scaled, scaled_to}
 use Rattle.hound_sample.proofs.Amplitudes.{counted, joined_next, next_with_noise, none_more, one_more, with_noise-length}
 use Rattle.hound_sample.proofs.amplitude.scale_each_with_noise.Goals as goal
