@@ -53,8 +53,7 @@ module _ {W : Type 0} (kind : Ghosts W) where
   -- they began where the writer was then
   pub lead_begins : (later : List Call) (b c : WriterState W) → Lead kind later b c
       → begins_at later (kind.state c.medium).past ≡ length (kind.state b.medium).past
-  lead_begins [] b c (memory, is) = ap (λ (w : WriterState W). length (kind.state w.medium).past) is
-  lead_begins (call ∷ later) b c (memory, mid, at, does, rest) = at
+  lead_begins later b c given = grind (arith, common_steps)
 
 module _ {W : Type 0} (kind : Ghosts W) (modelled : IsTrue kind.tells) where
   -- what calls that accepted these led to
@@ -299,8 +298,7 @@ module _ {W : Type 0} (kind : Ghosts W) (modelled : IsTrue kind.tells) where
 
   pub begin : (calls : List Call) (old new : WriterState W) → Lead kind calls old new
       → begins_at calls (kind.state new.medium).past ≡ length (kind.state old.medium).past
-  begin [] old new (memory, same) = ap (λ (w : WriterState W). length (kind.state w.medium).past) same
-  begin (call ∷ calls) old new (memory, mid, at, does, rest) = at
+  begin calls old new given = grind (arith, common_steps)
 
   module _ (kept : IsTrue kind.keeps) where
     pub later : (calls : List Call) (old new : WriterState W)

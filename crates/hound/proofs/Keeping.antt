@@ -1,6 +1,6 @@
 -- What a list of calls of a writer leaves.
 use Rattle.std.proofs.lemmas.Grind.{common_steps}
-use Rattle.std.proofs.Common.{refl, ◌≡◌, ℕ, ◌+◌, ◌-◌, ◌/◌, ◌%◌, ◌≤◌, max, List, [], ◌∷◌, ◌++◌, length, take, drop, Result, Ok, Err, IsTrue, sym, ◌∙◌, ap, subst, arith, append_assoc, length-append, length-drop}
+use Rattle.std.proofs.Common.{refl, ◌≡◌, ℕ, ◌+◌, ◌-◌, ◌/◌, ◌%◌, ◌≤◌, max, List, [], ◌∷◌, ◌++◌, length, take, drop, Result, IsTrue, sym, ◌∙◌, ap, subst, arith, append_assoc, length-append, length-drop}
 use Rattle.std.proofs.lemmas.List.{length-take-le}
 use Rattle.std.proofs.lemmas.Nat.{mul-le}
 use Rattle.std.proofs.Math.Nat.{div-mul-le_self}
@@ -8,7 +8,6 @@ use Rattle.std.specs.List.{concat, AllByRecursion}
 use Rattle.std.specs.Io.{StartsWith}
 use Rattle.hound_number.specs.{number}
 use Rattle.hound_spec.specs.declared.error.Error.{Error}
-use Rattle.hound_spec.specs.declared.error.Error.TheVariants.{UnfinishedSample}
 use Rattle.hound_spec.specs.declared.spec.WavSpecEx.{WavSpecEx}
 use Rattle.hound_sample.proofs.Containers.{length-containers}
 use Rattle.hound_spec.specs.{canonical, data_start}
@@ -41,20 +40,11 @@ sized state w sound none whole = grind (arith, common_steps, concat-samples, len
 says_frames : {M : Type 0} (answer : Result (Unit {0}) Error) (w : WriterState M) (s : WavSpecEx)
     (list : List (List ℕ)) → w.spec_ex ≡ s → sample_count w ≡ length list → IsPublishing answer w
     → SaysFrames s list answer
-says_frames answer w s list spec count is = go answer is
-  where
-    same : sample_count w % w.spec_ex.spec.channels ≡ length list % s.spec.channels
-    same = λ i. count i % (spec i).spec.channels
-
-    go : (answer : Result (Unit {0}) Error) → IsPublishing answer w → SaysFrames s list answer
-    go (Ok x) here = sym same ∙ here
-    go (Err UnfinishedSample) here = λ frames. here (same ∙ frames)
-    go (Err e) here = tt
+says_frames answer w s list spec count is = grind (arith, common_steps)
 
 if_begun_then : {P Q : Type 0} (s : WavSpecEx) (file : Begun) → IfBegun s file P → (P → Q)
     → IfBegun s file Q
-if_begun_then s (new_file old) here on = on here
-if_begun_then s (appended old start found) here on = λ at header. on (here at header)
+if_begun_then s file here on = grind (arith, common_steps)
 
 -- What the first writer of a file has, as its constructor returned it.
 pub record First {W : Type 0} (kind : Ghosts W) (s : WavSpecEx)

@@ -3,7 +3,7 @@ use Rattle.std.proofs.Common.{◌≡◌, ℕ, zero, suc, ◌+◌, ◌-◌, ◌*�
 use Rattle.std.proofs.lemmas.Bool.{cases_lt}
 use Rattle.std.proofs.lemmas.Grind.{flat_map-append, common_steps}
 use Rattle.std.proofs.lemmas.List.{length-take-le, take-take, take-append-le}
-use Rattle.std.proofs.lemmas.Nat.{div-add-mod', div-mul-add, mod-mul-add, mod_below, mul-le}
+use Rattle.std.proofs.lemmas.Nat.{div-mul-add, mod-mul-add, mul-le}
 use Rattle.std.specs.List.{concat, AllByRecursion}
 use Rattle.hound_spec.specs.declared.spec.WavSpecEx.{WavSpecEx}
 use Rattle.hound_sample.specs.{containers}
@@ -35,8 +35,7 @@ cover_count : (w v n : ℕ) → 1 ≤ w → v ≤ n * w → (v + (w - 1)) / w �
 cover_count w v n some le = grind (arith, common_steps)
 
 le_cover : (w v : ℕ) → 1 ≤ w → v ≤ cover w v
-le_cover w v some =
-    omega (arith, div-add-mod' (v + (w - 1)) w, mod_below (v + (w - 1)) w (omega (arith, some)), some)
+le_cover w v some = grind (arith, common_steps)
 
 -- if the head is there and this many containers are stored, the first of them are counted
 pub counts_stored : (s : WavSpecEx) (h q : ℕ) (list : List (List ℕ)) (c : List ℕ)

@@ -16,7 +16,7 @@ use Rattle.hound_medium.proofs.Torn.{number_at_small}
 use Rattle.hound_walk.proofs.Exists.{one_answer}
 use Rattle.hound_walk.proofs.Unique.{heads_agree}
 use Rattle.hound_writer.specs.{Ghosts, IsPublishing, IsIoError, mark_of, Does, Asked, publish, write, WriterState, data_length, HasHeader, IsWhole, IsBegun, accepted_samples, padded_end, field, Appends, IsAppendFault, AppendFault, appendable, faulty, Begins, Finishes, ReadsAs}
-use Rattle.hound_writer.proofs.Answers.{all_marked, where_marked, no_io, publishing_as, rejected_of}
+use Rattle.hound_writer.proofs.Answers.{all_marked, where_marked, no_io, rejected_of}
 use Rattle.hound_writer.proofs.Accepting.{length_overlay_max}
 use Rattle.hound_writer.proofs.AppendAnswers.{no_head_fault, one_append_answer}
 use Rattle.hound_writer.proofs.Fresh.{none_accepted}
@@ -41,8 +41,7 @@ pub record IsAfter {W : Type 0} (s : WavSpecEx) (list : List (List ℕ))
 pub publishing_after : {W : Type 0} (s : WavSpecEx) (list : List (List ℕ)) (w : WriterState W)
     (answer : Result (Unit {0}) Error) → IsAfter s list w → IsPublishing answer w
     → IsPublishing answer (writer_after s list)
-publishing_after s list w answer after is =
-    publishing_as answer w (writer_after s list) after.spec (omega (arith, after.size)) is
+publishing_after s list w answer after is = grind (arith, common_steps)
 
 -- a step's result is that of a writer of the same samples
 pub step_answers : {M : Type 0} (kind : Ghosts M) (s : WavSpecEx)

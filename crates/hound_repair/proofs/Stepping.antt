@@ -134,16 +134,6 @@ pass_padded file head few =
     ∙ ap (λ b. b || else_followed true file head)
     (none_begins (padded head.data_length) (drop head.data_start file) few)
 
--- after the data alone
-pub begin_last : (looks : Bool) (file : List ℕ) (head : SeenHead) → IsNotWhole looks file head
-    → head.data_length < held head.data_start file
-    → followed file head ≡ else_followed true file head
-    → IsAtChunk looks file head (head.data_start + head.data_length) false
-begin_last looks file head not before is = (
-  not,
-  is ∙ ap (λ b. b || tagged file head) (begins_there head.data_length head.data_start file before),
-)
-
 pub pass_last : (file : List ℕ) (head : SeenHead) → held head.data_start file ≤ head.data_length
     → else_followed true file head ≡ tagged file head
 pass_last file head few =
@@ -217,13 +207,6 @@ pub two_left : (n place : ℕ) (head : SeenHead) (wide : Bool)
     → 2 ≤ steps_left n (stages.Chunk head place wide)
 two_left n place head true = omega arith
 two_left n place head false = omega arith
-
--- the next chunk is nearer
-pub nearer_chunk : (n place content : ℕ) (head : SeenHead) (wide : Bool) → place < n
-    → steps_left n (stages.Chunk head (place + 8 + content) wide)
-    < steps_left n (stages.Chunk head place wide)
-nearer_chunk n place content head true before = omega (arith, before)
-nearer_chunk n place content head false before = omega (arith, before)
 
 -- sizes that are rejected by what is counted of a file are rejected by what it holds
 pub sizes_rejected : (s : WavSpecEx) (counted len start n m : ℕ)
@@ -373,15 +356,6 @@ none_counted start len file not =
       | inl none ↦ omega (arith, none)
       | inr one ↦ absurd (not (omega (arith, one.1, length-drop len (drop start file))))
     ]
-
--- bytes that were read up to where they end
-pub all_read : (at n : ℕ) (place : ℕ) (buf contents : List ℕ) → at ≤ n
-    → drop (place + at) contents ≡ [] → take at buf ≡ take at (drop place contents)
-    → take at buf ≡ take n (drop place contents)
-all_read at n place buf contents within none is =
-    let few : length (drop place contents) ≤ at =
-    omega (arith, ap length none, length-drop (place + at) contents, length-drop place contents) in
-    is ∙ take_all at (drop place contents) few ∙ sym (take_all n (drop place contents) (omega (arith, few, within)))
 
 -- the bytes of a part that were read into the front of a buffer
 pub part_read : (count asked asked_for place place_for size : ℕ) (given after contents now : List ℕ)

@@ -113,12 +113,7 @@ module _ {W : Type 0} (kind : Ghosts W) (w : WriterState W) (at_most : WhereTell
   rest = grind (arith, common_steps, drop_overlay_after, length-take)
 
   pub reach : length now ≤ max (length was) (at + length bytes)
-  reach = omega (
-    arith,
-    ap length puts.contents,
-    length_overlay_max (take puts.count bytes) at was,
-    length-take puts.count bytes,
-  )
+  reach = grind (arith, common_steps, length-take, length_overlay_max)
 
   pub goes_at_each : IsTrue kind.keeps → was ≡ overlay (kind.state w.medium).start (kind.state w.medium).past
       → AddsAtEach kind.state w (kind.state m) → GoesAtEach kind.state w (kind.state m)
@@ -308,9 +303,7 @@ module _ {W : Type 0} (kind : Ghosts W) (w : WriterState W)
 
 pub not_rejected : {T : Type 0} (P : Type 0) (answer : Result T Error) → IfErr answer IsIoError
     → OnRejected answer P
-not_rejected P (Ok x) failed = tt
-not_rejected P (Err (IoError e)) failed = tt
-not_rejected P (Err e) failed = absurd failed
+not_rejected P answer failed = grind (arith, common_steps)
 
 -- the same for writers that hold other memory, which the call leaves as it is
 pub accepts_beside : {W : Type 0} (kind : Ghosts W)

@@ -1,8 +1,8 @@
 -- What the data length counts, if the head and the accepted samples are there.
-use Rattle.std.proofs.Common.{◌≡◌, ℕ, suc, ◌-◌, ◌/◌, ◌%◌, ◌<◌, ◌≤◌, List, ◌++◌, length, take, drop, Option, Some, None, inr, refl, sym, ◌∙◌, ap, arith, length-append}
+use Rattle.std.proofs.lemmas.Grind.{common_steps}
+use Rattle.std.proofs.Common.{◌≡◌, ℕ, suc, ◌-◌, ◌/◌, ◌%◌, ◌<◌, ◌≤◌, List, ◌++◌, length, take, drop, Option, refl, sym, ◌∙◌, ap, arith, length-append}
 use Rattle.std.proofs.lemmas.List.{take_all, take-append-le}
-use Rattle.std.proofs.lemmas.Nat.{le-div, div_below}
-use Rattle.std.proofs.Math.Nat.{div-mul-le_self}
+use Rattle.std.proofs.lemmas.Nat.{div_below}
 use Rattle.std.specs.List.{concat}
 use Rattle.hound_spec.specs.declared.spec.WavSpecEx.{WavSpecEx}
 use Rattle.hound_sample.specs.{containers}
@@ -14,19 +14,14 @@ use Rattle.hound_writer.proofs.Containers.{concat-containers, count_bytes, conta
 
 -- no more whole samples than there are in more bytes
 pub samples_le : (m n width : ℕ) → 0 < width → m ≤ n → m / width ≤ n / width
-samples_le m n width some le =
-    le-div (m / width) n width some (omega (arith, le, div-mul-le_self m width))
+samples_le m n width some le = grind (arith, common_steps)
 
 reads_first : (s : WavSpecEx) (start n count : ℕ) (contents : List ℕ)
     → n / s.bytes_per_sample ≤ count → Head contents s n start → (fault : Option Cause)
     → data_fault s n ≡ fault
     → ReadsFirst fault s start n
     (containers s.bytes_per_sample count (drop start contents)) contents
-reads_first s start n count contents le head None is = (
-  record { len = n; head = head; frames = is; count = refl },
-  containers_first s.bytes_per_sample (n / s.bytes_per_sample) count (drop start contents) le,
-)
-reads_first s start n count contents le head (Some cause) is = inr (s, n, start, head, is)
+reads_first s start n count contents le head fault is = grind (arith, common_steps, containers_first)
 
 -- if the head is there and the field is at most n, the first n bytes of the data are counted
 pub counts_at_most : (s : WavSpecEx) (start n : ℕ) (contents : List ℕ) → 1 ≤ s.bytes_per_sample
@@ -56,9 +51,7 @@ reads_more : (s : WavSpecEx) (start n : ℕ) (accepted more : List (List ℕ)) (
     → n / s.bytes_per_sample ≤ length accepted → (fault : Option Cause)
     → ReadsFirst fault s start n accepted contents
     → ReadsFirst fault s start n (accepted ++ more) contents
-reads_more s start n accepted more contents among None reads =
-    (reads.0, reads.1 ∙ sym (take-append-le (n / s.bytes_per_sample) accepted more among))
-reads_more s start n accepted more contents among (Some cause) reads = reads
+reads_more s start n accepted more contents among fault reads = grind (arith, common_steps)
 
 pub counts_more : (s : WavSpecEx) (start : ℕ) (accepted more : List (List ℕ)) (contents : List ℕ)
     → 1 ≤ s.bytes_per_sample → Counts s start accepted contents

@@ -204,8 +204,7 @@ module _ {W : Type 0} (kind : Ghosts W) (w : WriterState W) (end : W)
     (PatchesAtEach (w.data_start - 4) (riff_size w.data_start w.bytes_written) w.bytes_written patched
     (kind.state w.medium) (kind.state end))) where
   frames : (IsTrue are_frames → AreFrames w) × (AreFrames w → IsTrue are_frames)
-  frames =
-      rw same at of_new
+  frames = grind (arith, common_steps)
 
   answers : IsPublishing outcome w
   answers = grind (arith, common_steps)

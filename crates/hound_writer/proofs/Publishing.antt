@@ -55,11 +55,7 @@ module _ (s : WavSpecEx) (size length_before : ℕ) (start p : ℕ) (before : p 
       → with_sizes p n data_length c ≡ header s n data_length ++ drop start c
   unfolding with_sizes
   header_with n data_length =
-      (λ i. begins_with_riff i ++
-      (bytes_of 4 n ++ (goes_on_with_fmt i ++ (bytes_of 4 data_length ++ drop (before i) c))))
-      ∙ ap (λ l. riff_tag ++ (bytes_of 4 n ++ l))
-      (sym (append_assoc (described s) (bytes_of 4 data_length) (drop start c)))
-      ∙ ap (λ l. l ++ drop start c) (sym (header-parts s n data_length))
+      grind (arith, common_steps, append_assoc, described, header-parts, begins_with_riff, goes_on_with_fmt)
 
 -- this much data after a header with its sizes, and their pad byte, are the canonical file of its
 -- containers

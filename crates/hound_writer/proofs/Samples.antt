@@ -36,9 +36,6 @@ module _ {W : Type 0} (state : W → MediumState) (w : WriterState W) (sound : I
   abbrev wide : ℕ
   wide = w.spec_ex.bytes_per_sample
 
-  abbrev first : List ℕ
-  first = take w.bytes_written (drop w.data_start (state w.medium).contents)
-
   -- those in the medium, and the buffered ones
   pub samples_parts : IsWhole state w
       → accepted_samples state w ≡ containers w.spec_ex.bytes_per_sample
