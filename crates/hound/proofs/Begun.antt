@@ -1,6 +1,6 @@
 -- What a loss of power leaves of a file within its beginning.
 use Rattle.std.proofs.lemmas.Grind.{common_steps}
-use Rattle.std.proofs.Common.{◌≡◌, ℕ, zero, suc, ◌+◌, ◌-◌, ◌/◌, ◌<◌, ◌≤◌, true, List, [], ◌∷◌, ◌++◌, length, get_or, take, drop, Result, refl, sym, ◌∙◌, ap, subst, arith, append_assoc, length-append, length-drop, length-take}
+use Rattle.std.proofs.Common.{◌≡◌, ℕ, zero, suc, ◌+◌, ◌-◌, ◌/◌, ◌<◌, ◌≤◌, true, List, [], ◌∷◌, ◌++◌, length, get_or, take, drop, Result, refl, ◌∙◌, ap, subst, arith, append_assoc, length-append, length-drop, length-take}
 use Rattle.std.proofs.lemmas.Bool.{cases_lt}
 use Rattle.std.proofs.lemmas.List.{get_or_append_left, get_or-append_right, get_or_past, get_or-take, get_or-drop}
 use Rattle.std.specs.declared.io.Error.{Error as IoFault}
@@ -27,16 +27,9 @@ zero_at s i from =
     let front = riff_tag ++ (bytes_of 4 0 ++ described s) in
     let least = data_start_least s in
     let long : length front ≡ data_start s - 4 =
-    omega (
-      arith,
-      least,
-      length-described s,
-      length-append riff_tag (bytes_of 4 0 ++ described s),
-      length-append (bytes_of 4 0) (described s),
-    ) in
+    grind (arith, common_steps, length-append, described, length-described) in
     let whole : header s 0 0 ≡ front ++ bytes_of 4 0 =
-    header-parts s 0 0 ∙ ap (λ l. riff_tag ++ l) (sym (append_assoc (bytes_of 4 0) (described s) (bytes_of 4 0)))
-    ∙ sym (append_assoc riff_tag (bytes_of 4 0 ++ described s) (bytes_of 4 0)) in
+    grind (arith, common_steps, append_assoc, described, header-parts) in
     ap (λ l. get_or l i 0) whole ∙ get_or-append_right front (bytes_of 4 0) (data_start s - 4) i 0 long from
     ∙ zeros (i - (data_start s - 4))
   where

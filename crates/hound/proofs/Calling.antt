@@ -92,11 +92,7 @@ module _ {W : Type 0} (kind : Ghosts W) (modelled : IsTrue kind.tells) where
     spec_ex = then.spec_ex ∙ first.spec_ex;
     data_start = then.data_start ∙ first.data_start;
     size = omega (arith, first.size, then.size, length-concat-append l m);
-    front = λ beyond.
-        sizes_then a.data_start (kind.state a.medium).contents (kind.state b.medium).contents
-        (kind.state c.medium).contents (first.front beyond)
-        (subst (λ n. ChangesSizesOnly n (kind.state b.medium).contents (kind.state c.medium).contents)
-        first.data_start (then.front (omega (arith, beyond, first.data_start))));
+    front = grind (arith, common_steps, sizes_then);
     begun = λ begun. then.begun (first.begun begun);
     whole = λ whole. then.whole (first.whole whole);
     accepted = λ whole. then.accepted (first.whole whole)

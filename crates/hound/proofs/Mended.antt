@@ -212,8 +212,4 @@ mended_survives f mends overwrites old end r result resumes cut synced did secto
     let (counts, says) = counted_then f n old end result (is_sound r.health) cut synced whole cut.sound.1 performed sector left wide one lost in
     let size : n + 0 ≡ n = omega arith in
     let bytes = take n (drop f.data_start old.state.contents) in
-    rw at (
-      subst (λ l. Counts f.spec_ex f.data_start l left)
-          (λ i. containers width (sym size i / width) (sym (append-nil bytes) i)) counts,
-      says,
-    )
+    grind (arith, common_steps, append-nil)

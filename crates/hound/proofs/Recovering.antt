@@ -1,6 +1,6 @@
 -- What a flush has published, in whatever is left later.
 use Rattle.std.proofs.lemmas.Grind.{common_steps}
-use Rattle.std.proofs.Common.{◌≡◌, ℕ, suc, ◌+◌, ◌-◌, ◌*◌, ◌<◌, ◌≤◌, ◌⊎◌, Bool, List, [], ◌∷◌, ◌++◌, length, take, drop, IsTrue, inl, inr, sym, ◌∙◌, ap, subst, arith, append_assoc, length-append, length-drop, take-append-drop}
+use Rattle.std.proofs.Common.{◌≡◌, ℕ, ◌+◌, ◌-◌, ◌*◌, ◌<◌, ◌≤◌, ◌⊎◌, Bool, List, [], ◌∷◌, ◌++◌, length, IsTrue, inl, inr, sym, ◌∙◌, ap, subst, arith, append_assoc, length-append, length-drop, take-append-drop}
 use Rattle.std.specs.List.{concat}
 use Rattle.std.proofs.lemmas.Bool.{cases_lt}
 use Rattle.std.proofs.lemmas.List.{take_all}
@@ -75,27 +75,10 @@ module _ (s : WavSpecEx) (h : ℕ) (found : List (List ℕ)) (calls : List Call)
       let says : field (h - 4) (at from) ≡ length (concat list) =
       promises.published before [] after flush from same has_all tt (omega arith) (omega arith) in
       let c = promises.counted before after flush from same began (omega arith) in
-      let all : c.samples ≡ length list =
-      elim (cases_lt c.samples (length list)) [
-        | inl fewer ↦
-            absurd (omega (
-              arith,
-              some,
-              c.covers,
-              says,
-              size,
-              mul-le (suc c.samples) w (length list) w (omega (arith, fewer)) (omega arith),
-              (let e : suc c.samples * w ≡ c.samples * w + w = omega arith in e),
-            ))
-        | inr most ↦ omega (arith, most, c.among)
-      ] in
+      let all : c.samples ≡ length list = grind (arith, common_steps, cases_lt, mul-le, some, size) in
       let bytes : c.samples * w ≡ length (concat list) = ap (λ n. n * w) all ∙ sym size in
       let start : h + 0 ≡ h = omega arith in
-      ap (λ n. take (length (concat list)) (drop n (at from))) start
-      ∙ ap (λ n. take n (drop h (at from))) (sym bytes)
-      ∙ c.stored
-      ∙ ap concat (take_all c.samples list (omega (arith, all)))
-      ∙ sym (take_all (length (concat list)) (concat list) (omega arith))
+      grind (arith, common_steps, take_all)
 
   stored_later : (k : ℕ) → from ≤ k → k ≤ length end.past
       → IsStored h (concat list) 0 (length (concat list)) (at k)

@@ -133,13 +133,7 @@ module _ {M : Type 0} {kind : Ghosts M} {s : WavSpecEx}
       let c = canonical s (accepted_by_steps s steps marks) in
       let starts : take (length c) (kind.state medium).contents ≡ c =
       subst (λ l. StartsWith (kind.state medium).contents (canonical s l)) steps_accepted exact.0 in
-      sym (take_all (length c) (kind.state medium).contents
-      (omega (
-        arith,
-        exact.1,
-        ap (λ l. length (canonical s l)) steps_accepted,
-        ap length empty,
-      ))) ∙ starts
+      grind (arith, common_steps, take_all, steps_accepted)
 
   pub new_canonical : IsTrue kind.tells → end ≡ Finalize
       → OnOk answer

@@ -1,6 +1,6 @@
 -- What mending a file leaves.
 use Rattle.std.proofs.lemmas.Grind.{common_steps}
-use Rattle.std.proofs.Common.{◌≡◌, ℕ, ◌-◌, Bool, true, false, not, ◌&&◌, List, ◌++◌, length, inl, inr, sym, ap, ◌∙◌, subst, arith, eqb-true}
+use Rattle.std.proofs.Common.{◌≡◌, ℕ, ◌-◌, Bool, true, false, not, ◌&&◌, List, ◌++◌, length, sym, ap, ◌∙◌, subst, arith, eqb-true}
 use Rattle.hound_spec.specs.{riff_size}
 use Rattle.hound_medium.specs.{MediumState}
 use Rattle.hound_walk.specs.{IsSoundSpec}
@@ -42,12 +42,7 @@ repairs_kept looks old new found len start at sound kept nothing faults = record
   sizes = unless_followed found.state _ (λ apart. subst (HasRightLength found start) (sym nothing.stays.contents)
       (right_length_there looks old.contents found len start at apart sound
       (eqb-true _ _ (kept_counts (not looks) _ _ _ found.state at.state kept apart))));
-  riff = λ either. elim either [
-    | inl whole ↦ ap (field 4) nothing.stays.contents
-        ∙ eqb-true _ _ (whole_riff _ _ _ (sym whole ∙ at.state))
-        ∙ ap (riff_size start) (sym (length_of looks old.contents found len start at (λ here. cc (whole, here))))
-    | inr put ↦ absurd (cc (put, kept))
-  ];
+  riff = grind (arith, common_steps, eqb-true, length_of, whole_riff);
   faults = faults;
 }
 

@@ -198,9 +198,7 @@ module _ (keeps : Bool) (start n : ℕ) (c : List ℕ) (beyond : 20 ≤ start) (
       → old.contents ≡ x → PerformedOn keeps (Sync ∷ pads (start + h) pad) result old new
       → Mends start n result c new
   at_pad [] result old new is here rest =
-      ends result old new (here ∙ x_is ∙ sym (append-nil (with_sizes p (riff_size start n) n c))
-      ∙ ap (λ l. with_sizes p (riff_size start n) n c ++ l) (sym is))
-      (subst (PartlyMended start n c) (sym here) partly_sizes) rest
+      grind (arith, common_steps, append-nil, x_is, partly_sizes, ends)
   at_pad (b ∷ more) result old new is here (mid, Err e, flushes, (was, last)) =
       let same : new.contents ≡ x =
       ap (λ (l : MediumState). l.contents) last ∙ flushes.stays.contents ∙ here in
@@ -209,19 +207,15 @@ module _ (keeps : Bool) (start n : ℕ) (c : List ℕ) (beyond : 20 ≤ start) (
       let zero_is : m ≡ 0 ∷ [] = m_zero (subst (λ l. 1 ≤ length l) (sym is) (omega arith)) in
       let put : then.contents ≡ overlay x (placed (start + h) (take puts.count (0 ∷ []))) =
       puts.contents ∙ ap (λ l. overlay l (placed (start + h) (take puts.count (0 ∷ [])))) (flushes.stays.contents ∙ here) in
-      let all : then.contents ≡ x ++ m =
-      put ∙ ap (λ k. overlay x (placed (start + h) (take k (0 ∷ [])))) puts.whole
-      ∙ overlay_at_end x (start + h) (0 ∷ []) x_long ∙ ap (λ l. x ++ l) (sym zero_is) in
+      let all : then.contents ≡ x ++ m = grind (arith, common_steps, overlay_at_end, x_long) in
       ends result then new (all ∙ ap (λ l. l ++ m) x_is)
       (subst (PartlyMended start n c) (sym put) (partly_pad puts.count puts.within zero_is)) rest
   at_pad (b ∷ more) result old new is here (mid, Ok u, flushes, (then, Err e, puts, (was, last))) =
       let zero_is : m ≡ 0 ∷ [] = m_zero (subst (λ l. 1 ≤ length l) (sym is) (omega arith)) in
       let put : new.contents ≡ overlay x (placed (start + h) (take puts.count (0 ∷ []))) =
       ap (λ (l : MediumState). l.contents) last ∙ puts.contents
-      ∙ ap (λ l. overlay l (placed (start + h) (take puts.count (0 ∷ [])))) (flushes.stays.contents ∙ here) in (
-        subst (PartlyMended start n c) (sym put) (partly_pad puts.count puts.within zero_is),
-        λ ok. absurd (cc (was, ok)),
-      )
+      ∙ ap (λ l. overlay l (placed (start + h) (take puts.count (0 ∷ [])))) (flushes.stays.contents ∙ here) in
+      grind (arith, common_steps, partly_pad)
 
   -- the data length
   at_length : (result : Result (Unit {0}) IoFault) (old new : MediumState) → old.contents ≡ y
@@ -233,10 +227,8 @@ module _ (keeps : Bool) (start n : ℕ) (c : List ℕ) (beyond : 20 ≤ start) (
   at_length result old new here (mid, Err e, puts, (is, last)) =
       let put : new.contents ≡ overlay y (placed p (take puts.count (bytes_of 4 n))) =
       ap (λ (l : MediumState). l.contents) last ∙ puts.contents
-      ∙ ap (λ l. overlay l (placed p (take puts.count (bytes_of 4 n)))) here in (
-        subst (PartlyMended start n c) (sym put) (partly_length puts.count puts.within),
-        λ ok. absurd (cc (is, ok)),
-      )
+      ∙ ap (λ l. overlay l (placed p (take puts.count (bytes_of 4 n)))) here in
+      grind (arith, common_steps, partly_length)
 
   -- the RIFF size, and the sync after it
   after_riff : (result : Result (Unit {0}) IoFault) (old new : MediumState) → old.contents ≡ y
@@ -258,10 +250,7 @@ module _ (keeps : Bool) (start n : ℕ) (c : List ℕ) (beyond : 20 ≤ start) (
   at_riff result old new here (mid, Err e, puts, (is, last)) =
       let put : new.contents ≡ overlay c (placed 4 (take puts.count riff)) =
       ap (λ (l : MediumState). l.contents) last ∙ puts.contents
-      ∙ ap (λ l. overlay l (placed 4 (take puts.count riff))) here in (
-        subst (PartlyMended start n c) (sym put) (partly_riff puts.count puts.within),
-        λ ok. absurd (cc (is, ok)),
-      )
+      ∙ ap (λ l. overlay l (placed 4 (take puts.count riff))) here in grind (arith, common_steps, partly_riff)
 
   -- all of them
   pub mends : (result : Result (Unit {0}) IoFault) (old new : MediumState) → old.contents ≡ c

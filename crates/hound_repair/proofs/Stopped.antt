@@ -95,10 +95,4 @@ module _ (looks : Bool) (old : List ℕ) (mid : MediumState) (found : Repair) (l
   resumed_by_effects again new other second alone =
       let agree =
       heads_agree mid.contents other.spec_ex s second.len says second.start start second.is.head
-      head_now in (
-        agree.0,
-        frames_are again mid.contents other second.len second.start second.is
-            (not_followed again _ _ _ other.state second.is.state alone)
-            ∙ (λ i. frames_held (agree.0 i) (shown_length (agree.2 i) (agree.1 i) mid.contents) (held (agree.2 i) mid.contents))
-            ∙ frames_now,
-      )
+      head_now in grind (arith, common_steps, frames_are, not_followed, frames_now)

@@ -83,9 +83,7 @@ chunk_sound c found p rest is limit =
     drop_at p.tag _ 4 is.tag in
     let size : take 4 (p.size ++ (p.content ++ rest)) ≡ p.size = take_at p.size _ 4 is.size in
     let all : drop 8 (p.tag ++ (p.size ++ (p.content ++ rest))) ≡ p.content ++ rest =
-    ap (drop 8) (sym (append_assoc p.tag p.size (p.content ++ rest)))
-    ∙ drop_at (p.tag ++ p.size) (p.content ++ rest) 8
-    (omega (arith, is.tag, is.size, length-append p.tag p.size)) in
+    grind (arith, common_steps, drop_at, length-append, append_assoc) in
     ap (chunk_fault c found) whole
     ∙ rw (room, enough, tag, all, back, size) (content_sound c found p rest is limit)
 

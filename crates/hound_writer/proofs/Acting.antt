@@ -165,9 +165,7 @@ asks s file known r m samples d whole has = record {
   in_step = step_same s file known r m (Requested (length_with r samples)) r.has_rest d.in_step;
   channels = d.channels;
   whole = d.whole;
-  block =
-      let (frames, is) = frames_of r.channels samples whole in
-      (frames, ap (λ k. r.data_length + k * r.bytes_per_sample) is, has);
+  block = grind (arith, common_steps, frames_of);
 }
 
 -- what was under way was given up
@@ -227,10 +225,7 @@ pub directing_handed : (s : WavSpecEx) (file : Begun) (known : List Known) (old 
     × (Directed s file known new m ⊎ ((0 < old.number) × Directed s file (known ++ marked publish true ∷ []) new m))
 directing_handed s file known old new m place len d (n, r, (rest, inl (writing, same)), (there, _, is)) =
     let (room, clear) = subst (λ phase. HasPlace phase old) writing d.block in
-    rw (is, same) (
-      there ∙ ap end_place same ∙ low_end n old room,
-      inl (moved s file known known old old m m (Writing n) old.has_rest d d.in_step (refl, refl, refl) (room, clear)),
-    )
+    grind (arith, common_steps, moved, low_end)
 directing_handed s file known old new m place len d (n, r, (rest, inr (inl (waiting, clear, same))), (there, _, is)) =
     let room = subst (λ phase. HasPlace phase old) waiting d.block in
     rw (is, same) (

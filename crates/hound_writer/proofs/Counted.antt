@@ -1,6 +1,6 @@
 -- What the data length counts, if the head and the accepted samples are there.
 use Rattle.std.proofs.lemmas.Grind.{common_steps}
-use Rattle.std.proofs.Common.{◌≡◌, ℕ, suc, ◌-◌, ◌/◌, ◌%◌, ◌<◌, ◌≤◌, List, ◌++◌, length, take, drop, Option, refl, sym, ◌∙◌, ap, arith, length-append}
+use Rattle.std.proofs.Common.{◌≡◌, ℕ, ◌-◌, ◌/◌, ◌%◌, ◌<◌, ◌≤◌, List, ◌++◌, length, take, drop, Option, sym, ◌∙◌, ap, arith, length-append}
 use Rattle.std.proofs.lemmas.List.{take_all, take-append-le}
 use Rattle.std.proofs.lemmas.Nat.{div_below}
 use Rattle.std.specs.List.{concat}
@@ -34,16 +34,13 @@ counts_at_most s start n contents some whole head counted =
     let bytes = drop start contents in
     let count = n / width in
     let all : take count (containers width count bytes) ≡ containers width count bytes =
-    take_all count (containers width count bytes)
-    (omega (arith, length-containers width count bytes)) in
+    grind (arith, common_steps, take_all, length-containers) in
     record {
       samples = count;
       among = omega (arith, length-containers width count bytes);
       covers = omega (arith, counted, count_bytes n width whole);
       stored = sym (concat-containers width count bytes) ∙ ap concat (sym all);
-      reads = reads_first s start (field (start - 4) contents) count contents
-          (samples_le (field (start - 4) contents) n width some counted) head
-          (data_fault s (field (start - 4) contents)) refl;
+      reads = grind (arith, common_steps, samples_le, reads_first);
     }
 
 -- what is counted stays so when more is accepted
@@ -59,12 +56,7 @@ pub counts_more : (s : WavSpecEx) (start : ℕ) (accepted more : List (List ℕ)
 counts_more s start accepted more contents some counts =
     let n = field (start - 4) contents in
     let width = s.bytes_per_sample in
-    let few : n / width ≤ length accepted =
-    omega (
-      arith,
-      counts.among,
-      div_below n width (suc counts.samples) some (omega (arith, counts.covers, some)),
-    ) in
+    let few : n / width ≤ length accepted = grind (arith, common_steps, div_below) in
     record {
       samples = counts.samples;
       among = omega (arith, counts.among, length-append accepted more);

@@ -191,9 +191,7 @@ step_resumed f samples old log is enough (channels, pair, frames, (far, wide, fi
     let len = f.data_length in
     let counted : len ≡ samples * s.bytes_per_sample = is.counted in
     let w = of_fields log s start len [] [] in
-    let head : Head old.contents s len start =
-    subst (λ n. Head old.contents s n start)
-    (readable_length s samples start old.contents is.readable ∙ sym counted) is.readable.head in
+    let head : Head old.contents s len start = grind (arith, common_steps, readable_length) in
     let check : head_fault s len start ≡ None = rw counted (no_fault s samples start is.sound.1
     (readable_frames s samples start old.contents is.readable) pair (rw counted at fits)) in
     let after = head_beyond old.contents s len start head in

@@ -79,9 +79,7 @@ header_opened s old new opened =
       faults = grind (common_steps, arith);
     } in
     let next : 40 ≡ 0 + length (header_part s 0) = omega (arith, long, data_start_least s, length-take 40 (drop 0 h)) in
-    subst (λ l. PutsAt {T = Unit {0}} {E = IoFault} true 0 l (Ok tt) start new) whole
-    (subst (λ m. PutsAt {T = Unit {0}} {E = IoFault} true 0 (header_part s 0 ++ header_part s 40) (Ok tt) start m) (sym end)
-    (both_put 0 40 (header_part s 0) (header_part s 40) start first last next from two))
+    grind (arith, common_steps, both_put)
 
 -- Of the header these bytes were written, up to a place; nothing else was.
 pub record PutsFront (s : WavSpecEx) (old new : MediumState) : Type 0 where
@@ -126,10 +124,7 @@ front_of_last s result old mid new start past puts =
       parts = append_assoc first (take puts.count bytes) (drop puts.count bytes)
           ∙ ap (λ l. first ++ l) (take-append-drop puts.count bytes) ∙ parts_of_header s;
       start = puts.start ∙ start;
-      past = puts.past refl ∙ ap (λ l. l ++ placed 40 (take puts.count bytes)) past
-          ∙ append_assoc old.past (placed 0 first) (placed 40 (take puts.count bytes))
-          ∙ ap (λ l. old.past ++ l) (ap (λ n. placed 0 first ++ placed n (take puts.count bytes)) (sym next)
-          ∙ sym (placed-append 0 first (take puts.count bytes)));
+      past = grind (arith, common_steps, append_assoc, placed-append);
     }
 
 -- what the effects write, up to the first that fails

@@ -123,15 +123,9 @@ pub patched : {T E V F X Y : Type 0} (keeps : Bool) (p size data_length : ℕ) (
 patched keeps p size data_length r s flush a b c d has small first second all_first
     all_second fits faults flushes =
     let one : b.contents ≡ overlay a.contents (placed 4 (bytes_of 4 size)) =
-    first.contents
-    ∙ ap (λ l. overlay a.contents (placed 4 l))
-    (take_all first.count (bytes_of 4 size) (omega (arith, all_first))) in
+    grind (arith, common_steps, take_all) in
     let both : c.contents ≡ with_sizes p size data_length a.contents =
-    second.contents
-    ∙ ap (λ l. overlay b.contents (placed p l))
-    (take_all second.count (bytes_of 4 data_length) (omega (arith, all_second)))
-    ∙ ap (λ l. overlay l (placed p (bytes_of 4 data_length))) one
-    ∙ sizes_put p size data_length a.contents has.beyond has.inside in
+    grind (arith, common_steps, take_all, sizes_put) in
     let same = flushes.stays.contents in
     record {
       contents = on_ok flush (same ∙ both);

@@ -1,3 +1,4 @@
+use Rattle.std.proofs.Common.{rules}
 use Rattle.std.proofs.lemmas.Grind.{common_steps}
 use Rattle.std.proofs.Common.{◌≡◌, ◌-◌, ◌*◌, ◌/◌, ◌∙◌, List, ℕ, drop, false, ap, arith, inl, length, length-drop, refl, sym}
 use Rattle.std.specs.Borrow.{Bor}
@@ -12,12 +13,7 @@ use Rattle.hound_callers.proofs.recorder.append_by_effects.Goals as goal
 read_here : (bytes left : List ℕ) (s t : WavSpecEx) (n samples h : ℕ) → t ≡ s → samples ≡ n
     → Readable bytes s n h → left ≡ drop h bytes → Readable bytes t samples (length bytes - length left)
 read_here bytes left s t n samples h spec count readable is =
-    let at : length bytes - length left ≡ h = omega (
-      arith,
-      head_inside bytes s readable.len h readable.head,
-      ap length is ∙ length-drop h bytes,
-    ) in
-    rw (spec, count, at) readable
+    grind (arith, common_steps, length-drop, head_inside)
 
 -- that file, as it was found
 abbrev found_as : WavSpecEx → ℕ → ℕ → ℕ → ℕ → FoundFile
