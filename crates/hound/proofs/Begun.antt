@@ -1,5 +1,6 @@
 -- What a loss of power leaves of a file within its beginning.
-use Rattle.std.proofs.Common.{◌≡◌, ℕ, zero, suc, ◌+◌, ◌-◌, ◌/◌, ◌<◌, ◌≤◌, true, List, [], ◌∷◌, ◌++◌, length, get_or, take, drop, inl, inr, Result, refl, sym, ◌∙◌, ap, subst, arith, append_assoc, length-append, length-drop, length-take}
+use Rattle.std.proofs.lemmas.Grind.{common_steps}
+use Rattle.std.proofs.Common.{◌≡◌, ℕ, zero, suc, ◌+◌, ◌-◌, ◌/◌, ◌<◌, ◌≤◌, true, List, [], ◌∷◌, ◌++◌, length, get_or, take, drop, Result, refl, ◌∙◌, ap, subst, arith, append_assoc, length-append, length-drop, length-take}
 use Rattle.std.proofs.lemmas.Bool.{cases_lt}
 use Rattle.std.proofs.lemmas.List.{get_or_append_left, get_or-append_right, get_or_past, get_or-take, get_or-drop}
 use Rattle.std.specs.declared.io.Error.{Error as IoFault}
@@ -12,7 +13,7 @@ use Rattle.hound_medium.proofs.Overlays.{length-put_at, overlay_at_end, take-pla
 use Rattle.hound_durable.specs.{SurvivesLoss}
 use Rattle.hound_writer.specs.{DoesBeginnings, Opened, beginning, field}
 pub use Rattle.hound_repair.proofs.Performing.{nth_next}
-use Rattle.hound_writer.proofs.Opening.{front_begun, header_opened}
+use Rattle.hound_writer.proofs.Opening.{front_begun}
 
 -- bytes that are all zero
 zero_number : (l : List ℕ) → ((i : ℕ) → i < length l → get_or l i 0 ≡ 0) → number l ≡ 0
@@ -26,16 +27,9 @@ zero_at s i from =
     let front = riff_tag ++ (bytes_of 4 0 ++ described s) in
     let least = data_start_least s in
     let long : length front ≡ data_start s - 4 =
-    omega (
-      arith,
-      least,
-      length-described s,
-      length-append riff_tag (bytes_of 4 0 ++ described s),
-      length-append (bytes_of 4 0) (described s),
-    ) in
+    grind (arith, common_steps, length-append, described, length-described) in
     let whole : header s 0 0 ≡ front ++ bytes_of 4 0 =
-    header-parts s 0 0 ∙ ap (λ l. riff_tag ++ l) (sym (append_assoc (bytes_of 4 0) (described s) (bytes_of 4 0)))
-    ∙ sym (append_assoc riff_tag (bytes_of 4 0 ++ described s) (bytes_of 4 0)) in
+    grind (arith, common_steps, append_assoc, described, header-parts) in
     ap (λ l. get_or l i 0) whole ∙ get_or-append_right front (bytes_of 4 0) (data_start s - 4) i 0 long from
     ∙ zeros (i - (data_start s - 4))
   where
@@ -49,10 +43,8 @@ zero_at s i from =
 -- a beginning of the header has no other bytes than the header
 front_zero : (s : WavSpecEx) (front rest : List ℕ) (i : ℕ) → front ++ rest ≡ header s 0 0
     → data_start s - 4 ≤ i → get_or front i 0 ≡ 0
-front_zero s front rest i parts from = elim (cases_lt i (length front)) [
-  | inl less ↦ sym (get_or_append_left front rest 0 i less) ∙ ap (λ l. get_or l i 0) parts ∙ zero_at s i from
-  | inr past ↦ get_or_past front i 0 past
-]
+front_zero s front rest i parts from =
+    grind (arith, common_steps, get_or, cases_lt, get_or_append_left, get_or_past, zero_at)
 
 -- a file without bytes of which these were written
 module _ (s : WavSpecEx) (front rest : List ℕ) (parts : front ++ rest ≡ header s 0 0) where
@@ -60,10 +52,18 @@ module _ (s : WavSpecEx) (front rest : List ℕ) (parts : front ++ rest ≡ head
   at_moment j = ap (overlay []) (take-placed j 0 front) ∙ overlay_at_end [] 0 (take j front) refl
 
   left_zero : (j i : ℕ) → data_start s - 4 ≤ i → get_or (moment [] (placed 0 front) j) i 0 ≡ 0
-  left_zero j i from = ap (λ l. get_or l i 0) (at_moment j) ∙ elim (cases_lt i j) [
-    | inl less ↦ get_or-take j front i 0 less ∙ front_zero s front rest i parts from
-    | inr past ↦ get_or_past (take j front) i 0 (omega (arith, past, length-take j front))
-  ]
+  left_zero j i from =
+      grind (
+        arith,
+        common_steps,
+        get_or,
+        length-take,
+        cases_lt,
+        get_or_past,
+        get_or-take,
+        front_zero,
+        at_moment,
+      )
 
   begins_left : (sector f k : ℕ) (left : List ℕ) → SurvivesLoss sector [] (placed 0 front) f k left
       → (length left ≤ data_start s) × (field (data_start s - 4) left ≡ 0)
@@ -112,11 +112,4 @@ begun_survives s old new result none does sector left lost =
 
 -- no more is flushed of a file that was begun than was written
 pub begun_within : (s : WavSpecEx) (old new : MediumState) → Opened s old new → new.flushed ≤ length new.past
-begun_within s old new opened =
-    let puts = header_opened s old new opened in
-    omega (
-      arith,
-      puts.flushed,
-      ap length (puts.past refl),
-      length-append old.past (placed 0 (take puts.count (header s 0 0))),
-    )
+begun_within s old new opened = grind (arith, common_steps)

@@ -53,8 +53,7 @@ module _ {W : Type 0} (kind : Ghosts W) where
   -- they began where the writer was then
   pub lead_begins : (later : List Call) (b c : WriterState W) → Lead kind later b c
       → begins_at later (kind.state c.medium).past ≡ length (kind.state b.medium).past
-  lead_begins [] b c (memory, is) = ap (λ (w : WriterState W). length (kind.state w.medium).past) is
-  lead_begins (call ∷ later) b c (memory, mid, at, does, rest) = at
+  lead_begins later b c given = grind (arith, common_steps)
 
 module _ {W : Type 0} (kind : Ghosts W) (modelled : IsTrue kind.tells) where
   -- what calls that accepted these led to
@@ -93,11 +92,7 @@ module _ {W : Type 0} (kind : Ghosts W) (modelled : IsTrue kind.tells) where
     spec_ex = then.spec_ex ∙ first.spec_ex;
     data_start = then.data_start ∙ first.data_start;
     size = omega (arith, first.size, then.size, length-concat-append l m);
-    front = λ beyond.
-        sizes_then a.data_start (kind.state a.medium).contents (kind.state b.medium).contents
-        (kind.state c.medium).contents (first.front beyond)
-        (subst (λ n. ChangesSizesOnly n (kind.state b.medium).contents (kind.state c.medium).contents)
-        first.data_start (then.front (omega (arith, beyond, first.data_start))));
+    front = grind (arith, common_steps, sizes_then);
     begun = λ begun. then.begun (first.begun begun);
     whole = λ whole. then.whole (first.whole whole);
     accepted = λ whole. then.accepted (first.whole whole)
@@ -299,8 +294,7 @@ module _ {W : Type 0} (kind : Ghosts W) (modelled : IsTrue kind.tells) where
 
   pub begin : (calls : List Call) (old new : WriterState W) → Lead kind calls old new
       → begins_at calls (kind.state new.medium).past ≡ length (kind.state old.medium).past
-  begin [] old new (memory, same) = ap (λ (w : WriterState W). length (kind.state w.medium).past) same
-  begin (call ∷ calls) old new (memory, mid, at, does, rest) = at
+  begin calls old new given = grind (arith, common_steps)
 
   module _ (kept : IsTrue kind.keeps) where
     pub later : (calls : List Call) (old new : WriterState W)

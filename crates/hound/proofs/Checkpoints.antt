@@ -1,4 +1,5 @@
 -- What a flush has published is read until the next call that publishes.
+use Rattle.std.proofs.lemmas.Grind.{common_steps}
 use Rattle.std.proofs.Common.{◌≡◌, ℕ, ◌-◌, ◌*◌, ◌/◌, ◌%◌, ◌≤◌, inl, inr, List, [], ◌∷◌, ◌++◌, length, Ok, refl, sym, ◌∙◌, ap, subst, arith, append_assoc, None}
 use Rattle.std.proofs.lemmas.Bool.{cases_lt}
 use Rattle.std.proofs.lemmas.List.{append-nil, take_at}
@@ -33,9 +34,7 @@ reads_front s start samples more contents some wide frames says counts =
 -- what the calls accepted after some of them
 pub accepted_after : (found : List (List ℕ)) (before after : List Call)
     → found ++ accepted_by_all (before ++ after) ≡ (found ++ accepted_by_all before) ++ accepted_by_all after
-accepted_after found before after =
-    ap (λ l. found ++ l) (accepted_parts before after)
-    ∙ sym (append_assoc found (accepted_by_all before) (accepted_by_all after))
+accepted_after found before after = grind (arith, common_steps)
 
 -- what is counted after a call, until the last of some others returned
 counted_since : (s : WavSpecEx) (start : ℕ) (found : List (List ℕ)) (calls : List Call) (m : MediumState)
@@ -69,9 +68,7 @@ counted_since s start found calls m counted order before (call ∷ later) after 
 wide_before : (s : WavSpecEx) (file : Begun) (calls before after : List Call) (m : MediumState)
     → HoldsAtEnd s file calls m → calls ≡ before ++ after
     → AreWide s.bytes_per_sample (found_in file ++ accepted_by_all before)
-wide_before s file calls before after m end is =
-    wide_front s.bytes_per_sample (found_in file ++ accepted_by_all before) (accepted_by_all after)
-    (rw (is, accepted_after (found_in file) before after) at end.wide)
+wide_before s file calls before after m end is = grind (arith, common_steps, wide_front, accepted_after)
 
 -- at the end, if only samples were written since
 pub holds_at_end : (s : WavSpecEx) (file : Begun) (calls : List Call) (m : MediumState)
@@ -109,19 +106,7 @@ pub ok_among : (s : WavSpecEx) (file : Begun) (before after : List Known) (calls
     → (first last : List Call) × (flush : Call) × (calls ≡ first ++ (flush ∷ last)) × HasPublished flush
     × AreKnown before first × AreKnown after last
     × (length (found_in file ++ accepted_by_all first) % s.spec.channels ≡ 0)
-ok_among s file before after calls m end are =
-    let (first, last, flush, parts, before_are, is, after_are) =
-    among before after (returned publish (Ok tt)) calls are in (
-      first,
-      last,
-      flush,
-      parts,
-      (is.0, ap mark_of is.1),
-      before_are,
-      after_are,
-      subst (λ answer. SaysFrames s (found_in file ++ accepted_by_all first) answer) is.1
-          (end.says first last flush parts is.0),
-    )
+ok_among s file before after calls m end are = grind (arith, common_steps, among)
 
 -- So it is in each state since the flush returned, if the calls after it began there and publish nothing.
 pub ok_holds_at_each : (s : WavSpecEx) (file : Begun) (known : List Known) (calls later : List Call)

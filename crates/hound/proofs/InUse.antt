@@ -1,5 +1,6 @@
 -- What a loss of power leaves counts all samples that calls accepted, also where they go on.
-use Rattle.std.proofs.Common.{◌≡◌, ℕ, ◌-◌, ◌/◌, ◌≤◌, List, [], ◌∷◌, ◌++◌, length, Err, IsTrue, refl, sym, ap, subst, arith}
+use Rattle.std.proofs.lemmas.Grind.{common_steps}
+use Rattle.std.proofs.Common.{◌≡◌, ℕ, ◌-◌, ◌/◌, ◌≤◌, List, [], ◌∷◌, ◌++◌, length, Err, IsTrue, refl, sym, subst, arith}
 use Rattle.hound_spec.specs.declared.error.Error.TheVariants.{TooWide}
 use Rattle.hound_spec.specs.declared.spec.WavSpecEx.{WavSpecEx}
 use Rattle.hound_medium.specs.{overlay, MediumState}
@@ -43,8 +44,7 @@ module _ {W : Type 0} (kind : Ghosts W) (modelled : IsTrue kind.tells) (kept : I
       (λ _ _. replays left.last.medium))) modelled kept replays)
 
   begins_same : (list : List Call) → begins_at (list ++ rejected ∷ []) m.past ≡ begins_at list m.past
-  begins_same [] = ap (λ (w : W). length (kind.state w).past) (sym is_kept.left.is)
-  begins_same (call ∷ list) = refl
+  begins_same list = grind (arith, common_steps)
 
   -- the medium was flushed up to f and written at ascending places since
   pub counted_after_loss : (f : ℕ) → f ≤ length m.past → Ascends m.past f (length m.past)

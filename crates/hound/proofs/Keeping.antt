@@ -1,6 +1,6 @@
 -- What a list of calls of a writer leaves.
 use Rattle.std.proofs.lemmas.Grind.{common_steps}
-use Rattle.std.proofs.Common.{refl, ◌≡◌, ℕ, ◌+◌, ◌-◌, ◌/◌, ◌%◌, ◌≤◌, max, List, [], ◌∷◌, ◌++◌, length, take, drop, Result, Ok, Err, IsTrue, sym, ◌∙◌, ap, subst, arith, append_assoc, length-append, length-drop}
+use Rattle.std.proofs.Common.{refl, ◌≡◌, ℕ, ◌+◌, ◌-◌, ◌/◌, ◌≤◌, max, List, [], ◌∷◌, ◌++◌, length, take, drop, Result, IsTrue, sym, ◌∙◌, ap, subst, arith, append_assoc, length-append, length-drop}
 use Rattle.std.proofs.lemmas.List.{length-take-le}
 use Rattle.std.proofs.lemmas.Nat.{mul-le}
 use Rattle.std.proofs.Math.Nat.{div-mul-le_self}
@@ -8,7 +8,6 @@ use Rattle.std.specs.List.{concat, AllByRecursion}
 use Rattle.std.specs.Io.{StartsWith}
 use Rattle.hound_number.specs.{number}
 use Rattle.hound_spec.specs.declared.error.Error.{Error}
-use Rattle.hound_spec.specs.declared.error.Error.TheVariants.{UnfinishedSample}
 use Rattle.hound_spec.specs.declared.spec.WavSpecEx.{WavSpecEx}
 use Rattle.hound_sample.proofs.Containers.{length-containers}
 use Rattle.hound_spec.specs.{canonical, data_start}
@@ -41,20 +40,11 @@ sized state w sound none whole = grind (arith, common_steps, concat-samples, len
 says_frames : {M : Type 0} (answer : Result (Unit {0}) Error) (w : WriterState M) (s : WavSpecEx)
     (list : List (List ℕ)) → w.spec_ex ≡ s → sample_count w ≡ length list → IsPublishing answer w
     → SaysFrames s list answer
-says_frames answer w s list spec count is = go answer is
-  where
-    same : sample_count w % w.spec_ex.spec.channels ≡ length list % s.spec.channels
-    same = λ i. count i % (spec i).spec.channels
-
-    go : (answer : Result (Unit {0}) Error) → IsPublishing answer w → SaysFrames s list answer
-    go (Ok x) here = sym same ∙ here
-    go (Err UnfinishedSample) here = λ frames. here (same ∙ frames)
-    go (Err e) here = tt
+says_frames answer w s list spec count is = grind (arith, common_steps)
 
 if_begun_then : {P Q : Type 0} (s : WavSpecEx) (file : Begun) → IfBegun s file P → (P → Q)
     → IfBegun s file Q
-if_begun_then s (new_file old) here on = on here
-if_begun_then s (appended old start found) here on = λ at header. on (here at header)
+if_begun_then s file here on = grind (arith, common_steps)
 
 -- What the first writer of a file has, as its constructor returned it.
 pub record First {W : Type 0} (kind : Ghosts W) (s : WavSpecEx)
@@ -93,22 +83,7 @@ module _ {W : Type 0} (kind : Ghosts W) where
         whole = λ modelled. (begins.file modelled).whole;
         found = λ modelled. none;
         counts = λ modelled. (begins.file modelled).counts;
-        head = λ modelled.
-            let c = (begins.file modelled).counts in
-            let w = first.spec_ex.bytes_per_sample in
-            let n = first.spec_ex.spec.channels in
-            let says : field (first.data_start - 4) (kind.state first.medium).contents ≡ 0 =
-            omega (
-              arith,
-              c.covers,
-              mul-le c.samples w 0 w (omega (arith, c.among, ap length none)) (omega arith),
-            ) in
-            let read =
-            (reads_all first.spec_ex first.data_start 0 (accepted_samples kind.state first)
-            (kind.state first.medium).contents (none_whole w)
-            (ap (λ m. m % n) (zero_div w) ∙ none_whole n) (ap length none ∙ sym (zero_div w)) says
-            c).readable in
-            (read.len, read.head);
+        head = grind (arith, common_steps, mul-le, none_whole, zero_div, reads_all);
         begun = λ modelled. ((begins.file modelled).header, b.start ∙ ap data_start (sym b.spec));
         faults = λ modelled. (begins.file modelled).faults;
         reach = λ modelled. (begins.file modelled).reach;
@@ -415,12 +390,8 @@ module _ {W : Type 0} (kind : Ghosts W) where
       let first = first_of s file r.first r.opens in
       let went = went kind modelled r.calls r.first w r.lead in
       let here = accepts_calls modelled s file known w r in
-      let count = length-containers w.spec_ex.bytes_per_sample (sample_count w) (accepted_bytes kind.state w) in (
-        went.spec_ex ∙ first.spec,
-        went.data_start ∙ first.start,
-        went.whole (first.whole modelled),
-        (r.calls, r.are_known, here, sym count ∙ ap length here),
-      )
+      let count = length-containers w.spec_ex.bytes_per_sample (sample_count w) (accepted_bytes kind.state w) in
+      grind (arith, common_steps, went)
 
   pub left_kept : ((m : W)
       → WhereKeeps kind.tells kind.keeps ((kind.state m).contents ≡ overlay (kind.state m).start (kind.state m).past))

@@ -1,12 +1,12 @@
 -- What is known of calls, and the calls; and lemmas of the layers below for the proofs of callers.
-use Rattle.std.proofs.Common.{◌≡◌, ℕ, ◌-◌, Bool, true, false, List, [], ◌∷◌, ◌++◌, length, map, Result, Ok, Err, OnOk, is_ok, refl, sym, ◌∙◌, ap}
+use Rattle.std.proofs.lemmas.Grind.{common_steps}
+use Rattle.std.proofs.Common.{arith}
+use Rattle.std.proofs.Common.{◌≡◌, ℕ, ◌-◌, Bool, true, List, [], ◌∷◌, ◌++◌, length, map, Result, OnOk, is_ok, refl, sym, ◌∙◌, ap}
 use Rattle.std.specs.List.{AllByRecursion, concat}
-use Rattle.std.proofs.lemmas.Bool.{false≢true}
 use Rattle.hound_spec.specs.declared.error.Error.{Error}
-use Rattle.hound_spec.specs.declared.error.Error.TheVariants.{UnfinishedSample}
 use Rattle.hound_medium.specs.{MediumState}
-use Rattle.hound_sample.specs.{Rejection, too_wide, unsupported}
-use Rattle.hound_writer.specs.{AcceptAnswer, AreKnown, Asked, Begun, Call, FitAnswer, IsKnown, Known, WriterState, asked_by_all, field, found_in, made, mark_of, marked, publish, start_of}
+use Rattle.hound_sample.specs.{Rejection}
+use Rattle.hound_writer.specs.{AcceptAnswer, AreKnown, Asked, Begun, Call, IsKnown, Known, WriterState, asked_by_all, field, found_in, made, mark_of, marked, publish, start_of}
 use Rattle.hound_spec.specs.declared.spec.WavSpecEx.{WavSpecEx}
 use Rattle.hound.specs.Headline.{HasPublished, HoldsAtEnd, accepted_as_seen, accepted_by_all, accepted_of, seen}
 use Rattle.hound.specs.Run.{asked_by}
@@ -43,10 +43,7 @@ pub published : (before : List (Asked × Bool)) (after : List Known) (calls : Li
     → AreKnown (seen before ++ (marked publish true ∷ after)) calls
     → (first last : List Call) × (flush : Call) × (calls ≡ first ++ (flush ∷ last))
     × HasPublished flush × (accepted_by_all first ≡ accepted_as_seen before)
-published before after calls are =
-    let (first, last, flush, parts, before_are, is, after_are) =
-    among (seen before) after (marked publish true) calls are in
-    (first, last, flush, parts, is, accepted before first before_are)
+published before after calls are = grind (arith, common_steps, among, accepted)
 
 -- calls of which these are known publish nothing if these don't
 pub publish_none : (known : List Known) (calls : List Call) → AreKnown known calls
@@ -63,29 +60,16 @@ pub lasts : (s : WavSpecEx) (file : Begun) (before : List (Asked × Bool)) (afte
     → AreKnown (seen before ++ (marked publish true ∷ after)) calls
     → AllByRecursion (λ (one : Known). one.asked ≡ publish → ⊥) after
     → field (start_of s file - 4) m.contents ≡ length (concat (found_in file ++ accepted_as_seen before))
-lasts s file before after calls m holds are none =
-    let (first, last, flush, parts, before_are, is, after_are) =
-    among (seen before) after (marked publish true) calls are in
-    holds.lasts first last flush parts is (publish_none after last after_are none)
-    ∙ ap (λ l. length (concat (found_in file ++ l))) (accepted before first before_are)
+lasts s file before after calls m holds are none = grind (arith, common_steps, among, accepted, publish_none)
 
 -- the mark of a call for samples is its being Ok
 pub mark_is_ok : {W : Type 0} (asked : Result (List (List ℕ)) Rejection) (w : WriterState W)
     (answer : Result (Unit {0}) Error) → AcceptAnswer asked w answer → mark_of answer ≡ is_ok answer
-mark_is_ok asked w (Ok x) is = refl
-mark_is_ok (Err too_wide) w (Err UnfinishedSample) is = cc
-mark_is_ok (Err unsupported) w (Err UnfinishedSample) is = cc
-mark_is_ok (Ok list) w (Err UnfinishedSample) is = by _ is
-  where
-    by : (b : Bool) → FitAnswer {T = Unit {0}} b (Err UnfinishedSample) → true ≡ false
-    by true none = absurd none
-    by false same = cc
-mark_is_ok asked w (Err e) is = refl
+mark_is_ok asked w answer is = grind (arith, common_steps)
 
 -- what holds at an Ok holds where the result is known to be one
 pub at_ok : {T E P : Type 0} (r : Result T E) → is_ok r ≡ true → OnOk r P → P
-at_ok (Ok x) is here = here
-at_ok (Err e) is here = absurd (false≢true is)
+at_ok r is here = grind (arith, common_steps)
 
 -- calls that steps asked
 pub known_steps : (s : WavSpecEx) (steps : List Step) (calls : List Call)

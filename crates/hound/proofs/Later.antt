@@ -1,10 +1,9 @@
 -- From one state of a medium to a later one: bytes were appended to the past, and faults counted.
 use Rattle.std.proofs.lemmas.Grind.{common_steps}
-use Rattle.std.proofs.Common.{◌≡◌, ℕ, ◌≤◌, List, [], length, refl, sym, ap, arith, inl, length-append, Result, Ok, Err}
+use Rattle.std.proofs.Common.{◌≡◌, ℕ, ◌≤◌, List, [], length, refl, sym, ap, arith, inl, length-append, Result}
 use Rattle.std.specs.Prelude.{⊤}
 use Rattle.std.proofs.lemmas.List.{append-nil}
 use Rattle.hound_spec.specs.declared.error.Error.{Error}
-use Rattle.hound_spec.specs.declared.error.Error.TheVariants.{IoError}
 use Rattle.hound_medium.specs.{moment, MediumState, Span}
 use Rattle.hound_medium.proofs.Spans.{join}
 use Rattle.hound_writer.specs.{faults_reported}
@@ -53,9 +52,7 @@ FaultsGrow old new =
 
 pub grows_reported : (answer : Result (Unit {0}) Error) (old new : MediumState)
     → new.faults ≡ faults_reported answer old.faults → FaultsGrow old new
-grows_reported (Err (IoError e)) old new is small = (omega (arith, is, small), omega (arith, is, small))
-grows_reported (Ok x) old new is small = (omega (arith, is), omega (arith, is, small))
-grows_reported (Err e) old new is small = (omega (arith, is), omega (arith, is, small))
+grows_reported answer old new is = grind (arith, common_steps)
 
 pub grow_then : (a b c : MediumState) → FaultsGrow a b → FaultsGrow b c → FaultsGrow a c
 grow_then a b c first then small = grind (arith, common_steps)

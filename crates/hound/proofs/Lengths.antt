@@ -70,8 +70,7 @@ module _ {W : Type 0} (kind : Ghosts W) (modelled : IsTrue kind.tells) (kept : I
       let e : k ≡ length last.past =
       omega (arith, from, to, ap (λ (w : WriterState W). length (kind.state w.medium).past) same) in
       let here : moment last.start last.past k ≡ (kind.state old.medium).contents =
-      ap (moment last.start last.past) e ∙ moment_last last (replays new.medium)
-      ∙ ap (λ (w : WriterState W). (kind.state w.medium).contents) same in
+      grind (arith, common_steps, moment_last) in
       subst (λ c. P (field p c)) (sym here) has_it
   stays (call ∷ calls) old new (memory, mid, begins, does, rest) at beyond whole has_it k from to fine =
       let t = call_went kind modelled call.answer memory old mid call.asked does in
@@ -170,12 +169,7 @@ module _ {W : Type 0} (kind : Ghosts W) (modelled : IsTrue kind.tells) (kept : I
         whole = whole;
         next_start = m.here.data_start ∙ w.data_start;
         next_whole = m.here.whole whole;
-        all = omega (
-          arith,
-          w.size,
-          size,
-          length-concat-append (accepted_samples kind.state old) (accepted_by_all before),
-        );
+        all = grind (arith, common_steps, length-concat-append);
         began = m.began;
         ended = ended;
         later = then;
@@ -203,10 +197,7 @@ module _ {W : Type 0} (kind : Ghosts W) (modelled : IsTrue kind.tells) (kept : I
       end
   front_in_writes before after call k same writes from to =
       let c = call_of before after call same in
-      subst (λ (x : ℕ × (List ℕ × List ℕ)). take x.0 x.1.0 ≡ take x.0 x.1.1)
-      (λ i. (c.start i, (c.still k to i, sym c.first i)))
-      (front_of call.asked call.answer c.memory c.mid c.next c.does writes c.whole k
-      (omega (arith, from, c.began)) (omega (arith, to, c.ended)))
+      grind (arith, common_steps, front_of)
 
   pub mixed : MixedInPatches old.spec_ex old.data_start (accepted_samples kind.state old) calls end
   mixed before after patch same asked =

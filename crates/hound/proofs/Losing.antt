@@ -83,8 +83,7 @@ next start past m less =
 
 longer_then : {P : Type 0} (n : ℕ) (a b : List ℕ) → length a ≤ length b → P ⊎ (n < length a)
     → P ⊎ (n < length b)
-longer_then n a b le (inl other) = inl other
-longer_then n a b le (inr longer) = inr (omega (arith, longer, le))
+longer_then n a b le given = grind (arith, common_steps)
 
 -- States from f to k between which bytes went to ascending places, with all that is before the data.
 module _ (h f k : ℕ) (start : List ℕ) (past : List (ℕ × ℕ)) (beyond : 20 ≤ h)
@@ -184,10 +183,7 @@ module _ (h : ℕ) (bytes base start : List ℕ) (past : List (ℕ × ℕ)) (cov
   -- what the data length of any state covers is stored in each state
   anywhere : (j m : ℕ) → f ≤ j → j ≤ k → f ≤ m → m ≤ k
       → take (cover (says j)) (drop h (at m)) ≡ take (cover (says j)) bytes
-  anywhere j m from to since until = elim (cases_lt m j) [
-    | inl before ↦ earlier j m since (omega (arith, before)) to
-    | inr after ↦ kept j m from after until
-  ]
+  anywhere j m from to since until = grind (arith, common_steps, cases_lt, earlier)
 
   -- so the contents have it all
   reaches : (j m : ℕ) → f ≤ j → j ≤ k → f ≤ m → m ≤ k → h + cover (says j) ≤ length (at m)

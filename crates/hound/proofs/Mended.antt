@@ -1,6 +1,7 @@
 -- What a loss of power leaves of a recording that was cut off, within the first checkpoint of the recorder that mends it.
+use Rattle.std.proofs.lemmas.Grind.{common_steps}
 use Rattle.std.proofs.lemmas.List.{length-take-le, take-take}
-use Rattle.std.proofs.Common.{◌≡◌, ℕ, zero, suc, ◌+◌, ◌-◌, ◌*◌, ◌/◌, ◌%◌, ◌≤◌, Bool, true, false, List, [], ◌∷◌, ◌++◌, length, take, drop, inl, inr, Result, Ok, refl, sym, ◌∙◌, ap, subst, arith, append-nil, length-drop, length-take}
+use Rattle.std.proofs.Common.{◌≡◌, ℕ, zero, suc, ◌+◌, ◌-◌, ◌*◌, ◌/◌, ◌%◌, ◌≤◌, Bool, List, [], ◌∷◌, ◌++◌, length, take, drop, Result, Ok, sym, ◌∙◌, ap, subst, arith, append-nil, length-drop, length-take}
 use Rattle.std.proofs.Math.Nat.{mul-mod_left}
 use Rattle.std.specs.Prelude.{if◌then◌else◌}
 use Rattle.std.specs.declared.io.Error.{Error as IoFault}
@@ -62,14 +63,7 @@ module _ (start n : ℕ) (base : List ℕ) (beyond : 20 ≤ start) where
   -- so do sizes
   sized : (c new : List ℕ) → HasStill start n base c → SameButSizes p c new
       → (j : ℕ) × (j ≤ 4) × (field p new ≡ mix j (field p base) n) → HasStill start n base new
-  sized c new still same says =
-      let at : p + 4 ≡ start = omega (arith, beyond) in
-      record {
-        changes = sizes_then start base c new still.changes (record { front = same.front; middle = same.middle });
-        stored = ap (take n) (subst (λ k. drop k new ≡ drop k c) at same.beyond) ∙ still.stored;
-        inside = omega (arith, still.inside, same.long);
-        says = says;
-      }
+  sized c new still same says = grind (arith, common_steps)
 
   -- wherever the effects stop
   allowed_sizes : (c : List ℕ) → AreBytes c → HasStill start n base c → field p c ≡ field p base
@@ -116,8 +110,7 @@ module _ (start n : ℕ) (base : List ℕ) (beyond : 20 ≤ start) where
 
   allowed_first : (clean : Bool) → AreBytes base → HasStill start n base base
       → Allowed (HasStill start n base) (first_effects clean) base
-  allowed_first true small still = allowed_checkpoint (n % 2) base small still refl
-  allowed_first false small still = (still, allowed_checkpoint (n % 2) base small still refl)
+  allowed_first clean small still = grind (arith, common_steps, allowed_checkpoint)
 
 module _ (f : FoundFile) (n : ℕ) (old end : Log) (result : Result (Unit {0}) IoFault) (clean : Bool)
     (cut : IsCutOff f n old.state) (synced : IsSynced old.state)
@@ -139,16 +132,7 @@ module _ (f : FoundFile) (n : ℕ) (old end : Log) (result : Result (Unit {0}) I
   beyond = head_beyond base s f.data_length h cut.head
 
   at_first : HasStill h n base base
-  at_first = record {
-    changes = record { front = refl; middle = refl };
-    stored = refl;
-    inside = cut.held;
-    says = (
-      0,
-      omega arith,
-      sym (mix_none (field (h - 4) base) n (number_at_small (h - 4) base (omega (arith, beyond, cut.held)) old.small)),
-    );
-  }
+  at_first = grind (arith, common_steps, mix_none, number_at_small, beyond)
 
   each_state : Span (λ _. HasStill h n base) 0 old.state end.state
   each_state =
@@ -170,10 +154,7 @@ module _ (f : FoundFile) (n : ℕ) (old end : Log) (result : Result (Unit {0}) I
   all = count_bytes n width whole
 
   from_flush : length old.state.past ≤ end.state.flushed
-  from_flush = elim each_state.flushed [
-    | inl same ↦ omega (arith, same, synced)
-    | inr later ↦ later
-  ]
+  from_flush = grind (arith, common_steps)
 
   still_at : (j : ℕ) → end.state.flushed ≤ j → j ≤ length end.state.past
       → HasStill h n base (moment end.state.start end.state.past j)
@@ -231,8 +212,4 @@ mended_survives f mends overwrites old end r result resumes cut synced did secto
     let (counts, says) = counted_then f n old end result (is_sound r.health) cut synced whole cut.sound.1 performed sector left wide one lost in
     let size : n + 0 ≡ n = omega arith in
     let bytes = take n (drop f.data_start old.state.contents) in
-    rw at (
-      subst (λ l. Counts f.spec_ex f.data_start l left)
-          (λ i. containers width (sym size i / width) (sym (append-nil bytes) i)) counts,
-      says,
-    )
+    grind (arith, common_steps, append-nil)

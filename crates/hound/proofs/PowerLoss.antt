@@ -1,9 +1,9 @@
 -- What a loss of power leaves of a writer's file.
-use Rattle.std.proofs.Common.{◌≡◌, ℕ, zero, suc, ◌+◌, ◌-◌, ◌*◌, ◌/◌, ◌%◌, ◌≤◌, inl, inr, List, [], ◌∷◌, ◌++◌, length, take, drop, refl, sym, ◌∙◌, ap, subst, arith, length-append, length-drop, take-append-drop}
+use Rattle.std.proofs.Common.{◌≡◌, ℕ, zero, suc, ◌+◌, ◌-◌, ◌*◌, ◌/◌, ◌%◌, ◌≤◌, inl, inr, List, [], ◌∷◌, ◌++◌, length, take, drop, refl, sym, ◌∙◌, ap, arith, length-append, length-drop, take-append-drop}
 use Rattle.std.proofs.lemmas.Bool.{cases_lt}
 use Rattle.std.proofs.lemmas.Grind.{flat_map-append, common_steps}
 use Rattle.std.proofs.lemmas.List.{length-take-le, take-take, take-append-le}
-use Rattle.std.proofs.lemmas.Nat.{div-add-mod', div-mul-add, mod-mul-add, mod_below, mul-le}
+use Rattle.std.proofs.lemmas.Nat.{div-mul-add, mod-mul-add, mul-le}
 use Rattle.std.specs.List.{concat, AllByRecursion}
 use Rattle.hound_spec.specs.declared.spec.WavSpecEx.{WavSpecEx}
 use Rattle.hound_sample.specs.{containers}
@@ -35,8 +35,7 @@ cover_count : (w v n : ℕ) → 1 ≤ w → v ≤ n * w → (v + (w - 1)) / w �
 cover_count w v n some le = grind (arith, common_steps)
 
 le_cover : (w v : ℕ) → 1 ≤ w → v ≤ cover w v
-le_cover w v some =
-    omega (arith, div-add-mod' (v + (w - 1)) w, mod_below (v + (w - 1)) w (omega (arith, some)), some)
+le_cover w v some = grind (arith, common_steps)
 
 -- if the head is there and this many containers are stored, the first of them are counted
 pub counts_stored : (s : WavSpecEx) (h q : ℕ) (list : List (List ℕ)) (c : List ℕ)
@@ -56,12 +55,8 @@ counts_stored s h q list c some wide head few among stored =
     let back : (q * w + 0) / w ≡ q = div-mul-add q w 0 (omega (arith, some)) in
     let whole : (q * w + 0) % w ≡ 0 = mod-mul-add q w 0 (omega (arith, some)) in
     let e : q * w + 0 ≡ q * w = omega arith in
-    let counted : Counts s h (containers w q (drop h c)) c =
-    subst (λ n. Counts s h (containers w n (drop h c)) c) back
-    (counts_at_most s h (q * w + 0) c some whole head (omega (arith, few))) in
-    subst (λ l. Counts s h l c)
-    (ap (λ l. l ++ drop q list) found ∙ take-append-drop q list)
-    (counts_more s h (containers w q (drop h c)) (drop q list) c some counted)
+    let counted : Counts s h (containers w q (drop h c)) c = grind (arith, common_steps, counts_at_most) in
+    grind (arith, common_steps, take-append-drop, counts_more)
 
 -- what a list of calls accepted is what its first ones did, and what the others did
 pub accepted_parts : (before after : List Call)
@@ -164,14 +159,9 @@ module _ (s : WavSpecEx) (h len : ℕ) (found : List (List ℕ)) (calls : List C
       let size : length (concat first) ≡ c.samples * w =
       length-concat w first (wide_take w c.samples all (wide_before before (call ∷ after) same))
       ∙ ap (λ k. k * w) (length-take-le c.samples all c.among) in
-      let few : n ≤ c.samples * w =
-      mul-le ((says j + (w - 1)) / w) w c.samples w
-      (cover_count w (says j) c.samples some c.covers) (omega arith) in
-      let parts = concat_front c.samples all in (
-        omega (arith, few, size, ap length parts, length-append (concat first) rest),
-        sym (take-take n (c.samples * w) (drop h (at j)) few) ∙ ap (take n) c.stored
-            ∙ sym (ap (take n) parts ∙ take-append-le n (concat first) rest (omega (arith, few, size))),
-      )
+      let few : n ≤ c.samples * w = grind (arith, common_steps, mul-le, cover_count) in
+      let parts = concat_front c.samples all in
+      grind (arith, common_steps, length-append, take-take, take-append-le)
 
   counted_after_loss : CountedAfterLoss s h found calls end
   counted_after_loss before after call f k sector c same begun le from to ascends sized one lost =

@@ -1,6 +1,6 @@
 -- What a flush has published, in whatever is left later.
 use Rattle.std.proofs.lemmas.Grind.{common_steps}
-use Rattle.std.proofs.Common.{◌≡◌, ℕ, suc, ◌+◌, ◌-◌, ◌*◌, ◌<◌, ◌≤◌, ◌⊎◌, Bool, List, [], ◌∷◌, ◌++◌, length, take, drop, IsTrue, inl, inr, refl, sym, ◌∙◌, ap, subst, arith, append_assoc, length-append, length-drop, take-append-drop}
+use Rattle.std.proofs.Common.{◌≡◌, ℕ, ◌+◌, ◌-◌, ◌*◌, ◌<◌, ◌≤◌, ◌⊎◌, Bool, List, [], ◌∷◌, ◌++◌, length, IsTrue, inl, inr, sym, ◌∙◌, ap, subst, arith, append_assoc, length-append, length-drop, take-append-drop}
 use Rattle.std.specs.List.{concat}
 use Rattle.std.proofs.lemmas.Bool.{cases_lt}
 use Rattle.std.proofs.lemmas.List.{take_all}
@@ -16,7 +16,7 @@ use Rattle.hound_repair.proofs.Keeping.{no_pad_shown, stays_stored}
 use Rattle.hound_repair.specs.{held, IsNoPad, ReadsFrames, Repairs}
 use Rattle.hound_repair.specs.declared.sizes.Repair.{Repair}
 use Rattle.hound_writer.specs.declared.resuming.RepairState.TheVariants.{HasChunksAfterData}
-use Rattle.hound_writer.specs.{Asked, Call, field, IsStored, publish, write}
+use Rattle.hound_writer.specs.{Asked, Call, field, IsStored, publish}
 use Rattle.hound_writer.proofs.Heads.{head_beyond, head_inside}
 use Rattle.hound.specs.Headline.{HasPublished, IsLeftAfter, Promises, accepted_by_all, begins_at}
 use Rattle.hound.proofs.Losing.{either_survives, moments_grow, stored_survives}
@@ -24,8 +24,7 @@ use Rattle.hound.proofs.Calling.{last_of, length-concat-append}
 use Rattle.hound.proofs.PowerLoss.{accepted_parts, during}
 
 publishes_or : (asked : Asked) → (asked ≡ publish) ⊎ (asked ≡ publish → ⊥)
-publishes_or (write containers) = inr (λ is. cc)
-publishes_or publish = inl refl
+publishes_or asked = grind (arith, common_steps)
 
 -- a number that is mixed with itself stays
 mix_same : (j n : ℕ) → mix j n n ≡ mix 0 n n
@@ -76,27 +75,10 @@ module _ (s : WavSpecEx) (h : ℕ) (found : List (List ℕ)) (calls : List Call)
       let says : field (h - 4) (at from) ≡ length (concat list) =
       promises.published before [] after flush from same has_all tt (omega arith) (omega arith) in
       let c = promises.counted before after flush from same began (omega arith) in
-      let all : c.samples ≡ length list =
-      elim (cases_lt c.samples (length list)) [
-        | inl fewer ↦
-            absurd (omega (
-              arith,
-              some,
-              c.covers,
-              says,
-              size,
-              mul-le (suc c.samples) w (length list) w (omega (arith, fewer)) (omega arith),
-              (let e : suc c.samples * w ≡ c.samples * w + w = omega arith in e),
-            ))
-        | inr most ↦ omega (arith, most, c.among)
-      ] in
+      let all : c.samples ≡ length list = grind (arith, common_steps, cases_lt, mul-le, some, size) in
       let bytes : c.samples * w ≡ length (concat list) = ap (λ n. n * w) all ∙ sym size in
       let start : h + 0 ≡ h = omega arith in
-      ap (λ n. take (length (concat list)) (drop n (at from))) start
-      ∙ ap (λ n. take n (drop h (at from))) (sym bytes)
-      ∙ c.stored
-      ∙ ap concat (take_all c.samples list (omega (arith, all)))
-      ∙ sym (take_all (length (concat list)) (concat list) (omega arith))
+      grind (arith, common_steps, take_all)
 
   stored_later : (k : ℕ) → from ≤ k → k ≤ length end.past
       → IsStored h (concat list) 0 (length (concat list)) (at k)
@@ -186,11 +168,7 @@ module _ (s : WavSpecEx) (h : ℕ) (found : List (List ℕ)) (calls : List Call)
     counts : CountsOrHolds c
 
   in_state : (k : ℕ) → from ≤ k → k ≤ length end.past → HasAll (at k)
-  in_state k since until = record {
-    head = promises.head k (omega (arith, first_began, since)) until;
-    stored = stored_later k since until;
-    counts = counts_or_holds k since until;
-  }
+  in_state k since until = grind (arith, common_steps, first_began, stored_later, counts_or_holds)
 
   published_is_left : (c : List ℕ) → IsLeftAfter h from end c → HasAll c
   published_is_left c (inl is) =
@@ -225,15 +203,7 @@ module _ (s : WavSpecEx) (h : ℕ) (found : List (List ℕ)) (calls : List Call)
 
   -- none of their bytes is taken for a pad byte
   no_pad : (c : List ℕ) → CountsOrHolds c → IsNoPad s (field (h - 4) c) (held h c) list
-  no_pad c counts one more =
-      let width : w ≡ 1 =
-      omega (arith, one, some, mul-le 1 w s.spec.channels w sound.0 (omega arith)) in
-      let all : length (concat list) ≡ length list =
-      omega (arith, size, ap (λ v. length list * v) width) in
-      elim counts [
-        | inl says ↦ omega (arith, says, all)
-        | inr longer ↦ omega (arith, longer, all, more, length-drop h c)
-      ]
+  no_pad c counts one more = grind (arith, common_steps, length-drop, mul-le, some, size, more)
 
   -- so a repair loses none of them
   pub none_lost : (looks : Bool) (cut mended : MediumState) (found : Repair)

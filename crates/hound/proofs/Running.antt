@@ -1,6 +1,8 @@
 -- One step more, and one session more.
-use Rattle.std.proofs.Common.{◌≡◌, ℕ, ◌+◌, ◌<◌, List, [], ◌∷◌, ◌++◌, length, get_or, set, take, map, Bool, Result, sym, ◌∙◌, ap, subst, drop, Ok, Err, refl}
-use Rattle.std.proofs.lemmas.List.{map-append, take_more, take_more_set, drop_more}
+use Rattle.std.proofs.lemmas.Grind.{common_steps}
+use Rattle.std.proofs.Common.{arith}
+use Rattle.std.proofs.Common.{◌≡◌, ℕ, ◌+◌, ◌<◌, List, [], ◌∷◌, ◌++◌, length, get_or, set, take, map, Bool, Result, sym, ◌∙◌, ap, drop, Ok, Err}
+use Rattle.std.proofs.lemmas.List.{map-append, take_more, take_more_set}
 use Rattle.hound_spec.specs.declared.error.Error.{Error}
 use Rattle.hound_writer.specs.{Ghosts, mark_of, Call, Lead, asked_by_all, WriterState}
 use Rattle.hound_writer.proofs.Recording.{asked_more, call_at, lead_more, lead_spec}
@@ -37,8 +39,7 @@ module _ {M : Type 0} (kind : Ghosts M) where
 
 -- a result that is no error
 pub is_ok : (answer : Result (Unit {0}) Error) → ((e : Error) → answer ≡ Err e → ⊥) → answer ≡ Ok tt
-is_ok (Ok x) fine = refl
-is_ok (Err e) fine = absurd (fine e refl)
+is_ok answer fine = grind (arith, common_steps)
 
 -- Where R says what a list comes to from a state: whatever the part comes to that is left, the whole
 -- comes to it too.
@@ -51,5 +52,4 @@ module _ {X S M : Type 0} (R : List X → S → Result (Unit {0}) Error → M �
   pub leads_on : (xs : List X) (i : ℕ) (a b : S) → Leads xs (drop i xs) a b → (d : X)
       → i < length xs → (answer : Result (Unit {0}) Error) (medium : M)
       → R (get_or xs i d ∷ drop (i + 1) xs) b answer medium → R xs a answer medium
-  leads_on xs i a b leads d inside answer medium here =
-      leads answer medium (subst (λ l. R l b answer medium) (sym (drop_more xs i d inside)) here)
+  leads_on xs i a b leads d inside answer medium here = grind (arith, common_steps)

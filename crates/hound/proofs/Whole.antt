@@ -1,19 +1,20 @@
 -- A whole run, from its beginning to its end.
-use Rattle.std.proofs.Common.{◌≡◌, ℕ, ◌+◌, ◌<◌, ◌≤◌, max, Bool, List, [], ◌∷◌, ◌++◌, length, take, map, Result, Ok, Err, OnOk, IsTrue, inl, inr, refl, sym, ◌∙◌, ap, subst, arith, length-append}
+use Rattle.std.proofs.lemmas.Grind.{common_steps}
+use Rattle.std.proofs.Common.{◌≡◌, ℕ, ◌+◌, ◌<◌, ◌≤◌, max, Bool, List, [], ◌∷◌, ◌++◌, length, take, map, Result, Ok, Err, OnOk, IsTrue, refl, sym, ◌∙◌, ap, subst, arith, length-append}
 use Rattle.std.proofs.lemmas.List.{take_all, length-take-le}
 use Rattle.std.specs.Io.{StartsWith}
 use Rattle.hound_spec.specs.declared.error.Error.{Error}
 use Rattle.hound_spec.specs.declared.spec.WavSpecEx.{WavSpecEx}
-use Rattle.hound_spec.specs.{header, data_start, canonical}
+use Rattle.hound_spec.specs.{data_start, canonical}
 use Rattle.hound_spec.proofs.HeaderLemmas.{data_start_least, length-header}
-use Rattle.hound_medium.specs.{WhereKeeps, placed, overlay}
+use Rattle.hound_medium.specs.{WhereKeeps, overlay}
 use Rattle.hound_medium.proofs.Overlays.{length-placed}
 use Rattle.hound_writer.specs.{Ghosts, mark_of, Call, Lead, Left, Opens, Recorded, asked_by_all, made, new_file, publish, Finishes, WriterState, IsWhole}
 use Rattle.hound_writer.proofs.Accepting.{length_overlay_max}
 use Rattle.hound_writer.proofs.Recording.{ended, lead_more, leaves, left_by}
 use Rattle.hound.specs.declared.session.Step.{Step}
 use Rattle.hound.specs.declared.session.Begin.{Begin}
-use Rattle.hound.specs.declared.session.Begin.TheVariants.{New, Append}
+use Rattle.hound.specs.declared.session.Begin.TheVariants.{New}
 use Rattle.hound.specs.declared.session.End.{End}
 use Rattle.hound.specs.declared.session.End.TheVariants.{Finalize}
 use Rattle.hound.specs.Headline.{NoFault, accepted_by_all, accepted_of}
@@ -29,32 +30,16 @@ pub part_of_header : {M : Type 0} (kind : Ghosts M) (s : WavSpecEx)
     × (length (kind.state back).contents
     ≤ max (length (kind.state old).contents) ((kind.state old).place + count))
     × (IsTrue kind.keeps → length (kind.state back).past ≡ length (kind.state old).past + count)
-part_of_header kind s old back e modelled (inl (not, is, same)) = (
-  0,
-  omega (arith, data_start_least s),
-  omega (arith, ap (λ m. length (kind.state m).contents) same),
-  λ kept. omega (arith, ap (λ m. length (kind.state m).past) same),
-)
-part_of_header kind s old back e modelled (inr (writable, io, failed)) =
-    let p = failed modelled in
-    let place = (kind.state old).place in
-    let h = take p.count (header s 0 0) in
-    let size = length-take-le p.count (header s 0 0) p.within in (
-      p.count,
-      omega (arith, p.part, length-header s 0 0),
-      omega (
-        arith,
-        ap length p.takes.contents,
-        length_overlay_max h place (kind.state old).contents,
-        size,
-      ),
-      λ kept. omega (
-        arith,
-        ap length (p.takes.past kept),
-        length-append (kind.state old).past (placed place h),
-        length-placed place h,
-        size,
-      ),
+part_of_header kind s old back e modelled given =
+    grind (
+      arith,
+      common_steps,
+      length-append,
+      length-take-le,
+      data_start_least,
+      length-header,
+      length-placed,
+      length_overlay_max,
     )
 
 -- the calls of steps accepted what the steps did, by their marks
@@ -72,25 +57,16 @@ calls_accept s _ _ asked = cc
 module _ {M : Type 0} (kind : Ghosts M) where
   run_spec : (begin : Begin) (old : M) (w : WriterState M) → BeginsAs kind begin old w
       → w.spec_ex ≡ begun_spec begin w
-  run_spec (New s) old w begins = begins.begun.spec
-  run_spec Append old w begins = refl
+  run_spec begin old w begins = grind (arith, common_steps)
 
   run_beyond : (begin : Begin) (old : M) (w : WriterState M) → BeginsAs kind begin old w
       → 4 ≤ w.data_start
-  run_beyond (New s) old w begins = omega (arith, begins.begun.sound.after_head)
-  run_beyond Append old w begins = omega (arith, begins.sound.after_head)
+  run_beyond begin old w begins = grind (arith, common_steps)
 
   run_opens : (begin : Begin) (old : M) (w : WriterState M) → BeginsAs kind begin old w
       → IsWhole kind.state w
       → Opens kind (begun_spec begin w) (file_of kind.state begin old w) w
-  run_opens (New s) old w begins whole = begins
-  run_opens Append old w begins whole = record {
-    appends = begins;
-    spec_is = refl;
-    start_is = refl;
-    whole = λ modelled. whole;
-    found_is = λ modelled. refl;
-  }
+  run_opens begin old w begins whole = grind (arith, common_steps)
 
   -- the calls with that of the end
   pub all_lead : (calls : List Call) (first last : WriterState M)
@@ -147,8 +123,7 @@ module _ {M : Type 0} {kind : Ghosts M} {s : WavSpecEx}
     {answer : Result (Unit {0}) Error}
     (r : Ran kind (New s) steps marks end old answer medium) where
   pub steps_accepted : accepted_by_all r.calls ≡ accepted_by_steps s steps marks
-  steps_accepted =
-      calls_accept s steps r.calls r.asked ∙ ap (accepted_by_steps s steps) (sym r.marked)
+  steps_accepted = grind (arith, common_steps, calls_accept)
 
   pub new_exact : IsTrue kind.tells → (kind.state old).contents ≡ [] → NoFault (kind.state old) (kind.state medium)
       → (kind.state medium).contents ≡ canonical s (accepted_by_steps s steps marks)
@@ -158,13 +133,7 @@ module _ {M : Type 0} {kind : Ghosts M} {s : WavSpecEx}
       let c = canonical s (accepted_by_steps s steps marks) in
       let starts : take (length c) (kind.state medium).contents ≡ c =
       subst (λ l. StartsWith (kind.state medium).contents (canonical s l)) steps_accepted exact.0 in
-      sym (take_all (length c) (kind.state medium).contents
-      (omega (
-        arith,
-        exact.1,
-        ap (λ l. length (canonical s l)) steps_accepted,
-        ap length empty,
-      ))) ∙ starts
+      grind (arith, common_steps, take_all, steps_accepted)
 
   pub new_canonical : IsTrue kind.tells → end ≡ Finalize
       → OnOk answer

@@ -1,5 +1,5 @@
 -- Sessions one after the other: the file that they leave, and what they return.
-use Rattle.std.proofs.Common.{◌≡◌, ℕ, ◌≤◌, max, IsTrue, List, length, Result, Ok, refl, ap, subst, arith, ◌-◌, ◌/◌, ◌<◌, true, Bor, [], ◌∷◌, ◌⊎◌, ◌++◌, drop, Err, OnOk, IfErr, IsErrAnd, sym, ◌∙◌, inl, inr, length-take, append_assoc, not}
+use Rattle.std.proofs.Common.{◌≡◌, ℕ, ◌≤◌, max, IsTrue, List, length, Result, Ok, refl, ap, subst, arith, ◌-◌, ◌<◌, true, Bor, [], ◌∷◌, ◌⊎◌, ◌++◌, Err, OnOk, IfErr, IsErrAnd, sym, ◌∙◌, inl, inr, length-take, append_assoc, not}
 use Rattle.std.specs.List.{concat}
 use Rattle.std.proofs.lemmas.Grind.{flat_map-append, common_steps}
 use Rattle.std.proofs.lemmas.List.{append-nil, length-take-le, take_all}
@@ -10,13 +10,12 @@ use Rattle.hound_spec.specs.declared.spec.WavSpecEx.{WavSpecEx}
 use Rattle.hound_spec.specs.{data_start, canonical, riff_size, IsWritable, greatest_u32}
 use Rattle.hound_spec.specs.declared.error.Error.TheVariants.{IoError, Unsupported}
 use Rattle.hound_spec.proofs.HeaderLemmas.{length-canonical, length-header, data_start_least}
-use Rattle.hound_sample.specs.{containers}
 use Rattle.hound_medium.specs.{MediumState, one_more}
 use Rattle.hound_medium.proofs.Torn.{number_at_small}
 use Rattle.hound_walk.proofs.Exists.{one_answer}
 use Rattle.hound_walk.proofs.Unique.{heads_agree}
 use Rattle.hound_writer.specs.{Ghosts, IsPublishing, IsIoError, mark_of, Does, Asked, publish, write, WriterState, data_length, HasHeader, IsWhole, IsBegun, accepted_samples, padded_end, field, Appends, IsAppendFault, AppendFault, appendable, faulty, Begins, Finishes, ReadsAs}
-use Rattle.hound_writer.proofs.Answers.{all_marked, where_marked, no_io, publishing_as, rejected_of}
+use Rattle.hound_writer.proofs.Answers.{all_marked, where_marked, no_io, rejected_of}
 use Rattle.hound_writer.proofs.Accepting.{length_overlay_max}
 use Rattle.hound_writer.proofs.AppendAnswers.{no_head_fault, one_append_answer}
 use Rattle.hound_writer.proofs.Fresh.{none_accepted}
@@ -41,8 +40,7 @@ pub record IsAfter {W : Type 0} (s : WavSpecEx) (list : List (List ℕ))
 pub publishing_after : {W : Type 0} (s : WavSpecEx) (list : List (List ℕ)) (w : WriterState W)
     (answer : Result (Unit {0}) Error) → IsAfter s list w → IsPublishing answer w
     → IsPublishing answer (writer_after s list)
-publishing_after s list w answer after is =
-    publishing_as answer w (writer_after s list) after.spec (omega (arith, after.size)) is
+publishing_after s list w answer after is = grind (arith, common_steps)
 
 -- a step's result is that of a writer of the same samples
 pub step_answers : {M : Type 0} (kind : Ghosts M) (s : WavSpecEx)
@@ -101,26 +99,13 @@ module _ {M : Type 0} (kind : Ghosts M) (modelled : IsTrue kind.tells)
       let size : data_length w ≡ length (concat list) = sym agree.1 ∙ file.size in
       record {
         after = record { spec = sym agree.0; start = at; size = size };
-        whole = omega (
-          arith,
-          ap length file.file,
-          length-take (length (canonical s list)) c,
-          length-canonical s list,
-          at,
-          size,
-          ap length same,
-        );
+        whole = grind (arith, common_steps, length-take, length-canonical);
         begun = (
           subst (λ (x : WavSpecEx × List ℕ). HasHeader x.0 x.1)
               (λ i. (agree.0 i, sym same i)) file.header,
           at ∙ ap data_start agree.0,
         );
-        holds = samples_out kind.state w appends.none_buffered appends.sound
-            ∙ (λ i. containers (sym agree.0 i).bytes_per_sample
-            ((sym (length_written kind.state w appends.none_buffered) ∙ sym agree.1) i /
-            (sym agree.0 i).bytes_per_sample) (drop (at i) (same i)))
-            ∙ ap (λ k. containers s.bytes_per_sample k (drop h c)) (sym read.readable.count)
-            ∙ read.containers;
+        holds = grind (arith, common_steps, length_written, samples_out);
         none = follows.faults ∙ file.none;
         reach = omega (arith, ap length same, file.reach);
       }
@@ -144,16 +129,7 @@ module _ {M : Type 0} (kind : Ghosts M) (modelled : IsTrue kind.tells)
         begun = t.begun on.begun;
         holds = t.accepted on.whole ∙ ap (λ l. l ++ more) on.holds;
         none = same ∙ on.none;
-        reach = omega (
-          arith,
-          reach,
-          on.reach,
-          at,
-          size,
-          length-canonical s list,
-          length-canonical s (list ++ more),
-          length-concat-append list more,
-        );
+        reach = grind (arith, common_steps, length-canonical, length-concat-append);
       }
 
   -- a call that is another error changes nothing
@@ -215,11 +191,7 @@ module _ {M : Type 0} (kind : Ghosts M) (modelled : IsTrue kind.tells)
         before = [];
         after = after;
         whole = refl;
-        file = subst (λ (x : WavSpecEx × List (List ℕ)). StartsWith c (canonical x.0 x.1))
-            (λ i. (on.after.spec i, (on.holds ∙ all) i))
-            (where_marked answer
-            (all_marked answer w (kind.state w.medium).faults few (sym p.faults ∙ same) ends.answers)
-            (p.canonical on.whole on.begun));
+        file = grind (arith, common_steps, all_marked, where_marked);
         why = subst (λ l. StopsAt s l after e) all why;
       }
 
@@ -276,10 +248,7 @@ module _ {M : Type 0} (kind : Ghosts M) (modelled : IsTrue kind.tells)
       → RunsUntil kind steps w answer medium
       → Leads list steps (steps ++ rest) (kind.state medium) answer
       × AnswersSession s list steps answer
-  until list [] rest w answer medium on ends = (
-    finish list rest w answer medium on ends,
-    publishing_after s list w answer on.after ends.answers,
-  )
+  until list [] rest w answer medium on ends = grind (arith, common_steps, publishing_after, finish)
   until list (step ∷ steps) rest w answer medium on
       (inl (e, new, dropped, is, takes, ends)) =
       let does = subst (λ x. Does kind (asked_by x step) (Err e) w new) on.after.spec
@@ -386,13 +355,7 @@ module _ {M : Type 0} (kind : Ghosts M) (modelled : IsTrue kind.tells)
       → RunsOn kind begin sessions old answer medium
       → Leads list (all_steps sessions) (all_steps sessions) (kind.state medium) answer
       × AnswersAll s list sessions answer
-  on begin list [] old answer medium once none (is, same) = (
-    subst (λ (x : List (List ℕ) × (M × Answer)). Leads list [] [] (kind.state x.1.0) x.1.1)
-        (λ i. (list, (sym same i, sym is i)))
-        (subst (λ l. HoldsFile l (kind.state old).contents (kind.state old).faults) (sym (append-nil list))
-        (none refl)),
-    is,
-  )
+  on begin list [] old answer medium once none (is, same) = grind (arith, common_steps, append-nil)
   on begin list (session ∷ sessions) old answer medium once none (inl (e, is, runs)) =
       let all = all_steps (session ∷ sessions) in
       let (led, answers) = comes list session.now (all_steps sessions) (Err e) medium
@@ -405,14 +368,7 @@ module _ {M : Type 0} (kind : Ghosts M) (modelled : IsTrue kind.tells)
       let more = containers_of s session.now in
       let (led, others) = on Append (list ++ more) sessions mid answer medium
       (λ steps answer medium runs. again (list ++ more) steps mid answer medium file runs)
-      (λ _. file) rest in (
-        leads_later list more session.now (all_steps sessions) (all_steps sessions) (kind.state medium)
-            answer refl led,
-        elim answers [
-          | inl fault ↦ absurd fault
-          | inr here ↦ inr (here, others)
-        ],
-      )
+      (λ _. file) rest in grind (arith, common_steps, leads_later)
 
   all : (sessions : List (Bor (List Step))) (old : M) (answer : Answer) (medium : M)
       → kind.state old ≡ start → (kind.state old).place ≡ 0 → 0 < length sessions

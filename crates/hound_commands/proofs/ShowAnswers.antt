@@ -305,16 +305,6 @@ module _ {A : Type 0} (rejection : SampleFormat → ℕ → ℕ → Option ReadR
         inside,
       )
 
--- files of integers are shown as `i32`
-pub integers_line : (s : WavSpecEx) → s.spec.sample_format ≡ Int → (c : List ℕ)
-    → integer_line (int_meaning s.bytes_per_sample s.spec.bits_per_sample c) ≡ sample_line s c
-integers_line s integers c = go s.spec.sample_format integers
-  where
-    go : (f : SampleFormat) → f ≡ Int → integer_line (int_meaning s.bytes_per_sample s.spec.bits_per_sample c)
-        ≡ line_for f s.bytes_per_sample s.spec.bits_per_sample c
-    go Int is = refl
-    go Float is = cc
-
 -- ---- a file
 
 -- nothing is written yet where the head is rejected

@@ -1,7 +1,7 @@
 -- Bytes written after all that isn't flushed continue the ascending order.
-use Rattle.std.proofs.Common.{◌≡◌, ℕ, zero, suc, ◌+◌, ◌-◌, ◌<◌, ◌≤◌, List, [], ◌∷◌, ◌++◌, length, ◌∙◌, ap, arith, length-append, inl, inr}
+use Rattle.std.proofs.lemmas.Grind.{common_steps}
+use Rattle.std.proofs.Common.{◌≡◌, ℕ, zero, suc, ◌+◌, ◌-◌, ◌<◌, ◌≤◌, List, [], ◌∷◌, ◌++◌, length, ◌∙◌, arith, length-append}
 use Rattle.std.proofs.lemmas.Bool.{cases_lt}
-use Rattle.std.proofs.lemmas.List.{get_or_append_left}
 use Rattle.std.proofs.Math.Seq.{get_or-append_right}
 use Rattle.hound_medium.specs.{placed}
 use Rattle.hound_medium.proofs.Overlays.{length-placed}
@@ -18,73 +18,24 @@ place_placed at (b ∷ bytes) (suc j) few =
 -- the place of a byte that was written before
 pub place_before : (past added : List (ℕ × ℕ)) (i : ℕ) → i < length past
     → place_of (past ++ added) i ≡ place_of past i
-place_before past added i before =
-    ap (λ (x : ℕ × ℕ). x.0) (get_or_append_left past added (0, 0) i before)
+place_before past added i before = grind (arith, common_steps)
 
 -- the place of a byte of the last call of `put`
 pub place_after : (past : List (ℕ × ℕ)) (at : ℕ) (bytes : List ℕ) (i : ℕ) → length past ≤ i
     → i < length past + length bytes
     → place_of (past ++ placed at bytes) i ≡ at + (i - length past)
-place_after past at bytes i from to =
-    ap (λ (x : ℕ × ℕ). x.0) (get_or-append_right past (placed at bytes) i (0, 0) from)
-    ∙ place_placed at bytes (i - length past) (omega (arith, from, to))
+place_after past at bytes i from to = grind (arith, common_steps, get_or-append_right, place_placed)
 
 pub length_put : (past : List (ℕ × ℕ)) (at : ℕ) (bytes : List ℕ)
     → length (past ++ placed at bytes) ≡ length past + length bytes
-length_put past at bytes =
-    length-append past (placed at bytes) ∙ ap (λ n. length past + n) (length-placed at bytes)
+length_put past at bytes = grind (arith, common_steps, length-append, length-placed)
 
 module _ (past : List (ℕ × ℕ)) (at end f : ℕ) (bytes : List ℕ) (below : IsBelow end past f)
     (after : end ≤ at) where
   pub below_more : IsBelow (at + length bytes) (past ++ placed at bytes) f
-  below_more i from to =
-      elim (cases_lt i (length past)) [
-        | inl before ↦
-            omega (
-              arith,
-              place_before past (placed at bytes) i before,
-              below i from before,
-              after,
-            )
-        | inr later ↦
-            omega (
-              arith,
-              length_put past at bytes,
-              to,
-              place_after past at bytes i later (omega (arith, to, length_put past at bytes)),
-            )
-      ]
+  below_more i from to = grind (arith, common_steps, cases_lt, place_before, place_after, length_put)
 
   pub ascends_more : Ascends past f (length past)
       → Ascends (past ++ placed at bytes) f (length (past ++ placed at bytes))
   ascends_more ascends i j from less to =
-      let size = length_put past at bytes in
-      elim (cases_lt j (length past)) [
-        | inl before ↦
-            omega (
-              arith,
-              place_before past (placed at bytes) j before,
-              place_before past (placed at bytes) i (omega (arith, less, before)),
-              ascends i j from less before,
-            )
-        | inr later ↦
-            let there = place_after past at bytes j later (omega (arith, to, size)) in
-            elim (cases_lt i (length past)) [
-              | inl sooner ↦
-                  omega (
-                    arith,
-                    there,
-                    place_before past (placed at bytes) i sooner,
-                    below i from sooner,
-                    after,
-                  )
-              | inr too ↦
-                  omega (
-                    arith,
-                    there,
-                    less,
-                    later,
-                    place_after past at bytes i too (omega (arith, to, less, size)),
-                  )
-            ]
-      ]
+      grind (arith, common_steps, cases_lt, place_before, place_after, length_put)

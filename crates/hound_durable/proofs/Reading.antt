@@ -1,7 +1,8 @@
 -- A `get` as a `read`, if the bytes are known.
-use Rattle.std.proofs.Common.{ℕ, List, Result, Bool, true, false, refl}
+use Rattle.std.proofs.lemmas.Grind.{common_steps}
+use Rattle.std.proofs.Common.{arith}
+use Rattle.std.proofs.Common.{ℕ, List, Result, Bool}
 use Rattle.std.specs.Io.KnownBytes.{ReadConsumes}
-use Rattle.std.specs.Prelude.{Ok, Err}
 use Rattle.hound_medium.specs.{MediumState, Gets, WhereTells}
 use Rattle.hound_medium.proofs.Reading.{get_consumes}
 use Rattle.hound_durable.specs.Losses.{left_of}
@@ -10,6 +11,4 @@ use Rattle.hound_durable.specs.Losses.{left_of}
 pub get_consumes_left : {E : Type 0} (tells : Bool) (buf : List ℕ) (result : Result ℕ E)
     (old new : MediumState) → WhereTells tells (Gets buf result old new)
     → ReadConsumes (left_of tells old) (left_of tells new) result buf
-get_consumes_left true buf result old new gets = get_consumes buf result old new (gets refl)
-get_consumes_left false buf (Ok n) old new gets = (tt, λ _ _. tt)
-get_consumes_left false buf (Err e) old new gets = tt
+get_consumes_left tells buf result old new gets = grind (arith, common_steps, get_consumes)

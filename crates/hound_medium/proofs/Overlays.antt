@@ -137,21 +137,16 @@ placed_more p bs i h = grind (arith, common_steps, placed-append)
 pub overlay_more : (c : List ℕ) (past : List (ℕ × ℕ)) (i : ℕ) (e : ℕ × ℕ) → i < length past
     → overlay c (take (i + 1) past) ≡ put_at (get_or past i e).0 (get_or past i e).1
     (overlay c (take i past))
-overlay_more c past i e h =
-    ap (overlay c) (take_more past i e h) ∙ overlay-append c (take i past) (get_or past i e ∷ [])
+overlay_more c past i e h = grind (arith, common_steps, get_or, take_more, overlay-append)
 
 -- a front of bytes is bytes
 pub small_take : (n : ℕ) (bs : List ℕ) → AreBytes bs → AreBytes (take n bs)
-small_take zero bs small i = omega arith
-small_take (suc n) [] small i = small i
-small_take (suc n) (b ∷ bs) small zero = small 0
-small_take (suc n) (b ∷ bs) small (suc i) = small_take n bs (λ k. small (suc k)) i
+small_take n bs small = grind (arith, common_steps)
 
 -- contents that a past leads to, and what more bytes make of them
 pub replays_more : (start : List ℕ) (past added : List (ℕ × ℕ)) (old : List ℕ)
     → old ≡ overlay start past → overlay old added ≡ overlay start (past ++ added)
-replays_more start past added old replays =
-    ap (λ c. overlay c added) replays ∙ sym (overlay-append start past added)
+replays_more start past added old replays = grind (arith, common_steps, overlay-append)
 
 take_put_at_before : (n p b : ℕ) (c : List ℕ) → n ≤ p → n ≤ length c
     → take n (put_at p b c) ≡ take n c

@@ -1,7 +1,8 @@
 -- What holds in each intermediate state, call after call.
+use Rattle.std.proofs.Common.{rules}
 use Rattle.std.proofs.lemmas.Grind.{common_steps}
-use Rattle.std.proofs.Common.{◌≡◌, ℕ, ◌+◌, ◌-◌, ◌≤◌, List, ◌++◌, length, take, Result, Ok, Err, sym, ◌∙◌, ap, subst, arith, inl, inr, length-append}
-use Rattle.std.proofs.lemmas.List.{take-append-le, take_all}
+use Rattle.std.proofs.Common.{◌≡◌, ℕ, ◌+◌, ◌-◌, ◌≤◌, List, ◌++◌, length, take, Result, sym, ◌∙◌, ap, subst, arith, length-append}
+use Rattle.std.proofs.lemmas.List.{take-append-le}
 use Rattle.std.proofs.Math.Seq.{take-append-add}
 use Rattle.hound_medium.specs.State.{placed, overlay, moment, MediumState, Flushes, Span, FlushedSince}
 use Rattle.hound_medium.proofs.Overlays.{overlay-append, length-placed, take-placed}
@@ -14,20 +15,17 @@ moment_before start past added k within = ap (overlay start) (take-append-le k p
 -- an intermediate state after a past: its last contents, and then the first of what was added
 pub moment_after : (start : List ℕ) (past added : List (ℕ × ℕ)) (k : ℕ)
     → moment start (past ++ added) (length past + k) ≡ overlay (overlay start past) (take k added)
-moment_after start past added k =
-    ap (overlay start) (take-append-add past added k) ∙ overlay-append start past (take k added)
+moment_after start past added k = grind (arith, common_steps, take-append-add, overlay-append)
 
 -- the last intermediate state is the contents
 pub moment_last : (s : MediumState) → s.contents ≡ overlay s.start s.past
     → moment s.start s.past (length s.past) ≡ s.contents
-moment_last s replays =
-    ap (overlay s.start) (take_all (length s.past) s.past (omega arith)) ∙ sym replays
+moment_last s replays = grind (arith, common_steps)
 
 -- what a call of flush leaves
 pub flushed_since : {T E : Type 0} (result : Result T E) (a b : MediumState) → Flushes result a b
     → FlushedSince a b
-flushed_since (Ok x) a b flushes = inr (omega (arith, flushes.flushed, ap length flushes.stays.past))
-flushed_since (Err e) a b flushes = inl flushes.flushed
+flushed_since result a b flushes = search rules
 
 module _ (At : ℕ → List ℕ → Type 0) (split : ℕ) where
   -- bytes are written at a place, by one call or several: at its level is what the first k of them

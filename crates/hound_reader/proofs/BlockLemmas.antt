@@ -93,9 +93,6 @@ pub torn_takes : {A : Type 0} (rejection : Option ReadRejection) (meaning : List
     → WhereKnown mid new (AreTaken (taken_without reason (given - length values * width) width))
 torn_takes rejection meaning width values reason fault given old mid new few has before read same = grind (arith, common_steps, each_takes, length-drop)
 
-pub taken_few : (reason : SampleError) (given width : ℕ) → taken_without reason given width ≤ width
-taken_few reason given width = grind (arith, common_steps)
-
 -- an item without a sample is given, whichever its fault is
 pub no_sample_is_given : {R A : Type 0} (left : R → Option (List ℕ))
     (rejection : SampleFormat → ℕ → ℕ → Option ReadRejection) (meaning : SampleFormat → ℕ → ℕ → List ℕ → A)

@@ -1,10 +1,9 @@
 -- Bytes and samples that come of a source piece by piece.
 use Rattle.std.proofs.lemmas.Grind.{common_steps}
-use Rattle.std.proofs.Common.{◌≡◌, ℕ, ◌+◌, ◌-◌, ◌*◌, ◌^◌, ◌<◌, ◌≤◌, List, ◌++◌, map, length, take, drop, refl, sym, ap, ◌∙◌, subst, arith, drop_at, inl, inr, Option, Some, Result}
-use Rattle.std.proofs.lemmas.List.{drop-append-le, drop-drop, length-drop, length-take-le, map-append, take-append-drop, take-take}
-use Rattle.std.proofs.lemmas.Nat.{mul-le}
+use Rattle.std.proofs.Common.{◌≡◌, ℕ, ◌+◌, ◌-◌, ◌*◌, ◌^◌, ◌<◌, ◌≤◌, List, ◌++◌, map, length, take, drop, sym, ap, ◌∙◌, arith, drop_at, Option, Some, Result}
+use Rattle.std.proofs.lemmas.List.{drop-append-le, drop-drop, length-take-le, map-append, take-append-drop, take-take}
 use Rattle.std.specs.declared.io.Error.{Error as IoFault}
-use Rattle.hound_medium.specs.{Gets, MediumState, Stays, count_of, one_more}
+use Rattle.hound_medium.specs.{Gets, MediumState, count_of}
 use Rattle.hound_sample.specs.{ReadRejection, containers}
 use Rattle.hound_spec.specs.declared.error.Error.TheVariants.{IoError}
 use Rattle.hound_spec.specs.declared.spec.SampleFormat.{SampleFormat}
@@ -18,54 +17,20 @@ use Rattle.hound_reader.specs.Seeking.{ReadsInPlace}
 use borrow.Rule.Slice.PartMut.{put_mid}
 use lib.Seq.{take-add}
 
--- bytes that were kept stay
-stays_on : (old mid new : MediumState) → Stays old mid → Stays mid new → Stays old new
-stays_on old mid new first then = record {
-  contents = then.contents ∙ first.contents;
-  start = then.start ∙ first.start;
-  past = then.past ∙ first.past;
-}
-
 -- what is left after bytes were passed
 pub unread_after : (n : ℕ) (old new : MediumState) → PassesBytes n old new
     → unread new ≡ drop n (unread old)
-unread_after n old new passes =
-    (λ i. drop (passes.place i) (passes.stays.contents i)) ∙ sym (drop-drop n old.place old.contents)
-
--- nothing was passed
-pub passes_none : (old : MediumState) → PassesBytes 0 old old
-passes_none old = record {
-  stays = record { contents = refl; start = refl; past = refl };
-  flushed = refl;
-  within = omega arith;
-  place = omega arith;
-}
+unread_after n old new passes = grind (arith, common_steps)
 
 -- bytes, and then more of them
 pub passes_more : (n m : ℕ) (old mid new : MediumState) → PassesBytes n old mid → PassesBytes m mid new
     → PassesBytes (n + m) old new
-passes_more n m old mid new first then = record {
-  stays = stays_on old mid new first.stays then.stays;
-  flushed = then.flushed ∙ first.flushed;
-  within = omega (
-    arith,
-    first.within,
-    then.within,
-    ap length (unread_after n old mid first),
-    length-drop n (unread old),
-  );
-  place = omega (arith, first.place, then.place);
-}
+passes_more n m old mid new first then = grind (arith, common_steps)
 
 -- a `get` passes the bytes that it gives
 pub get_passes : {E : Type 0} (buf : List ℕ) (result : Result ℕ E) (old new : MediumState)
     → Gets buf result old new → PassesBytes (count_of result) old new
-get_passes buf result old new gets = record {
-  stays = gets.stays;
-  flushed = gets.flushed;
-  within = gets.inside;
-  place = gets.place;
-}
+get_passes buf result old new gets = grind (arith, common_steps)
 
 -- bytes were appended to those that came before
 pub front_of_source : (at k n : ℕ) (buf given from : List ℕ) → at ≤ length buf → n ≤ length given
@@ -98,16 +63,16 @@ samples_more : {A : Type 0} (meaning : List ℕ → A) (w few more k : ℕ) (byt
     → part ≡ take (length part) (drop (few * w) bytes)
     → take (few + more) (put_mid few k xs values) ≡ map meaning (containers w (few + more) bytes)
 samples_more meaning w few more k bytes part xs values within fits before whole after from =
-    let size = length-take-le more values fits in
-    let enough : more * w ≤ length part = omega (arith, whole, ap (λ n. n * w) size) in
-    let same : containers w more part ≡ containers w more (drop (few * w) bytes) =
-    containers_front w more part (drop (few * w) bytes)
-    (ap (take (more * w)) from ∙ take-take (more * w) (length part) (drop (few * w) bytes) enough) in
-    let next : take more values ≡ map meaning (containers w more (drop (few * w) bytes)) =
-    after ∙ ap (λ n. map meaning (containers w n part)) size ∙ ap (map meaning) same in
-    front_put few k more xs values within fits ∙ (λ i. before i ++ next i)
-    ∙ sym (ap (map meaning) (containers_append w few more bytes)
-    ∙ map-append meaning (containers w few bytes) (containers w more (drop (few * w) bytes)))
+    grind (
+      arith,
+      common_steps,
+      length-take-le,
+      map-append,
+      take-take,
+      containers_append,
+      containers_front,
+      front_put,
+    )
 
 -- A piece came of a source, and samples were decoded of it: they are the next ones, and no more bytes than these
 -- have were passed.
@@ -121,17 +86,8 @@ pub piece_came : {A : Type 0} (meaning : SampleFormat → ℕ → ℕ → List �
     ≡ map (meaning_at meaning s) (containers s.bytes_per_sample (done + count) (unread old)))
     × ((done + count) * s.bytes_per_sample ≤ done * s.bytes_per_sample + taken)
     × PassesBytes (done * s.bytes_per_sample + taken) old new
-piece_came meaning s done count taken requested k buf part fault xs values old mid new within fits room before passed all is (whole, first) =
-    let w = s.bytes_per_sample in
-    let size = length-take-le taken buf room in
-    let long : length part ≡ taken = ap length is ∙ size in
-    let from : part ≡ take (length part) (drop (done * w) (unread old)) =
-    is ∙ all.in_order ∙ (λ i. take ((size ∙ sym long) i) (unread_after (done * w) old mid passed i)) in
-    let few = length-take-le count values fits in (
-      samples_more (meaning_at meaning s) w done count k (unread old) part xs values within fits before whole first from,
-      omega (arith, whole, long, ap (λ n. n * w) few),
-      passes_more (done * w) taken old mid new passed (subst (λ n. PassesBytes n mid new) size all.passes),
-    )
+piece_came meaning s done count taken requested k buf part fault xs values old mid new within fits room before passed all is given =
+    grind (arith, common_steps, length-take-le, unread_after, passes_more, samples_more)
 
 -- no more samples came, since the source ended or a read failed
 pub why_fewer : (rejection : SampleFormat → ℕ → ℕ → Option ReadRejection) (s : WavSpecEx)
@@ -141,50 +97,19 @@ pub why_fewer : (rejection : SampleFormat → ℕ → ℕ → Option ReadRejecti
     → count < wanted → taken < (count + 1) * s.bytes_per_sample
     → IsGetError rejection s (done + count) old new (IoError fault)
 why_fewer rejection s done count taken wanted requested buf fault old mid new room passed none all is fewer cut =
-    let w = s.bytes_per_sample in
-    let size = length-take-le taken buf room in
-    let left = ap length (unread_after (done * w) old mid passed) ∙ length-drop (done * w) (unread old) in
-    elim all.ends [
-      | inl (full, same) ↦ absurd (omega (arith, full, size, is, cut, mul-le (count + 1) w wanted w (omega (arith, fewer)) (omega arith)))
-      | inr (less, why) ↦ elim why [
-        | inl (end, kind, same) ↦
-            inl ((omega (arith, end, size, left, passed.within, cut), kind), same ∙ none)
-        | inr counted ↦ inr (fault, refl, counted ∙ ap one_more none)
-      ]
-    ]
+    grind (arith, common_steps)
 
 -- where all samples of a piece came, all of its bytes did, without a fault
 pub whole_piece : (w count taken wanted requested : ℕ) (buf : List ℕ) (fault : IoFault) (mid new : MediumState)
     → taken ≤ length buf → GetsAll (take taken buf) requested fault mid new → requested ≡ wanted * w
     → wanted * w ≤ taken → (taken ≡ wanted * w) × (new.faults ≡ mid.faults)
-whole_piece w count taken wanted requested buf fault mid new room all is enough =
-    let size = length-take-le taken buf room in
-    elim all.ends [
-      | inl (full, same) ↦ (sym size ∙ full ∙ is, same)
-      | inr (less, why) ↦ absurd (omega (arith, less, size, is, enough))
-    ]
+whole_piece w count taken wanted requested buf fault mid new room all is enough = grind (arith, common_steps)
 
 -- passed bytes were given
 pub has_given : (n : ℕ) (old new : MediumState) → PassesBytes n old new → n < 2 ^ 64
     → HasGiven (Some (unread old)) n (Some (unread new))
-has_given n old new passes small =
-    let rest = unread_after n old new passes in
-    let long = ap length rest ∙ length-drop n (unread old) in
-    let all : n ≡ length (unread old) - length (unread new) = omega (arith, long, passes.within) in (
-      omega (arith, long),
-      rest ∙ ap (λ k. drop k (unread old)) all,
-      omega (arith, all, small),
-    )
+has_given n old new passes small = grind (arith, common_steps)
 
 -- a source that was passed over was read in place
 pub in_place : (n : ℕ) (old new : MediumState) → PassesBytes n old new → ReadsInPlace old new
-in_place n old new passes = record {
-  contents = passes.stays.contents;
-  place = omega (
-    arith,
-    passes.place,
-    passes.within,
-    ap length (unread_after n old new passes),
-    length-drop n (unread old),
-  );
-}
+in_place n old new passes = grind (arith, common_steps)

@@ -1,7 +1,6 @@
 -- Samples that were decoded of bytes in memory, as samples that were read of them.
 use Rattle.std.proofs.lemmas.Grind.{common_steps}
-use Rattle.std.proofs.Math.Nat.{lt-div-mul-add}
-use Rattle.std.proofs.Common.{◌≡◌, ℕ, min, ◌+◌, ◌*◌, ◌/◌, ◌<◌, ◌≤◌, List, [], ◌∷◌, ◌++◌, map, length, take, drop, refl, sym, ap, ◌∙◌, subst, arith, Option, None, Some, Result, Ok, Err}
+use Rattle.std.proofs.Common.{◌≡◌, ℕ, min, ◌+◌, ◌*◌, ◌/◌, ◌<◌, ◌≤◌, List, [], ◌∷◌, ◌++◌, map, length, take, drop, sym, ap, ◌∙◌, subst, arith, Option, None, Some, Result, Ok, Err}
 use Rattle.std.specs.Prelude.{IfErr}
 use Rattle.std.proofs.lemmas.List.{length-map, length-take-le, take-append-drop, take-take, take_at}
 use Rattle.std.specs.IoError.{error_kind}
@@ -9,52 +8,31 @@ use Rattle.std.specs.declared.io.Error.{Error as IoFault}
 use Rattle.std.specs.declared.io.ErrorKind.TheVariants.{Other}
 use Rattle.hound_sample.proofs.Containers.{containers_front, length-containers}
 use Rattle.hound_sample.proofs.Many.{containers_read, part_read}
-use Rattle.hound_sample.specs.{ReadRejection, ReadsEach, answer_of, containers, error_of_read, error_of_sample, read_error, reason_of}
+use Rattle.hound_sample.specs.{ReadRejection, ReadsEach, answer_of, containers, read_error}
 use Rattle.hound_sample.specs.declared.item.SampleError.{SampleError}
-use Rattle.hound_sample.specs.declared.item.SampleError.TheVariants.{Failed, OtherFormat, TooLong, TooWide, Unsupported}
+use Rattle.hound_sample.specs.declared.item.SampleError.TheVariants.{Failed}
 use Rattle.hound_spec.specs.declared.spec.SampleFormat.{SampleFormat}
 use Rattle.hound_spec.specs.declared.spec.WavSpecEx.{WavSpecEx}
 use Rattle.hound_reader.specs.Memory.{IsCauseOf, IsCutAfter, IsReasonOf}
 use Rattle.hound_reader.specs.Reader.{rejection_at}
-use Rattle.hound_reader.proofs.BlockLemmas.{rejection_by_reason}
 use Rattle.hound_spec.specs.declared.error.Error.TheVariants.{IoError}
 
 -- a type whose check is Ok reads the samples
 no_rejection : (rejection : Option ReadRejection) → Ok tt ≡ read_error rejection → rejection ≡ None
-no_rejection None is = refl
-no_rejection (Some rejection) is = cc
-
--- the error of a type, by its reason
-named : (why : ReadRejection) (reason : SampleError) (fault : IoFault) → reason ≡ reason_of (error_of_read why)
-    → error_of_sample reason fault ≡ error_of_read why
-named why reason fault same =
-    ap (λ r. error_of_sample r fault) same ∙ rejection_by_reason why fault
+no_rejection rejection is = grind (arith, common_steps)
 
 -- where a type reads the samples, no more of them came since the bytes end
 pub reason_is_cut : (rejection : SampleFormat → ℕ → ℕ → Option ReadRejection) (s : WavSpecEx) (count : ℕ)
     (bytes : List ℕ) (reason : SampleError) → Ok tt ≡ read_error (rejection_at rejection s)
     → IsReasonOf rejection s count bytes reason → (reason ≡ Failed) × IsCutAfter s count bytes
-reason_is_cut rejection s count bytes reason checked why =
-    let none = no_rejection (rejection_at rejection s) checked in grind (arith, common_steps, none, why)
-
--- a reason is the cause of its error, whose fault is of kind `Other`
-pub cause_of_reason : (rejection : SampleFormat → ℕ → ℕ → Option ReadRejection) (s : WavSpecEx) (count : ℕ)
-    (bytes : List ℕ) (reason : SampleError) (fault : IoFault) → error_kind fault ≡ Other
-    → IsReasonOf rejection s count bytes reason → IsCauseOf rejection s count bytes (error_of_sample reason fault)
-cause_of_reason rejection s count bytes Failed fault kind cut = (cut, kind)
-cause_of_reason rejection s count bytes OtherFormat fault kind (why, is, same) = (why, is, named why _ fault same)
-cause_of_reason rejection s count bytes TooWide fault kind (why, is, same) = (why, is, named why _ fault same)
-cause_of_reason rejection s count bytes Unsupported fault kind (why, is, same) = (why, is, named why _ fault same)
-cause_of_reason rejection s count bytes TooLong fault kind (why, is, same) = (why, is, named why _ fault same)
+reason_is_cut rejection s count bytes reason checked why = grind (arith, common_steps)
 
 -- and so for whatever ended a block
 pub cause_of_end : (rejection : SampleFormat → ℕ → ℕ → Option ReadRejection) (s : WavSpecEx) (count : ℕ)
     (bytes : List ℕ) (answer : Result (Unit {0}) SampleError) (fault : IoFault) → error_kind fault ≡ Other
     → IfErr answer (IsReasonOf rejection s count bytes)
     → IfErr (answer_of answer fault) (IsCauseOf rejection s count bytes)
-cause_of_end rejection s count bytes (Ok done) fault kind why = tt
-cause_of_end rejection s count bytes (Err reason) fault kind why =
-    cause_of_reason rejection s count bytes reason fault kind why
+cause_of_end rejection s count bytes answer fault kind why = grind (arith, common_steps)
 
 -- as many containers as are requested, or as there are, are whole
 pub are_whole : (count room size width : ℕ) → count ≡ min room (size / width) → count * width ≤ size
@@ -63,30 +41,20 @@ are_whole count room size width is = grind (arith, common_steps)
 -- where there are fewer than are requested, the next one is cut
 pub next_is_cut : (count room size width : ℕ) → 1 ≤ width → count ≡ min room (size / width)
     → (count ≡ room → ⊥) → size < (count + 1) * width
-next_is_cut count room size width some is fewer =
-    let all : count ≡ size / width = omega (arith, is, fewer) in
-    omega (arith, lt-div-mul-add {a = size} {b = width} some, ap (λ n. n * width) all)
+next_is_cut count room size width some is fewer = grind (arith, common_steps)
 
 module _ {A : Type 0} (meaning : List ℕ → A) (width count : ℕ) (bytes : List ℕ)
     (whole : count * width ≤ length bytes) where
   -- a front of whole containers has these containers
   front_has : containers width count (take (count * width) bytes) ≡ containers width count bytes
-  front_has = containers_front width count (take (count * width) bytes) bytes
-      (take-take (count * width) (count * width) bytes (omega arith))
+  front_has = grind (arith, common_steps, take-take, containers_front)
 
   -- samples that were decoded into the front of a slice
   pub front_decoded : (xs values : List A) → count ≤ length xs
       → values ≡ map meaning (containers width (length (take count xs)) (take (count * width) bytes))
       → take count (values ++ drop count xs) ≡ map meaning (containers width count bytes)
   front_decoded xs values fits is =
-      let size = length-take-le count xs fits in
-      let same : values ≡ map meaning (containers width count bytes) =
-      is ∙ ap (λ n. map meaning (containers width n (take (count * width) bytes))) size
-      ∙ ap (map meaning) front_has in
-      let long : length values ≡ count =
-      ap length same ∙ length-map (containers width count bytes) meaning
-      ∙ length-containers width count bytes in
-      take_at values (drop count xs) count long ∙ same
+      grind (arith, common_steps, length-map, length-take-le, take_at, length-containers, front_has)
 
   module _ (values : List A) (is : values ≡ map meaning (containers width count bytes)) where
     -- they are as many as the containers

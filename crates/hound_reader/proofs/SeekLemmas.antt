@@ -30,8 +30,7 @@ counted_small samples bytes channels width s b f =
 -- the same shift, for the same number and the same result
 pub shifts_so : {T E : Type 0} (by way : ℤ) (result : Result T E) (x : T) (old new : MediumState)
     → by ≡ way → result ≡ Ok x → Shifts by result old new → Shifts {E = E} way (Ok x) old new
-shifts_so {T} {E} by way result x old new b r s =
-    subst (λ z. Shifts {E = E} z (Ok x) old new) b (subst (λ y. Shifts by y old new) r s)
+shifts_so {T} {E} by way result x old new b r s = grind (arith, common_steps)
 
 -- a shift as an equation of signed numbers
 moved : (place new : ℕ) (by : ℤ) → IsMoved place by new → pos new ≡ pos place +ℤ by

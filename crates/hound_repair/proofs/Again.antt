@@ -1,6 +1,6 @@
 -- A file that was repaired is whole.
 use Rattle.std.proofs.lemmas.Grind.{common_steps}
-use Rattle.std.proofs.Common.{◌≡◌, ◌⊎◌, ℕ, ◌+◌, ◌-◌, ◌*◌, ◌/◌, ◌%◌, ◌≤◌, Bool, true, false, not, IsTrue, ◌&&◌, List, [], ◌∷◌, ◌++◌, inl, inr, length, drop, refl, sym, ap, ◌∙◌, subst, arith, length-append, length-drop}
+use Rattle.std.proofs.Common.{◌≡◌, ◌⊎◌, ℕ, ◌+◌, ◌-◌, ◌*◌, ◌/◌, ◌%◌, ◌≤◌, Bool, true, not, IsTrue, List, [], ◌∷◌, ◌++◌, inl, inr, length, drop, sym, ap, ◌∙◌, subst, arith, length-append, length-drop}
 use Rattle.std.proofs.lemmas.List.{append-nil, drop-append-le}
 use Rattle.std.proofs.Math.Nat.{mul-div_cancel, mul-mod_left}
 use Rattle.std.proofs.lemmas.Nat.{div-add-mod'}
@@ -11,12 +11,12 @@ use Rattle.hound_walk.specs.{Head}
 use Rattle.hound_walk.proofs.Unique.{heads_agree}
 use Rattle.hound_writer.proofs.Heads.{head_beyond, head_field, head_inside}
 use Rattle.hound_writer.specs.{field}
-use Rattle.hound_repair.specs.Held.{counts_all, is_followed, are_right, data_held, ends_with_pad, frame_length, frames_held, held, mended, missing_pad, shown_length, uncounted}
-use Rattle.hound_repair.specs.Repairing.{HasRightLength, IsFoundAt, LeavesFor, Repairs, found_length, is_mended, state_of}
+use Rattle.hound_repair.specs.Held.{are_right, data_held, ends_with_pad, frame_length, frames_held, held, mended, missing_pad, shown_length, uncounted}
+use Rattle.hound_repair.specs.Repairing.{HasRightLength, IsFoundAt, LeavesFor, Repairs, found_length, is_mended}
 use Rattle.hound_repair.specs.declared.sizes.Repair.{Repair}
 use Rattle.hound_writer.specs.declared.resuming.RepairState.{RepairState}
-use Rattle.hound_writer.specs.declared.resuming.RepairState.TheVariants.{Whole, CutOff, HasChunksAfterData, AllCounted}
-use Rattle.hound_repair.proofs.RightSizes.{frames_are, is_true, length_of, not_followed, same_sizes, sizes_of}
+use Rattle.hound_writer.specs.declared.resuming.RepairState.TheVariants.{Whole, HasChunksAfterData, AllCounted}
+use Rattle.hound_repair.proofs.RightSizes.{frames_are, length_of, not_followed, same_sizes, sizes_of}
 
 -- the bytes held are all data, or all but the last, which is the pad byte
 pub held_cases : (f len n : ℕ)
@@ -61,11 +61,6 @@ right_again : (s : WavSpecEx) (start len riff shown n frames : ℕ)
     → are_right s start len riff shown n ≡ true
 right_again s start len riff shown n frames len_is riff_is held_is = grind (arith, common_steps)
 
--- how many bytes a mended file holds
-held_mended : (start n : ℕ) (c : List ℕ) → 20 ≤ start → start ≤ length c
-    → held start (mended start n c) ≡ held start c + length (missing_pad n (held start c))
-held_mended start n c beyond inside = grind (arith, common_steps, same_sizes, length-drop, length-append)
-
 -- a pad byte is 0, where one is missing
 pad_cases : (k n : ℕ) → (missing_pad k n ≡ []) ⊎ (missing_pad k n ≡ 0 ∷ [])
 pad_cases k n = grind (arith, common_steps)
@@ -103,17 +98,7 @@ frames_padded looks contents new found len start at apart some rest =
     let all_is = length_of looks contents found len start at apart in
     let frames = frames_are looks contents found len start at apart in
     let again = frames_again f (shown_length start len contents) n some in
-    elim (pad_cases all n) [
-      | inl none ↦
-          let same = rest ∙ ap (λ p. drop start contents ++ p) none ∙ append-nil (drop start contents) in
-          (λ i. data_held f (all + uncounted (drop all (same i))) (length (same i)) / f)
-          ∙ frames_same_data f start len all contents some all_is none ∙ sym frames
-      | inr pad ↦
-          let ends = rest ∙ ap (λ p. drop start contents ++ p) pad in
-          let shown = ap (λ l. uncounted (drop all l)) ends ∙ counted_pad all (drop start contents) in
-          let long = ap length ends ∙ length-append (drop start contents) (0 ∷ []) in
-          grind (arith, common_steps, again, shown, long, pad, all_is, frames)
-    ]
+    grind (arith, common_steps, length-append, append-nil, counted_pad, pad_cases, frames_same_data)
 
 -- as in a mended file
 pub frames_mended : (looks : Bool) (contents : List ℕ) (found : Repair) (len start : ℕ)
@@ -145,15 +130,7 @@ module _ (looks : Bool) (old mid : MediumState) (found : Repair) (first : Repair
 
   held_after : (put : Bool) → LeavesFor put found start old mid
       → frames_held s (shown_length start all mid.contents) (held start mid.contents) ≡ found.frames
-  held_after true leaves =
-      ap (λ c. frames_held s (shown_length start all c) (held start c)) leaves.0
-      ∙ frames_mended looks old.contents found first.len start first.is apart sound
-  held_after false leaves =
-      let says : all ≡ first.len =
-      sym right.length_says ∙ ap (field (start - 4)) leaves.stays.contents
-      ∙ head_field old.contents s first.len start first.is.head in
-      (λ i. frames_held s (shown_length start (says i) (leaves.stays.contents i)) (held start (leaves.stays.contents i)))
-      ∙ sym (frames_are looks old.contents found first.len start first.is apart)
+  held_after put leaves = grind (arith, common_steps, head_field, frames_are, frames_mended, right)
 
   pub frames_same : frames_held s (shown_length start all mid.contents) (held start mid.contents) ≡ found.frames
   frames_same = held_after (is_mended (not looks) found.state) first.leaves
@@ -170,11 +147,7 @@ module _ (looks again : Bool) (old mid next new : MediumState) (found other : Re
   -- the file was whole, or is mended
   is_right : (looks : Bool) (state : RepairState) → (state ≡ HasChunksAfterData → ⊥)
       → (IsTrue looks → state ≡ AllCounted → ⊥) → (state ≡ Whole) ⊎ (is_mended (not looks) state ≡ true)
-  is_right looks Whole not_chunks not_all = inl refl
-  is_right looks CutOff not_chunks not_all = inr refl
-  is_right looks HasChunksAfterData not_chunks not_all = absurd (not_chunks refl)
-  is_right true AllCounted not_chunks not_all = absurd (not_all is_true refl)
-  is_right false AllCounted not_chunks not_all = inr refl
+  is_right looks state not_chunks not_all = grind (arith, common_steps)
 
   -- a second repair finds the same frames, and writes nothing
   pub second_repair : (other.state ≡ Whole) × (other.spec_ex ≡ found.spec_ex) × (other.frames ≡ found.frames)
@@ -195,16 +168,6 @@ module _ (looks again : Bool) (old mid next new : MediumState) (found other : Re
       let riff = first.riff (is_right looks found.state apart done) in
       let is_right : are_right other.spec_ex second.start second.len (field 4 next.contents)
       (shown_length second.start second.len next.contents) (held second.start next.contents) ≡ true =
-      let there = right_again s start all (field 4 mid.contents) (shown_length start all mid.contents)
-      (held start mid.contents) found.frames refl riff frames in
-      cc (agree.0, agree.2, len, same, there) in
-      let state : other.state ≡ Whole =
-      second.is.state
-      ∙ ap (λ b. state_of b (again && is_followed second.len (drop second.start next.contents))
-      (counts_all other.spec_ex second.len (shown_length second.start second.len next.contents)
-      (held second.start next.contents))) is_right in (
-        state,
-        agree.0,
-        cc (second.is.frames, state, agree.0, len, agree.2, same, frames),
-        (subst (λ w. LeavesFor (is_mended (not again) w) other second.start next new) state second.leaves).stays.contents,
-      )
+      grind (arith, common_steps, right_again) in
+      let state : other.state ≡ Whole = grind (arith, common_steps, is_right) in
+      grind (arith, common_steps, not)

@@ -28,32 +28,23 @@ truth {b = b} kept = grind (arith, common_steps)
 
 -- the fault of the bytes
 pub fault_of : (why : Rejection) (bytes : List ℕ) → IsRejectedFor bytes why → IsRepairFault bytes (rejected_for why)
-fault_of (rejections.Head cause) bytes is = inl (cause, refl, is)
-fault_of rejections.Unsupported bytes is = inr is
-fault_of rejections.TooLong bytes is = inr is
+fault_of why bytes is = grind (arith, common_steps)
 
 -- where nothing is found nothing is repaired
 pub not_by : (looks : Bool) (outcome : Error) (old new : MediumState)
     → IsNotFound old new outcome → IsNotRepaired looks old new outcome
-not_by looks outcome old new not = record {
-  why = elim not.why [
-    | inl bytes ↦ inl (bytes.0, bytes.1, bytes.2, not.puts, bytes.3)
-    | inr failed ↦ inr (failed.0, inl not.puts, failed.1)
-  ];
-}
+not_by looks outcome old new not = grind (arith, common_steps)
 
 -- what a repair mends
 pub repair_mends : (task : Task) (state : RepairState) → IsRepair task
     → mends_for task state ≡ is_mended (not (looks_for_chunks task)) state
-repair_mends task state (inl is) = rw is
-repair_mends task state (inr is) = rw is
+repair_mends task state given = grind (arith, common_steps)
 
 -- what a task performed, by whether the file is mended
 pub as_mended : (keeps : Bool) (d : Damage) (task : Task) (result : Result (Unit {0}) IoFault) (old new : MediumState)
     → IsRepair task → PerformedOn keeps (effects_of_task task d) result old new
     → PerformedOn keeps (effects_where (is_mended (not (looks_for_chunks task)) d.state) d) result old new
-as_mended keeps d task result old new is performed =
-    subst (λ put. PerformedOn keeps (effects_where put d) result old new) (repair_mends task d.state is) performed
+as_mended keeps d task result old new is performed = grind (arith, common_steps)
 
 module _ (looks keeps : Bool) (old mid new : MediumState) (d : Damage) (sound : IsSoundDamage d)
     (finds : FindsDamage looks old d mid) (small : AreBytes mid.contents) where
@@ -160,9 +151,7 @@ module _ (looks keeps : Bool) (old mid new : MediumState) (d : Damage) (sound : 
       → mid.contents ≡ overlay mid.start mid.past
       → PerformedOn keeps (effects_where (is_mended (not looks) d.state) d) result mid new
       → MendsAtEach looks old new
-  moments_by result kept replays performed =
-      moments_as (is_mended (not looks) d.state) result refl replays
-      (subst (λ k. PerformedOn k (effects_where (is_mended (not looks) d.state) d) result mid new) (truth kept) performed)
+  moments_by result kept replays performed = grind (arith, common_steps, not, truth, moments_as)
 
   -- what a loss of power leaves
   lost_as : (put : Bool) (result : Result (Unit {0}) IoFault) → is_mended (not looks) d.state ≡ put

@@ -1,9 +1,7 @@
 -- What a loss of power leaves of a file that is being mended.
 use Rattle.std.proofs.lemmas.Grind.{common_steps}
-use Rattle.std.proofs.Common.{◌≡◌, ℕ, zero, suc, ◌+◌, ◌-◌, ◌/◌, ◌≤◌, ◌<◌, ◌⊎◌, true, List, [], ◌∷◌, ◌++◌, length, take, get_or, inl, inr, Result, Ok, Err, refl, sym, ap, ◌∙◌, subst, arith, length-drop, length-take}
+use Rattle.std.proofs.Common.{◌≡◌, ℕ, ◌+◌, ◌-◌, ◌/◌, ◌≤◌, ◌<◌, ◌⊎◌, true, List, [], ◌∷◌, ◌++◌, length, take, get_or, inl, inr, Result, Ok, Err, refl, sym, ap, ◌∙◌, subst, arith, length-drop, length-take}
 use Rattle.std.proofs.lemmas.Bool.{cases_lt}
-use Rattle.std.proofs.lemmas.Nat.{le-div}
-use Rattle.std.proofs.Math.Nat.{div-eq_of_lt, div-mul-le_self, le_antisymm}
 use Rattle.std.proofs.lemmas.List.{take-take, take_all, ext_get_or}
 use Rattle.std.specs.declared.io.Error.{Error as IoFault}
 use Rattle.hound_number.specs.{bytes_of}
@@ -31,28 +29,19 @@ overlay_long p bs c inside = grind (arith, common_steps, overlay_is)
 
 -- after the contents there are zeros, also where a zero is the last byte
 zero_after : (c : List ℕ) (j q : ℕ) → j ≤ 1 → length c ≤ q → get_or (c ++ take j (0 ∷ [])) q 0 ≡ 0
-zero_after c zero q few after = grind (arith, common_steps)
-zero_after c (suc zero) q few after = grind (arith, common_steps)
-zero_after c (suc (suc j)) q few after = absurd (omega (arith, few))
+zero_after c j q few after = grind (arith, common_steps)
 
 same_before : (c x : List ℕ) (q : ℕ) → q < length c → get_or (c ++ x) q 0 ≡ get_or c q 0
 same_before c x q before = grind (arith, common_steps)
 
--- a higher place is in no lower sector
-sector_le : (a b sector : ℕ) → 0 < sector → a ≤ b → a / sector ≤ b / sector
-sector_le a b sector some le = le-div (a / sector) b sector some (omega (arith, div-mul-le_self a sector, le))
-
 -- a field whose ends are in one sector is in it
 pub same_sector : (p last i sector : ℕ) → 0 < sector → p + i ≤ last → p / sector ≡ last / sector
     → (p + i) / sector ≡ p / sector
-same_sector p last i sector some within one =
-    le_antisymm (subst (λ k. (p + i) / sector ≤ k) (sym one) (sector_le (p + i) last sector some within))
-    (sector_le p (p + i) sector some (omega arith))
+same_sector p last i sector some within one = grind (arith, common_steps)
 
 -- the RIFF size is in the first sector
 pub first_sector : (i sector : ℕ) → i < 4 → 8 ≤ sector → (4 + i) / sector ≡ 4 / sector
-first_sector i sector few wide =
-    div-eq_of_lt (omega (arith, few, wide)) ∙ sym (div-eq_of_lt (omega (arith, wide)))
+first_sector i sector few wide = grind (arith, common_steps)
 
 module _ (sector : ℕ) (contents : List ℕ) where
   -- what a loss may leave of a medium
@@ -62,9 +51,7 @@ module _ (sector : ℕ) (contents : List ℕ) where
   -- the same after a call that wrote nothing and flushed nothing
   lost_before : (old new : MediumState) → new.start ≡ old.start → new.past ≡ old.past
       → new.flushed ≡ old.flushed → LostFrom new → LostFrom old
-  lost_before old new start past flushed lost =
-      subst (λ (x : List ℕ × List (ℕ × ℕ) × ℕ). SurvivesLoss sector x.0 x.1 x.2 (length x.1) contents)
-      (λ i. (start i, past i, flushed i)) lost
+  lost_before old new start past flushed lost = grind (arith, common_steps)
 
   -- nothing is lost where all was flushed
   settled_loss : (m : MediumState) → m.contents ≡ overlay m.start m.past → m.flushed ≡ length m.past
@@ -79,8 +66,7 @@ module _ (sector : ℕ) (contents : List ℕ) where
   -- nor where nothing was written after that
   pub kept_loss : (old new : MediumState) → PutsNothing old new → old.contents ≡ overlay old.start old.past
       → old.flushed ≡ length old.past → LostFrom new → contents ≡ old.contents
-  kept_loss old new puts replays settled lost =
-      settled_loss old replays settled (lost_before old new puts.stays.start puts.stays.past puts.flushed lost)
+  kept_loss old new puts replays settled lost = grind (arith, common_steps, lost_before, settled_loss)
 
   -- of one write into contents, a beginning is left, if its bytes are in one sector
   module _ (p : ℕ) (bs : List ℕ) (result : Result (Unit {0}) IoFault) (old new : MediumState)

@@ -1,17 +1,10 @@
 -- What a head is found as, by what the file holds.
-use Rattle.std.proofs.Common.{◌≡◌, ℕ, ◌+◌, ◌<◌, true, false, Some, arith}
-use Rattle.std.proofs.lemmas.Bool.Decides.{nat_tests}
+use Rattle.std.proofs.Common.{◌≡◌, ℕ, true, false, Some}
 use Rattle.hound_spec.specs.declared.spec.WavSpecEx.{WavSpecEx}
 use Rattle.hound_spec.specs.{is_pair}
 use Rattle.hound_walk.specs.declared.cause.Cause.TheVariants.{Unsupported}
 use Rattle.hound_writer.specs.{by_bytes}
-use Rattle.hound_repair.specs.Held.{data_held, ends_with_pad}
 use Rattle.hound_repair.specs.Repairing.{repair_fault, size_fault}
-
--- where two bytes and more follow the data length all that is held is data
-pub no_pad : (f len n : ℕ) → len + 1 < n → data_held f len n ≡ n
-unfolding data_held ends_with_pad
-no_pad f len n more = grind (arith, nat_tests)
 
 -- a spec that is written leaves the check of the size
 pub written : (s : WavSpecEx) (len start n : ℕ)

@@ -1,6 +1,6 @@
 -- What mending a file leaves.
 use Rattle.std.proofs.lemmas.Grind.{common_steps}
-use Rattle.std.proofs.Common.{◌≡◌, ℕ, ◌-◌, Bool, true, false, not, ◌&&◌, List, ◌++◌, length, inl, inr, refl, sym, ap, ◌∙◌, subst, arith, eqb-true}
+use Rattle.std.proofs.Common.{◌≡◌, ℕ, ◌-◌, Bool, true, false, not, ◌&&◌, List, ◌++◌, length, sym, ap, ◌∙◌, subst, arith, eqb-true}
 use Rattle.hound_spec.specs.{riff_size}
 use Rattle.hound_medium.specs.{MediumState}
 use Rattle.hound_walk.specs.{IsSoundSpec}
@@ -11,7 +11,7 @@ use Rattle.hound_repair.specs.Repairing.{HasRightLength, IsFoundAt, Repairs, Unl
 use Rattle.hound_repair.specs.declared.look.Damage.{Damage}
 use Rattle.hound_repair.specs.declared.sizes.Repair.{Repair}
 use Rattle.hound_writer.specs.declared.resuming.RepairState.{RepairState}
-use Rattle.hound_writer.specs.declared.resuming.RepairState.TheVariants.{Whole, CutOff, HasChunksAfterData, AllCounted}
+use Rattle.hound_writer.specs.declared.resuming.RepairState.TheVariants.{Whole, HasChunksAfterData}
 use Rattle.hound_repair.proofs.RightSizes.{held_frames, kept_counts, length_of, mended_apart, right_length_put, right_length_there, right_riff_put}
 
 -- the sizes and the missing bytes are what mends a file
@@ -23,17 +23,11 @@ mended_by d sound c pad new held_is missing is = grind (arith, common_steps)
 
 -- P, of a file that nothing follows
 unless_followed : (state : RepairState) (P : Type 0) → ((state ≡ HasChunksAfterData → ⊥) → P) → UnlessFollowed state P
-unless_followed HasChunksAfterData P holds = tt
-unless_followed Whole P holds = holds (λ here. cc here)
-unless_followed CutOff P holds = holds (λ here. cc here)
-unless_followed AllCounted P holds = holds (λ here. cc here)
+unless_followed state P holds = grind (arith, common_steps)
 
 -- a whole file has the right RIFF size
 whole_riff : (right counted followed : Bool) → Whole ≡ state_of (right && counted) followed counted → right ≡ true
-whole_riff true counted followed is = refl
-whole_riff false counted true is = cc is
-whole_riff false true false is = cc is
-whole_riff false false false is = cc is
+whole_riff right counted followed is = grind (arith, common_steps)
 
 -- a file that isn't mended is left as it is
 pub repairs_kept : (looks : Bool) (old new : MediumState) (found : Repair) (len start : ℕ)
@@ -48,12 +42,7 @@ repairs_kept looks old new found len start at sound kept nothing faults = record
   sizes = unless_followed found.state _ (λ apart. subst (HasRightLength found start) (sym nothing.stays.contents)
       (right_length_there looks old.contents found len start at apart sound
       (eqb-true _ _ (kept_counts (not looks) _ _ _ found.state at.state kept apart))));
-  riff = λ either. elim either [
-    | inl whole ↦ ap (field 4) nothing.stays.contents
-        ∙ eqb-true _ _ (whole_riff _ _ _ (sym whole ∙ at.state))
-        ∙ ap (riff_size start) (sym (length_of looks old.contents found len start at (λ here. cc (whole, here))))
-    | inr put ↦ absurd (cc (put, kept))
-  ];
+  riff = grind (arith, common_steps, eqb-true, length_of, whole_riff);
   faults = faults;
 }
 

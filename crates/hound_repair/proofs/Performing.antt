@@ -1,6 +1,6 @@
 -- What the effects of a repair leave, wherever they stop.
 use Rattle.std.proofs.lemmas.Grind.{common_steps}
-use Rattle.std.proofs.Common.{◌≡◌, ℕ, ◌+◌, ◌-◌, ◌/◌, ◌^◌, ◌≤◌, ◌<◌, Bool, List, None, Some, zero, suc, true, [], ◌∷◌, ◌++◌, length, take, drop, inl, Result, Ok, Err, refl, sym, ap, ◌∙◌, subst, arith, append-nil, length-drop, length-take}
+use Rattle.std.proofs.Common.{◌≡◌, ℕ, ◌+◌, ◌-◌, ◌/◌, ◌^◌, ◌≤◌, ◌<◌, Bool, List, Some, zero, suc, true, [], ◌∷◌, ◌++◌, length, take, drop, inl, Result, Ok, Err, refl, sym, ap, ◌∙◌, subst, arith, append-nil, length-drop, length-take}
 use Rattle.std.proofs.lemmas.List.{take-take}
 use Rattle.std.specs.declared.io.Error.{Error as IoFault}
 use Rattle.hound_number.specs.{AreBytes, bytes_of, mix}
@@ -39,17 +39,12 @@ write_span : (P : List ℕ → Type 0) (at count : ℕ) (bytes : List ℕ) (resu
     → ((j : ℕ) → j ≤ length bytes → P (overlay old.contents (placed at (take j bytes))))
     → Span (λ _. P) 0 old new
 write_span P at count bytes result old new puts replays each =
-    span_puts (λ _. P) 0 old new at (take puts.count bytes) replays puts.start (puts.past refl) (inl puts.flushed)
-    (λ k within. subst (λ l. P (overlay old.contents (placed at l))) (sym (take-take k puts.count bytes (omega (arith, within, length-take puts.count bytes))))
-    (each k (omega (arith, within, length-take puts.count bytes))))
+    grind (arith, common_steps, length-take, take-take, span_puts)
 
 pub replays_on : (at : ℕ) (bytes : List ℕ) (result : Result (Unit {0}) IoFault) (old new : MediumState)
     → PutsAt true at bytes result old new → old.contents ≡ overlay old.start old.past
     → new.contents ≡ overlay new.start new.past
-replays_on at bytes result old new puts replays =
-    puts.contents ∙ (λ i. overlay (replays i) (placed at (take puts.count bytes)))
-    ∙ sym (overlay-append old.start old.past (placed at (take puts.count bytes)))
-    ∙ (λ i. overlay (sym puts.start i) (sym (puts.past refl) i))
+replays_on at bytes result old new puts replays = grind (arith, common_steps, overlay-append)
 
 -- so P holds of each intermediate state
 pub spans : (P : List ℕ → Type 0) (effects : List Effect) (result : Result (Unit {0}) IoFault) (old new : MediumState)
@@ -134,16 +129,7 @@ module _ (keeps : Bool) (start n : ℕ) (c : List ℕ) (beyond : 20 ≤ start) (
 
   -- no size is written
   partly_none : PartlyMended start n c c
-  partly_none = record {
-    sizes = c;
-    j = 0;
-    within = omega arith;
-    same = record { front = refl; middle = refl; beyond = refl; long = refl };
-    length_says = sym (mix_none (field p c) n (number_at_small p c there small));
-    pad = [];
-    is = sym (append-nil c);
-    last = λ some. absurd (omega (arith, some));
-  }
+  partly_none = grind (arith, common_steps, append-nil, mix_none, number_at_small, there)
 
   -- a beginning of the RIFF size
   partly_riff : (k : ℕ) → k ≤ 4 → PartlyMended start n c (overlay c (placed 4 (take k riff)))
@@ -197,11 +183,7 @@ module _ (keeps : Bool) (start n : ℕ) (c : List ℕ) (beyond : 20 ≤ start) (
   -- and a beginning of the pad byte
   partly_pad : (j : ℕ) → j ≤ 1 → m ≡ 0 ∷ []
       → PartlyMended start n c (overlay x (placed (start + h) (take j (0 ∷ []))))
-  partly_pad j within is =
-      partly_whole (take j (0 ∷ [])) (overlay x (placed (start + h) (take j (0 ∷ []))))
-      (overlay_at_end x (start + h) (take j (0 ∷ [])) x_long)
-      (λ some. ap (λ k. take k (0 ∷ [])) (let e : j ≡ 1 = omega (arith, some, within, length-take {A = ℕ} j (0 ∷ [])) in e)
-      ∙ sym is)
+  partly_pad j within is = grind (arith, common_steps, length-take, overlay_at_end, x_long, partly_whole)
 
   m_zero : 1 ≤ length m → m ≡ 0 ∷ []
   m_zero some = grind (arith, common_steps)
@@ -209,25 +191,14 @@ module _ (keeps : Bool) (start n : ℕ) (c : List ℕ) (beyond : 20 ≤ start) (
   -- all is done once the last effect is synced
   ends : (result : Result (Unit {0}) IoFault) (old new : MediumState) → old.contents ≡ mended start n c
       → PartlyMended start n c old.contents → PerformedOn keeps (Sync ∷ []) result old new → Mends start n result c new
-  ends result old new all partly (mid, Ok u, flushes, (is, last)) =
-      let same : new.contents ≡ old.contents =
-      ap (λ (l : MediumState). l.contents) last ∙ flushes.stays.contents in (
-        subst (PartlyMended start n c) (sym same) partly,
-        λ _. (same ∙ all, subst (λ (l : MediumState). l.flushed ≡ length l.past) (sym last) flushes.flushed),
-      )
-  ends result old new all partly (mid, Err e, flushes, (is, last)) =
-      let same : new.contents ≡ old.contents =
-      ap (λ (l : MediumState). l.contents) last ∙ flushes.stays.contents in
-      (subst (PartlyMended start n c) (sym same) partly, λ ok. absurd (cc (is, ok)))
+  ends result old new all partly given = grind (arith, common_steps)
 
   -- the sync after the data length, and the pad byte
   at_pad : (pad : List ℕ) (result : Result (Unit {0}) IoFault) (old new : MediumState) → m ≡ pad
       → old.contents ≡ x → PerformedOn keeps (Sync ∷ pads (start + h) pad) result old new
       → Mends start n result c new
   at_pad [] result old new is here rest =
-      ends result old new (here ∙ x_is ∙ sym (append-nil (with_sizes p (riff_size start n) n c))
-      ∙ ap (λ l. with_sizes p (riff_size start n) n c ++ l) (sym is))
-      (subst (PartlyMended start n c) (sym here) partly_sizes) rest
+      grind (arith, common_steps, append-nil, x_is, partly_sizes, ends)
   at_pad (b ∷ more) result old new is here (mid, Err e, flushes, (was, last)) =
       let same : new.contents ≡ x =
       ap (λ (l : MediumState). l.contents) last ∙ flushes.stays.contents ∙ here in
@@ -236,19 +207,15 @@ module _ (keeps : Bool) (start n : ℕ) (c : List ℕ) (beyond : 20 ≤ start) (
       let zero_is : m ≡ 0 ∷ [] = m_zero (subst (λ l. 1 ≤ length l) (sym is) (omega arith)) in
       let put : then.contents ≡ overlay x (placed (start + h) (take puts.count (0 ∷ []))) =
       puts.contents ∙ ap (λ l. overlay l (placed (start + h) (take puts.count (0 ∷ [])))) (flushes.stays.contents ∙ here) in
-      let all : then.contents ≡ x ++ m =
-      put ∙ ap (λ k. overlay x (placed (start + h) (take k (0 ∷ [])))) puts.whole
-      ∙ overlay_at_end x (start + h) (0 ∷ []) x_long ∙ ap (λ l. x ++ l) (sym zero_is) in
+      let all : then.contents ≡ x ++ m = grind (arith, common_steps, overlay_at_end, x_long) in
       ends result then new (all ∙ ap (λ l. l ++ m) x_is)
       (subst (PartlyMended start n c) (sym put) (partly_pad puts.count puts.within zero_is)) rest
   at_pad (b ∷ more) result old new is here (mid, Ok u, flushes, (then, Err e, puts, (was, last))) =
       let zero_is : m ≡ 0 ∷ [] = m_zero (subst (λ l. 1 ≤ length l) (sym is) (omega arith)) in
       let put : new.contents ≡ overlay x (placed (start + h) (take puts.count (0 ∷ []))) =
       ap (λ (l : MediumState). l.contents) last ∙ puts.contents
-      ∙ ap (λ l. overlay l (placed (start + h) (take puts.count (0 ∷ [])))) (flushes.stays.contents ∙ here) in (
-        subst (PartlyMended start n c) (sym put) (partly_pad puts.count puts.within zero_is),
-        λ ok. absurd (cc (was, ok)),
-      )
+      ∙ ap (λ l. overlay l (placed (start + h) (take puts.count (0 ∷ [])))) (flushes.stays.contents ∙ here) in
+      grind (arith, common_steps, partly_pad)
 
   -- the data length
   at_length : (result : Result (Unit {0}) IoFault) (old new : MediumState) → old.contents ≡ y
@@ -260,10 +227,8 @@ module _ (keeps : Bool) (start n : ℕ) (c : List ℕ) (beyond : 20 ≤ start) (
   at_length result old new here (mid, Err e, puts, (is, last)) =
       let put : new.contents ≡ overlay y (placed p (take puts.count (bytes_of 4 n))) =
       ap (λ (l : MediumState). l.contents) last ∙ puts.contents
-      ∙ ap (λ l. overlay l (placed p (take puts.count (bytes_of 4 n)))) here in (
-        subst (PartlyMended start n c) (sym put) (partly_length puts.count puts.within),
-        λ ok. absurd (cc (is, ok)),
-      )
+      ∙ ap (λ l. overlay l (placed p (take puts.count (bytes_of 4 n)))) here in
+      grind (arith, common_steps, partly_length)
 
   -- the RIFF size, and the sync after it
   after_riff : (result : Result (Unit {0}) IoFault) (old new : MediumState) → old.contents ≡ y
@@ -285,10 +250,7 @@ module _ (keeps : Bool) (start n : ℕ) (c : List ℕ) (beyond : 20 ≤ start) (
   at_riff result old new here (mid, Err e, puts, (is, last)) =
       let put : new.contents ≡ overlay c (placed 4 (take puts.count riff)) =
       ap (λ (l : MediumState). l.contents) last ∙ puts.contents
-      ∙ ap (λ l. overlay l (placed 4 (take puts.count riff))) here in (
-        subst (PartlyMended start n c) (sym put) (partly_riff puts.count puts.within),
-        λ ok. absurd (cc (is, ok)),
-      )
+      ∙ ap (λ l. overlay l (placed 4 (take puts.count riff))) here in grind (arith, common_steps, partly_riff)
 
   -- all of them
   pub mends : (result : Result (Unit {0}) IoFault) (old new : MediumState) → old.contents ≡ c
@@ -344,17 +306,10 @@ nth_next (y ∷ effects) (suc k) effect is =
     nth_next effects k effect is
     ∙ ap (λ i. effect ∷ drop i (y ∷ effects)) (let e : suc (k + 1) ≡ suc k + 1 = omega arith in e)
 
-pub nth_none : {T : Type 0} (effects : List T) (k : ℕ) → nth effects k ≡ None → drop k effects ≡ []
-nth_none [] k is = grind (arith, common_steps)
-nth_none (y ∷ effects) zero is = grind (arith, common_steps)
-nth_none (y ∷ effects) (suc k) is = nth_none effects k is
-
 -- a fault of one effect is the fault of all
 one_fault : (keeps : Bool) (effect : Effect) (this : Result (Unit {0}) IoFault) (old new : MediumState)
     → PerformsOn keeps effect this old new → new.faults ≡ faults_after this old.faults
-one_fault keeps Sync this old new does = does.faults
-one_fault keeps (Pad at) this old new does = does.faults
-one_fault keeps (Size at size) this old new does = does.faults
+one_fault keeps effect this old new does = grind (arith, common_steps)
 
 pub faults_of : (keeps : Bool) (effects : List Effect) (result : Result (Unit {0}) IoFault) (old new : MediumState)
     → PerformedOn keeps effects result old new → new.faults ≡ faults_after result old.faults

@@ -16,7 +16,7 @@ use Rattle.hound_repair.specs.Held.{frame_length, frames_held, held, mended, mis
 use Rattle.hound_repair.specs.Repairing.{HasRightLength, IsFoundAt, UnlessFollowed, found_length, frames_found, is_mended, repair_fault, size_fault, state_of}
 use Rattle.hound_repair.specs.declared.sizes.Repair.{Repair}
 use Rattle.hound_writer.specs.declared.resuming.RepairState.{RepairState}
-use Rattle.hound_writer.specs.declared.resuming.RepairState.TheVariants.{Whole, CutOff, HasChunksAfterData, AllCounted}
+use Rattle.hound_writer.specs.declared.resuming.RepairState.TheVariants.{HasChunksAfterData}
 
 -- two sizes that were put change nothing else
 pub same_sizes : (p riff n : ℕ) (c : List ℕ) → 8 ≤ p → p + 4 ≤ length c
@@ -86,35 +86,22 @@ pub held_frames : (state : RepairState) (s : WavSpecEx) (len shown n : ℕ)
     → (state ≡ HasChunksAfterData → ⊥) → frames_found state s len shown n ≡ frames_held s shown n
 held_frames state s len shown n alone = grind (arith, common_steps)
 
-pub is_true : IsTrue true
-is_true = grind (arith, common_steps)
-
 -- chunks that aren't looked for aren't found
 pub not_followed : (looks right followed counted : Bool) (state : RepairState)
     → state ≡ state_of right (looks && followed) counted
     → (IsTrue looks → state ≡ HasChunksAfterData → ⊥) → state ≡ HasChunksAfterData → ⊥
-not_followed true right followed counted state is alone here = alone is_true here
-not_followed false true followed counted state is alone here = cc (is, here)
-not_followed false false followed true state is alone here = cc (is, here)
-not_followed false false followed false state is alone here = cc (is, here)
+not_followed looks right followed counted state is alone here = grind (arith, common_steps)
 
 -- nor is a file mended that is followed
 pub mended_apart : (all : Bool) (state : RepairState) → is_mended all state ≡ true
     → state ≡ HasChunksAfterData → ⊥
-mended_apart all HasChunksAfterData is here = cc is
-mended_apart all Whole is here = cc here
-mended_apart all CutOff is here = cc here
-mended_apart all AllCounted is here = cc here
+mended_apart all state is here = grind (arith, common_steps)
 
 -- the data length of a file that isn't mended and isn't followed is right
 pub kept_counts : (all right followed counted : Bool) (state : RepairState)
     → state ≡ state_of (right && counted) followed counted → is_mended all state ≡ false
     → (state ≡ HasChunksAfterData → ⊥) → counted ≡ true
-kept_counts all right followed true state is kept apart = refl
-kept_counts all true true false state is kept apart = absurd (apart is)
-kept_counts all false true false state is kept apart = absurd (apart is)
-kept_counts all true false false state is kept apart = cc (ap (is_mended all) is, kept)
-kept_counts all false false false state is kept apart = cc (ap (is_mended all) is, kept)
+kept_counts all right followed counted state is kept apart = grind (arith, common_steps)
 
 -- what the sizes of a file that isn't followed by chunks are
 pub sizes_of : (state : RepairState) (found : Repair) (start : ℕ) (contents : List ℕ)

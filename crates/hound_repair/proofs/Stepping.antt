@@ -1,6 +1,6 @@
 -- A look at a file, one part after the other.
 use Rattle.std.proofs.lemmas.Grind.{common_steps}
-use Rattle.std.proofs.Common.{◌≡◌, ℕ, ◌+◌, ◌-◌, ◌≤◌, ◌<◌, Bool, true, false, ◌&&◌, ◌||◌, nat_lt, List, [], ◌++◌, length, drop, take, inl, inr, min, ◌^◌, Some, None, Result, Ok, Err, refl, sym, ap, ◌∙◌, arith, length-drop, length-take}
+use Rattle.std.proofs.Common.{◌≡◌, ℕ, ◌+◌, ◌-◌, ◌≤◌, ◌<◌, Bool, true, false, ◌||◌, nat_lt, List, ◌++◌, length, drop, take, min, ◌^◌, Some, None, Result, Ok, Err, refl, sym, ap, ◌∙◌, arith, length-drop, length-take}
 use Rattle.std.proofs.lemmas.Bool.{cases_lt}
 use Rattle.std.proofs.lemmas.List.{take-append-le, take-take, take_all, drop-drop}
 use Rattle.std.specs.Result.{is_ok, result_unwrap_or}
@@ -84,18 +84,13 @@ id3_is len bytes many = grind (arith, common_steps)
 -- what is at the end of the bytes from a place on is at the end of all
 pub at_the_end : (start n : ℕ) (file : List ℕ) → 1 ≤ n → n ≤ held start file
     → drop (held start file - n) (drop start file) ≡ drop (length file - n) file
-at_the_end start n file some within =
-    drop-drop (held start file - n) start file
-    ∙ ap (λ k. drop k file) (omega (arith, some, within, length-drop start file))
+at_the_end start n file some within = grind (arith, common_steps, length-drop, drop-drop)
 
 -- the tag at the end decides
 pub tag_decides : (file bytes : List ℕ) (head : SeenHead) → head.data_length + 128 ≤ held head.data_start file
     → bytes ≡ take 3 (drop (length file - 128) file)
     → tagged file head ≡ bytes_eq bytes (codes "TAG")
-tag_decides file bytes head within is =
-    id3_is head.data_length (drop head.data_start file) within
-    ∙ ap (λ l. bytes_eq (take 3 l) (codes "TAG")) (at_the_end head.data_start 128 file (omega arith) (omega (arith, within)))
-    ∙ ap (λ l. bytes_eq l (codes "TAG")) (sym is)
+tag_decides file bytes head within is = grind (arith, common_steps, id3_is, at_the_end)
 
 -- where the file ends no chunk begins
 pub none_begins : (k : ℕ) (bytes : List ℕ) → length bytes ≤ k → begins_chunk (drop k bytes) ≡ false
@@ -104,10 +99,7 @@ none_begins k bytes few = grind (arith, common_steps, length-drop)
 -- and before that it is decided by what is there
 pub begins_there : (k start : ℕ) (file : List ℕ) → k < held start file
     → begins_chunk (drop k (drop start file)) ≡ are_chunks (drop (start + k) file)
-begins_there k start file before =
-    let some : nat_lt 0 (length (drop k (drop start file))) ≡ true =
-    grind (arith, common_steps, length-drop, before) in
-    (λ i. some i && are_chunks (drop-drop k start file i))
+begins_there k start file before = grind (arith, common_steps, nat_lt, length-drop, drop-drop)
 
 -- after the data with their pad byte
 pub after_padded : (file : List ℕ) (head : SeenHead)
@@ -119,30 +111,12 @@ after_padded file head = refl
 pub begin_padded : (looks : Bool) (file : List ℕ) (head : SeenHead) → IsNotWhole looks file head
     → padded head.data_length < held head.data_start file
     → IsAtChunk looks file head (head.data_start + padded head.data_length) true
-begin_padded looks file head not before = (
-  not,
-  after_padded file head
-      ∙ ap (λ b. b || else_followed true file head)
-      (begins_there (padded head.data_length) head.data_start file before),
-)
+begin_padded looks file head not before = grind (arith, common_steps, begins_there, after_padded)
 
 pub pass_padded : (file : List ℕ) (head : SeenHead)
     → held head.data_start file ≤ padded head.data_length
     → followed file head ≡ else_followed true file head
-pass_padded file head few =
-    after_padded file head
-    ∙ ap (λ b. b || else_followed true file head)
-    (none_begins (padded head.data_length) (drop head.data_start file) few)
-
--- after the data alone
-pub begin_last : (looks : Bool) (file : List ℕ) (head : SeenHead) → IsNotWhole looks file head
-    → head.data_length < held head.data_start file
-    → followed file head ≡ else_followed true file head
-    → IsAtChunk looks file head (head.data_start + head.data_length) false
-begin_last looks file head not before is = (
-  not,
-  is ∙ ap (λ b. b || tagged file head) (begins_there head.data_length head.data_start file before),
-)
+pass_padded file head few = grind (arith, common_steps, none_begins, after_padded)
 
 pub pass_last : (file : List ℕ) (head : SeenHead) → held head.data_start file ≤ head.data_length
     → else_followed true file head ≡ tagged file head
@@ -178,21 +152,16 @@ module _ (looks : Bool) (file bytes : List ℕ) (head : SeenHead) (place : ℕ) 
 
   pub known_here : place < length file → has_known_tag bytes ≡ true
       → IsFoundAs looks file head HasChunksAfterData
-  known_here before known =
-      chunks_here (known_chunk (drop place file) (omega (arith, before, length-drop place file))
-      (sym (known_by_eight bytes (drop place file) is) ∙ known))
+  known_here before known = grind (arith, common_steps, length-drop, known_chunk, known_by_eight, chunks_here)
 
   pub none_here : place < length file → has_known_tag bytes ≡ false
       → chunk_content (drop place file) ≡ None → followed file head ≡ else_followed wide file head
   none_here before other none =
-      no_chunks_here (no_chunk (drop place file) (omega (arith, before, length-drop place file))
-      (sym (known_by_eight bytes (drop place file) is) ∙ other) none)
+      grind (arith, common_steps, length-drop, no_chunk, known_by_eight, no_chunks_here)
 
   pub short_here : place < length file → has_known_tag bytes ≡ false → length bytes < 8
       → followed file head ≡ else_followed wide file head
-  short_here before other few =
-      none_here before other (short_none (drop place file)
-      (omega (arith, few, ap length is, length-take 8 (drop place file))))
+  short_here before other few = grind (arith, common_steps, length-take, short_none, none_here)
 
   pub one_here : (content : ℕ) → place < length file → has_known_tag bytes ≡ false
       → chunk_content (drop place file) ≡ Some content
@@ -217,13 +186,6 @@ pub two_left : (n place : ℕ) (head : SeenHead) (wide : Bool)
     → 2 ≤ steps_left n (stages.Chunk head place wide)
 two_left n place head true = omega arith
 two_left n place head false = omega arith
-
--- the next chunk is nearer
-pub nearer_chunk : (n place content : ℕ) (head : SeenHead) (wide : Bool) → place < n
-    → steps_left n (stages.Chunk head (place + 8 + content) wide)
-    < steps_left n (stages.Chunk head place wide)
-nearer_chunk n place content head true before = omega (arith, before)
-nearer_chunk n place content head false before = omega (arith, before)
 
 -- sizes that are rejected by what is counted of a file are rejected by what it holds
 pub sizes_rejected : (s : WavSpecEx) (counted len start n m : ℕ)
@@ -282,41 +244,17 @@ pub length_serves : (s : WavSpecEx) (len start size : ℕ) (file : List ℕ) →
     × (size_fault s len start (min size (2 ^ 33) - start) ≡ None → min size (2 ^ 33) - start ≡ held start file)
 unfolding size_fault
 length_serves s len start size file sound small after same inside within =
-    elim (cases_lt (length file) (2 ^ 33)) [
-      | inl few ↦
-          let is : min size (2 ^ 33) - start ≡ held start file = omega (arith, same, few, length-drop start file) in
-          (ap (size_fault s len start) is, λ _. is)
-      | inr many ↦
-          let one = too_long_file s len start (held start file) sound small after (omega (arith, many, inside, length-drop start file)) in
-          let two = too_long_file s len start (min size (2 ^ 33) - start) sound small after (omega (arith, many, within, same)) in
-          (grind (arith, common_steps, one, two, nat_tests), λ none. absurd (grind (arith, common_steps, two, none, nat_tests)))
-    ]
+    grind (arith, common_steps, length-drop, cases_lt, nat_tests, too_long_file)
 
 -- one byte after the data at most is counted
 pub shown_small : (start len : ℕ) (file : List ℕ) → len < 2 ^ 32 → shown_length start len file ≤ 2 ^ 32
-shown_small start len file small =
-    elim (uncounted_cases (drop len (drop start file))) [
-      | inl none ↦ omega (arith, small, none)
-      | inr one ↦ omega (arith, small, one.0)
-    ]
+shown_small start len file small = grind (arith, common_steps, uncounted_cases)
 
 -- a file that is measured has this length
 pub tag_length : (size : ℕ) (file : List ℕ) (d : Damage) → IsLengthOf size file → IsMeasured file d
     → d.head.data_start + d.held ≤ size → IsSoundDamage d → size ≡ length file
 tag_length size file d same m inside sound =
-    let s = d.head.spec_ex in
-    let len = shown_length d.head.data_start d.head.data_length file in
-    let start = d.head.data_start in
-    let end = end_is file d m in
-    elim (cases_lt (length file) (2 ^ 33)) [
-      | inl few ↦ omega (arith, same, few, end, inside)
-      | inr many ↦
-          let long = too_long_file s len start (held start file) sound.spec
-          (shown_small start d.head.data_length file (omega (arith, m.small))) sound.place.0
-          (omega (arith, many, end, m.held_is)) in
-          let fits = check_fits s len start (held start file) m.check in
-          absurd (omega (arith, long, fits))
-    ]
+    grind (arith, common_steps, cases_lt, check_fits, end_is, too_long_file, shown_small)
 
 -- the check fails by the data length that a look saw as it does by the one that the file shows
 pub shown_serves : (s : WavSpecEx) (start : ℕ) (head : SeenHead) (file : List ℕ) → IsSoundSpec s → head.data_length < 2 ^ 32
@@ -327,18 +265,7 @@ pub shown_serves : (s : WavSpecEx) (start : ℕ) (head : SeenHead) (file : List 
     → shown_of head ≡ shown_length start head.data_length file)
 unfolding size_fault
 shown_serves s start head file sound small after inside at shown few =
-    elim (cases_lt (length file) (2 ^ 33)) [
-      | inl short ↦
-          let is : shown_of head ≡ shown_length start head.data_length file =
-          shown short ∙ ap (λ k. shown_length k head.data_length file) at in
-          (ap (λ k. size_fault s k start (held start file)) is, λ _. is)
-      | inr many ↦
-          let long = length-drop start file in
-          let one = too_long_file s (shown_of head) start (held start file) sound few after (omega (arith, many, inside, long)) in
-          let two = too_long_file s (shown_length start head.data_length file) start (held start file) sound
-          (shown_small start head.data_length file small) after (omega (arith, many, inside, long)) in
-          (grind (arith, common_steps, one, two, nat_tests), λ none. absurd (grind (arith, common_steps, one, none, nat_tests)))
-    ]
+    grind (arith, common_steps, length-drop, cases_lt, nat_tests, too_long_file, shown_small)
 
 -- what is counted of a file serves for what it holds and shows
 pub counts_serve : (s : WavSpecEx) (head : SeenHead) (size : ℕ) (file : List ℕ) → IsSoundSpec s
@@ -368,20 +295,7 @@ last_read start len file bytes one is = grind (arith, common_steps, drop-drop, l
 -- where other than one byte follows the data none is counted
 pub none_counted : (start len : ℕ) (file : List ℕ) → (held start file ≡ len + 1 → ⊥)
     → shown_length start len file ≡ len
-none_counted start len file not =
-    elim (uncounted_cases (drop len (drop start file))) [
-      | inl none ↦ omega (arith, none)
-      | inr one ↦ absurd (not (omega (arith, one.1, length-drop len (drop start file))))
-    ]
-
--- bytes that were read up to where they end
-pub all_read : (at n : ℕ) (place : ℕ) (buf contents : List ℕ) → at ≤ n
-    → drop (place + at) contents ≡ [] → take at buf ≡ take at (drop place contents)
-    → take at buf ≡ take n (drop place contents)
-all_read at n place buf contents within none is =
-    let few : length (drop place contents) ≤ at =
-    omega (arith, ap length none, length-drop (place + at) contents, length-drop place contents) in
-    is ∙ take_all at (drop place contents) few ∙ sym (take_all n (drop place contents) (omega (arith, few, within)))
+none_counted start len file not = grind (arith, common_steps, length-drop, uncounted_cases)
 
 -- the bytes of a part that were read into the front of a buffer
 pub part_read : (count asked asked_for place place_for size : ℕ) (given after contents now : List ℕ)
@@ -389,5 +303,4 @@ pub part_read : (count asked asked_for place place_for size : ℕ) (given after 
     → take count given ≡ take size (drop place now) → asked ≡ asked_for → place ≡ place_for
     → take count (given ++ after) ≡ take asked_for (drop place_for contents)
 part_read count asked asked_for place place_for size given after contents now long size_is within same is a p =
-    take-append-le count given after (omega (arith, long, within))
-    ∙ is ∙ (λ i. take ((size_is ∙ a) i) (drop (p i) (same i)))
+    grind (arith, common_steps, take-append-le)

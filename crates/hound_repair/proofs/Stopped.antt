@@ -1,23 +1,22 @@
 -- A file whose mending was stopped is repaired to the same frames.
 use Rattle.std.proofs.lemmas.Grind.{common_steps}
-use Rattle.std.proofs.Common.{◌≡◌, ℕ, ◌+◌, ◌-◌, ◌*◌, ◌/◌, ◌≤◌, Bool, IsTrue, List, ◌++◌, length, drop, None, inl, inr, sym, ap, ◌∙◌, arith, length-append}
+use Rattle.std.proofs.Common.{◌≡◌, ℕ, ◌+◌, ◌-◌, ◌*◌, ◌/◌, ◌≤◌, Bool, IsTrue, List, ◌++◌, length, drop, None, ap, ◌∙◌, arith, length-append}
 use Rattle.std.proofs.lemmas.Bool.{cases_lt}
-use Rattle.std.proofs.lemmas.List.{append-nil, drop-append-le, nil_from_length, take-append-le}
+use Rattle.std.proofs.lemmas.List.{append-nil, nil_from_length, take-append-le}
 use Rattle.hound_medium.specs.{MediumState}
 use Rattle.hound_spec.specs.declared.spec.WavSpecEx.{WavSpecEx}
-use Rattle.hound_number.specs.{mix}
 use Rattle.hound_walk.specs.{Head}
 use Rattle.hound_walk.proofs.Unique.{heads_agree}
-use Rattle.hound_writer.proofs.Heads.{head_beyond, head_field, head_inside, head_with}
+use Rattle.hound_writer.proofs.Heads.{head_field, head_with}
 use Rattle.hound_writer.specs.{field}
-use Rattle.hound_repair.specs.Held.{data_held, frame_length, frames_held, held, shown_length, uncounted}
+use Rattle.hound_repair.specs.Held.{data_held, frame_length, frames_held, held, shown_length}
 use Rattle.hound_repair.specs.Repairing.{IsFoundAt, Repairs, found_length, repair_fault, size_fault}
 use Rattle.hound_repair.specs.Steps.{PartlyMended}
 use Rattle.hound_repair.specs.declared.sizes.Repair.{Repair}
 use Rattle.hound_writer.specs.declared.resuming.RepairState.TheVariants.{HasChunksAfterData}
 use Rattle.hound_repair.proofs.Again.{frames_padded}
 use Rattle.hound_repair.proofs.Resuming.{frames_shown}
-use Rattle.hound_repair.proofs.RightSizes.{field_before, frames_are, length_of, not_followed}
+use Rattle.hound_repair.proofs.RightSizes.{frames_are, length_of, not_followed}
 
 -- the check depends on the frames held alone
 fault_by_frames : (s : WavSpecEx) (len other start n m : ℕ) → frames_held s len n ≡ frames_held s other m
@@ -39,15 +38,6 @@ module _ (looks : Bool) (old : List ℕ) (mid : MediumState) (found : Repair) (l
   abbrev says : ℕ
   says = field (start - 4) mid.contents
 
-  beyond : 20 ≤ start
-  beyond = head_beyond old s len start at.head
-
-  inside : start ≤ length old
-  inside = head_inside old s len start at.head
-
-  long : length half.sizes ≡ length old
-  long = half.same.long
-
   right : found_length found
       ≡ data_held (frame_length s) (shown_length start len old) n / frame_length s * frame_length s
   right = length_of looks old found len start at apart
@@ -56,33 +46,28 @@ module _ (looks : Bool) (old : List ℕ) (mid : MediumState) (found : Repair) (l
   head_now = grind (arith, common_steps, head_with, length-append, take-append-le)
 
   says_is : says ≡ field (start - 4) half.sizes
-  says_is =
-      ap (field (start - 4)) half.is
-      ∙ field_before (start - 4) half.sizes half.pad (omega (arith, beyond, inside, long))
+  says_is = grind (arith, common_steps)
 
   -- what follows the header
   rest_now : drop start mid.contents ≡ drop start old ++ half.pad
-  rest_now =
-      let after : start - 4 + 4 ≡ start = omega (arith, beyond) in
-      ap (drop start) half.is
-      ∙ drop-append-le start half.sizes half.pad (omega (arith, inside, long))
-      ∙ (λ i. drop (sym after i) half.sizes ++ half.pad)
-      ∙ ap (λ l. l ++ half.pad) half.same.beyond ∙ (λ i. drop (after i) old ++ half.pad)
+  rest_now = grind (arith, common_steps)
 
   -- before the pad byte
   frames_before : length half.pad ≡ 0
       → frames_held s (shown_length start says mid.contents) (held start mid.contents) ≡ found.frames
   frames_before none =
-      let f = frame_length s in
-      let same : drop start mid.contents ≡ drop start old =
-      rest_now ∙ ap (λ pad. drop start old ++ pad) (nil_from_length half.pad none) ∙ append-nil (drop start old) in
-      let written : says ≡ mix half.j len (found_length found) =
-      says_is ∙ half.length_says
-      ∙ ap (λ l. mix half.j l (found_length found)) (head_field old s len start at.head) in
-      (λ i. data_held f (written i + uncounted (drop (written i) (same i))) (length (same i)) / f)
-      ∙ (λ i. data_held f (shown_length start (mix half.j len (right i)) old) n / f)
-      ∙ frames_shown f start len half.j old some at.small
-      ∙ sym (frames_are looks old found len start at apart)
+      grind (
+        arith,
+        common_steps,
+        append-nil,
+        nil_from_length,
+        head_field,
+        frames_shown,
+        frames_are,
+        right,
+        says_is,
+        rest_now,
+      )
 
   -- and after it
   frames_after : 1 ≤ length half.pad
@@ -95,20 +80,12 @@ module _ (looks : Bool) (old : List ℕ) (mid : MediumState) (found : Repair) (l
 
   frames_now : frames_held s (shown_length start says mid.contents) (held start mid.contents)
       ≡ found.frames
-  frames_now = elim (cases_lt 0 (length half.pad)) [
-    | inl put ↦ frames_after put
-    | inr none ↦ frames_before (omega (arith, none))
-  ]
+  frames_now = grind (arith, common_steps, cases_lt, frames_before, frames_after)
 
   -- a repair of what is left fails no check
   pub still_repairable : Head mid.contents s says start
       × (repair_fault s (shown_length start says mid.contents) start (held start mid.contents) ≡ None)
-  still_repairable = (
-    head_now,
-    fault_by_frames s (shown_length start says mid.contents) (shown_length start len old) start (held start mid.contents) n
-        (frames_now ∙ frames_are looks old found len start at apart)
-        ∙ at.check,
-  )
+  still_repairable = grind (arith, common_steps, frames_are, fault_by_frames, head_now, frames_now)
 
   -- so a repair that was stopped can be done again
   pub resumed_by_effects : (again : Bool) (new : MediumState) (other : Repair)
@@ -118,10 +95,4 @@ module _ (looks : Bool) (old : List ℕ) (mid : MediumState) (found : Repair) (l
   resumed_by_effects again new other second alone =
       let agree =
       heads_agree mid.contents other.spec_ex s second.len says second.start start second.is.head
-      head_now in (
-        agree.0,
-        frames_are again mid.contents other second.len second.start second.is
-            (not_followed again _ _ _ other.state second.is.state alone)
-            ∙ (λ i. frames_held (agree.0 i) (shown_length (agree.2 i) (agree.1 i) mid.contents) (held (agree.2 i) mid.contents))
-            ∙ frames_now,
-      )
+      head_now in grind (arith, common_steps, frames_are, not_followed, frames_now)

@@ -1,18 +1,17 @@
 -- How long a header is.
+use Rattle.std.proofs.Common.{rules}
 use Rattle.std.proofs.lemmas.Grind.{common_steps}
 use Rattle.std.proofs.Common.{◌≡◌, ℕ, ◌+◌, ◌%◌, ◌≤◌, true, false, List, ◌++◌, length, refl, ◌∙◌, ap, arith, length-append}
 use Rattle.std.proofs.lemmas.List.{length-replicate}
 use Rattle.std.specs.List.{concat}
 use Rattle.hound_number.specs.{bytes_of}
 use Rattle.hound_spec.specs.declared.spec.SampleFormat.{SampleFormat}
-use Rattle.hound_spec.specs.declared.spec.SampleFormat.TheVariants.{Int, Float}
 use Rattle.hound_spec.specs.declared.spec.WavSpecEx.{WavSpecEx}
 use Rattle.hound_spec.specs.FmtChunk.{subformat}
 use Rattle.hound_spec.specs.Header.{is_short, riff_tag, wave_tag, fmt_tag, data_tag, short_fmt, long_fmt, sized_fmt, header, data_start, padding, canonical}
 
 pub length-subformat : (f : SampleFormat) → length (subformat f) ≡ 16
-length-subformat Int = refl
-length-subformat Float = refl
+length-subformat f = search rules
 
 pub length-long_fmt : (s : WavSpecEx) → length (long_fmt s) ≡ 40
 length-long_fmt s = simp length-append (omega (arith, length-subformat s.spec.sample_format))
@@ -32,8 +31,7 @@ length-sized_fmt-short : (s : WavSpecEx) → is_short s ≡ true → length (siz
 length-sized_fmt-short s short = ap length (sized_fmt-short s short)
 
 length-sized_fmt-long : (s : WavSpecEx) → is_short s ≡ false → length (sized_fmt s) ≡ 44
-length-sized_fmt-long s long = ap length (sized_fmt-long s long)
-    ∙ length-append (bytes_of 4 40) (long_fmt s) ∙ ap (λ n. 4 + n) (length-long_fmt s)
+length-sized_fmt-long s long = grind (arith, common_steps, length-append, length-long_fmt, sized_fmt-long)
 
 pub length-header : (s : WavSpecEx) (size data_length : ℕ)
     → length (header s size data_length) ≡ data_start s

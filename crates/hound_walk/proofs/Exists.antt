@@ -1,6 +1,7 @@
 -- Bytes have an answer.
+use Rattle.std.proofs.Common.{rules}
 use Rattle.std.proofs.lemmas.Grind.{common_steps}
-use Rattle.std.proofs.Common.{◌≡◌, ℕ, zero, suc, ◌+◌, ◌≤◌, ◌⊎◌, inl, inr, true, List, [], ◌∷◌, ◌++◌, length, take, drop, slice_range, refl, sym, ap, le_refl, zero-add, ◌∙◌, subst, arith, length-append, append_assoc, length-take, length-drop, length-take-le, Option, Some, None}
+use Rattle.std.proofs.Common.{◌≡◌, ℕ, zero, suc, ◌+◌, ◌≤◌, ◌⊎◌, inl, inr, List, [], ◌∷◌, ◌++◌, length, take, drop, slice_range, refl, sym, ap, le_refl, zero-add, ◌∙◌, subst, arith, length-append, append_assoc, length-take, length-drop, length-take-le, Option, Some, None}
 use Rattle.std.specs.Str.{bytes_eq}
 use Rattle.std.proofs.lemmas.Bool.{cases_Bool}
 use Rattle.std.proofs.lemmas.List.{take-append-drop}
@@ -121,20 +122,7 @@ front_there : (bytes : List ℕ) → front_fault bytes ≡ None
     → (size : List ℕ) × (rest : List ℕ) × (length size ≡ 4)
     × (bytes ≡ riff_tag ++ (size ++ (wave_tag ++ rest)))
 unfolding front_fault
-front_there bytes h =
-    let enough : 12 ≤ length bytes = grind (arith, common_steps) in
-    let is_riff : bytes_eq (take 4 bytes) riff_tag ≡ true = grind (arith, common_steps) in
-    let is_wave : bytes_eq (slice_range bytes 8 12) wave_tag ≡ true = grind (arith, common_steps) in
-    let riff = same_tag (take 4 bytes) riff_tag is_riff in
-    let wave = same_tag (slice_range bytes 8 12) wave_tag is_wave in
-    let size = slice_range bytes 4 8 in (
-      size,
-      drop 4 (drop 8 bytes),
-      simp (length-take, length-drop) (omega arith),
-      parts bytes (omega arith) ∙ ap (λ t. t ++ (size ++ drop 8 bytes)) riff
-          ∙ ap (λ t. riff_tag ++ (size ++ t)) (sym (take-append-drop 4 (drop 8 bytes))
-          ∙ ap (λ t. t ++ drop 4 (drop 8 bytes)) wave),
-    )
+front_there bytes h = search (rules, slice_range, length-take, length-drop, take-append-drop, same_tag, parts)
 
 ending_answer : (bytes size rest : List ℕ) → length size ≡ 4
     → bytes ≡ riff_tag ++ (size ++ (wave_tag ++ rest)) → Goes 0 None rest

@@ -1,5 +1,6 @@
 -- The definitions of a fmt chunk at bytes in pieces.
-use Rattle.std.proofs.Common.{◌≡◌, ◌+◌, ℕ, ◌-◌, ◌≤◌, true, ◌||◌, List, ◌++◌, length, take, refl, ap, ◌∙◌, arith, take_at, length-take-le, drop_at, length-append, le-ltb, Ok, ◌==◌}
+use Rattle.std.proofs.lemmas.Grind.{common_steps}
+use Rattle.std.proofs.Common.{◌≡◌, ◌+◌, ℕ, ◌-◌, ◌≤◌, true, ◌||◌, List, ◌++◌, length, take, refl, ap, ◌∙◌, arith, take_at, drop_at, length-append, le-ltb, Ok, ◌==◌}
 use Rattle.hound_spec.specs.declared.spec.WavSpecEx.{WavSpecEx}
 use Rattle.hound_number.specs.{number}
 use Rattle.hound_spec.specs.{fmt_fields, extension}
@@ -26,8 +27,7 @@ extensible_at len found size rest big two more is =
 -- what was read of a content, and the rest of it
 pub fmt_and_rest : (len : ℕ) (xs rest : List ℕ) → fmt_len len ≤ length xs
     → fmt_of len (take (fmt_len len) xs ++ rest) ≡ fmt_of len xs
-fmt_and_rest len xs rest l = let n = fmt_len len in
-    ap (fmt_said len) (take_at (take n xs) rest n (length-take-le n xs l))
+fmt_and_rest len xs rest l = grind (arith, common_steps)
 
 -- the first sixteen bytes of a content, and those after them
 pub fmt_head : (len : ℕ) (h zs : List ℕ) → 16 ≤ len → length h ≡ 16

@@ -1,13 +1,13 @@
 -- What is taken of the first twelve bytes, piece after piece.
 use Rattle.std.proofs.lemmas.Grind.{common_steps}
-use Rattle.std.proofs.Common.{◌≡◌, ℕ, ◌+◌, ◌<◌, ◌≤◌, List, [], ◌++◌, length, refl, sym, ◌∙◌, subst, arith, drop_at, length-append, Option, Some, None}
+use Rattle.std.proofs.Common.{◌≡◌, ℕ, ◌+◌, ◌<◌, ◌≤◌, List, [], ◌++◌, length, refl, sym, arith, drop_at, length-append, Option, Some, None}
 use Rattle.std.proofs.Math.Seq.{drop-length}
 use Rattle.std.specs.Io.KnownBytes.{Consumes}
 use Rattle.std.proofs.KnownBytes.{Consumes-trans}
 use Rattle.hound_number.specs.{WhereKnown}
 use Rattle.hound_number.proofs.KnownSteps.{known_from, known_then}
 use Rattle.hound_walk.specs.Grammar.{front_fault}
-use Rattle.hound_walk.specs.Walking.{TakesFront, TakesLess, ReportsFront, front_taken, Rejects, AreTaken}
+use Rattle.hound_walk.specs.Walking.{TakesFront, TakesLess, ReportsFront, Rejects, AreTaken}
 use Rattle.hound_walk.specs.Rejections.{ReportsError}
 use Rattle.hound_spec.specs.declared.error.Error.{Error}
 use Rattle.hound_walk.specs.declared.cause.Cause.TheVariants.{Ended, Unsupported}
@@ -34,9 +34,7 @@ front_cut h k o m n (Failed e) taken room (bytes, less, part) r =
       ),
     ))
 front_cut h k o m n (Rejected c) taken room part (is, end) =
-    subst (λ d. WhereKnown o n (λ xs ys. AreTaken (front_taken d xs) xs ys)) (sym is)
-    (known_then h o m n _ (λ xs ys. AreTaken (length xs) xs ys) taken end
-    (λ ys zs p. (omega arith, p.1 ∙ sym (drop-length (h ++ ys)))))
+    grind (arith, common_steps, drop-length, known_then)
 
 ends_in_front : (xs : List ℕ) → front_fault xs ≡ Some Ended → length xs < 12
 unfolding front_fault

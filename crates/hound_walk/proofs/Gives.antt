@@ -1,11 +1,10 @@
 -- What reading gives, piece after piece.
 use Rattle.std.proofs.lemmas.Grind.{common_steps}
-use Rattle.std.proofs.Common.{◌≡◌, ℕ, ◌+◌, ◌≤◌, List, ◌++◌, length, take, drop, sym, ap, ◌∙◌, arith, take_at, length-append, Option, Result, Ok, Err}
+use Rattle.std.proofs.Common.{◌≡◌, ℕ, ◌+◌, ◌≤◌, List, ◌++◌, length, take, drop, ap, ◌∙◌, arith, take_at, length-append, Option, Result, Ok, Err}
 use Rattle.std.proofs.Math.Seq.{drop-append-add}
 use Rattle.std.specs.Io.KnownBytes.{Consumes}
 use Rattle.hound_walk.specs.declared.cause.Cause.{Cause}
 use Rattle.hound_walk.specs.declared.cause.HeadError.{HeadError}
-use Rattle.hound_walk.specs.declared.cause.HeadError.TheVariants.{Failed, Rejected}
 use Rattle.hound_number.specs.{WhereKnown}
 use Rattle.hound_number.proofs.KnownSteps.{known_from, known_then}
 use Rattle.hound_walk.specs.Walking.{Gives}
@@ -26,14 +25,7 @@ err_from_taken k bs o n f c h l e = known_from bs o n _ h (λ ys. ap f (take_at 
 pub gives_from : {A : Type 0} (k j : ℕ) (h : List ℕ) (o m n : Option (List ℕ))
     (r : Result A HeadError) (f g : List ℕ → Result A Cause) → Consumes o m h → j ≡ length h + k
     → ((ys : List ℕ) → g (h ++ ys) ≡ f ys) → Gives m n k r f → Gives o n j r g
-gives_from k j h o m n (Ok x) f g t l e d = known_then h o m n _ _ t d (λ ys zs p. (
-  e ys ∙ p.0,
-  omega (arith, length-append h ys, p.1),
-  p.2 ∙ sym (drop-append-add h ys k) ∙ ap (λ i. drop i (h ++ ys)) (sym l),
-))
-gives_from k j h o m n (Err (Failed e)) f g t l q d = tt
-gives_from k j h o m n (Err (Rejected c)) f g t l q d =
-    known_then h o m n _ _ t d (λ ys zs p. q ys ∙ p)
+gives_from k j h o m n r f g t l e d = grind (arith, common_steps, length-append, drop-append-add, known_then)
 
 -- h was taken, and g of what begins with h is a fault
 pub known_err : {A : Type 0} (h : List ℕ) (o m : Option (List ℕ)) (g : List ℕ → Result A Cause)

@@ -1,7 +1,8 @@
 -- Walks whose bytes are handed in, part after part.
+use Rattle.std.proofs.Common.{rules}
 use Rattle.std.proofs.lemmas.Grind.{common_steps}
-use Rattle.std.proofs.Common.{◌≡◌, ℕ, ◌+◌, ◌≤◌, ◌<◌, inl, inr, true, false, List, [], ◌∷◌, ◌++◌, length, take, drop, slice_range, refl, sym, ap, ◌∙◌, subst, arith, take-append-drop, take_at, drop_at, length-append, length-take, length-drop, length-take-le, append_assoc, le-ltb, Option, Some, None, Ok, Err}
-use Rattle.std.proofs.lemmas.List.{drop-drop, take-take, drop-take}
+use Rattle.std.proofs.Common.{◌≡◌, ℕ, ◌+◌, ◌≤◌, ◌<◌, inl, inr, true, false, List, [], ◌++◌, length, take, drop, slice_range, refl, sym, ap, ◌∙◌, subst, arith, take-append-drop, take_at, drop_at, length-append, length-take, length-drop, length-take-le, append_assoc, le-ltb, Option, Some, None, Ok, Err}
+use Rattle.std.proofs.lemmas.List.{drop-drop, drop-take}
 use Rattle.std.specs.Str.{bytes_eq}
 use Rattle.hound_number.specs.{Account, number}
 use Rattle.hound_spec.specs.declared.spec.WavSpecEx.{WavSpecEx}
@@ -9,8 +10,8 @@ use Rattle.hound_spec.specs.{greatest_u32, padded, riff_tag, wave_tag, fmt_tag, 
 use Rattle.hound_walk.specs.declared.cause.Cause.{Cause}
 use Rattle.hound_walk.specs.declared.cause.Cause.TheVariants.{Ended, Format}
 use Rattle.hound_walk.specs.declared.cause.Reason.TheVariants.{NoDataChunk}
-use Rattle.hound_walk.specs.Fmt.{fmt_len, fmt_of, fmt_said}
-use Rattle.hound_walk.specs.Grammar.{Rejected, front_fault, content_fault, chunk_fault, fmt_fault, spec_after, cut_fault, joined, Chunk, Head}
+use Rattle.hound_walk.specs.Fmt.{fmt_len, fmt_of}
+use Rattle.hound_walk.specs.Grammar.{Rejected, front_fault, content_fault, chunk_fault, fmt_fault, spec_after, cut_fault, Chunk, Head}
 use Rattle.hound_walk.proofs.WalkLemmas.{walked_more, head_from, same_tag}
 use Rattle.std.proofs.lemmas.Bool.{cases_lt}
 use Rattle.hound_walk.specs.Walking.{CountsFailed, Walked, Rejects}
@@ -20,8 +21,7 @@ use Rattle.hound_walk.specs.Parts.{Reaches, IsAt, IsAfter}
 use Rattle.hound_walk.specs.declared.parts.HeadWalk.{HeadWalk}
 
 empty : (ys : List ℕ) → length ys ≡ 0 → ys ≡ []
-empty [] e = refl
-empty (y ∷ ys) e = absurd (omega (arith, e))
+empty ys e = grind (arith, common_steps)
 
 -- what is known of the cause of an error
 pub rejects_at : (e : HeadError) (c : Cause) (P : Cause → Type 0) → e ≡ Caused c → Rejects e P → P c
@@ -65,8 +65,7 @@ front_walked file size ys e four =
 -- what reaches after whole chunks has a fault
 pub rejected_at : (file rest : List ℕ) (found : Option WavSpecEx) (c : ℕ) (cause : Cause)
     → Walked file rest found c → chunk_fault c found rest ≡ Some cause → Rejected file cause
-rejected_at file rest found c cause w is =
-    inr (w.chunks, rest, w.walk, cc (w.taken_is, w.found_is, is))
+rejected_at file rest found c cause w is = search rules
 
 pub over_fault : (c : ℕ) (found : Option WavSpecEx) (rest : List ℕ) → greatest_u32 < c + 8
     → chunk_fault c found rest ≡ Some (Format NoDataChunk)
@@ -93,18 +92,7 @@ header_is rest h is l = grind (arith, common_steps, take-append-drop 8 rest)
 -- whole chunks are inside the file
 walked_inside : (file : List ℕ) (found : Option WavSpecEx) (c : ℕ)
     → Walked file (drop (12 + c) file) found c → 12 + c ≤ length file
-walked_inside file found c w =
-    let body = joined w.chunks in
-    let rest = drop (12 + c) file in
-    omega (
-      arith,
-      ap length w.walk.whole,
-      length-append w.walk.size (wave_tag ++ (body ++ rest)),
-      length-append body rest,
-      length-drop (12 + c) file,
-      w.walk.four,
-      w.taken_is,
-    )
+walked_inside file found c w = grind (arith, common_steps)
 
 passed_long : (file tag size after : List ℕ) (c : ℕ) → 12 + c ≤ length file
     → drop (12 + c) file ≡ tag ++ (size ++ after) → length tag ≡ 4 → length size ≡ 4
@@ -253,10 +241,7 @@ passed_header file h found c len w is l k other no_fmt limit =
 -- the used part decides what a fmt chunk says
 fmt_same : (len : ℕ) (bytes after : List ℕ) → bytes ≡ take (fmt_len len) after
     → fmt_of len (take (padded len) after) ≡ fmt_of len bytes
-fmt_same len bytes after is =
-    let n = fmt_len len in
-    ap (fmt_said len) (take-take n (padded len) after (omega arith)
-    ∙ sym (ap (take n) is ∙ take-take n n after (omega arith)))
+fmt_same len bytes after is = grind (arith, common_steps)
 
 fmt_at_fault : (c : ℕ) (found : Option WavSpecEx) (size after : List ℕ) (len : ℕ) (cause : Cause)
     → length size ≡ 4 → number size ≡ len → c + 8 + padded len ≤ greatest_u32
@@ -310,38 +295,21 @@ rejected_fmt file size bytes found c len cause w four says parts limit is read =
 -- the fmt chunk that a part asks for is inside the file, and its used part if it has no fault
 pub fmt_inside : (file bytes : List ℕ) (c n : ℕ) → bytes ≡ take n (drop (20 + c) file)
     → n ≤ length bytes → 20 + c ≤ length file → 20 + c + n ≤ length file
-fmt_inside file bytes c n is l inside =
-    omega (arith, l, inside, ap length is, length-take n (drop (20 + c) file), length-drop (20 + c) file)
+fmt_inside file bytes c n is l inside = grind (arith, common_steps)
 
 pub chunk_inside : (file size : List ℕ) (found : Option WavSpecEx) (c : ℕ)
     → Walked file (drop (12 + c) file) found c → length size ≡ 4
     → drop (12 + c) file ≡ fmt_tag ++ (size ++ drop (20 + c) file) → 20 + c ≤ length file
-chunk_inside file size found c w four parts =
-    omega (arith, passed_long file fmt_tag size (drop (20 + c) file) c (walked_inside file found c w) parts refl four)
+chunk_inside file size found c w four parts = grind (arith, common_steps)
 
 -- the last byte of a content and a header: if there is one, the chunks before it are whole
 pub last_is_there : (file bytes : List ℕ) (found : Option WavSpecEx) (c : ℕ) → Reaches file found c
     → bytes ≡ take 9 (drop (11 + c) file) → 0 < length bytes
     → Walked file (drop (12 + c) file) found c × (drop 1 bytes ≡ take 8 (drop (12 + c) file))
-last_is_there file bytes found c (inl w) is some = (w, last_and_header file bytes c is)
-last_is_there file bytes found c (inr (less, r)) is some = absurd (omega (
-  arith,
-  less,
-  some,
-  ap length is,
-  length-take 9 (drop (11 + c) file),
-  length-drop (11 + c) file,
-))
+last_is_there file bytes found c given is some =
+    grind (arith, common_steps, length-take, length-drop, last_and_header)
 
 -- if there is none, the file has ended
 pub last_is_missing : (file bytes : List ℕ) (found : Option WavSpecEx) (c : ℕ) → Reaches file found c
     → bytes ≡ take 9 (drop (11 + c) file) → length bytes ≡ 0 → Rejected file Ended
-last_is_missing file bytes found c (inr (less, r)) is none = r
-last_is_missing file bytes found c (inl w) is none = absurd (omega (
-  arith,
-  walked_inside file found c w,
-  none,
-  ap length is,
-  length-take 9 (drop (11 + c) file),
-  length-drop (11 + c) file,
-))
+last_is_missing file bytes found c given is none = grind (arith, common_steps)

@@ -19,8 +19,7 @@ same_front a b x y l e = (
 )
 
 pub spread : (p : Chunk) (x : List ℕ) → chunk_bytes p ++ x ≡ p.tag ++ (p.size ++ (p.content ++ x))
-spread p x = append_assoc p.tag (p.size ++ p.content) x
-    ∙ ap (λ t. p.tag ++ t) (append_assoc p.size p.content x)
+spread p x = grind (arith, common_steps)
 
 same_chunk : (p q : Chunk) (x y : List ℕ) → IsChunk p → IsChunk q
     → chunk_bytes p ++ x ≡ chunk_bytes q ++ y → (p ≡ q) × (x ≡ y)
@@ -84,17 +83,14 @@ chunk_sound c found p rest is limit =
     drop_at p.tag _ 4 is.tag in
     let size : take 4 (p.size ++ (p.content ++ rest)) ≡ p.size = take_at p.size _ 4 is.size in
     let all : drop 8 (p.tag ++ (p.size ++ (p.content ++ rest))) ≡ p.content ++ rest =
-    ap (drop 8) (sym (append_assoc p.tag p.size (p.content ++ rest)))
-    ∙ drop_at (p.tag ++ p.size) (p.content ++ rest) 8
-    (omega (arith, is.tag, is.size, length-append p.tag p.size)) in
+    grind (arith, common_steps, drop_at, length-append, append_assoc) in
     ap (chunk_fault c found) whole
     ∙ rw (room, enough, tag, all, back, size) (content_sound c found p rest is limit)
 
 -- at a fault or the data, no chunk begins
 fault_ends : (c : ℕ) (found : Option WavSpecEx) (bytes : List ℕ) (cause : Cause)
     → chunk_fault c found bytes ≡ Some cause → Ends c bytes
-fault_ends c found bytes cause h p rest is limit e = let none = ap (chunk_fault c found) e
-    ∙ chunk_sound c found p rest is limit in cc
+fault_ends c found bytes cause h p rest is limit e = grind (arith, common_steps, chunk_sound)
 
 data_ends : (c : ℕ) (size rest : List ℕ) → Ends c (data_tag ++ (size ++ rest))
 data_ends c size rest p more is limit e =
@@ -123,8 +119,7 @@ front_sound size rest four =
 
 no_front_fault : (bytes : List ℕ) (chunks : List Chunk) (rest : List ℕ) → Walk bytes chunks rest
     → front_fault bytes ≡ None
-no_front_fault bytes chunks rest w = ap front_fault w.whole
-    ∙ front_sound w.size (joined chunks ++ rest) w.four
+no_front_fault bytes chunks rest w = grind (arith, common_steps, front_sound)
 
 -- two walks of the same bytes that both end
 pub same_walks : (bytes : List ℕ) (ps qs : List Chunk) (x y : List ℕ) → Walk bytes ps x

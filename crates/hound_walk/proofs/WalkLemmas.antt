@@ -13,11 +13,6 @@ use Rattle.hound_walk.specs.Grammar.{Chunk, IsChunk, chunk_bytes, Chunks, joined
 use Rattle.hound_spec.specs.{greatest_u32, padded, riff_tag, wave_tag, data_tag}
 use Rattle.hound_walk.specs.Walking.{ReadsChunk, ReadsContent, Walked}
 
--- what a test of the code shows
-pub tag_test : (r b : Bool) (tag now lit : List ℕ) → r ≡ bytes_eq tag now → now ≡ lit → r ≡ b
-    → bytes_eq tag lit ≡ b
-tag_test r b tag now lit e l t = grind (arith, common_steps)
-
 pub ne_test : (r b : Bool) (x tag now lit : List ℕ) → r ≡ not (bytes_eq x now) → x ≡ tag → now ≡ lit
     → r ≡ b → bytes_eq tag lit ≡ not b
 ne_test r b x tag now lit e k l t = grind (arith, common_steps)

@@ -1,4 +1,5 @@
 -- A written header is a head.
+use Rattle.std.proofs.Common.{rules}
 use Rattle.std.proofs.lemmas.Grind.{common_steps}
 use Rattle.std.proofs.Common.{◌≡◌, ℕ, ◌+◌, ◌*◌, ◌%◌, ◌^◌, ◌<◌, ◌≤◌, ◌==◌, true, false, List, [], ◌∷◌, ◌++◌, length, refl, sym, ap, ◌∙◌, arith, le-ltb, eq-eqb, lit<, Ok}
 use Rattle.std.proofs.Math.Nat.{mul-div_cancel_left, le-mul_of_pos_right}
@@ -52,8 +53,7 @@ bytes_pass tag bits s w small some whole in_width =
 
 -- the older fmt chunk is of integers
 short_is_int : (f : SampleFormat) (b w : ℕ) → IsPair f b w → b ≤ 16 → f ≡ Int
-short_is_int Int b w p few = refl
-short_is_int Float b w p few = absurd (grind (arith, nat_tests))
+short_is_int f b w p few = search rules
 
 short_back : (s : WavSpecEx) → IsWritable s → s.spec.bits_per_sample ≤ 16
     → fmt_of 16 (short_fmt s) ≡ Ok s

@@ -113,12 +113,7 @@ module _ {W : Type 0} (kind : Ghosts W) (w : WriterState W) (at_most : WhereTell
   rest = grind (arith, common_steps, drop_overlay_after, length-take)
 
   pub reach : length now ≤ max (length was) (at + length bytes)
-  reach = omega (
-    arith,
-    ap length puts.contents,
-    length_overlay_max (take puts.count bytes) at was,
-    length-take puts.count bytes,
-  )
+  reach = grind (arith, common_steps, length-take, length_overlay_max)
 
   pub goes_at_each : IsTrue kind.keeps → was ≡ overlay (kind.state w.medium).start (kind.state w.medium).past
       → AddsAtEach kind.state w (kind.state m) → GoesAtEach kind.state w (kind.state m)
@@ -127,9 +122,7 @@ module _ {W : Type 0} (kind : Ghosts W) (w : WriterState W) (at_most : WhereTell
       let old = kind.state w.medium in
       record {
         adds = adds;
-        front = span_puts (λ _ c. take w.data_start c ≡ take w.data_start was) 0 old (kind.state m) at bs
-            replays puts.start (puts.past kept) (inl puts.flushed)
-            (λ k within. take_overlay_before (take k bs) w.data_start at was (omega arith) there);
+        front = grind (arith, common_steps, take_overlay_before, span_puts, there);
         beyond = puts_from w.data_start at bs old (kind.state m) (omega arith) (puts.past kept);
       }
 
@@ -308,9 +301,7 @@ module _ {W : Type 0} (kind : Ghosts W) (w : WriterState W)
 
 pub not_rejected : {T : Type 0} (P : Type 0) (answer : Result T Error) → IfErr answer IsIoError
     → OnRejected answer P
-not_rejected P (Ok x) failed = tt
-not_rejected P (Err (IoError e)) failed = tt
-not_rejected P (Err e) failed = absurd failed
+not_rejected P answer failed = grind (arith, common_steps)
 
 -- the same for writers that hold other memory, which the call leaves as it is
 pub accepts_beside : {W : Type 0} (kind : Ghosts W)
@@ -321,12 +312,7 @@ pub accepts_beside : {W : Type 0} (kind : Ghosts W)
 accepts_beside kind asked answer a b memory accepts =
     let adds = accepts.adds in
     record {
-      adds =
-          let answers = accept_as asked answer a (record a { batch_memory = memory }) refl refl
-          adds.answers in
-          let rejected = rejected_then answer
-          (ap (λ (w : WriterState _). record w { batch_memory = memory })) adds.rejected in
-          search rules;
+      adds = grind (arith, common_steps, accept_as, rejected_then);
       file = search rules;
       moments = search rules;
     }

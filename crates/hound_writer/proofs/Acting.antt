@@ -1,7 +1,7 @@
 -- What a caller does as its recorder says are calls of a writer.
 use Rattle.std.proofs.lemmas.Grind.{common_steps}
 use Rattle.std.proofs.lemmas.Bool.{eq-eqb, false≢true}
-use Rattle.std.proofs.Common.{◌≡◌, ◌⊎◌, ℕ, zero, suc, ◌+◌, ◌-◌, ◌*◌, ◌/◌, ◌%◌, ◌<◌, Bool, true, false, List, [], ◌∷◌, ◌++◌, length, inl, inr, Some, None, Option, Result, Ok, Err, is_ok, refl, sym, ◌∙◌, ap, subst, arith, append-nil}
+use Rattle.std.proofs.Common.{◌≡◌, ◌⊎◌, ℕ, ◌+◌, ◌-◌, ◌*◌, ◌/◌, ◌%◌, ◌<◌, Bool, true, false, List, [], ◌∷◌, ◌++◌, length, inl, inr, Some, None, Option, Result, Ok, Err, is_ok, refl, sym, ◌∙◌, ap, subst, arith, append-nil}
 use Rattle.std.proofs.Math.Nat.{div-add-mod', mul-mod_left}
 use Rattle.std.specs.Prelude.{if◌then◌else◌}
 use Rattle.std.specs.declared.io.Error.{Error as IoFault}
@@ -9,21 +9,19 @@ use Rattle.hound_medium.specs.{MediumState}
 use Rattle.hound_spec.specs.declared.spec.WavSpecEx.{WavSpecEx}
 use Rattle.hound_writer.specs.Beginning.{at_beginning}
 use Rattle.hound_writer.specs.Calls.{Begun, Known, marked, new_file, publish}
-use Rattle.hound_writer.specs.Effects.{Log, Performs, nth, pad_effects, size_effects}
+use Rattle.hound_writer.specs.Effects.{Log, Performs}
 use Rattle.hound_writer.specs.Machine.{EffectEnds, GivesUp, GoesOn, HasEnded, IsSaving, MaySave, TakesBlock, after_block, cuts_next, doubted, end_of, end_place, given_up}
 use Rattle.hound_writer.specs.Parts.{PutsAt}
-use Rattle.hound_writer.specs.Recorder.{BeginsRecorder, HasData, IsAlive, IsClear, NextEffect, advanced, effects_of, is_sound, length_with, recorder_of}
+use Rattle.hound_writer.specs.Recorder.{BeginsRecorder, HasData, IsAlive, IsClear, NextEffect, length_with, recorder_of}
 use Rattle.hound_writer.specs.Recording.{Directed, HasPlace, HasRoomTo, InStep, Opened, Resumed, block_known, cut_known, resumed_file}
 use Rattle.hound_writer.specs.Resuming.{ContinuesAfter, Resumes, ResumesAfter, kept_length, rest_follows, resumed_recorder}
 use Rattle.hound_writer.specs.declared.effects.Action.TheVariants.{Perform, WriteBlock}
 use Rattle.hound_writer.specs.declared.effects.Effect.{Effect}
-use Rattle.hound_writer.specs.declared.effects.Effect.TheVariants.{Sync}
 use Rattle.hound_writer.specs.declared.recorder.Health.TheVariants.{Suspect}
 use Rattle.hound_writer.specs.declared.recorder.Phase.{Phase}
 use Rattle.hound_writer.specs.declared.recorder.Phase.TheVariants.{Idle, Saving, Requested, Writing, Cleaning}
 use Rattle.hound_writer.specs.declared.recorder.Recorder.{Recorder}
 use Rattle.hound_writer.specs.declared.recorder.RecorderError.{RecorderError}
-use Rattle.hound_writer.specs.declared.recorder.RecorderError.TheVariants.{NotWritable, UnfinishedFrame, TooLong, Truncated, NeedsMend, NeedsOverwrite, NeedsCheckpoint, SyncFailed}
 use Rattle.hound_writer.specs.declared.resuming.FoundFile.{FoundFile}
 use Rattle.hound_writer.proofs.Directing.{at_none, readable_frames, step_block, step_cut, step_effect, step_new, step_resumed, step_save}
 
@@ -73,12 +71,7 @@ frames_of c k whole = (k / c, let all = div-add-mod' k c in omega (arith, all, w
 pub idle : (s : WavSpecEx) (file : Begun) (frames : ℕ) (r : Recorder) (m : MediumState) → InStep s file [] r true m
     → r.channels ≡ s.spec.channels → r.data_length ≡ frames * r.channels * r.bytes_per_sample
     → r.phase ≡ Idle → Directed s file [] r m
-idle s file frames r m d channels whole phase = record {
-  in_step = d;
-  channels = channels;
-  whole = (frames, whole);
-  block = rw phase tt;
-}
+idle s file frames r m d channels whole phase = grind (arith, common_steps)
 
 pub directing_new : (s : WavSpecEx) (old : MediumState) (log : Log) (r : Recorder) → Opened s old log.state
     → BeginsRecorder s (Ok r) → Directed s (new_file (at_beginning old)) [] r log.state
@@ -132,18 +125,7 @@ directing_resumed f samples mends overwrites old log r is resumes same =
 -- the next effect is one
 pub same_next : (r a b : Recorder) (effect : Option Effect) (next : Result (Option Effect) RecorderError)
     → NextEffect true r a (Ok effect) → NextEffect true r b next → (next ≡ Ok effect) × (b ≡ a)
-same_next r a b effect (Ok other) (low, so, has, at, is) (low2, so2, has2, at2, is2) =
-    let one : other ≡ effect = at2 ∙ sym at in
-    (ap Ok one, is2 ∙ ap (advanced r) one ∙ sym is)
-same_next r a b effect (Err SyncFailed) (low, so, has, at, is) (is2, inl dead) = absurd (low dead)
-same_next r a b effect (Err SyncFailed) (low, so, has, at, is) (is2, inr ((low2, some, bad), _)) = absurd (false≢true (sym bad))
-same_next r a b effect (Err NeedsCheckpoint) (low, so, has, at, is) (is2, (low2, some, bad), _) = absurd (false≢true (sym bad))
-same_next r a b effect (Err NotWritable) (low, so, has, at, is) (is2, low2, none) = grind (arith, common_steps)
-same_next r a b effect (Err TooLong) (low, so, has, at, is) (is2, low2, none) = grind (arith, common_steps)
-same_next r a b effect (Err UnfinishedFrame) (low, so, has, at, is) (is2, low2, none) = absurd none
-same_next r a b effect (Err Truncated) (low, so, has, at, is) (is2, low2, none) = absurd none
-same_next r a b effect (Err NeedsMend) (low, so, has, at, is) (is2, low2, none) = absurd none
-same_next r a b effect (Err NeedsOverwrite) (low, so, has, at, is) (is2, low2, none) = absurd none
+same_next r a b effect next given1 given2 = grind (arith, common_steps)
 
 -- the recorder's data
 abbrev IsAs : Recorder → Recorder → Type 0
@@ -153,16 +135,7 @@ IsAs a b = (a.data_length ≡ b.data_length) × (a.bytes_per_sample ≡ b.bytes_
 -- the calls for effects keep them
 keeps_data : (ok : Bool) (a b : Recorder) (next : Result (Option Effect) RecorderError) → NextEffect ok a b next
     → IsAs b a
-keeps_data ok a b (Ok None) (low, so, has, at, is) = rw is (refl, refl, refl)
-keeps_data ok a b (Ok (Some effect)) (low, so, has, at, is) = rw is (refl, refl, refl)
-keeps_data ok a b (Err SyncFailed) (is, _) = rw is (refl, refl, refl)
-keeps_data ok a b (Err NeedsCheckpoint) (is, _, _) = rw is (refl, refl, refl)
-keeps_data ok a b (Err NotWritable) (is, _, _) = rw is (refl, refl, refl)
-keeps_data ok a b (Err TooLong) (is, _, _) = rw is (refl, refl, refl)
-keeps_data ok a b (Err UnfinishedFrame) (is, _, _) = rw is (refl, refl, refl)
-keeps_data ok a b (Err Truncated) (is, _, _) = rw is (refl, refl, refl)
-keeps_data ok a b (Err NeedsMend) (is, _, _) = rw is (refl, refl, refl)
-keeps_data ok a b (Err NeedsOverwrite) (is, _, _) = rw is (refl, refl, refl)
+keeps_data ok a b next given = grind (arith, common_steps)
 
 -- the recorder has the same data, and does something else
 moved : (s : WavSpecEx) (file : Begun) (known more : List Known) (old r : Recorder) (m next : MediumState)
@@ -192,9 +165,7 @@ asks s file known r m samples d whole has = record {
   in_step = step_same s file known r m (Requested (length_with r samples)) r.has_rest d.in_step;
   channels = d.channels;
   whole = d.whole;
-  block =
-      let (frames, is) = frames_of r.channels samples whole in
-      (frames, ap (λ k. r.data_length + k * r.bytes_per_sample) is, has);
+  block = grind (arith, common_steps, frames_of);
 }
 
 -- what was under way was given up
@@ -213,11 +184,7 @@ gives_up s file known old m (Writing n) d is =
 
 -- nothing is under way then
 is_given_up : (phase : Phase) (r : Recorder) → record (given_up phase r) { phase = Idle } ≡ given_up phase r
-is_given_up Idle r = refl
-is_given_up Saving r = refl
-is_given_up Cleaning r = refl
-is_given_up (Requested n) r = refl
-is_given_up (Writing n) r = refl
+is_given_up phase r = grind (arith, common_steps)
 
 pub directing_asked : (s : WavSpecEx) (file : Begun) (known : List Known) (old end new : Recorder)
     (m : MediumState) (samples : ℕ) → Directed s file known old m → GivesUp old end
@@ -245,21 +212,8 @@ directing_saved s file known old new m d saving (inr (_, rest, r, next, is)) =
     rw is (moved s file known (known ++ marked publish true ∷ []) old r m m Idle r.has_rest d
     (step_save s file known old r true m d.in_step next) (keeps_data true old r (Ok None) next) tt)
 
--- a checkpoint has effects
-some_effect : (b : Bool) (at start n k : ℕ)
-    → None ≡ nth (if b then pad_effects at k ++ size_effects start n else Sync ∷ pad_effects at k ++ size_effects start n) 0
-    → ⊥
-some_effect true at start n zero none = cc
-some_effect true at start n (suc k) none = cc
-some_effect false at start n k none = cc
-
 some_done : (old r : Recorder) → NextEffect true old r (Ok None) → 0 < old.number
-some_done old r (low, so, has, none, is) = by old.number none
-  where
-    by : (k : ℕ) → None ≡ nth (effects_of old) k → 0 < k
-    by zero none = absurd (some_effect (is_sound old.health) (old.data_start + old.data_length) old.data_start
-        old.data_length (old.data_length % 2) none)
-    by (suc k) none = omega arith
+some_done old r given = grind (arith, common_steps)
 
 -- a block that has room begins below 2^64
 low_end : (n : ℕ) (r : Recorder) → HasRoomTo n r → end_place r ≡ end_of r
@@ -271,10 +225,7 @@ pub directing_handed : (s : WavSpecEx) (file : Begun) (known : List Known) (old 
     × (Directed s file known new m ⊎ ((0 < old.number) × Directed s file (known ++ marked publish true ∷ []) new m))
 directing_handed s file known old new m place len d (n, r, (rest, inl (writing, same)), (there, _, is)) =
     let (room, clear) = subst (λ phase. HasPlace phase old) writing d.block in
-    rw (is, same) (
-      there ∙ ap end_place same ∙ low_end n old room,
-      inl (moved s file known known old old m m (Writing n) old.has_rest d d.in_step (refl, refl, refl) (room, clear)),
-    )
+    grind (arith, common_steps, moved, low_end)
 directing_handed s file known old new m place len d (n, r, (rest, inr (inl (waiting, clear, same))), (there, _, is)) =
     let room = subst (λ phase. HasPlace phase old) waiting d.block in
     rw (is, same) (
@@ -315,27 +266,10 @@ directing_cut s file known old new m ok outcome d cuts (inr (inr (inr (inr (savi
     not_cut Cleaning never is = never
     not_cut (Writing n) never is = never
 
--- what a checkpoint needs is there
-no_failure : (s : WavSpecEx) (file : Begun) (known : List Known) (old new : Recorder) (m : MediumState)
-    (error : RecorderError) → InStep s file known old true m → IsAlive old
-    → NextEffect true old new (Err error) → ⊥
-no_failure s file known old new m SyncFailed d low (is, inl dead) = absurd (low dead)
-no_failure s file known old new m SyncFailed d low (is, inr ((_, _, bad), _)) = absurd (false≢true (sym bad))
-no_failure s file known old new m NeedsCheckpoint d low (is, (_, _, bad), _) = absurd (false≢true (sym bad))
-no_failure s file known old new m NotWritable d low (is, _, never) =
-    let sound = d.idle.sound in let fields = d.is in grind (arith, common_steps)
-no_failure s file known old new m TooLong d low (is, _, never) =
-    let sound = d.idle.sound in let none = d.idle.none in let fields = d.is in grind (arith, common_steps)
-no_failure s file known old new m UnfinishedFrame d low (is, _, never) = absurd never
-no_failure s file known old new m Truncated d low (is, _, never) = absurd never
-no_failure s file known old new m NeedsMend d low (is, _, never) = absurd never
-no_failure s file known old new m NeedsOverwrite d low (is, _, never) = absurd never
-
 pub directing_failed : (s : WavSpecEx) (file : Begun) (known : List Known) (old new : Recorder)
     (m : MediumState) (error : RecorderError) → Directed s file known old m → IsAlive old
     → GoesOn old new (Err error) → ⊥
-directing_failed s file known old new m error d low (saving, r, failed, _) =
-    no_failure s file known old r m error d.in_step low failed
+directing_failed s file known old new m error d low given = grind (arith, common_steps)
 
 -- an effect was performed and its end reported
 effect_ended : (s : WavSpecEx) (file : Begun) (known : List Known) (old new r : Recorder)
@@ -368,8 +302,7 @@ effect_ended s file known old new r m end effect (Err e) outcome d may next did 
 
 -- a phase that is one of a checkpoint is no other
 may_be : (r : Recorder) → IsSaving r → MaySave r.phase
-may_be r (rest, inl saving) = rw saving tt
-may_be r (rest, inr (n, waiting, first)) = rw waiting tt
+may_be r given = grind (arith, common_steps)
 
 pub directing_performed : (s : WavSpecEx) (file : Begun) (known : List Known) (old mid new : Recorder)
     (m : MediumState) (end : Log) (effect : Effect) (result : Result (Unit {0}) IoFault)

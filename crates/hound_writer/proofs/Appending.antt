@@ -1,6 +1,6 @@
 -- Appending to an existing file.
 use Rattle.std.proofs.lemmas.Grind.{common_steps}
-use Rattle.std.proofs.Common.{◌≡◌, ℕ, ◌+◌, ◌-◌, ◌≤◌, Bool, true, false, cond, List, [], drop, Option, Some, None, inl, inr, ◌⊎◌, Result, Ok, Err, MatchResult, refl, rules, sym, ◌∙◌, ap, subst, arith}
+use Rattle.std.proofs.Common.{◌≡◌, ℕ, ◌+◌, ◌-◌, ◌≤◌, List, [], drop, None, inl, inr, ◌⊎◌, Result, Ok, Err, MatchResult, refl, rules, sym, ◌∙◌, ap, subst, arith}
 use Rattle.hound_spec.specs.declared.error.Error.{Error}
 use Rattle.hound_spec.specs.declared.spec.WavSpecEx.{WavSpecEx}
 use Rattle.hound_medium.specs.{MediumState, Goes, WhereTells, one_more}
@@ -13,15 +13,9 @@ use Rattle.std.specs.declared.io.Error.{Error as IoFault}
 use Rattle.hound_writer.specs.Accepting.{IsIoError}
 use Rattle.hound_writer.specs.Parts.{of_fields, CountsAtMost}
 use Rattle.hound_writer.specs.Writer.{Ghosts, field, WriterState, IsSound, IsWhole}
-use Rattle.hound_writer.specs.Appending.{AppendFault, Appends, FollowsData, IsAppendFault, NamesFault, by_bytes, head_fault, IsNotAppended, PutsNothing}
+use Rattle.hound_writer.specs.Appending.{AppendFault, Appends, FollowsData, IsAppendFault, NamesFault, by_bytes, head_fault, IsNotAppended}
 use Rattle.hound_writer.proofs.Heads.{head_field}
 use Rattle.hound_writer.proofs.Samples.{counts_at, whole_written}
-
--- if a row of a table isn't met, the rows after it decide
-pub none_beyond : {A : Type 0} (b : Bool) (x : A) (rest : Option A) → cond b (Some x) rest ≡ None
-    → (b ≡ false) × (rest ≡ None)
-none_beyond true x rest e = cc
-none_beyond false x rest e = (refl, e)
 
 -- a head with no fault
 pub sound_head : {W : Type 0} (medium : W) (s : WavSpecEx) (len h : ℕ) → IsSoundHead s → 20 ≤ h
@@ -56,15 +50,6 @@ follows state medium s len h old sound after head check goes =
     counts_at state w sounds (whole_written state w refl sounds) (state medium).contents whole
     (at_most_on s len h old.contents (state medium).contents head goes.stays.contents) refl in
     search rules
-
--- a walk changes only the place and the faults
-pub walk_puts_nothing : (result : Result FileHead HeadError) (old new : MediumState)
-    → FindsData result old new → PutsNothing old new
-walk_puts_nothing result old new finds = search rules
-
--- two calls that put nothing, one after the other
-pub puts_nothing_then : (a b c : MediumState) → PutsNothing a b → PutsNothing b c → PutsNothing a c
-puts_nothing_then a b c first then = search rules
 
 -- a walk to the data that found a head, and then the result of a call that appends there
 appends_after : {W : Type 0} (kind : Ghosts W) (head : FileHead)

@@ -1,9 +1,10 @@
 -- Batches of samples of sixteen bits.
-use Rattle.std.proofs.Common.{◌≡◌, ℕ, ℤ, pos, negsuc, ◌*◌, ◌^◌, ◌&&◌, ◌≤◌, cond, List, [], ◌∷◌, ◌++◌, length, Option, None, Some, unwrap_or, Result, Ok, Err, IsOk, is_ok, FitsSigned, w16, refl, ◌∙◌, ap, arith, length-append, lt-ltb}
+use Rattle.std.proofs.lemmas.Grind.{common_steps}
+use Rattle.std.proofs.Common.{◌≡◌, ℕ, ℤ, ◌*◌, ◌≤◌, List, [], ◌∷◌, ◌++◌, length, Option, unwrap_or, Result, Ok, Err, IsOk, FitsSigned, w16, refl, ◌∙◌, arith, length-append}
 use Rattle.std.proofs.lemmas.List.{append-nil}
 use Rattle.hound_number.specs.{signed_bytes_of}
 use Rattle.hound_spec.specs.declared.error.Error.{Error}
-use Rattle.hound_sample.specs.{Rejection, int_bytes, int_container, too_wide, all_containers, bytes_in, joined_containers, contained, int_container-in_width}
+use Rattle.hound_sample.specs.{Rejection, int_container, all_containers, bytes_in, joined_containers, contained, int_container-in_width}
 use Rattle.hound_writer.specs.Accepting.{AcceptsBytes, Accepts, AreI16, containers_in, sample_bytes, i16_bytes}
 use Rattle.hound_writer.specs.Parts.{memory_bytes}
 use Rattle.hound_writer.specs.Writer.{Ghosts, WriterState}
@@ -21,18 +22,12 @@ length-i16_bytes (v ∷ values) =
 -- a number of sixteen bits has a container of them
 i16_ok : (v : ℤ) → FitsSigned w16 v → IsOk (int_container v 16 2)
 unfolding int_container
-i16_ok (pos n) fit =
-    ap (λ b. is_ok (cond b (Ok (int_bytes (pos n) 16 2)) (Err too_wide)))
-    (lt-ltb n (2 ^ 15) fit.sfits)
-i16_ok (negsuc n) fit =
-    ap (λ b. is_ok (cond b (Ok (int_bytes (negsuc n) 16 2)) (Err too_wide)))
-    (lt-ltb n (2 ^ 15) fit.sfits)
+i16_ok v fit = grind (arith, common_steps)
 
 -- and so have those after which it comes
 pub i16s_more : (values : List ℤ) (v : ℤ) → AreI16 values → FitsSigned w16 v
     → AreI16 (values ++ v ∷ [])
-i16s_more values v fits fit =
-    ok_append (λ v. int_container v 16 2) values v ∙ (λ i. fits i && i16_ok v fit i)
+i16s_more values v fits fit = grind (arith, common_steps, ok_append, i16_ok)
 
 bytes_of_i16 : (v : ℤ) (asked : Result (List ℕ) Rejection) → int_container v 16 2 ≡ asked
     → IsOk asked → bytes_in asked ≡ signed_bytes_of 2 v
@@ -70,7 +65,4 @@ batch_accepted kind answer a b values memory fits bits width accepts =
 pub kept_or_new : {V : Type 0} (items : V → List ℤ) (kept taken : Option V) (new memory : V)
     → taken ≡ kept → memory ≡ unwrap_or taken new → items new ≡ []
     → i16_bytes (items memory) ≡ memory_bytes items kept
-kept_or_new items kept None new memory same is empty =
-    ap (λ m. i16_bytes (items m)) is ∙ ap i16_bytes empty ∙ ap (memory_bytes items) same
-kept_or_new items kept (Some one) new memory same is empty =
-    ap (λ m. i16_bytes (items m)) is ∙ ap (memory_bytes items) same
+kept_or_new items kept taken new memory same is empty = grind (arith, common_steps)

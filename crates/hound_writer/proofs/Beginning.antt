@@ -20,14 +20,7 @@ field-header : (s : WavSpecEx) (p : ℕ) (rest : List ℕ) → p + 4 ≡ data_st
     → field p (header s 0 0 ++ rest) ≡ 0
 field-header s p rest at =
     let front = riff_tag ++ (bytes_of 4 0 ++ described s) in
-    let long : length front ≡ p =
-    omega (
-      arith,
-      at,
-      length-described s,
-      length-append riff_tag (bytes_of 4 0 ++ described s),
-      length-append (bytes_of 4 0) (described s),
-    ) in
+    let long : length front ≡ p = grind (arith, common_steps, length-append, described, length-described) in
     let whole : header s 0 0 ++ rest ≡ front ++ (bytes_of 4 0 ++ rest) =
     ap (λ l. l ++ rest) (header-parts s 0 0) ∙ append_assoc front (bytes_of 4 0) rest in
     ap (λ l. number (take 4 (drop p l))) whole

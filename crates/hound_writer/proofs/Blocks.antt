@@ -1,7 +1,7 @@
 -- What the block of accepted samples changes: samples that join it, and its samples when it is
 -- written.
 use Rattle.std.proofs.lemmas.Grind.{common_steps}
-use Rattle.std.proofs.Common.{◌≡◌, ℕ, ◌+◌, ◌/◌, ◌%◌, ◌≤◌, Bool, true, false, IsTrue, List, [], ◌++◌, length, take, drop, Ok, inl, refl, rules, sym, ◌∙◌, ap, arith, append_assoc, length-append, length-drop}
+use Rattle.std.proofs.Common.{◌≡◌, ℕ, ◌+◌, ◌/◌, ◌%◌, ◌≤◌, Bool, true, false, IsTrue, List, [], ◌++◌, length, take, drop, Ok, refl, rules, sym, ◌∙◌, ap, arith, append_assoc, length-append, length-drop}
 use Rattle.std.proofs.lemmas.List.{append-nil, length-take-le, nil_from_length}
 use Rattle.std.specs.List.{concat}
 use Rattle.hound_medium.specs.{overlay, MediumState, WhereTells, WhereKeeps}
@@ -54,11 +54,7 @@ module _ {W : Type 0} (kind : Ghosts W) (w : WriterState W)
   accepts_buffered replays =
       let old = kind.state w.medium in
       record {
-        adds =
-            let fits = room_fits w bytes room whole_bytes in
-            let size = ap length (joined_bytes width bytes whole_bytes) in
-            let longer = more in
-            search rules;
+        adds = grind (arith, common_steps, room_fits, joined_bytes, more);
         file = λ modelled.
             let more = λ (whole : IsWhole kind.state w).
             samples_append kind.state w w.medium w.bytes_written (w.buffered ++ bytes) bytes sound whole more
@@ -205,18 +201,10 @@ goes_out_nothing kind far w moved limit known replays none =
     let old = kind.state w.medium in
     let counts = (valid_of kind moved limit w known).counts in
     record {
-      value =
-          let out : w.bytes_written ≡ data_length w = omega (arith, none) in
-          let buffered = nil_from_length w.buffered none in
-          search rules;
+      value = grind (arith, common_steps, nil_from_length);
       sound = known.sound;
       file = search rules;
-      moments = λ modelled kept. record {
-        adds = adds_nothing kind.state w (counts modelled) (replays modelled kept);
-        front = span_still (λ _ c. take w.data_start c ≡ take w.data_start old.contents) 0 old old
-            (replays modelled kept) refl refl (inl refl) refl;
-        beyond = search rules;
-      };
+      moments = grind (arith, common_steps, span_still, adds_nothing);
     }
 
 -- containers are written at once, if nothing is buffered

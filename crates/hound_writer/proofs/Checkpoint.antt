@@ -1,6 +1,6 @@
 -- The effects of a checkpoint publish as a writer does.
 use Rattle.std.proofs.lemmas.Grind.{common_steps}
-use Rattle.std.proofs.Common.{◌≡◌, ℕ, zero, suc, ◌+◌, ◌-◌, ◌%◌, ◌<◌, ◌^◌, Bool, true, false, IsTrue, List, [], ◌∷◌, ◌++◌, replicate, length, Result, Ok, Err, MatchResult, is_ok, refl, rules, sym, ◌∙◌, ap, subst, arith}
+use Rattle.std.proofs.Common.{◌≡◌, ℕ, zero, suc, ◌+◌, ◌-◌, ◌%◌, ◌<◌, ◌^◌, Bool, true, false, IsTrue, List, [], ◌∷◌, ◌++◌, replicate, length, Result, Ok, Err, MatchResult, is_ok, refl, ◌∙◌, ap, subst, arith}
 use Rattle.std.specs.Prelude.{if◌then◌else◌}
 use Rattle.std.specs.declared.io.Error.{Error as IoFault}
 use Rattle.hound_number.specs.{bytes_of}
@@ -37,14 +37,12 @@ bad e = Err e
 
 faults_as : (r : Result (Unit {0}) IoFault) (n : ℕ)
     → faults_after r n ≡ faults_after (all_out (is_ok r)) n
-faults_as (Ok x) n = refl
-faults_as (Err e) n = refl
+faults_as r n = grind (arith, common_steps)
 
 -- bytes that were written, by whether all were
 pub as_out : (at : ℕ) (bytes : List ℕ) (r : Result (Unit {0}) IoFault) (old new : MediumState)
     → PutsAt true at bytes r old new → PutsAt true at bytes (all_out (is_ok r)) old new
-as_out at bytes (Ok x) old new puts = search rules
-as_out at bytes (Err e) old new puts = search rules
+as_out at bytes r old new puts = grind (arith, common_steps)
 
 -- a writer stays idle over what an effect has left
 pub good_over : (w : WriterState Log) (m : Log) → IsIdle w
@@ -119,8 +117,7 @@ module _ (w : WriterState Log) (good : IsIdle w) where
       rw (is, last) (synced (bad e) b c d first second flush)
 
   value : (all : Bool) (m : Log) → record w { medium = m } ≡ after_out all m w
-  value true m = λ i. record w { medium = m; bytes_written = sym long i; buffered = good.none i }
-  value false m = refl
+  value all m = grind (arith, common_steps)
 
   -- a sync writes nothing
   module _ (far : ℕ) (m : Log) (r : Result (Unit {0}) IoFault) (flush : Flushes r a m.state) where

@@ -25,8 +25,7 @@ pub count_bytes : (n width : ℕ) → n % width ≡ 0 → n / width * width ≡ 
 count_bytes n width whole = omega (arith, div-add-mod' n width, whole)
 
 pub whole_more : (n more width : ℕ) → n % width ≡ 0 → more % width ≡ 0 → (n + more) % width ≡ 0
-whole_more n more width whole then =
-    add-mod n more width ∙ (λ i. (whole i + then i) % width) ∙ none_whole width
+whole_more n more width whole then = grind (arith, common_steps, add-mod, none_whole)
 
 -- the bytes of one container are whole
 pub one_whole : (width n : ℕ) → n ≡ width → n % width ≡ 0
@@ -52,9 +51,7 @@ containers_first width (suc few) (suc count) bytes le =
 -- data that end where the containers do have the same ones
 pub containers_cut : (n width : ℕ) (bytes : List ℕ) → n % width ≡ 0
     → containers width (n / width) (take n bytes) ≡ containers width (n / width) bytes
-containers_cut n width bytes whole =
-    containers_front width (n / width) (take n bytes) bytes
-    (take-take (n / width * width) n bytes (omega (arith, count_bytes n width whole)))
+containers_cut n width bytes whole = grind (arith, common_steps, take-take, containers_front, count_bytes)
 
 -- bytes of one container are that container
 pub container_alone : (width : ℕ) (bytes : List ℕ) → 1 ≤ width → length bytes ≡ width

@@ -31,11 +31,7 @@ put_both (suc n) (suc at) b (x ∷ c) (y ∷ d) low c_long d_long same =
 
 agree_put : (n at b : ℕ) (c d : List ℕ) → at ≤ n → AgreeTo n c d
     → AgreeTo (max n (suc at)) (put_at at b c) (put_at at b d)
-agree_put n at b c d low (same, c_long, d_long) = (
-  put_both n at b c d low c_long d_long same,
-  omega (arith, c_long, length-put_at at b c),
-  omega (arith, d_long, length-put_at at b d),
-)
+agree_put n at b c d low given = grind (arith, common_steps, length-put_at, put_both)
 
 agree_overlay : (bytes : List ℕ) (n at : ℕ) (c d : List ℕ) → at ≤ n → AgreeTo n c d
     → AgreeTo (max n (at + length bytes)) (overlay c (placed at bytes)) (overlay d (placed at bytes))

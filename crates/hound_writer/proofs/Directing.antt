@@ -2,7 +2,7 @@
 use Rattle.std.proofs.lemmas.Grind.{common_steps}
 use Rattle.std.proofs.lemmas.Bool.{false≢true}
 use Rattle.std.proofs.Common.{◌≡◌, ℕ, zero, suc, ◌+◌, ◌*◌, ◌/◌, ◌%◌, ◌<◌, ◌≤◌, Bool, true, false, IsTrue, List, [], ◌∷◌, ◌++◌, length, drop, take, inl, inr, Some, None, Result, Ok, Err, is_ok, refl, rules, sym, ◌∙◌, ap, subst, arith}
-use Rattle.std.proofs.Math.Nat.{mul-div_cancel, mul-mod_left}
+use Rattle.std.proofs.Math.Nat.{mul-div_cancel}
 use Rattle.std.specs.Prelude.{if◌then◌else◌}
 use Rattle.std.specs.declared.io.Error.{Error as IoFault}
 use Rattle.hound_sample.specs.{containers}
@@ -58,9 +58,7 @@ reported_of (Ok x) false = Err UnfinishedSample
 
 is_reported : (r : Result (Unit {0}) IoFault) (frames : Bool)
     → IsPublishResult r frames (reported_of r frames) × (mark_of (reported_of r frames) ≡ is_ok r)
-is_reported (Err e) frames = (refl, refl)
-is_reported (Ok x) true = (refl, refl)
-is_reported (Ok x) false = (refl, refl)
+is_reported r frames = grind (arith, common_steps)
 
 is_zero : (n : ℕ) → (b : Bool) × (IsTrue b → n ≡ 0) × (n ≡ 0 → IsTrue b)
 is_zero zero = (true, (λ _. refl), (λ _. refl))
@@ -140,9 +138,7 @@ at_rest s file known r w recorded idle is none order = record {
 -- a block that the data have room for has it in the writer
 has_room : (r : Recorder) (w : WriterState Log) (n more : ℕ) → IsRecorderOf r w → w.buffered ≡ []
     → n ≡ r.data_length + more → HasData r n → HasRoom w more
-has_room r w n more is none long (far, wide, fits) =
-    let sum : n ≡ w.bytes_written + 0 + more = omega (arith, is.1, long) in
-    rw none (subst (λ (x : ℕ × ℕ). riff_size x.0 x.1 ≤ greatest_u32) (λ i. (is.0 i, sum i)) fits)
+has_room r w n more is none long given = grind (arith, common_steps)
 
 -- a new file that was begun, in the medium as it was at its beginning
 pub step_new : (s : WavSpecEx) (given : MediumState) (log : Log) → Opened s given log.state → IsWritable s
@@ -174,10 +170,7 @@ pub no_fault : (s : WavSpecEx) (samples start : ℕ) → 1 ≤ s.bytes_per_sampl
     → riff_size start (samples * s.bytes_per_sample) ≤ greatest_u32
     → head_fault s (samples * s.bytes_per_sample) start ≡ None
 unfolding head_fault
-no_fault s samples start wide frames pair fits =
-    let whole = mul-mod_left samples s.bytes_per_sample in
-    let count = mul-div_cancel samples wide in
-    grind (arith, common_steps)
+no_fault s samples start wide frames pair fits = grind (arith, common_steps)
 
 readable_length : (s : WavSpecEx) (samples start : ℕ) (contents : List ℕ)
     → (r : Readable contents s samples start) → r.len ≡ samples * s.bytes_per_sample
@@ -198,9 +191,7 @@ step_resumed f samples old log is enough (channels, pair, frames, (far, wide, fi
     let len = f.data_length in
     let counted : len ≡ samples * s.bytes_per_sample = is.counted in
     let w = of_fields log s start len [] [] in
-    let head : Head old.contents s len start =
-    subst (λ n. Head old.contents s n start)
-    (readable_length s samples start old.contents is.readable ∙ sym counted) is.readable.head in
+    let head : Head old.contents s len start = grind (arith, common_steps, readable_length) in
     let check : head_fault s len start ≡ None = rw counted (no_fault s samples start is.sound.1
     (readable_frames s samples start old.contents is.readable) pair (rw counted at fits)) in
     let after = head_beyond old.contents s len start head in
@@ -237,10 +228,7 @@ reported : (old new : Recorder) (w : WriterState Log) (end : Log) (n more : ℕ)
     → new ≡ (if is_ok result then record old { data_length = n } else record old { health = Suspect })
     → IsRecorderOf new (record w { medium = end; bytes_written = out_after result more w.bytes_written }) × (new.number ≡ 0)
     × (new.health ≡ Sound → w.data_start + w.bytes_written + more ≤ new.data_start + new.data_length)
-reported old new w end n more (Ok x) is none long same =
-    rw same ((is.0, omega (arith, is.1, long), is.2), none, λ _. omega (arith, is.0, is.1, long))
-reported old new w end n more (Err e) is none long same =
-    rw same ((is.0, is.1, is.2), none, λ clean. cc clean)
+reported old new w end n more result is none long same = grind (arith, common_steps)
 
 -- a block that was written where the recorder said, or a beginning of it
 pub step_block : (s : WavSpecEx) (file : Begun) (known : List Known) (old new : Recorder)
@@ -307,10 +295,7 @@ performed_all (one ∷ effects) (suc k) r first last all (m, Err e, done, end) =
 -- all were Ok so far
 all_ok : (r : Result (Unit {0}) IoFault) (effects : List Effect) (k : ℕ) (ok : Bool) (first last : Log)
     → (0 < k → is_ok r ≡ ok) → (0 < k → ok ≡ true) → Performed (take k effects) r first last → r ≡ Ok tt
-all_ok r effects zero ok first last is so did = did.0
-all_ok (Ok x) effects (suc k) ok first last is so did = refl
-all_ok (Err e) effects (suc k) ok first last is so did =
-    absurd (false≢true (is (omega arith) ∙ so (omega arith)))
+all_ok r effects k ok first last is so did = grind (arith, common_steps)
 
 -- an effect that the recorder returned was performed
 pub step_effect : (s : WavSpecEx) (file : Begun) (known : List Known) (old new : Recorder) (ok : Bool)
@@ -335,9 +320,7 @@ step_effect s file known old new ok m end effect result d (low, so, has, at, is)
     })
 
 pub sound_is : (health : Health) → is_sound health ≡ true → health ≡ Sound
-sound_is Sound is = refl
-sound_is Suspect is = absurd (false≢true is)
-sound_is Dead is = absurd (false≢true is)
+sound_is health is = grind (arith, common_steps)
 
 -- a checkpoint that has ended
 ended : (s : WavSpecEx) (file : Begun) (known : List Known) (old : Recorder) (ok : Bool) (m : MediumState)

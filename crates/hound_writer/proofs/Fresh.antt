@@ -48,16 +48,4 @@ module _ {W : Type 0} (kind : Ghosts W) (modelled : IsTrue kind.tells)
       rw (samples, spec) at (p.canonical whole begun) in
       let nothing : data_length first ≡ 0 =
       (λ i. b.none_out i + length (b.none_buffered i)) in
-      sym (take_all (length (canonical s list)) (kind.state end).contents
-      (omega (
-        arith,
-        p.reach,
-        a.reach,
-        f.reach,
-        ap length empty,
-        length-canonical s list,
-        accepts.adds.data_length,
-        accepts.adds.data_start,
-        nothing,
-        b.start,
-      ))) ∙ starts
+      grind (arith, common_steps, take_all, length-canonical)

@@ -73,9 +73,7 @@ module _ (old : List ℕ) (s : WavSpecEx) (len h : ℕ) (head : Head old s len h
       let z = take 4 (drop p new) ++ drop (p + 4) new in
       let j = joined head.chunks in
       let whole : new ≡ riff_tag ++ (take 4 (drop 4 new) ++ (wave_tag ++ (j ++ (data_tag ++ z)))) =
-      in_parts p new (omega (arith, head.place))
-      ∙ (λ i. (same_front ∙ begins) i ++ (take 4 (drop 4 new) ++ ((same_middle ∙ between) i ++ z)))
-      ∙ simp append_assoc in
+      grind (arith, common_steps, append_assoc, in_parts, begins, between) in
       record {
         chunks = head.chunks;
         size = take 4 (drop p new);

@@ -1,6 +1,6 @@
 -- A call that continues once the buffered samples are written.
 use Rattle.std.proofs.lemmas.Grind.{common_steps}
-use Rattle.std.proofs.Common.{◌≡◌, ℕ, ◌+◌, ◌-◌, ◌≤◌, ◌%◌, Bool, true, false, IsTrue, Result, Ok, Err, IfErr, List, length, take, drop, refl, rules, ap, subst, arith}
+use Rattle.std.proofs.Common.{◌≡◌, ℕ, ◌+◌, ◌-◌, ◌≤◌, ◌%◌, Bool, true, false, IsTrue, Result, Err, IfErr, List, length, take, drop, rules, ap, subst, arith}
 use Rattle.std.proofs.lemmas.List.{append-nil}
 use Rattle.std.specs.List.{concat}
 use Rattle.std.specs.declared.io.Error.{Error as IoFault}
@@ -84,11 +84,7 @@ module _ {W : Type 0} (kind : Ghosts W) (far : ℕ) (a : WriterState W)
       let end : data_end a ≤ data_end c =
       omega (arith, adds.data_start, adds.data_length, length_same) in
       record {
-        adds =
-            let answers = accept_as asked answer b a refl length_same adds.answers in
-            let rejected = not_rejected (c ≡ a) answer failed in
-            let same = length_same in
-            search rules;
+        adds = grind (arith, common_steps, not_rejected, accept_as, length_same);
         file = λ modelled.
             let f = out.file modelled in
             let g = accepts.file modelled in
@@ -119,8 +115,7 @@ accepts_cut kind far a b bytes e out room whole = grind (arith, common_steps, ro
 
 -- an error of the medium is an IoError
 pub kept_fails : (r : Result (Unit {0}) IoFault) → IfErr (as_error r) IsIoError
-kept_fails (Ok done) = tt
-kept_fails (Err fault) = tt
+kept_fails r = grind (arith, common_steps)
 
 -- bytes that reach no further than a place leave all the rest as it was
 pub goes_further : {W : Type 0} (kind : Ghosts W) (near far : ℕ)

@@ -19,13 +19,7 @@ pub all_accepted : {W : Type 0} (kind : Ghosts W)
     (asked : Result (List (List ℕ)) Rejection) (old new : WriterState W) → IsTrue kind.tells
     → IsWhole kind.state old → Accepts kind asked (Ok tt) old new
     → (list : List (List ℕ)) × (asked ≡ Ok list) × HasMore kind.state list old new
-all_accepted kind (Err rejection) old new modelled whole accepts = let h =
-    accepts.adds.answers in absurd (cc h)
-all_accepted kind (Ok list) old new modelled whole accepts = (
-  list,
-  refl,
-  record { samples = (accepts.file modelled).accepted whole; size = accepts.adds.data_length },
-)
+all_accepted kind asked old new modelled whole accepts = grind (arith, common_steps)
 
 module _ {V W : Type 0} (kind : Ghosts W)
     (container : V → ℕ → ℕ → Result (List ℕ) Rejection) (modelled : IsTrue kind.tells) where

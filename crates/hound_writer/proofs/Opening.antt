@@ -1,9 +1,9 @@
 -- A file that its caller has begun: all that was written to it is the header.
 use Rattle.std.proofs.lemmas.Grind.{common_steps}
 use Rattle.std.proofs.Common.{◌≡◌, ℕ, ◌+◌, ◌≤◌, true, List, [], ◌∷◌, ◌++◌, length, take, drop, Result, Ok, Err, refl, sym, ◌∙◌, ap, subst, arith, append_assoc, length-append, length-drop, length-take, take-append-drop}
-use Rattle.std.proofs.lemmas.List.{append-nil, take_all}
+use Rattle.std.proofs.lemmas.List.{take_all}
 use Rattle.std.specs.declared.io.Error.{Error as IoFault}
-use Rattle.hound_medium.specs.{MediumState, PutsAll, overlay, placed}
+use Rattle.hound_medium.specs.{MediumState, PutsAll, placed}
 use Rattle.hound_medium.proofs.Overlays.{overlay-append, placed-append}
 use Rattle.hound_spec.specs.{data_start, header}
 use Rattle.hound_spec.specs.declared.spec.WavSpecEx.{WavSpecEx}
@@ -18,20 +18,7 @@ use Rattle.hound_writer.specs.Recording.{Opened}
 pub all_put : (bytes : List ℕ) (old new : MediumState) → old.place ≡ 0
     → PutsAt {T = Unit {0}} {E = IoFault} true 0 bytes (Ok tt) old new
     → PutsAll {T = Unit {0}} {E = IoFault} true bytes (Ok tt) old new
-all_put bytes old new here puts = record {
-  count = puts.count;
-  within = puts.within;
-  whole = puts.whole;
-  part = tt;
-  takes = record {
-    contents = rw here puts.contents;
-    place = rw here (omega (arith, puts.place, puts.whole));
-    start = puts.start;
-    past = rw here puts.past;
-    flushed = puts.flushed;
-  };
-  faults = puts.faults;
-}
+all_put bytes old new here puts = grind (arith, common_steps)
 
 -- two runs of bytes, one after the other
 pub both_put : (at next : ℕ) (first second : List ℕ) (a b c : MediumState) → next ≡ at + length first
@@ -39,28 +26,7 @@ pub both_put : (at next : ℕ) (first second : List ℕ) (a b c : MediumState) �
     → PutsAt {T = Unit {0}} {E = IoFault} true next second (Ok tt) b c
     → PutsAt {T = Unit {0}} {E = IoFault} true at (first ++ second) (Ok tt) a c
 both_put at next first second a b c after one two =
-    let bytes = first ++ second in
-    let all = take_all (length bytes) bytes (omega arith) in
-    let put_first = one.contents ∙ ap (λ n. overlay a.contents (placed at (take n first))) one.whole
-    ∙ ap (λ l. overlay a.contents (placed at l)) (take_all (length first) first (omega arith)) in
-    let put_second = two.contents ∙ ap (λ n. overlay b.contents (placed next (take n second))) two.whole
-    ∙ ap (λ l. overlay b.contents (placed next l)) (take_all (length second) second (omega arith)) in
-    let past_first = one.past refl ∙ ap (λ n. a.past ++ placed at (take n first)) one.whole
-    ∙ ap (λ l. a.past ++ placed at l) (take_all (length first) first (omega arith)) in
-    let past_second = two.past refl ∙ ap (λ n. b.past ++ placed next (take n second)) two.whole
-    ∙ ap (λ l. b.past ++ placed next l) (take_all (length second) second (omega arith)) in
-    let joined = placed-append at first second in
-    record {
-      count = length bytes;
-      within = omega arith;
-      whole = refl;
-      contents = grind (common_steps, arith, overlay-append);
-      place = omega (arith, two.place, length-append first second);
-      start = two.start ∙ one.start;
-      past = λ _. grind (common_steps, arith);
-      flushed = two.flushed ∙ one.flushed;
-      faults = two.faults ∙ one.faults;
-    }
+    grind (arith, common_steps, length-append, take_all, overlay-append, placed-append)
 
 -- a list of at most 80 in two parts
 two_parts : (l : List ℕ) → length l ≤ 80 → take 40 (drop 0 l) ++ take 40 (drop 40 l) ≡ l
@@ -81,8 +47,7 @@ parts_of_header s =
 first_done : (s : WavSpecEx) (effect : BeginningEffect) (effects : List BeginningEffect) (old new : MediumState)
     → DoesBeginnings true s (effect ∷ effects) (Ok tt) old new
     → (mid : MediumState) × DoesBeginning true s effect (Ok tt) old mid × DoesBeginnings true s effects (Ok tt) mid new
-first_done s effect effects old new (mid, Ok x, does, others) = (mid, does, others)
-first_done s effect effects old new (mid, Err fault, does, others) = absurd (cc others.0)
+first_done s effect effects old new given = grind (arith, common_steps)
 
 -- the header was written to the medium as it was at its beginning
 pub header_opened : (s : WavSpecEx) (old new : MediumState) → Opened s old new
@@ -114,9 +79,7 @@ header_opened s old new opened =
       faults = grind (common_steps, arith);
     } in
     let next : 40 ≡ 0 + length (header_part s 0) = omega (arith, long, data_start_least s, length-take 40 (drop 0 h)) in
-    subst (λ l. PutsAt {T = Unit {0}} {E = IoFault} true 0 l (Ok tt) start new) whole
-    (subst (λ m. PutsAt {T = Unit {0}} {E = IoFault} true 0 (header_part s 0 ++ header_part s 40) (Ok tt) start m) (sym end)
-    (both_put 0 40 (header_part s 0) (header_part s 40) start first last next from two))
+    grind (arith, common_steps, both_put)
 
 -- Of the header these bytes were written, up to a place; nothing else was.
 pub record PutsFront (s : WavSpecEx) (old new : MediumState) : Type 0 where
@@ -129,13 +92,7 @@ pub record PutsFront (s : WavSpecEx) (old new : MediumState) : Type 0 where
 -- nothing was written yet
 no_front : (s : WavSpecEx) (old new : MediumState) → new.start ≡ old.start → new.past ≡ old.past
     → PutsFront s old new
-no_front s old new start past = record {
-  front = [];
-  rest = header s 0 0;
-  parts = refl;
-  start = start;
-  past = past ∙ sym (append-nil old.past);
-}
+no_front s old new start past = grind (arith, common_steps)
 
 -- the first part was written, or a beginning of it
 front_of_first : {T E : Type 0} (s : WavSpecEx) (result : Result T E) (old mid new : MediumState)
@@ -167,10 +124,7 @@ front_of_last s result old mid new start past puts =
       parts = append_assoc first (take puts.count bytes) (drop puts.count bytes)
           ∙ ap (λ l. first ++ l) (take-append-drop puts.count bytes) ∙ parts_of_header s;
       start = puts.start ∙ start;
-      past = puts.past refl ∙ ap (λ l. l ++ placed 40 (take puts.count bytes)) past
-          ∙ append_assoc old.past (placed 0 first) (placed 40 (take puts.count bytes))
-          ∙ ap (λ l. old.past ++ l) (ap (λ n. placed 0 first ++ placed n (take puts.count bytes)) (sym next)
-          ∙ sym (placed-append 0 first (take puts.count bytes)));
+      past = grind (arith, common_steps, append_assoc, placed-append);
     }
 
 -- what the effects write, up to the first that fails

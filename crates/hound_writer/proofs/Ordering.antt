@@ -1,6 +1,6 @@
 -- A recorder's file is written at ascending places only since it was synced.
 use Rattle.std.proofs.lemmas.Grind.{common_steps}
-use Rattle.std.proofs.Common.{◌≡◌, ℕ, zero, suc, ◌+◌, ◌%◌, ◌≤◌, Bool, true, false, List, [], ◌∷◌, ◌++◌, length, take, Result, Ok, Err, is_ok, refl, ◌∙◌, ap, subst, arith, length-take}
+use Rattle.std.proofs.Common.{◌≡◌, ℕ, zero, suc, ◌+◌, ◌≤◌, Bool, true, List, [], ◌∷◌, length, take, Result, Ok, Err, is_ok, refl, ◌∙◌, ap, subst, arith, length-take}
 use Rattle.std.specs.Prelude.{⊤, if◌then◌else◌}
 use Rattle.std.specs.declared.io.Error.{Error as IoFault}
 use Rattle.hound_spec.specs.{data_start, header}
@@ -9,7 +9,7 @@ use Rattle.hound_spec.proofs.HeaderLemmas.{length-header}
 use Rattle.hound_medium.specs.{MediumState}
 use Rattle.hound_durable.specs.{Ascends, IsBelow}
 use Rattle.hound_durable.proofs.Ascending.{ascends_more, below_more, length_put}
-use Rattle.hound_writer.specs.Effects.{Log, Performed, Performs, checkpoint, pad_effects, size_effects}
+use Rattle.hound_writer.specs.Effects.{Log, Performed, Performs, checkpoint}
 use Rattle.hound_writer.specs.Parts.{PutsAt}
 use Rattle.hound_writer.specs.Recording.{IsOrdered, IsSynced}
 use Rattle.hound_writer.proofs.Checkpoint.{fine}
@@ -79,18 +79,10 @@ all_ordered (effect ∷ effects) high end result old new (le, ordered) order (mi
     let (top, now, small) = effect_ordered effect high (Err e) old.state mid.state le order did in
     rw last (top, now, λ fine. let same = ap is_ok is in cc)
 
-checkpoint_ordered : (high start n odd : ℕ) → 20 ≤ start → high ≤ start + n
-    → Ordered high (pad_effects (start + n) odd ++ size_effects start n) (start + n)
-checkpoint_ordered high start n zero after le =
-    (tt, (omega arith, (omega (arith, after), (tt, omega arith))))
-checkpoint_ordered high start n (suc odd) after le =
-    (le, (tt, (omega arith, (omega (arith, after), (tt, omega arith)))))
-
 -- the effects of a recorder: after a failure a sync comes first
 pub effects_ordered : (clean : Bool) (start n high : ℕ) → 20 ≤ start → (clean ≡ true → high ≤ start + n)
     → Ordered high (if clean then checkpoint start n else Sync ∷ checkpoint start n) (start + n)
-effects_ordered true start n high after low = checkpoint_ordered high start n (n % 2) after (low refl)
-effects_ordered false start n high after low = (tt, checkpoint_ordered 0 start n (n % 2) after (omega arith))
+effects_ordered clean start n high after low = grind (arith, common_steps)
 
 -- and of those the first k
 pub taken_ordered : (effects : List Effect) (k high end : ℕ) → Ordered high effects end

@@ -88,8 +88,7 @@ patches_both keeps p size new r s answer a b c kept replays then has small first
     (riff_put keeps p size new r a b has first four fits) second in
     let bytes = take second.count (bytes_of 4 new) in
     let long : length c.past ≡ length b.past + second.count =
-    ap length (second.past kept) ∙ length_put b.past p bytes
-    ∙ ap (λ k. length b.past + k) (length-take-le second.count (bytes_of 4 new) second.within) in
+    grind (arith, common_steps, length-take-le, length_put) in
     record {
       split = length b.past;
       span = join (IsPatched p size a.contents new) (length b.past) a b c riff field;
@@ -98,9 +97,7 @@ patches_both keeps p size new r s answer a b c kept replays then has small first
           let added = first_added b.past c.past p bytes (second.past kept) in
           let few = second.within in
           search rules;
-      whole = on_ok_weaker answer
-          (λ ok. let four : second.count ≡ 4 = from_ok s ok second.whole in omega
-          (arith, long, four)) all;
+      whole = grind (arith, common_steps, on_ok_weaker, from_ok);
     }
 
 -- a patch, and then a call that writes nothing
@@ -143,8 +140,7 @@ publishes_at_each state w none sound at_most padded small end patched are_frames
     (at_most_patched w.spec_ex w.data_start w.bytes_written old c at_most j at.same at.field)
     (samples c at.same.beyond) in
     let beyond : (c : List ℕ) → drop (p + 4) c ≡ drop (p + 4) old
-    → drop (data_end w) c ≡ drop (data_end w) old =
-    λ c same. drop_later (p + 4) (data_end w) c old (omega (arith, start)) same in
+    → drop (data_end w) c ≡ drop (data_end w) old = grind (arith, common_steps, drop_later) in
     let half : (j : ℕ) (c : List ℕ) → IsPatched p (riff_size w.data_start w.bytes_written) old w.bytes_written j c → IsHalfPublished w old j c =
     λ j c at.
     let out = samples c at.same.beyond in
@@ -204,8 +200,7 @@ module _ {W : Type 0} (kind : Ghosts W) (w : WriterState W) (end : W)
     (PatchesAtEach (w.data_start - 4) (riff_size w.data_start w.bytes_written) w.bytes_written patched
     (kind.state w.medium) (kind.state end))) where
   frames : (IsTrue are_frames → AreFrames w) × (AreFrames w → IsTrue are_frames)
-  frames =
-      rw same at of_new
+  frames = grind (arith, common_steps)
 
   answers : IsPublishing outcome w
   answers = grind (arith, common_steps)

@@ -1,9 +1,8 @@
 -- The two sizes of a file, and what they leave.
 use Rattle.std.proofs.lemmas.Grind.{common_steps}
-use Rattle.std.proofs.Common.{◌≡◌, ℕ, ◌+◌, ◌^◌, ◌<◌, ◌≤◌, Bool, List, ◌++◌, length, take, drop, Result, Ok, Err, IsErr, OnOk, MatchResult, refl, subst, sym, ◌∙◌, ap, arith, append_assoc, length-append, length-drop, length-take}
-use Rattle.std.proofs.lemmas.Bool.{false≢true}
+use Rattle.std.proofs.Common.{◌≡◌, ℕ, ◌+◌, ◌^◌, ◌<◌, ◌≤◌, Bool, List, ◌++◌, length, take, drop, Result, Ok, Err, IsErr, OnOk, MatchResult, refl, subst, sym, ◌∙◌, ap, arith, length-append, length-drop, length-take}
 use Rattle.std.proofs.lemmas.List.{drop_at, length-take-le, take_all, take_at}
-use Rattle.hound_number.specs.{number, bytes_of, mix, AreBytes}
+use Rattle.hound_number.specs.{bytes_of, mix, AreBytes}
 use Rattle.hound_number.proofs.Mixing.{mix_none}
 use Rattle.hound_spec.proofs.FmtLemmas.{number-bytes_of}
 use Rattle.hound_medium.specs.{placed, overlay, MediumState, Flushes, faults_after, one_more}
@@ -24,8 +23,7 @@ with_bytes {T = T} {E = E} {keeps = keeps} {at = at} {r = r} {old = old} {new = 
 
 pub has_size : (p : ℕ) (contents : List ℕ) → 8 ≤ p → p + 4 ≤ length contents → AreBytes contents
     → HasSize p contents
-has_size p contents beyond inside small =
-    record { beyond = beyond; inside = inside; small = small }
+has_size p contents beyond inside small = grind (arith, common_steps)
 
 -- both sizes written, one after the other
 pub sizes_put : (p size data_length : ℕ) (c : List ℕ) → 8 ≤ p → p + 4 ≤ length c
@@ -112,9 +110,7 @@ module _ {T E : Type 0} (keeps : Bool) (p size new : ℕ) (r : Result T E) (a b 
 pub cut : {V F : Type 0} (p size data_length k : ℕ) (answer : Result V F) (a d : MediumState)
     → IsErr answer → k ≤ 4 → IsPatched p size a.contents data_length k d.contents
     → d.faults ≡ one_more a.faults → Patches p size data_length answer a d
-cut p size data_length k (Ok x) a d err le half faults = absurd (false≢true err)
-cut p size data_length k (Err e) a d err le half faults =
-    record { contents = tt; half = (k, le, half); flushed = tt; faults = faults }
+cut p size data_length k answer a d err le half faults = grind (arith, common_steps)
 
 -- a patch whose writes were Ok
 pub patched : {T E V F X Y : Type 0} (keeps : Bool) (p size data_length : ℕ) (r : Result T E)
@@ -127,15 +123,9 @@ pub patched : {T E V F X Y : Type 0} (keeps : Bool) (p size data_length : ℕ) (
 patched keeps p size data_length r s flush a b c d has small first second all_first
     all_second fits faults flushes =
     let one : b.contents ≡ overlay a.contents (placed 4 (bytes_of 4 size)) =
-    first.contents
-    ∙ ap (λ l. overlay a.contents (placed 4 l))
-    (take_all first.count (bytes_of 4 size) (omega (arith, all_first))) in
+    grind (arith, common_steps, take_all) in
     let both : c.contents ≡ with_sizes p size data_length a.contents =
-    second.contents
-    ∙ ap (λ l. overlay b.contents (placed p l))
-    (take_all second.count (bytes_of 4 data_length) (omega (arith, all_second)))
-    ∙ ap (λ l. overlay l (placed p (bytes_of 4 data_length))) one
-    ∙ sizes_put p size data_length a.contents has.beyond has.inside in
+    grind (arith, common_steps, take_all, sizes_put) in
     let same = flushes.stays.contents in
     record {
       contents = on_ok flush (same ∙ both);
@@ -176,8 +166,7 @@ module _ (p size data_length : ℕ) (c : List ℕ) (beyond : 8 ≤ p) (inside : 
       (take 4 c ++ (bytes_of 4 size ++ drop 8 (take p c))) ++
       (bytes_of 4 data_length ++ drop (p + 4) c)
   unfolding with_sizes
-  at_length =
-      simp append_assoc
+  at_length = grind (arith, common_steps)
 
   pub riff_size_of_sizes : size < 2 ^ 32 → field 4 (with_sizes p size data_length c) ≡ size
   unfolding with_sizes
@@ -188,5 +177,4 @@ module _ (p size data_length : ℕ) (c : List ℕ) (beyond : 8 ≤ p) (inside : 
 
   pub data_length_of_sizes : data_length < 2 ^ 32
       → field p (with_sizes p size data_length c) ≡ data_length
-  data_length_of_sizes small =
-      ap (λ l. number (take 4 l)) at_data ∙ number-bytes_of 4 data_length small
+  data_length_of_sizes small = grind (arith, common_steps, number-bytes_of, at_data)

@@ -103,10 +103,7 @@ module _ {W : Type 0} (kind : Ghosts W) (a : WriterState W) (m : W)
         half = half_out kind.state a out.sound small (kind.state m) around goes split (omega arith);
         puts = let later = longer kind.state a out.sound small (kind.state m) around goes in search rules;
         whole = tt;
-        old_or_new =
-            λ k from to outside.
-            inl (field_of kind.state a out.sound (moment (kind.state m).start (kind.state m).past k)
-            (goes.front.each k from to));
+        old_or_new = grind (arith, common_steps, field_of);
         padded =
             λ i k from to before later last. absurd (omega (arith, before, goes.beyond i from to));
         there =

@@ -42,12 +42,7 @@ module _ (s : WavSpecEx) (size length_before : ℕ) (start p : ℕ) (before : p 
       let front = (riff_tag ++ bytes_of 4 size) ++ described s in
       let whole : take start c ≡ front ++ bytes_of 4 length_before =
       begins ∙ header-parts s size length_before in
-      let long : length front ≡ p =
-      omega (
-        arith,
-        described_size,
-        length-append (riff_tag ++ bytes_of 4 size) (described s),
-      ) in
+      let long : length front ≡ p = grind (arith, common_steps, length-append, described, described_size) in
       ap (drop 8) (sym (take-take p start c (omega arith)) ∙ ap (take p) whole
       ∙ take_at front (bytes_of 4 length_before) p long)
 
@@ -55,11 +50,7 @@ module _ (s : WavSpecEx) (size length_before : ℕ) (start p : ℕ) (before : p 
       → with_sizes p n data_length c ≡ header s n data_length ++ drop start c
   unfolding with_sizes
   header_with n data_length =
-      (λ i. begins_with_riff i ++
-      (bytes_of 4 n ++ (goes_on_with_fmt i ++ (bytes_of 4 data_length ++ drop (before i) c))))
-      ∙ ap (λ l. riff_tag ++ (bytes_of 4 n ++ l))
-      (sym (append_assoc (described s) (bytes_of 4 data_length) (drop start c)))
-      ∙ ap (λ l. l ++ drop start c) (sym (header-parts s n data_length))
+      grind (arith, common_steps, append_assoc, described, header-parts, begins_with_riff, goes_on_with_fmt)
 
 -- this much data after a header with its sizes, and their pad byte, are the canonical file of its
 -- containers
@@ -74,13 +65,7 @@ canonical_begins s containers n start samples contents is_start enough joined pa
     let rest = drop (length (padding n)) (drop n samples) in
     let data_now = concat containers ++ padding (length (concat containers)) in
     let file : contents ≡ canonical s containers ++ rest =
-    cc (
-      size,
-      take-append-drop n samples,
-      take-append-drop (length (padding n)) (drop n samples),
-      append_assoc (concat containers) (padding n) rest,
-      append_assoc (header s (riff_size start n) n) data_now rest,
-    ) in
+    grind (arith, common_steps, append_assoc, take-append-drop) in
     ap (take (length (canonical s containers))) file
     ∙ take_at (canonical s containers) rest (length (canonical s containers)) refl
 
@@ -106,12 +91,8 @@ begun_still s start old new is_start beyond inside small same (size, length_befo
     ap (λ k. take k old) (sym (length-header s size length_before ∙ is_start)) ∙ begins in
     let whole : new ≡ header s r n ++ drop start old =
     sizes_of p old new (omega (arith, beyond)) (omega (arith, beyond, inside)) small same
-    ∙ header_with s size length_before start p (omega (arith, beyond)) is_start old front r n in (
-      r,
-      n,
-      ap (take (length (header s r n))) whole
-          ∙ take_at (header s r n) (drop start old) (length (header s r n)) refl,
-    )
+    ∙ header_with s size length_before start p (omega (arith, beyond)) is_start old front r n in
+    grind (arith, common_steps, take_at)
 
 -- if the data length counts all of some samples, which are whole frames, they are read back
 pub reads_all : (s : WavSpecEx) (start n : ℕ) (samples : List (List ℕ)) (contents : List ℕ)
@@ -186,30 +167,23 @@ module _ {W : Type 0} (state : W → MediumState) (w : WriterState W) (none : w.
       (state end).contents at_most patches.half.0 same half.field in
       let counts : IsWhole state w
       → Counts w.spec_ex w.data_start (accepted_samples state w) (state end).contents =
-      λ whole. counts_at state w sound (whole_written state w none sound)
-      (state end).contents whole still (ap (take w.bytes_written) samples) in
+      grind (arith, common_steps, counts_at, whole_written) in
       let beyond = drop_later w.data_start (data_end w) (state end).contents old (omega arith) samples in
       record {
-        faults =
-            reported_faults patched are_frames outcome (state w.medium).faults
-            (state end).faults is patches.faults;
+        faults = grind (arith, common_steps, reported_faults);
         front = search rules;
         bytes_written = λ _. ap (take w.bytes_written) samples;
         rest = drop_later (data_end w) (padded_end w) (state end).contents old (omega arith) beyond;
         grows = omega (arith, same.long);
         reach = omega (arith, same.long);
         counts = counts;
-        begun = λ (header, at).
-            begun_still w.spec_ex w.data_start old (state end).contents (sym at)
-            (omega (arith, sound.after_head)) long small same header;
+        begun = grind (arith, common_steps, begun_still);
         flushed = published _ patched are_frames outcome is patches.flushed;
         riff_says = published _ patched are_frames outcome is
             (on_ok_weaker patched riff_says patches.contents);
         length_says = published _ patched are_frames outcome is
             (on_ok_weaker patched (λ put. length_says put ∙ all) patches.contents);
-        stored = λ whole. published _ patched are_frames outcome is
-            (on_ok patched
-            ((λ i. take (sym all i) (samples i)) ∙ sym (concat-samples state w none sound)));
+        stored = grind (arith, common_steps, on_ok, published, concat-samples, all);
         padded = published _ patched are_frames outcome is (on_ok patched (rw beyond padded));
         read = λ whole. reported_ok _ patched are_frames outcome is
             (λ yes. on_ok_weaker patched

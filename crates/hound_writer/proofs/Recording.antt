@@ -1,6 +1,6 @@
 -- A list of calls and one more.
 use Rattle.std.proofs.lemmas.Grind.{common_steps}
-use Rattle.std.proofs.Common.{ℕ, MatchResult, Ok, Err, List, [], ◌∷◌, ◌++◌, ◌≡◌, length, Result, refl, rules, subst, ◌∙◌, ap, arith}
+use Rattle.std.proofs.Common.{ℕ, MatchResult, List, [], ◌∷◌, ◌++◌, ◌≡◌, length, Result, refl, rules, subst, ◌∙◌, ap, arith}
 use Rattle.std.specs.Prelude.{⊤}
 use Rattle.hound_spec.specs.declared.error.Error.{Error}
 use Rattle.hound_spec.specs.declared.spec.WavSpecEx.{WavSpecEx}
@@ -67,8 +67,7 @@ module _ {W : Type 0} (kind : Ghosts W) where
   -- the spec stays
   pub call_spec : (asked : Asked) (answer : Result (Unit {0}) Error) (a b : WriterState W)
       → Does kind asked answer a b → b.spec_ex ≡ a.spec_ex
-  call_spec (write containers) answer a b accepts = accepts.adds.spec_ex
-  call_spec publish answer a b does = does.samples.spec_ex
+  call_spec asked answer a b accepts = grind (arith, common_steps)
 
   pub lead_spec : (calls : List Call) (a b : WriterState W) → Lead kind calls a b
       → b.spec_ex ≡ a.spec_ex
@@ -79,8 +78,7 @@ module _ {W : Type 0} (kind : Ghosts W) where
 
   pub opens_spec : (s : WavSpecEx) (file : Begun) (first : WriterState W)
       → Opens kind s file first → first.spec_ex ≡ s
-  opens_spec s (new_file old) first opens = opens.begun.spec
-  opens_spec s (appended old start found) first opens = opens.spec_is
+  opens_spec s file first opens = grind (arith, common_steps)
 
   -- a flush or an end leaves its medium somewhere
   pub leaves : {at : ℕ} (answer : Result (Unit {0}) Error) (a b : WriterState W)
@@ -110,8 +108,7 @@ module _ {W : Type 0} (kind : Ghosts W) where
   pub recorded_spec : (s : WavSpecEx) (file : Begun) (known : List Known) (w : WriterState W)
       → Recorded kind s file known w → w.spec_ex ≡ s
   unfolding Recorded
-  recorded_spec s file known w r =
-      lead_spec r.calls r.first w r.lead ∙ opens_spec s file r.first r.opens
+  recorded_spec s file known w r = grind (arith, common_steps, lead_spec, opens_spec)
 
   -- one call for samples more, by their containers in a file of any spec
   pub recorded_write : (one : Asked → Known)
@@ -170,8 +167,7 @@ module _ {W : Type 0} (kind : Ghosts W) where
       → MatchResult r (λ w. WhereTells kind.tells (IsWhole kind.state w)
       → Recorded kind w.spec_ex
       (appended old w.data_start (accepted_samples kind.state w)) [] w) (λ _. ⊤)
-  recorded_appended Q old (Ok w) appends = recorded_append old w appends
-  recorded_appended Q old (Err e) appends = tt
+  recorded_appended Q old r appends = grind (arith, common_steps, recorded_append)
 
   -- an end, as the last of the calls
   pub left_by : (one : Known) (answer : Result (Unit {0}) Error) (s : WavSpecEx) (file : Begun)

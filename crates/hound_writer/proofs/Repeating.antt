@@ -1,7 +1,7 @@
 -- Bytes that are written again at their place change nothing.
 use Rattle.std.proofs.lemmas.Grind.{common_steps}
 use Rattle.std.proofs.lemmas.Bool.{cases_lt, false≢true}
-use Rattle.std.proofs.lemmas.List.{append-nil, take_all}
+use Rattle.std.proofs.lemmas.List.{take_all}
 use Rattle.std.proofs.Common.{◌≡◌, ℕ, zero, suc, ◌+◌, ◌-◌, ◌<◌, ◌≤◌, max, min, true, List, [], ◌∷◌, ◌++◌, length, drop, take, Result, Ok, Err, MatchResult, is_ok, refl, sym, ◌∙◌, ap, subst, arith, inl, inr, ◌⊎◌, append_assoc, length-append, length-take, take-append-drop}
 use Rattle.std.specs.Prelude.{OnOk}
 use Rattle.std.specs.declared.io.Error.{Error as IoFault}
@@ -64,8 +64,7 @@ overlay_again (b ∷ bytes) (suc n) (suc i) at c =
 -- of these bytes as many were written as of a beginning
 length_first : (at : ℕ) (bytes : List ℕ) (n : ℕ) (past : List (ℕ × ℕ)) → n ≤ length bytes
     → length (past ++ placed at (take n bytes)) ≡ length past + n
-length_first at bytes n past within =
-    omega (arith, length-append past (placed at (take n bytes)), length-placed at (take n bytes), length-take n bytes)
+length_first at bytes n past within = grind (arith, common_steps, length-append, length-take, length-placed)
 
 take_less : (i n : ℕ) (l : List ℕ) → i ≤ n → take i (take n l) ≡ take i l
 take_less i n l less = grind (arith, common_steps)
@@ -74,10 +73,7 @@ module _ (at : ℕ) (bytes : List ℕ) (m : MediumState) (replays : m.contents �
   -- the states of a medium after the first i of these bytes
   state_first : (n i : ℕ) → i ≤ n → n ≤ length bytes → let w = written_first at bytes n m in
       moment w.start w.past (length m.past + i) ≡ overlay m.contents (placed at (take i bytes))
-  state_first n i less within =
-      moment_after m.start m.past (placed at (take n bytes)) i
-      ∙ (λ k. overlay (sym replays k) (take-placed i at (take n bytes) k))
-      ∙ ap (λ l. overlay m.contents (placed at l)) (take_less i n bytes less)
+  state_first n i less within = grind (arith, common_steps, take-placed, moment_after, take_less)
 
   module _ (n : ℕ) (old new : MediumState) (within : n ≤ length bytes) (repeats : Repeats (written_first at bytes n m) old)
       (result : Result (Unit {0}) IoFault) (puts : PutsAt true at bytes result old new) where
@@ -302,16 +298,7 @@ repeats_more at bytes m n old new result within repeats puts =
 -- before anything is written
 pub repeats_begun : (at : ℕ) (bytes : List ℕ) (m again : MediumState) → Repeats m again
     → Repeats (written_first at bytes 0 m) again
-repeats_begun at bytes m again repeats = subst (λ past. Repeats (record m { past = past }) again) (sym (append-nil m.past)) (record {
-  state = repeats.state;
-  in_order = repeats.in_order;
-  within = repeats.within;
-  same = repeats.same;
-  last = repeats.last;
-  contents = repeats.contents;
-  flushed = repeats.flushed;
-  synced = repeats.synced;
-})
+repeats_begun at bytes m again repeats = grind (arith, common_steps)
 
 -- where each effect was performed once
 pub repeats_itself : (m : MediumState) → m.flushed ≤ length m.past → Repeats m m

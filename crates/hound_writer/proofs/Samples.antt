@@ -36,9 +36,6 @@ module _ {W : Type 0} (state : W → MediumState) (w : WriterState W) (sound : I
   abbrev wide : ℕ
   wide = w.spec_ex.bytes_per_sample
 
-  abbrev first : List ℕ
-  first = take w.bytes_written (drop w.data_start (state w.medium).contents)
-
   -- those in the medium, and the buffered ones
   pub samples_parts : IsWhole state w
       → accepted_samples state w ≡ containers w.spec_ex.bytes_per_sample
@@ -54,15 +51,9 @@ module _ {W : Type 0} (state : W → MediumState) (w : WriterState W) (sound : I
   counts_at c whole at_most same =
       let data_now = drop w.data_start (state w.medium).contents in
       let out_same : containers wide (w.bytes_written / wide) (drop w.data_start c)
-      ≡ containers wide (w.bytes_written / wide) data_now =
-      sym (containers_cut w.bytes_written wide (drop w.data_start c) whole_written)
-      ∙ ap (containers wide (w.bytes_written / wide)) same ∙ containers_cut w.bytes_written wide data_now whole_written in
+      ≡ containers wide (w.bytes_written / wide) data_now = grind (arith, common_steps, containers_cut) in
       let buffered = containers wide (length w.buffered / wide) w.buffered in
-      rw (samples_parts whole, ← out_same)
-      (counts_more w.spec_ex w.data_start
-      (containers wide (w.bytes_written / wide) (drop w.data_start c)) buffered c sound.width
-      (counts_at_most w.spec_ex w.data_start w.bytes_written c sound.width whole_written at_most.head
-      at_most.counted))
+      grind (arith, common_steps, counts_at_most, counts_more, samples_parts)
 
 -- a writer with an empty block
 module _ {W : Type 0} (state : W → MediumState) (w : WriterState W) (none : w.buffered ≡ []) where

@@ -141,8 +141,7 @@ stored_join start bytes a b c earlier later was begins past first then p len wit
     let sooner : length a.past ≤ length b.past =
     omega (arith, ap length was, length-append a.past earlier) in
     let same : (j : ℕ) → j ≤ length b.past
-    → moment b.start b.past j ≡ moment c.start c.past j =
-    λ j before. rw (begins, past) (sym (moment_before b.start b.past later j before)) in
+    → moment b.start b.past j ≡ moment c.start c.past j = grind (arith, common_steps, moment_before) in
     let late : (j : ℕ) → length b.past ≤ j → j ≤ m → P (moment c.start c.past j)
     → P (moment c.start c.past m) =
     λ j low high there. then p len within j m low high to there in

@@ -54,6 +54,4 @@ module _ {W : Type 0} (kind : Ghosts W) (moved : Bool) (limit : ℕ)
       (answer : Result (Unit {0}) Error) (new : WriterState W) → asked ≡ Ok bytes
       → length bytes ≡ w.spec_ex.bytes_per_sample → AcceptsBytes kind bytes answer w new
       → Accepts kind (one asked) answer w new
-  sample_accepts asked bytes answer new is size accepts =
-      rw is
-      (rw (container_alone w.spec_ex.bytes_per_sample bytes known.sound.width size) at accepts)
+  sample_accepts asked bytes answer new is size accepts = grind (arith, common_steps, container_alone)

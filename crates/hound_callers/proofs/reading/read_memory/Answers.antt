@@ -1,3 +1,4 @@
+use Rattle.std.proofs.lemmas.Grind.{common_steps}
 use Rattle.std.proofs.Common.{◌≡◌, ◌+◌, ◌*◌, ◌/◌, ◌<◌, ◌≤◌, ℕ, length, drop, min, Result, Ok, Err, IsErrAnd, inl, inr, sym, subst, arith, rules}
 use Rattle.std.proofs.Math.Nat.{le-div_iff_mul-le}
 use Rattle.std.proofs.lemmas.List.{length-drop, take_all, take_at}
@@ -14,9 +15,7 @@ passed_on P (Err r) e is holds = subst P (sym is) holds
 
 -- no more samples are requested than the bytes could hold, but one: so where all of them came, these are all
 all_came : (n size w count : ℕ) → 1 ≤ w → n ≡ min (size / w + 1) count → n * w ≤ size → n ≡ count
-all_came n size w count some is whole =
-    let fits : n ≤ size / w = (le-div_iff_mul-le some).1 whole in
-    omega (arith, is, fits)
+all_came n size w count some is whole = grind (arith, common_steps, le-div_iff_mul-le)
 
 pub returns-in_err-result-clause-err : goal.returns-in_err-result-clause-err
 returns-in_err-result-clause-err g c =
@@ -40,32 +39,4 @@ returns-in_err-result-clause-err g c =
     )))
 
 pub returns-clause-read : goal.returns-clause-read
-returns-clause-read g c =
-    let reader = c.in_ok-reader.reader in
-    let (start, readable, rest) = c.in_ok-reader.ensures.found in
-    let values = c.decode_samples.new.samples in
-    let count = c.decode_samples.result.0 in
-    let s = c.spec_ex-spec_ex.result in
-    let same : s ≡ reader.spec_ex = c.spec_ex-spec_ex.ensures in
-    let size : length values ≡ c.in_ok-samples.samples.len = search rules in
-    let asked : length values ≡ min (length c.args.bytes.now / s.bytes_per_sample + 1) reader.num_samples = search rules in
-    let done : count ≡ min (length values) (samples_left reader) =
-    subst (λ r. OnOk r (count ≡ min (length values) (samples_left reader))) c.in_ok-result.was
-    c.decode_samples.ensures.block.all in
-    let all : count ≡ length values = omega (arith, done, asked, c.in_ok-reader.ensures.fresh.0) in
-    let first : AreFirstSamples g.S.Decode.value reader.spec_ex (drop start c.args.bytes.now) values =
-    subst (λ bytes. AreFirstSamples g.S.Decode.value reader.spec_ex bytes values) rest
-    (subst (λ list. AreFirstSamples g.S.Decode.value reader.spec_ex reader.reader.now list)
-    (take_all count values (omega (arith, all))) c.decode_samples.ensures.samples) in
-    let came : length values ≡ reader.num_samples =
-    all_came (length values) (length c.args.bytes.now) reader.spec_ex.bytes_per_sample reader.num_samples
-    c.in_ok-reader.ensures.sound.0.1 (rw same at asked)
-    (omega (arith, first.0, length-drop start c.args.bytes.now)) in
-    let items = take_at values (drop (length values) c.in_ok-samples.samples.items) c.in_ok-samples.samples.len size in
-    subst (λ list. HasAllSamples g.S.Decode.value c.args.bytes.now s list) (sym items)
-    (subst (λ (spec : WavSpecEx). HasAllSamples g.S.Decode.value c.args.bytes.now spec values) (sym same)
-    (record {
-      start = start;
-      readable = subst (λ n. Readable c.args.bytes.now reader.spec_ex n start) (sym came) readable;
-      samples = first;
-    }))
+returns-clause-read g c = grind (arith, common_steps, length-drop, take_all, take_at, all_came)

@@ -1,12 +1,30 @@
+use Rattle.std.proofs.Common.{rules}
 use Rattle.std.proofs.lemmas.Grind.{common_steps}
-use Rattle.std.proofs.Common.{◌≡◌, ◌-◌, ◌*◌, ◌/◌, ◌∙◌, List, ℕ, false, ap, arith, inl, length, length-drop, refl, sym}
+use Rattle.std.proofs.Common.{◌≡◌, ◌-◌, ◌*◌, ◌/◌, ◌∙◌, List, ℕ, drop, false, ap, arith, inl, length, length-drop, refl, sym}
 use Rattle.std.specs.Borrow.{Bor}
 use Rattle.hound.proofs.Knowing.{head_inside}
-use Rattle.hound.specs.{FoundFile, IsSoundSpec, Readable, resumed_file}
+use Rattle.hound.specs.{FoundFile, IsSoundSpec, Readable, WavSpecEx, resumed_file}
 use Rattle.hound.specs.declared.RepairState.TheVariants.{HasChunksAfterData}
 use Rattle.hound_callers.proofs.Performing.{log_of, saves}
 use Rattle.hound_callers.proofs.Resuming.{kept_all, not_resumed, too_long}
 use Rattle.hound_callers.proofs.recorder.append_by_effects.Goals as goal
+
+-- what is known of the file whose samples a reader has left: it is read, from where its data begin
+read_here : (bytes left : List ℕ) (s t : WavSpecEx) (n samples h : ℕ) → t ≡ s → samples ≡ n
+    → Readable bytes s n h → left ≡ drop h bytes → Readable bytes t samples (length bytes - length left)
+read_here bytes left s t n samples h spec count readable is =
+    grind (arith, common_steps, length-drop, head_inside)
+
+-- that file, as it was found
+abbrev found_as : WavSpecEx → ℕ → ℕ → ℕ → ℕ → FoundFile
+found_as s start len size samples = record {
+  spec_ex = s;
+  data_start = start;
+  data_length = len;
+  length = size;
+  frames = samples / s.spec.channels;
+  state = HasChunksAfterData;
+}
 
 pub returns-in_default-clause-why : goal.returns-in_default-clause-why
 returns-in_default-clause-why g c =
@@ -15,12 +33,8 @@ returns-in_default-clause-why g c =
     let bytes = c.args.contents.now in
     let (h, readable, rest) = c.in_ok-reader.ensures.found in
     let start = length bytes - length c.into_inner.result.now in
-    let is : start ≡ h = omega (
-      arith,
-      head_inside bytes c.in_ok-reader.reader.spec_ex readable.len h readable.head,
-      ap (λ (x : Bor (List ℕ)). length x.now) c.into_inner.ensures ∙ ap length rest ∙ length-drop h bytes,
-    ) in
-    let here : Readable bytes s samples start = rw (c.spec_ex-spec_ex.ensures, c.len-samples.ensures, is) readable in
+    let here = read_here bytes c.into_inner.result.now _ s _ samples h c.spec_ex-spec_ex.ensures
+    c.len-samples.ensures readable (ap (λ (x : Bor (List ℕ)). x.now) c.into_inner.ensures ∙ rest) in
     let why = c.in_default.ensures in
     inl (too_long s bytes samples start 0 here (omega (arith, why)))
 
@@ -31,20 +45,9 @@ returns-in-Err-clause-why g c =
     let bytes = c.args.contents.now in
     let (h, readable, rest) = c.in_ok-reader.ensures.found in
     let start = length bytes - length c.into_inner.result.now in
-    let is : start ≡ h = omega (
-      arith,
-      head_inside bytes c.in_ok-reader.reader.spec_ex readable.len h readable.head,
-      ap (λ (x : Bor (List ℕ)). length x.now) c.into_inner.ensures ∙ ap length rest ∙ length-drop h bytes,
-    ) in
-    let here : Readable bytes s samples start = rw (c.spec_ex-spec_ex.ensures, c.len-samples.ensures, is) readable in
-    let f : FoundFile = record {
-      spec_ex = s;
-      data_start = start;
-      data_length = c.in-Some.data_length;
-      length = length bytes;
-      frames = samples / s.spec.channels;
-      state = HasChunksAfterData;
-    } in
+    let here = read_here bytes c.into_inner.result.now _ s _ samples h c.spec_ex-spec_ex.ensures
+    c.len-samples.ensures readable (ap (λ (x : Bor (List ℕ)). x.now) c.into_inner.ensures ∙ rest) in
+    let f = found_as s start c.in-Some.data_length (length bytes) samples in
     let sound : IsSoundSpec s = rw c.spec_ex-spec_ex.ensures c.in_ok-reader.ensures.sound.0 in
     let counted : f.data_length ≡ samples * s.bytes_per_sample = grind (arith, common_steps) in
     inl (not_resumed f bytes samples c.in-Err.error c.error_of.result here counted refl refl refl sound.0 sound.1 c.in-Err.ensures.resumes
@@ -60,20 +63,9 @@ returns-clause-saved g c tells keeps =
     let bytes = c.args.contents.now in
     let (h, readable, rest) = c.in_ok-reader.ensures.found in
     let start = length bytes - length c.into_inner.result.now in
-    let is : start ≡ h = omega (
-      arith,
-      head_inside bytes c.in_ok-reader.reader.spec_ex readable.len h readable.head,
-      ap (λ (x : Bor (List ℕ)). length x.now) c.into_inner.ensures ∙ ap length rest ∙ length-drop h bytes,
-    ) in
-    let here : Readable bytes s samples start = rw (c.spec_ex-spec_ex.ensures, c.len-samples.ensures, is) readable in
-    let f : FoundFile = record {
-      spec_ex = s;
-      data_start = start;
-      data_length = c.in-Some.data_length;
-      length = length bytes;
-      frames = samples / s.spec.channels;
-      state = HasChunksAfterData;
-    } in
+    let here = read_here bytes c.into_inner.result.now _ s _ samples h c.spec_ex-spec_ex.ensures
+    c.len-samples.ensures readable (ap (λ (x : Bor (List ℕ)). x.now) c.into_inner.ensures ∙ rest) in
+    let f = found_as s start c.in-Some.data_length (length bytes) samples in
     let sound : IsSoundSpec s = rw c.spec_ex-spec_ex.ensures c.in_ok-reader.ensures.sound.0 in
     let counted : f.data_length ≡ samples * s.bytes_per_sample = grind (arith, common_steps) in
     let size : c.in-Ok.resumed.data_length ≡ f.data_length = kept_all f c.in-Ok.resumed refl c.in-Ok.ensures.resumes in

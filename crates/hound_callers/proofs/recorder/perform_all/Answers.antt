@@ -1,3 +1,5 @@
+use Rattle.std.proofs.lemmas.Grind.{common_steps}
+use Rattle.std.proofs.Common.{rules}
 use Rattle.std.proofs.Common.{None, Ok, Some, ap, arith, inl, length, refl, subst, sym}
 use Rattle.std.specs.Prelude.{⊤}
 use Rattle.hound.specs.{Advances, Recorder, Repeats, actions_left}
@@ -91,12 +93,7 @@ loop-action-smaller g c =
     (λ kept. not_at_rest c.perform-report.result (c.perform-report.ensures.ended kept))
 
 pub returns-clause-done : goal.returns-clause-done
-returns-clause-done g c =
-    let asked = c.args.recorder.now in
-    let (over, within) = c.loop-action.invariant.within in
-    (next_none asked (length c.args.block.now) c.requires.asked c.loop-action.report
-    (λ _ _. ⊤) (λ _ _. ⊤) (λ _. ⊤) (no_laws asked c.loop-action.report) c.loop-action.recorder c.next.new.self over
-    within tt c.loop-action.invariant.action (rw c.in_default.is at c.in_ok-action.ensures)).0
+returns-clause-done g c = grind (arith, common_steps, next_none, no_laws)
 
 pub returns-clause-directed : goal.returns-clause-directed
 returns-clause-directed g c tells keeps s file known d =

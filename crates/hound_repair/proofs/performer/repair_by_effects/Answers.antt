@@ -1,4 +1,6 @@
-use Rattle.std.proofs.Common.{inl, inr, sym, subst}
+use Rattle.std.proofs.lemmas.Grind.{common_steps}
+use Rattle.std.proofs.Common.{arith}
+use Rattle.std.proofs.Common.{inl, sym, subst}
 use Rattle.hound_repair.specs.Steps.{looks_for_chunks}
 use Rattle.hound_repair.specs.Repairing.{Repairs}
 use Rattle.hound_repair.proofs.ByEffects.{as_mended, done_by, lost_by, moments_by, not_by, stopped_by}
@@ -49,14 +51,7 @@ returns-in-Ok-perform_all-clause-performed g c modelled = (
 )
 
 pub returns-in-Err-perform_all-clause-performed : goal.returns-in-Err-perform_all-clause-performed
-returns-in-Err-perform_all-clause-performed g c modelled = inr (
-  c.in-Ok.damage,
-  g.M.Placed.state c.look_by_parts.new.source,
-  c.in-Err-perform_all.error,
-  c.in-Ok.ensures.sound,
-  c.in-Ok.ensures.finds modelled,
-  as_mended _ c.in-Ok.damage c.args.task _ _ _ c.requires (c.in-Err-perform_all.ensures modelled),
-)
+returns-in-Err-perform_all-clause-performed g c modelled = grind (arith, common_steps, as_mended)
 
 pub returns-in-Err-clause-lost : goal.returns-in-Err-clause-lost
 returns-in-Err-clause-lost g c modelled kept = λ sector left settled wide lost.

@@ -1,26 +1,14 @@
 use Rattle.std.proofs.lemmas.Result.{err_from_is_err_and}
 use Rattle.std.proofs.lemmas.Grind.{common_steps}
-use Rattle.std.proofs.Common.{◌<◌, ◌≤◌, ◌-◌, ◌^◌, ◌≡◌, Err, Some, sym, subst, arith, rules}
+use Rattle.std.proofs.Common.{◌<◌, ◌≤◌, ◌-◌, ◌^◌, subst, arith, rules}
 use Rattle.hound_writer.proofs.Heads.{head_inside}
 use Rattle.hound_repair.specs.Damages.{shown_of}
-use Rattle.hound_repair.specs.Held.{held, shown_length}
-use Rattle.hound_repair.specs.Repairing.{HasUnfitHead, size_fault}
-use Rattle.hound_repair.specs.Steps.{MeasuresTo}
-use Rattle.hound_repair.specs.declared.stages.Rejection.TheVariants.{TooLong}
-use Rattle.hound_writer.specs.{too_long}
 use Rattle.hound_repair.proofs.Measuring.{not_written, written}
 use Rattle.hound_repair.proofs.Stepping.{counts_serve, sizes_rejected}
 use Rattle.hound_repair.proofs.stages.measured.Goals as goal
 
 pub returns-then-not-is_pair-clause-measures : goal.returns-then-not-is_pair-clause-measures
-returns-then-not-is_pair-clause-measures c = λ file size head shown.
-    let h = c.args.head in (
-      h.spec_ex,
-      h.data_length,
-      h.data_start,
-      head,
-      not_written h.spec_ex (shown_length h.data_start h.data_length file) h.data_start (held h.data_start file) (search rules),
-    )
+returns-then-not-is_pair-clause-measures c = grind (arith, common_steps, not_written)
 
 pub returns-clause-measures : goal.returns-clause-measures
 returns-clause-measures c = λ file size head shown.
@@ -33,23 +21,5 @@ returns-clause-measures c = λ file size head shown.
     grind (arith, common_steps, serves, written)
 
 pub returns-in_err-sizes-clause-measures : goal.returns-in_err-sizes-clause-measures
-returns-in_err-sizes-clause-measures c = λ file size head shown.
-    let h = c.args.head in
-    let s = h.spec_ex in
-    let small : h.data_length < 2 ^ 32 = search rules in
-    let few : shown_of h ≤ 2 ^ 32 = subst (λ k. k ≤ 2 ^ 32) c.shown.ensures.is c.shown.ensures.small in
-    let serves = counts_serve s h c.args.size file c.requires.sound.0 small c.requires.sound.1.0 size
-    (head_inside file s h.data_length h.data_start head) (omega arith) shown few in
-    let fits = subst (λ k. size_fault s k h.data_start (c.min-size.result - h.data_start) ≡ Some too_long) c.shown.ensures.is
-    (let over : size_fault s c.shown.result h.data_start (c.min-size.result - h.data_start) ≡ Some too_long = grind (arith, common_steps) in over) in
-    let unfit : HasUnfitHead file too_long = (
-      s,
-      h.data_length,
-      h.data_start,
-      head,
-      sizes_rejected s (shown_of h) (shown_length h.data_start h.data_length file) h.data_start
-          (held h.data_start file) (c.min-size.result - h.data_start) fits
-          (grind (arith, common_steps, serves)) (search rules),
-    ) in
-    let is : c.from_residual.result ≡ Err TooLong = grind (arith, common_steps, err_from_is_err_and) in
-    subst (MeasuresTo file) (sym is) unfit
+returns-in_err-sizes-clause-measures c =
+    grind (arith, common_steps, err_from_is_err_and, head_inside, counts_serve, sizes_rejected)

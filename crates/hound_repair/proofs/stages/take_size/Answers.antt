@@ -1,8 +1,5 @@
 use Rattle.std.proofs.lemmas.Grind.{common_steps}
-use Rattle.std.proofs.Common.{Ok, ◌≡◌, subst, sym, arith}
-use Rattle.hound_repair.specs.Steps.{LooksTo, looks_for_chunks}
-use Rattle.hound_repair.specs.declared.stages.LookStep.TheVariants.{Found}
-use Rattle.hound_repair.specs.declared.stages.Task.TheVariants.{RepairToEnd}
+use Rattle.std.proofs.Common.{arith}
 use Rattle.hound_repair.proofs.Stepping.{found_wrong, not_whole}
 use Rattle.hound_repair.proofs.stages.take_size.Goals as goal
 
@@ -10,10 +7,7 @@ pub returns-then-damage-sizes-clause-nearer : goal.returns-then-damage-sizes-cla
 returns-then-damage-sizes-clause-nearer c = λ n inside. c.found_as.ensures.nearer n _
 
 pub returns-then-eq-clause-leads : goal.returns-then-eq-clause-leads
-returns-then-eq-clause-leads c = λ file m is.
-    let task : c.args.task ≡ RepairToEnd = grind (arith, common_steps) in
-    subst (λ t. LooksTo (looks_for_chunks t) file (Ok (Found c.args.damage))) (sym task)
-    (found_wrong file c.args.damage c.requires.sound m (λ riff len. grind (arith, common_steps, riff, len, is)))
+returns-then-eq-clause-leads c = grind (arith, common_steps, found_wrong)
 
 pub returns-clause-leads : goal.returns-clause-leads
 returns-clause-leads c = λ file m is.

@@ -1,14 +1,10 @@
-use Rattle.std.proofs.Common.{◌∙◌, rules}
+use Rattle.std.proofs.lemmas.Grind.{common_steps}
+use Rattle.std.proofs.Common.{arith}
 use Rattle.hound_repair.proofs.Stepping.{found_followed, found_unfollowed, tag_decides}
 use Rattle.hound_repair.proofs.stages.take_tag.Goals as goal
 
 pub returns-then-eq-clause-leads : goal.returns-then-eq-clause-leads
-returns-then-eq-clause-leads c = λ looks file m at is.
-    let tag = tag_decides file c.args.bytes.now c.args.damage.head at.1 is in
-    c.found_as.ensures.leads looks file m
-    (found_followed looks file c.args.damage.head at.0.0 (at.0.1 ∙ tag ∙ search rules))
+returns-then-eq-clause-leads c = grind (arith, common_steps, found_followed, tag_decides)
 
 pub returns-clause-leads : goal.returns-clause-leads
-returns-clause-leads c = λ looks file m at is.
-    let tag = tag_decides file c.args.bytes.now c.args.damage.head at.1 is in
-    found_unfollowed looks file c.args.damage m at.0.0 (at.0.1 ∙ tag ∙ search rules)
+returns-clause-leads c = grind (arith, common_steps, found_unfollowed, tag_decides)
