@@ -24,13 +24,43 @@ pub fn read_wave_header<R: Read>(reader: &mut R) -> Result<u64> {
     Ok(u64::from(u32::from_le_bytes(size)) + u64::from(length - u32::from_le_bytes(of_other)))
 }
 
-/// The next header, which the buffer of a reader may have as a whole.
+/// The next header. The buffer of a reader may have it as a whole; else it is read part by part.
 pub(crate) fn read_header<R: BufRead>(reader: &mut R) -> Result<proved::Info> {
     if let Ok(info) = proved::info(reader.fill_buf()?) {
         reader.consume(info.data_start as usize);
         return Ok(info);
     }
-    Ok(proved::Walk::over(reader)??)
+    let (mut walk, mut place) = (proved::Walk::new(), 0);
+    loop {
+        match walk.next()? {
+            Next::Effect(part) => read_part(reader, part, &mut place)?,
+            Next::Done(info) => return Ok(info),
+        }
+    }
+}
+
+// Reads a part of a header from the buffers of a reader, and takes what is before it.
+fn read_part<R: BufRead>(reader: &mut R, part: &mut proved::Effect, place: &mut u64) -> io::Result<()> {
+    if part.kind() != proved::Kind::Read {
+        part.failed();
+        return Ok(());
+    }
+    let mut count = 0;
+    while count < part.length() {
+        let bytes = reader.fill_buf()?;
+        if bytes.is_empty() {
+            break;
+        }
+        let begin = bytes.len().min(part.place().saturating_sub(*place) as usize);
+        let read = &bytes[begin..bytes.len().min(begin + part.length() - count)];
+        part.bytes_mut()[count..count + read.len()].copy_from_slice(read);
+        count += read.len();
+        let taken = begin + read.len();
+        reader.consume(taken);
+        *place += taken as u64;
+    }
+    part.read(count);
+    Ok(())
 }
 
 /// Reads the samples of a file. It takes no byte after the samples that were asked for.
@@ -49,6 +79,8 @@ pub struct WavReader<R> {
     ahead: Vec<i32>,
     first_ahead: u64,
     most_ahead: usize,
+    // Why a type, by its format and size, doesn't read these samples, once one was asked for.
+    rejection: Option<(SampleFormat, usize, proved::Error)>,
     // Up to which number floats, and integers, are read one by one: to the end, or none where the source has bytes.
     single_until: [u64; 2],
 }
@@ -76,6 +108,7 @@ impl<R: Read> WavReader<R> {
             ahead: Vec::new(),
             first_ahead: 0,
             most_ahead: 1,
+            rejection: None,
             single_until: [0; 2],
         };
         reader.put_back();
@@ -212,6 +245,9 @@ impl<R: Read> WavReader<R> {
         if let Some(sample) = self.next_ahead() {
             return Some(Ok(sample));
         }
+        if let Some(error) = self.next_rejected::<S>() {
+            return Some(Err(error.into()));
+        }
         let item = self.next_slowly()?; // by a way of its own, so that the others keep their items in registers
         Some(item)
     }
@@ -222,6 +258,19 @@ impl<R: Read> WavReader<R> {
         let (coding, sample) = (self.coding::<S>()?, *self.ahead.get(self.given())?);
         self.samples_read += 1;
         Some((coding.from)(sample))
+    }
+
+    // Why this type doesn't read the next sample, if that is known. It takes no byte.
+    #[inline(always)]
+    fn next_rejected<S: Sample>(&mut self) -> Option<proved::Error> {
+        let (format, size, error) = self.rejection?;
+        let is_next = self.samples_read < self.num_samples && self.ahead.is_empty();
+        if !is_next || S::__HOUND_CODING?.format != format || mem::size_of::<S>() != size {
+            return None;
+        }
+        self.samples_read += 1;
+        self.not_taken += i64::from(self.bytes_per_sample);
+        Some(error)
     }
 
     // The end, an error, or a sample that has to be fetched first.
@@ -258,6 +307,10 @@ impl<R: Read> WavReader<R> {
         let sample = S::read(&mut counting, self.spec.sample_format, self.bytes_per_sample, self.spec.bits_per_sample);
         self.samples_read += 1;
         self.not_taken += i64::from(self.bytes_per_sample) - counting.count;
+        if let (Some(coding), None) = (S::__HOUND_CODING, self.coding::<S>()) {
+            let error = (coding.decode)(&self.containers(), &[], &mut []).err();
+            self.rejection = error.map(|error| (coding.format, mem::size_of::<S>(), error));
+        }
         Some(sample)
     }
 
@@ -323,7 +376,9 @@ impl<R: Read> WavReader<R> {
 
     fn fold_samples<S: Sample, B, F: FnMut(B, Result<S>) -> B>(&mut self, mut value: B, mut f: F) -> B {
         loop {
-            self.read_ahead::<S>(BLOCK);
+            if self.left() >= SHORTEST_BLOCK {
+                self.read_ahead::<S>(BLOCK);
+            }
             let given = self.given();
             match self.coding::<S>() {
                 Some(coding) if given < self.ahead.len() => {
@@ -332,7 +387,7 @@ impl<R: Read> WavReader<R> {
                         value = f(value, Ok((coding.from)(*sample)));
                     }
                 }
-                _ => match self.next_by_type() {
+                _ => match self.next_sample() {
                     Some(item) => value = f(value, item),
                     None => return value,
                 },

@@ -100,15 +100,19 @@ fn unwritten<S: proved::Coded>(spec: &proved::Spec) -> Error {
 /// Writes the container of an integer, or of a float that is given as the integer of its bits.
 #[inline(always)]
 fn write_container<S: proved::Coded, W: io::Write>(value: i32, writer: &mut W, spec: &proved::Spec) -> Result<()> {
-    let (number, width) = match Container::of(spec) {
-        Some(Container::Int16) => (proved::container_16(value), 2),
-        Some(Container::Int24) => (proved::container_24(value), 3),
-        Some(Container::Int32 | Container::Float) => (proved::container_32(value), 4),
-        Some(Container::Int8) => (proved::container_8(value), 1),
-        Some(Container::Int24In4) => (proved::container_24(value), 4),
-        None => return Err(unwritten::<S>(spec)),
-    };
-    Ok(writer.write_all(&number?.to_le_bytes()[..width])?)
+    match Container::of(spec) {
+        Some(Container::Int16) => write_number::<2, W>(writer, proved::container_16(value)),
+        Some(Container::Int24) => write_number::<3, W>(writer, proved::container_24(value)),
+        Some(Container::Int32 | Container::Float) => write_number::<4, W>(writer, proved::container_32(value)),
+        Some(Container::Int8) => write_number::<1, W>(writer, proved::container_8(value)),
+        Some(Container::Int24In4) => write_number::<4, W>(writer, proved::container_24(value)),
+        None => Err(unwritten::<S>(spec)),
+    }
+}
+
+#[inline(always)]
+fn write_number<const WIDTH: usize, W: io::Write>(writer: &mut W, number: proved::Result<u32>) -> Result<()> {
+    Ok(writer.write_all(&number?.to_le_bytes()[..WIDTH])?)
 }
 
 macro_rules! sample {
