@@ -245,9 +245,6 @@ impl<R: Read> WavReader<R> {
         if let Some(sample) = self.next_ahead() {
             return Some(Ok(sample));
         }
-        if let Some(error) = self.next_rejected::<S>() {
-            return Some(Err(error.into()));
-        }
         let item = self.next_slowly()?; // by a way of its own, so that the others keep their items in registers
         Some(item)
     }
@@ -277,6 +274,9 @@ impl<R: Read> WavReader<R> {
     #[cold]
     #[inline(never)]
     fn next_slowly<S: Sample>(&mut self) -> Option<Result<S>> {
+        if let Some(error) = self.next_rejected::<S>() {
+            return Some(Err(error.into()));
+        }
         if self.given() == self.ahead.len() {
             self.put_back();
         }
