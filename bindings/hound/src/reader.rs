@@ -24,9 +24,13 @@ pub fn read_wave_header<R: Read>(reader: &mut R) -> Result<u64> {
     Ok(u64::from(u32::from_le_bytes(size)) + u64::from(length - u32::from_le_bytes(of_other)))
 }
 
-/// The next header. The buffer of a reader may have it as a whole; else it is read part by part.
+// How long a header is that is looked for as a whole, at most.
+const SHORT_HEADER: usize = 1024;
+
+/// The next header. The buffer of a reader may have a short one as a whole; a longer one is read part by part.
 pub(crate) fn read_header<R: BufRead>(reader: &mut R) -> Result<proved::Info> {
-    if let Ok(info) = proved::info(reader.fill_buf()?) {
+    let bytes = reader.fill_buf()?;
+    if let Ok(info) = proved::info(&bytes[..bytes.len().min(SHORT_HEADER)]) {
         reader.consume(info.data_start as usize);
         return Ok(info);
     }

@@ -533,6 +533,7 @@ pub struct Recorder(c::Recorder);
 
 /// The effect with this number, from 0 on, with which a new file of this spec begins; none after the last.
 /// [`Recorder::create`] performs all of them.
+#[inline]
 pub fn beginning(spec: &Spec, number: u32) -> Result<Option<Effect>> {
     let mut effect = Effect::default();
     let code = checked(unsafe { c::hound_beginning(&spec.to_c(), number, &mut effect) }.into())?;
