@@ -294,20 +294,21 @@ struct Room<'b> {
 impl Room<'_> {
     #[cold]
     #[inline(never)]
-    fn grow(&mut self, end: usize) {
+    fn grow(&mut self, bytes: &[u8]) {
+        let end = self.end + bytes.len();
         self.bytes.resize(end.max(2 * self.bytes.len()), 0);
+        self.bytes[self.end..end].copy_from_slice(bytes);
     }
 }
 
 impl Write for Room<'_> {
     #[inline]
     fn write(&mut self, bytes: &[u8]) -> io::Result<usize> {
-        let end = self.end + bytes.len();
-        if end > self.bytes.len() {
-            self.grow(end);
+        match self.bytes.get_mut(self.end..).and_then(|room| room.get_mut(..bytes.len())) {
+            Some(room) => room.copy_from_slice(bytes),
+            None => self.grow(bytes),
         }
-        self.bytes[self.end..end].copy_from_slice(bytes);
-        self.end = end;
+        self.end += bytes.len();
         Ok(bytes.len())
     }
 
