@@ -1,8 +1,8 @@
-//! How long both crates take for what programs do with hound: the least time that the thread has had, of some rounds in
-//! turn, in nanoseconds a sample, or a call, flush, seek or file of which the case says so. Each case is compiled at two
-//! places in memory, since some processors take longer for a loop that has a jump at the end of 32 bytes. The original
-//! has no `read_samples`, so that is compared with its iterator. Then come the cases that are above a limit, with the
-//! reason that slower.tsv has, and with the instructions of both, which valgrind counts.
+//! How long both crates take for what programs do with hound: the least time that the thread has had, of some rounds
+//! in turn, in nanoseconds a sample, or a call, flush, seek or file of which the case says so. Each case is compiled at
+//! two places in memory, since some processors take longer for a loop that has a jump at the end of 32 bytes. The
+//! original has no `read_samples`, so that is compared with its iterator. Then come the cases that are above a limit,
+//! with the reason that slower.tsv has, and with the instructions of both, which valgrind counts.
 //!     speed ROUNDS [--instructions] [WORD]      the cases whose names have this word, or all
 //!     speed once-0 | once-1 CASE FOLDER         one case by the original, or the package, for valgrind
 use dropin::{both, Blocks};
