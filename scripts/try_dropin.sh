@@ -5,14 +5,15 @@
 # before and after the one change in Cargo.toml. HOUND_C_LIB says where the library is, as elsewhere.
 #   scripts/try_dropin.sh FOLDER [COUNT]     (COUNT files are read, and as many written: 300000)
 #   scripts/try_dropin.sh --wrong FOLDER     (the wrong versions of bindings/tests/dropin/wrong.tsv, each to be found)
-#   scripts/try_dropin.sh --speed FOLDER     (nanoseconds of both; slower.tsv there has what takes longer, and why)
+#   scripts/try_dropin.sh --speed FOLDER [WORD]   (the times of both in the cases whose names have this word, or in all;
+#                                             slower.tsv there has what takes longer, and why. It needs valgrind)
 set -eu -o pipefail
 cd "$(dirname "$0")/.."
 parts=(published beside users)
 case ${1:-} in --wrong | --speed) parts=("${1#--}") && shift ;; esac
 [ $# -ge 1 ] && [ -f "$1/src/write.rs" ] || { sed -n '/^#   scripts/p' "$0" >&2; exit 2; }
 original=$(cd "$1" && pwd)
-count=${2:-300000}
+count=${2:-300000} word=${2:-}
 work=$(mktemp -d)
 trap 'rm -rf "$work"' EXIT
 export work CARGO_TARGET_DIR=${CARGO_TARGET_DIR:-$work/target}
@@ -86,7 +87,7 @@ programs() { # PACKAGE NAME..
 exact() { "$CARGO_TARGET_DIR/release/exact" "$1"; }
 histories() { "$CARGO_TARGET_DIR/release/histories" "$1"; }
 faults() { "$CARGO_TARGET_DIR/release/faults"; }
-speed() { programs "$PWD/bindings/hound" speed && "$CARGO_TARGET_DIR/release/speed" 15; }
+speed() { programs "$PWD/bindings/hound" speed && "$CARGO_TARGET_DIR/release/speed" 15 --instructions "$word"; }
 
 # The programs, and the own tests of both packages, over the packages as they are, which all pass, and over wrong
 # versions.

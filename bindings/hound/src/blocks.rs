@@ -18,8 +18,8 @@
 //! # result?;
 //! # Ok::<(), hound::Error>(())
 //! ```
-use crate::{Result, Sample, WavReader, WavWriter};
 pub use crate::proved::Scaled;
+use crate::{Result, Sample, WavReader, WavWriter};
 use std::io::{Read, Seek, Write};
 
 /// Reads blocks.

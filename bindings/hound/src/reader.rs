@@ -24,13 +24,47 @@ pub fn read_wave_header<R: Read>(reader: &mut R) -> Result<u64> {
     Ok(u64::from(u32::from_le_bytes(size)) + u64::from(length - u32::from_le_bytes(of_other)))
 }
 
-/// The next header, which the buffer of a reader may have as a whole.
+// How long a header is that is looked for as a whole, at most.
+const SHORT_HEADER: usize = 1024;
+
+/// The next header. The buffer of a reader may have a short one as a whole; a longer one is read part by part.
 pub(crate) fn read_header<R: BufRead>(reader: &mut R) -> Result<proved::Info> {
-    if let Ok(info) = proved::info(reader.fill_buf()?) {
+    let bytes = reader.fill_buf()?;
+    if let Ok(info) = proved::info(&bytes[..bytes.len().min(SHORT_HEADER)]) {
         reader.consume(info.data_start as usize);
         return Ok(info);
     }
-    Ok(proved::Walk::over(reader)??)
+    let (mut walk, mut place) = (proved::Walk::new(), 0);
+    loop {
+        match walk.next()? {
+            Next::Effect(part) => read_part(reader, part, &mut place)?,
+            Next::Done(info) => return Ok(info),
+        }
+    }
+}
+
+// Reads a part of a header from the buffers of a reader, and takes what is before it.
+fn read_part<R: BufRead>(reader: &mut R, part: &mut proved::Effect, place: &mut u64) -> io::Result<()> {
+    if part.kind() != proved::Kind::Read {
+        part.failed();
+        return Ok(());
+    }
+    let mut count = 0;
+    while count < part.length() {
+        let bytes = reader.fill_buf()?;
+        if bytes.is_empty() {
+            break;
+        }
+        let begin = bytes.len().min(part.place().saturating_sub(*place) as usize);
+        let read = &bytes[begin..bytes.len().min(begin + part.length() - count)];
+        part.bytes_mut()[count..count + read.len()].copy_from_slice(read);
+        count += read.len();
+        let taken = begin + read.len();
+        reader.consume(taken);
+        *place += taken as u64;
+    }
+    part.read(count);
+    Ok(())
 }
 
 /// Reads the samples of a file. It takes no byte after the samples that were asked for.
@@ -49,6 +83,8 @@ pub struct WavReader<R> {
     ahead: Vec<i32>,
     first_ahead: u64,
     most_ahead: usize,
+    // Why a type, by its format and size, doesn't read these samples, once one was asked for.
+    rejection: Option<(SampleFormat, usize, proved::Error)>,
     // Up to which number floats, and integers, are read one by one: to the end, or none where the source has bytes.
     single_until: [u64; 2],
 }
@@ -76,6 +112,7 @@ impl<R: Read> WavReader<R> {
             ahead: Vec::new(),
             first_ahead: 0,
             most_ahead: 1,
+            rejection: None,
             single_until: [0; 2],
         };
         reader.put_back();
@@ -224,10 +261,26 @@ impl<R: Read> WavReader<R> {
         Some((coding.from)(sample))
     }
 
+    // Why this type doesn't read the next sample, if that is known. It takes no byte.
+    #[inline(always)]
+    fn next_rejected<S: Sample>(&mut self) -> Option<proved::Error> {
+        let (format, size, error) = self.rejection?;
+        let is_next = self.samples_read < self.num_samples && self.ahead.is_empty();
+        if !is_next || S::__HOUND_CODING?.format != format || mem::size_of::<S>() != size {
+            return None;
+        }
+        self.samples_read += 1;
+        self.not_taken += i64::from(self.bytes_per_sample);
+        Some(error)
+    }
+
     // The end, an error, or a sample that has to be fetched first.
     #[cold]
     #[inline(never)]
     fn next_slowly<S: Sample>(&mut self) -> Option<Result<S>> {
+        if let Some(error) = self.next_rejected::<S>() {
+            return Some(Err(error.into()));
+        }
         if self.given() == self.ahead.len() {
             self.put_back();
         }
@@ -258,6 +311,10 @@ impl<R: Read> WavReader<R> {
         let sample = S::read(&mut counting, self.spec.sample_format, self.bytes_per_sample, self.spec.bits_per_sample);
         self.samples_read += 1;
         self.not_taken += i64::from(self.bytes_per_sample) - counting.count;
+        if let (Some(coding), None) = (S::__HOUND_CODING, self.coding::<S>()) {
+            let error = (coding.decode)(&self.containers(), &[], &mut []).err();
+            self.rejection = error.map(|error| (coding.format, mem::size_of::<S>(), error));
+        }
         Some(sample)
     }
 
@@ -323,7 +380,9 @@ impl<R: Read> WavReader<R> {
 
     fn fold_samples<S: Sample, B, F: FnMut(B, Result<S>) -> B>(&mut self, mut value: B, mut f: F) -> B {
         loop {
-            self.read_ahead::<S>(BLOCK);
+            if self.left() >= SHORTEST_BLOCK {
+                self.read_ahead::<S>(BLOCK);
+            }
             let given = self.given();
             match self.coding::<S>() {
                 Some(coding) if given < self.ahead.len() => {
@@ -332,7 +391,7 @@ impl<R: Read> WavReader<R> {
                         value = f(value, Ok((coding.from)(*sample)));
                     }
                 }
-                _ => match self.next_by_type() {
+                _ => match self.next_sample() {
                     Some(item) => value = f(value, item),
                     None => return value,
                 },

@@ -83,15 +83,15 @@ impl<R: io::Read> ReadContainer for R {
 
 // Why containers aren't read as this type. It takes no byte.
 #[cold]
-fn rejected<S: proved::Coded>(spec: &proved::Spec) -> Result<S> {
-    proved::decode::<S>(spec, &[], &mut [])?;
+fn rejected<S: proved::Coded>(format: SampleFormat, bits: u16, width: u16) -> Result<S> {
+    proved::decode::<S>(&containers(format, bits, width), &[], &mut [])?;
     Err(Error::Unsupported)
 }
 
 // Why containers aren't written of this type. It writes no byte.
 #[cold]
-fn unwritten<S: proved::Coded>(spec: &proved::Spec) -> Error {
-    match proved::encode::<S>(spec, &[], &mut []) {
+fn unwritten<S: proved::Coded>(spec: proved::Spec) -> Error {
+    match proved::encode::<S>(&spec, &[], &mut []) {
         Err(error) => error.into(),
         Ok(_) => Error::Unsupported,
     }
@@ -99,16 +99,20 @@ fn unwritten<S: proved::Coded>(spec: &proved::Spec) -> Error {
 
 /// Writes the container of an integer, or of a float that is given as the integer of its bits.
 #[inline(always)]
-fn write_container<S: proved::Coded, W: io::Write>(value: i32, writer: &mut W, spec: &proved::Spec) -> Result<()> {
-    let (number, width) = match Container::of(spec) {
-        Some(Container::Int16) => (proved::container_16(value), 2),
-        Some(Container::Int24) => (proved::container_24(value), 3),
-        Some(Container::Int32 | Container::Float) => (proved::container_32(value), 4),
-        Some(Container::Int8) => (proved::container_8(value), 1),
-        Some(Container::Int24In4) => (proved::container_24(value), 4),
-        None => return Err(unwritten::<S>(spec)),
-    };
-    Ok(writer.write_all(&number?.to_le_bytes()[..width])?)
+fn write_container<S: proved::Coded, W: io::Write>(value: i32, writer: &mut W, spec: proved::Spec) -> Result<()> {
+    match Container::of(&spec) {
+        Some(Container::Int16) => write_number::<2, W>(writer, proved::container_16(value)),
+        Some(Container::Int24) => write_number::<3, W>(writer, proved::container_24(value)),
+        Some(Container::Int32 | Container::Float) => write_number::<4, W>(writer, proved::container_32(value)),
+        Some(Container::Int8) => write_number::<1, W>(writer, proved::container_8(value)),
+        Some(Container::Int24In4) => write_number::<4, W>(writer, proved::container_24(value)),
+        None => Err(unwritten::<S>(spec)),
+    }
+}
+
+#[inline(always)]
+fn write_number<const WIDTH: usize, W: io::Write>(writer: &mut W, number: proved::Result<u32>) -> Result<()> {
+    Ok(writer.write_all(&number?.to_le_bytes()[..WIDTH])?)
 }
 
 macro_rules! sample {
@@ -116,20 +120,20 @@ macro_rules! sample {
         impl Sample for $type {
             #[inline]
             fn write<W: io::Write>(self, writer: &mut W, bits: u16) -> Result<()> {
-                write_container::<$type, W>($to(self), writer, &unpadded(SampleFormat::$format, bits))
+                write_container::<$type, W>($to(self), writer, unpadded(SampleFormat::$format, bits))
             }
 
             #[inline]
             fn write_padded<W: io::Write>(self, writer: &mut W, bits: u16, byte_width: u16) -> Result<()> {
-                write_container::<$type, W>($to(self), writer, &containers(SampleFormat::$format, bits, byte_width))
+                write_container::<$type, W>($to(self), writer, containers(SampleFormat::$format, bits, byte_width))
             }
 
             #[inline]
             fn read<R: io::Read>(reader: &mut R, format: SampleFormat, bytes: u16, bits: u16) -> Result<$type> {
-                let spec = containers(format, bits, bytes);
-                match read_value(reader, SampleFormat::$format, Container::of(&spec), mem::size_of::<$type>()) {
+                let container = Container::of(&containers(format, bits, bytes));
+                match read_value(reader, SampleFormat::$format, container, mem::size_of::<$type>()) {
                     Some(value) => Ok(value.map($from)?),
-                    None => rejected::<$type>(&spec),
+                    None => rejected::<$type>(format, bits, bytes),
                 }
             }
 

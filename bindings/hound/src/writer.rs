@@ -7,7 +7,7 @@ use std::io::{self, Read, Seek, SeekFrom, Write};
 use std::{fs, iter, panic, path};
 
 // How many samples of a batch are encoded at once, at least.
-const SHORTEST_CODED: usize = 32;
+const SHORTEST_CODED: usize = 128;
 
 /// Writes samples to a file, after its header, and the sizes into the header.
 ///
@@ -247,10 +247,10 @@ impl<W: Write + Seek> Core<W> {
         if self.count > 0 {
             self.encode_buffered()?;
         }
-        let (WavSpecEx { spec, bytes_per_sample }, bytes) = (self.spec_ex, &mut self.bytes);
-        bytes.truncate(self.waiting);
-        samples.try_for_each(|sample| sample.write_padded(bytes, spec.bits_per_sample, bytes_per_sample))?;
-        let end = bytes.len();
+        let WavSpecEx { spec, bytes_per_sample } = self.spec_ex;
+        let mut room = Room { bytes: &mut self.bytes, end: self.waiting };
+        samples.try_for_each(|sample| sample.write_padded(&mut room, spec.bits_per_sample, bytes_per_sample))?;
+        let end = room.end;
         // One container, which waits: as below, without a division.
         if end == self.waiting + self.width && end <= BLOCK * self.width && self.room > 0 && self.buffer.is_empty() {
             self.room -= 1;
@@ -282,6 +282,43 @@ impl<W: Write + Seek> Core<W> {
         } else {
             Err(Error::UnfinishedSample)
         }
+    }
+}
+
+// Where a type of the user's own writes its containers, which end here. It grows, and isn't cut off between samples.
+struct Room<'b> {
+    bytes: &'b mut Vec<u8>,
+    end: usize,
+}
+
+impl Room<'_> {
+    #[cold]
+    #[inline(never)]
+    fn grow(&mut self, bytes: &[u8]) {
+        let end = self.end + bytes.len();
+        self.bytes.resize(end.max(2 * self.bytes.len()), 0);
+        self.bytes[self.end..end].copy_from_slice(bytes);
+    }
+}
+
+impl Write for Room<'_> {
+    #[inline]
+    fn write(&mut self, bytes: &[u8]) -> io::Result<usize> {
+        match self.bytes.get_mut(self.end..).and_then(|room| room.get_mut(..bytes.len())) {
+            Some(room) => room.copy_from_slice(bytes),
+            None => self.grow(bytes),
+        }
+        self.end += bytes.len();
+        Ok(bytes.len())
+    }
+
+    #[inline]
+    fn write_all(&mut self, bytes: &[u8]) -> io::Result<()> {
+        self.write(bytes).map(drop)
+    }
+
+    fn flush(&mut self) -> io::Result<()> {
+        Ok(())
     }
 }
 

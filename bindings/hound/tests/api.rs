@@ -769,6 +769,27 @@ fn an_open_file_is_read_at_any_frame() {
 }
 
 #[test]
+fn a_header_that_is_longer_than_a_buffer_is_found() {
+    let (path, plain) = (Path::new("long-header"), written(MONO, &[1i16, -2, 3]));
+    let chunk =
+        |length: usize| [&b"LIST"[..], &(length as u32).to_le_bytes(), &vec![7; length], &[0][..length % 2]].concat();
+    let (front, fmt, data) = (&plain[..12], &plain[12..36], &plain[36..]);
+    let file = [front, &chunk(9001), &chunk(21).repeat(1000), fmt, &chunk(70_000), data].concat();
+    for length in (0..file.len() - data.len()).step_by(997) {
+        fs::write(&path, &file[..length]).unwrap();
+        let errors = [WavReader::open(&path).err(), WavReader::new(&file[..length]).err()];
+        let [open, new] = errors.map(|error| format!("{error:?}"));
+        assert!(open == new && open.starts_with("Some"), "{length}: {open}, {new}");
+    }
+    fs::write(&path, &file).unwrap();
+    let mut writer = WavWriter::append(&path).unwrap();
+    writer.write_sample(4i16).unwrap();
+    writer.finalize().unwrap();
+    let samples: hound::Result<Vec<i16>> = WavReader::open(&path).unwrap().into_samples().collect();
+    assert_eq!(samples.unwrap(), [1, -2, 3, 4]);
+}
+
+#[test]
 fn a_file_that_was_cut_off_is_repaired() {
     let path = Path::new("repair");
     let mut writer = WavWriter::create_durable(&path, WavSpec { bits_per_sample: 8, ..MONO }).unwrap();

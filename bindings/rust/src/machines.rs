@@ -35,6 +35,7 @@ pub struct Effect(c::Effect);
 
 impl Effect {
     /// What it does.
+    #[inline]
     pub fn kind(&self) -> Kind {
         match self.0.kind {
             c::NOTHING => Kind::Nothing,
@@ -49,38 +50,45 @@ impl Effect {
     }
 
     /// Where in the file.
+    #[inline]
     pub fn place(&self) -> u64 {
         self.0.place
     }
 
     /// How many bytes are read or written.
+    #[inline]
     pub fn length(&self) -> usize {
         self.0.length as usize
     }
 
     /// The bytes that are written, or that were read.
+    #[inline]
     pub fn bytes(&self) -> &[u8] {
         &self.0.bytes[..c::EFFECT_BYTES.min(self.length())]
     }
 
     /// Where the bytes that are read belong.
+    #[inline]
     pub fn bytes_mut(&mut self) -> &mut [u8] {
         let length = self.length();
         &mut self.0.bytes[..c::EFFECT_BYTES.min(length)]
     }
 
     /// Reports that all of it is done.
+    #[inline]
     pub fn done(&mut self) {
         self.0.report = c::DONE;
     }
 
     /// Reports that so many bytes were read: fewer than were requested only where the file ends.
+    #[inline]
     pub fn read(&mut self, count: usize) {
         self.0.length = count.min(self.length()) as u32;
         self.done();
     }
 
     /// Reports that it failed, or that a part of it isn't done.
+    #[inline]
     pub fn failed(&mut self) {
         self.0.report = c::FAILED;
     }
@@ -121,15 +129,13 @@ impl Effect {
         if self.kind() != Kind::Read {
             return Err(unknown_effect());
         }
-        let mut skipped = [0; 1024];
-        while *place < self.place() {
-            let most = (self.place() - *place).min(skipped.len() as u64) as usize;
-            match reader.read(&mut skipped[..most])? {
-                0 => break,
-                more => *place += more as u64,
-            }
-        }
-        let (mut count, wanted) = (0, if *place < self.place() { 0 } else { self.length() });
+        let gap = self.place().saturating_sub(*place);
+        let is_there = if gap <= NEAR as u64 {
+            skip_to::<NEAR, R>(reader, place, self.place())?
+        } else {
+            skip_to::<FAR, R>(reader, place, self.place())?
+        };
+        let (mut count, wanted) = (0, if is_there { self.length() } else { 0 });
         while count < wanted {
             match reader.read(&mut self.bytes_mut()[count..])? {
                 0 => break,
@@ -140,6 +146,23 @@ impl Effect {
         self.read(count);
         Ok(())
     }
+}
+
+// How many bytes are skipped at once, before a place that is near, and before one that is far.
+const NEAR: usize = 64;
+const FAR: usize = 4096;
+
+// Takes what is before a place, in pieces. Returns whether the reader has so much.
+#[inline]
+fn skip_to<const PIECE: usize, R: io::Read>(reader: &mut R, place: &mut u64, to: u64) -> io::Result<bool> {
+    while *place < to {
+        let (mut skipped, most) = ([0; PIECE], (to - *place).min(PIECE as u64) as usize);
+        match reader.read(&mut skipped[..most])? {
+            0 => break,
+            more => *place += more as u64,
+        }
+    }
+    Ok(*place >= to)
 }
 
 fn unknown_effect() -> io::Error {
@@ -510,6 +533,7 @@ pub struct Recorder(c::Recorder);
 
 /// The effect with this number, from 0 on, with which a new file of this spec begins; none after the last.
 /// [`Recorder::create`] performs all of them.
+#[inline]
 pub fn beginning(spec: &Spec, number: u32) -> Result<Option<Effect>> {
     let mut effect = Effect::default();
     let code = checked(unsafe { c::hound_beginning(&spec.to_c(), number, &mut effect) }.into())?;
