@@ -1,21 +1,42 @@
 // The functions of `callers` and `reading`, each run once.
-use hound::{Decode, WavWriter};
-use hound_callers::{publish, read_memory};
-use hound_test_helpers::{FOUR_SAMPLES, NO_SAMPLES, empty_tape, name_of, sixteen};
+use hound::{Decode, Source, WavReader, WavWriter};
+use hound_callers::{
+    look_and_repair, open_written, publish, read_block, read_from, read_memory, record_at_once,
+    reopen, sample_at, samples_of, written_and_read,
+};
+use hound_test_helpers::{FOUR_SAMPLES, NO_SAMPLES, empty_tape, name_of, sixteen, tape_of};
 use std::alloc::Global;
 use std::test::Fail;
+
+// Stereo, 44100 Hz, 16 bits: 2, -3, 5, -7.
+const STEREO: &[u8] = b"RIFF\x2c\0\0\0WAVEfmt \x10\0\0\0\
+    \x01\0\x02\0\x44\xac\0\0\x10\xb1\x02\0\x04\0\x10\0\
+    data\x08\0\0\0\x02\0\xfd\xff\x05\0\xf9\xff";
+
+// The same file, cut off before its sizes were written.
+const CUT_OFF: &[u8] = b"RIFF\0\0\0\0WAVEfmt \x10\0\0\0\
+    \x01\0\x02\0\x44\xac\0\0\x10\xb1\x02\0\x04\0\x10\0\
+    data\0\0\0\0\x02\0\xfd\xff\x05\0\xf9\xff";
 
 #[test]
 fn a_recorder_publishes_each_sample(rt: HostRuntime) -> Result<(), Fail> {
     let mut writer = WavWriter::new(empty_tape(rt.alloc()), sixteen(1))?;
-    let mut published = 0;
     for sample in [2i16, -3, 5, -7] {
-        writer.write_sample(sample)?;
-        published = publish(&mut writer)?;
+        record_at_once(&mut writer, &[sample])?;
     }
+    let published = publish(&mut writer)?;
     let tape = writer.drop_into();
     let is_whole = tape.bytes() == FOUR_SAMPLES.as_slice();
     assert_eq!(rt; (published, is_whole), (4, true));
+    Ok(())
+}
+
+#[test]
+fn a_written_file_is_opened(rt: HostRuntime) -> Result<(), Fail> {
+    let reader = open_written(&FOUR_SAMPLES)?;
+    let count = reader.len();
+    let is_at_data = reader.into_inner() == [2u8, 0, 0xfd, 0xff, 5, 0, 0xf9, 0xff].as_slice();
+    assert_eq!(rt; (count, is_at_data), (4, true));
     Ok(())
 }
 
@@ -43,5 +64,74 @@ fn a_file_in_memory_is_read(rt: HostRuntime) -> Result<(), Fail> {
         why_not_read(alloc, &FOUR_SAMPLES[1..], 85i16),
         "no RIFF tag found"
     );
+    Ok(())
+}
+
+#[test]
+fn an_integer_comes_back(rt: HostRuntime) -> Result<(), Fail> {
+    let read = [
+        written_and_read(-128, 8, 1)?,
+        written_and_read(8_388_607, 24, 4)?,
+        written_and_read(i32::MIN, 32, 4)?,
+    ];
+    assert_eq!(rt; read, [-128, 8_388_607, i32::MIN]);
+    assert!(rt; written_and_read(128, 8, 1).is_err());
+    Ok(())
+}
+
+// Whether it is repaired, with its two frames.
+fn is_mended(alloc: Global) -> Result<bool, Fail> {
+    match look_and_repair(tape_of(alloc, CUT_OFF)?) {
+        Ok((tape, found)) => Ok(found.frames == 2 && tape.bytes() == STEREO),
+        Err((_, error)) => Err(Fail::from(error)),
+    }
+}
+
+#[test]
+fn a_file_is_looked_at_and_repaired(rt: HostRuntime) -> Result<(), Fail> {
+    assert!(rt; is_mended(rt.alloc())?);
+    Ok(())
+}
+
+#[test]
+fn samples_are_collected_and_found(rt: HostRuntime) -> Result<(), Fail> {
+    let samples: Vec<i32> = samples_of(rt.alloc(), WavReader::new(STEREO)?)?;
+    assert_eq!(rt; samples.as_slice(), [2, -3, 5, -7].as_slice());
+    let mut reader = WavReader::new(tape_of(rt.alloc(), STEREO)?)?;
+    let second: Option<i16> = sample_at(&mut reader, 1)?;
+    let mut reader = WavReader::new(tape_of(rt.alloc(), STEREO)?)?;
+    let third: Option<i16> = sample_at(&mut reader, 2)?;
+    assert_eq!(rt; (second, third), (Some(5), None));
+    Ok(())
+}
+
+#[test]
+fn a_block_is_read_and_the_rest_is_left(rt: HostRuntime) -> Result<(), Fail> {
+    let mut reader = WavReader::new(STEREO)?;
+    let mut block = [0i16; 3];
+    let count = read_block(&mut reader, &mut block)?;
+    assert_eq!(rt; (count, block), (3, [2, -3, 5]));
+    let reader = WavReader::new(tape_of(rt.alloc(), STEREO)?)?;
+    let mut block = [0i32; 1];
+    let (count, mut rest) = read_from(reader, 1, &mut block)?;
+    let mut left = [0; 4];
+    let left_count = rest.get(&mut left)?;
+    assert_eq!(rt;
+        (count, block, left_count, left),
+        (1, [5], 2, [0xf9, 0xff, 0, 0])
+    );
+    Ok(())
+}
+
+#[test]
+fn a_written_file_is_opened_again(rt: HostRuntime) -> Result<(), Fail> {
+    let tape = tape_of(rt.alloc(), &FOUR_SAMPLES)?;
+    let writer = reopen(tape).map_err(|(_, error)| error)?;
+    assert_eq!(rt; writer.len(), 4);
+    let tape = tape_of(rt.alloc(), &NO_SAMPLES)?;
+    let mut writer = reopen(tape).map_err(|(_, error)| error)?;
+    record_at_once(&mut writer, &[2i16, -3, 5, -7])?;
+    let tape = writer.drop_into();
+    assert!(rt; tape.bytes() == FOUR_SAMPLES.as_slice());
     Ok(())
 }

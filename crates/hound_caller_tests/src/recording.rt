@@ -1,11 +1,12 @@
 // The recorders of `hound_callers`, each run once.
 use hound::{
-    Durable, FoundFile, Journal, Recorder, RepairState, Step, WavReader, WavSpecEx, WavWriter,
+    Durable, FoundFile, Journal, Recorder, RepairState, Step, Tape, WavReader, WavSpecEx, WavWriter,
 };
 use hound_callers::{
-    Twelve, append_blocks, append_by_effects, begin_by_effects, continue_by_effects,
-    opened_meanwhile, record, record_batch, record_by_effects, record_checkpoints, record_in_parts,
-    record_steps, write_if_short,
+    Twelve, append_blocks, append_by_effects, begin_by_effects, continue_by_effects, finish,
+    finish_durable, opened_meanwhile, pack_one, publish_and_continue, record, record_at_once,
+    record_batch, record_by_effects, record_checkpoints, record_in_parts, record_steps,
+    write_if_short,
 };
 use hound_test_helpers::{FOUR_SAMPLES, empty_tape, integers, read_all, sixteen, tape_of};
 use std::alloc::Global;
@@ -314,13 +315,21 @@ fn takes_i16s(alloc: Global) -> hound::Result<bool> {
 fn ends_durably(alloc: Global) -> hound::Result<bool> {
     let journal = Journal::new(alloc, Vec::new(alloc))?;
     let mut writer = WavWriter::new(Durable::new(journal), sixteen(1))?;
-    writer.write_samples(&[2i16, -3, 5, -7])?;
-    let (durable, result) = writer.finalize_into();
+    record_at_once(&mut writer, &[2i16, -3])?;
+    writer.write_samples(&[5i16, -7])?;
+    writer.flush()?;
+    let (journal, result) = finish_durable(writer);
     result?;
-    let journal = durable.into_inner();
     let taken = journal.taken();
     let bytes = journal.bytes_after(alloc, taken)?;
     Ok(journal.flushed() == taken && bytes.as_slice() == FOUR_SAMPLES.as_slice())
+}
+
+fn packs(alloc: Global) -> bool {
+    match pack_one(Tape::new(Vec::new(alloc)), integers(1, 44100, 16, 2), -301) {
+        Ok(tape) => holds(alloc, tape.bytes(), &[-301]),
+        Err(_) => false,
+    }
 }
 
 fn takes_steps(alloc: Global) -> bool {
@@ -345,9 +354,8 @@ fn continues(alloc: Global) -> hound::Result<bool> {
     let journal = Journal::new(alloc, Vec::new(alloc))?;
     let mut writer = WavWriter::new(journal, sixteen(1))?;
     writer.write_samples(&[300i16, -301])?;
-    writer.flush()?;
-    writer.write_sample(7i16)?;
-    let (journal, result) = writer.finalize_into();
+    publish_and_continue(&mut writer, &[7i16])?;
+    let (journal, result) = finish(writer);
     result?;
     let taken = journal.taken();
     let before = opened_meanwhile(alloc, &journal, taken.saturating_sub(8))?;
@@ -405,10 +413,11 @@ fn batches_steps_and_single_calls_are_recorded(rt: HostRuntime) -> Result<(), Fa
     let found = (
         takes_a_batch(alloc)?,
         takes_i16s(alloc)?,
+        packs(alloc),
         takes_steps(alloc),
         continues(alloc)?,
     );
-    assert_eq!(rt; found, (true, true, true, true));
+    assert_eq!(rt; found, (true, true, true, true, true));
     assert!(rt; ends_durably(alloc)?);
     Ok(())
 }

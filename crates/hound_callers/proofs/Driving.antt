@@ -129,6 +129,11 @@ pub begins : (asked : Recorder) (n : ℕ) → IsAsked asked n → IsWithin asked
 begins asked n (_, _, _, inl saving) = inl (saving, refl, refl)
 begins asked n (_, _, _, inr (waiting, _)) = inr (inl (asked.data_length + n, waiting, refl, refl, refl))
 
+pub is_made : (report : Report) → (report ≡ Pending → ⊥) → (b : Bool) × (report ≡ report_for b)
+is_made Pending other = absurd (other refl)
+is_made Done other = (true, refl)
+is_made Failed other = (false, refl)
+
 pub pending_or_made : (report : Report) → (report ≡ Pending) ⊎ ((b : Bool) × (report ≡ report_for b))
 pending_or_made Pending = inl refl
 pending_or_made Done = inr (true, refl)

@@ -1,5 +1,4 @@
 -- What a checkpoint performs, also of a recording that was cut off.
-use Rattle.std.proofs.Common.{rules}
 use Rattle.std.proofs.lemmas.Grind.{common_steps}
 use Rattle.std.proofs.lemmas.Bool.{false≢true}
 use Rattle.std.specs.declared.io.Error.{Error as IoFault}
@@ -177,7 +176,9 @@ continues_as f r resumes = by (kept_length f true false) resumes
 
 pub is_cut_off : (f : FoundFile) (r : Recorder) (m : MediumState) → IsFound f m → Resumes f true false (Ok r)
     → f.data_length ≤ r.data_length → IsCutOff f r.data_length m
-is_cut_off f r m found resumes counted = grind (arith, common_steps, continues_as)
+is_cut_off f r m found resumes counted =
+    let (held, this) = continues_as f r resumes in
+    record { sound = found.sound; head = found.head; counted = counted; held = omega (arith, held, found.all) }
 
 -- once its file is mended
 pub is_mended : (f : FoundFile) (r new : Recorder) (m : Log) (file : Begun) → Resumes f true false (Ok r) → new ≡ once_mended r

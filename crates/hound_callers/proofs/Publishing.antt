@@ -1,5 +1,4 @@
 -- Blocks that were each written and published, and what is known of their calls.
-use Rattle.std.proofs.Common.{rules}
 use Rattle.std.proofs.Common.{◌≡◌, ℕ, ◌+◌, ◌<◌, Bool, true, List, [], ◌∷◌, ◌++◌, length, take, get_or, Result, IsOk, refl, sym, ◌∙◌, ap, subst, append_assoc, arith}
 use Rattle.std.proofs.lemmas.Grind.{flat_map-append, common_steps}
 use Rattle.std.proofs.lemmas.List.{append-nil, map-append}
@@ -44,4 +43,10 @@ module _ {V : Type 0} (f : V → Result (List (List ℕ)) Rejection) where
       → (before after : List Call) × (flush : Call) × (calls ≡ before ++ (flush ∷ after))
       × HasPublished flush × HaveContainers f blocks (accepted_by_all before)
   last_flush blocks more end calls some all published are =
-      grind (arith, common_steps, append_assoc, map-append, accepted, last_call)
+      let (written, same, is_all) = last_call blocks some in
+      let parts : (seen (published_calls f blocks) ++ more) ++ end
+      ≡ seen written ++ (marked publish true ∷ (more ++ end)) =
+      ap (λ l. (seen l ++ more) ++ end) same ∙ simp (map-append, append_assoc) in
+      let (before, after, flush, are_parts, has_all, is) =
+      published written (more ++ end) calls (subst (λ l. AreKnown l calls) parts are) in
+      (before, after, flush, are_parts, has_all, (all, is ∙ is_all ∙ accepted blocks))

@@ -1,8 +1,8 @@
 -- What a recorder asks of its writer, and what it sees; the checkpoints of a session.
-use Rattle.std.specs.Prelude.{◌≡◌, ◌⊎◌, ℕ, suc, ◌-◌, ◌*◌, ◌/◌, ◌%◌, ◌==◌, Bool, true, false, List, [], ◌∷◌, ◌++◌, Result, IsOk, ◌<◌, ◌≤◌, drop, length, take}
+use Rattle.std.specs.Prelude.{◌≡◌, ◌⊎◌, ℕ, suc, ◌-◌, ◌*◌, ◌/◌, ◌%◌, ◌==◌, Bool, true, false, List, [], ◌∷◌, ◌++◌, Option, None, Some, Result, Ok, Err, IsOk, ◌<◌, ◌≤◌, drop, length, take}
 use Rattle.std.specs.Borrow.{Bor}
 use Rattle.std.specs.List.{All, flat_map}
-use Rattle.hound.specs.{Ghosts, Asked, Begun, Call, Error, HasPublished, HasRoom, IsFoundAt, KeptWithin, Known, MediumState, Rejection, Repair, Repairs, SurvivesLoss, WavSpecEx, WriterState, containers_in, accepted_by_all, frame_length, if_marked, made, marked, publish, seen, write}
+use Rattle.hound.specs.{Ghosts, Accepts, AreKnown, Asked, Begun, Call, Checkpoints, Error, HasPublished, HasRoom, IsFoundAt, IsWhole, KeptWithin, Known, MediumState, ReadsAs, Rejection, Repair, Repairs, SurvivesLoss, WavSpecEx, WriterState, accepted_samples, containers_in, accepted_by_all, found_in, frame_length, if_marked, made, marked, moment, publish, seen, start_of, write}
 use Rattle.hound.specs.declared.Error.TheVariants.{OutOfMemory, TooLong}
 
 -- a block is written, and if it is to be published a flush follows
@@ -66,11 +66,40 @@ PublishesBlocks kind containers s file blocks n durable medium = (more : List Kn
     × (kept.left.recorded.calls ≡ before ++ (flush ∷ after)) × HasPublished flush
     × HaveContainers containers (take n blocks) (accepted_by_all before))
 
+-- a call for samples that failed, or one that was Ok and a flush with this result
+abbrev pub WritesAndFlushes : {M : Type 0} → Ghosts M →
+    Result (List (List ℕ)) Rejection → Result (Unit {0}) Error → WriterState M → WriterState M → Type 0
+WritesAndFlushes {M} kind asked answer old new =
+    ((e : Error) × (answer ≡ Err e) × Accepts kind asked (Err e) old new)
+    ⊎ ((mid : WriterState M) × Accepts kind asked (Ok tt) old mid
+    × Checkpoints kind answer mid new)
+
 -- why a batch of so many samples isn't made: it has no room in the file, or needs more memory than
 -- the writer has
 abbrev pub IsNoBatch : {M : Type 0} → WriterState M → ℕ → Error → Type 0
 IsNoBatch w count e = ((e ≡ TooLong) × (HasRoom w (2 * count) → ⊥))
     ⊎ ((e ≡ OutOfMemory) × (length w.batch_memory < 2 * count))
+
+-- the samples of a call follow those that were accepted before, and the file is read as all of these
+abbrev pub IsPublished : {M : Type 0} → (M → MediumState) → Result (List (List ℕ)) Rejection →
+    WriterState M → WriterState M → Type 0
+IsPublished state asked old new = (list : List (List ℕ)) × (asked ≡ Ok list)
+    × ReadsAs old.spec_ex old.data_start (accepted_samples state old ++ list)
+    (state new.medium).contents
+    × IsWhole state new × (accepted_samples state new ≡ accepted_samples state old ++ list)
+
+-- a sample that may be there, as an item
+abbrev pub as_item : {A : Type 0} → Option A → Option (Result A Error)
+as_item None = None
+as_item (Some value) = Some (Ok value)
+
+-- in each state of this medium, once so many bytes were written, the file is read as these samples: its own
+-- and those that calls accepted of which these are known
+abbrev pub ReadsSince : WavSpecEx → Begun → List Known → List (List ℕ) → ℕ → MediumState → Type 0
+ReadsSince s file known samples from medium = (calls : List Call) × AreKnown known calls
+    × (samples ≡ found_in file ++ accepted_by_all calls)
+    × ((k : ℕ) → from ≤ k → k ≤ length medium.past → ReadsAs s (start_of s file)
+    (found_in file ++ accepted_by_all calls) (moment medium.start medium.past k))
 
 -- of what a repair of these contents has left another one finds the same frames, or nothing was written
 abbrev pub IsDoneAgain : List ℕ → List ℕ → (ℕ → Type 0) → Type 0

@@ -1,17 +1,22 @@
 // Functions of a user of the library, whose contracts follow from its public ones.
-ghost use Rattle.std.specs.Prelude.{◌≡◌, ◌/◌, ◌<◌, ◌≤◌, ◌++◌, Bool, false, ⊤, List, length, ◌∷◌, Ok, Err, Result, IfErr, IfOk, IsTrue, MatchResult};
-ghost use Rattle.hound.specs.{AreKnown, Begun, Call, Checkpoints, Known, ReadsAs, Recorded, found_in, start_of, RepairsMedium, Repair, Repairs, frame_length, HasPublished, IsLeftAfter, Keeps, accepted_by_all, begins_at, ReadsFrames, MediumState, WhereKeeps, WhereTells, Error, sample_count, WavSpecEx};
+ghost use Rattle.std.specs.Prelude.{◌≡◌, ℕ, ◌/◌, ◌<◌, ◌≤◌, ◌++◌, Bool, ◌⊎◌, false, true, ⊤, List, length, map, ◌∷◌, None, Some, Ok, Err, Result, IfErr, IfOk, IfSome, IsTrue, MatchResult, OnOk};
+ghost use Rattle.std.specs.List.{AllByRecursion, concat};
+ghost use Rattle.hound.specs.{AreKnown, accepted_samples, Begun, Call, Checkpoints, Finishes, Known, ReadsAs, Recorded, found_in, start_of, IsSameFile, ReaderState, RepairsMedium, Seeks, Repair, Repairs, IsFoundAt, Head, IsSoundSpec, IsStored, IsNoPad, shown_length, held, frame_length, containers, AreContainers, canonical, HasPublished, IsLeftAfter, Keeps, accepted_by_all, begins_at, one_more, samples_left, OpensAs, ReadsFrames, IsIoError, IsNext, IsSixteen, MediumState, WhereKeeps, WhereTells, Error, IsWritable, sample_count, WavSpecEx, container_at, meaning_at, rejection_at, samples_before, unread};
 ghost use Rattle.hound.specs.{Damage, IsLookedAt, Log, Performed, mending, repair_of};
 ghost use Rattle.std.specs.declared.io.Error.{Error as IoFault};
+ghost use Rattle.hound.specs.declared.Error.TheVariants.{OutOfMemory};
 ghost use Rattle.hound.specs.declared.RepairState.TheVariants.{HasChunksAfterData, Whole};
-ghost use Rattle.hound_callers.specs.Recording.{IsDoneAgain, IsDoneAgainAfterLoss};
+ghost use Rattle.hound_callers.specs.Recording.{IsDoneAgain, IsDoneAgainAfterLoss, IsNoBatch, as_item};
 
 use hound::{
-    Error, Medium, Repair, Source, WavWriter, a_repair_loses_no_published_sample,
-    a_second_repair_writes_nothing, a_stopped_repair_is_done_again, a_writer_holds_its_calls,
-    effects_mend, repair_to_end,
+    Error, Medium, Repair, Sample, Source, WavReader, WavWriter, a_look_finds_what_a_repair_does,
+    a_repair_keeps_stored_samples, a_repair_loses_no_published_sample,
+    a_second_repair_writes_nothing, a_seek_leads_to_its_frame, a_stopped_repair_is_done_again,
+    a_writer_holds_its_calls, an_iterator_gives_what_it_hints, an_ok_flush_is_kept, effects_mend,
+    find_damage, items_are_of_the_file, one_answer, repair, repair_to_end, written_is_read,
 };
-use std::result;
+use std::alloc::Global;
+use std::{io, result};
 
 /// Publishes what was accepted so far, and says how many samples these are (`published`): those of the
 /// calls so far, after those of the file, and exactly these are read (`counted`). An error is that of the
@@ -30,6 +35,20 @@ pub fn publish<M: Medium>(writer: &mut WavWriter<M>) -> hound::Result<u32>
     a_writer_holds_its_calls::<M>();
     writer.flush()?;
     Ok(writer.len())
+}
+
+/// Ends a recording, and returns its medium: the result is that of the end (`finishes`). At an Ok whoever
+/// reads the file finds exactly the samples that it had and those that the calls so far accepted (`reads`).
+pub fn finish<M: Medium>(writer: WavWriter<M>) -> (M, hound::Result<()>)
+    ensures finishes { Finishes M.Placed writer result.1 result.0 }
+    ensures reads { WhereTells M.tells (OnOk result.1 ((s : WavSpecEx) (file : Begun) (known : List Known)
+        → Recorded M.Placed s file known writer → (calls : List Call) × AreKnown known calls
+        × (accepted_samples M.state writer ≡ found_in file ++ accepted_by_all calls)
+        × ReadsAs s (start_of s file) (found_in file ++ accepted_by_all calls) (M.state result.0).contents)) }
+{
+    let (medium, result) = writer.finalize_into();
+    an_ok_flush_is_kept::<M>();
+    (medium, result)
 }
 
 /// Repairs what a recorder has left, whoever made its calls, over whichever medium: it does what
@@ -60,6 +79,87 @@ pub fn repair_recording<N: Source + Medium>(left: N) -> result::Result<(N, Repai
     a_second_repair_writes_nothing();
     a_stopped_repair_is_done_again();
     repair_to_end(left)
+}
+
+/// Looks at a file before anything is written, then repairs it, and returns what the look found: it is what
+/// `repair` reports, which is all that happened to the file (`repaired`). Unless chunks follow the data, the
+/// samples that were stored are read first, whoever wrote them (`stored`).
+pub fn look_and_repair<M: Source + Medium>(medium: M) -> result::Result<(M, Repair), (M, Error)>
+    requires { WhereTells M.tells ((M.state medium).place ≡ 0) }
+    ensures repaired { WhereTells M.tells (RepairsMedium true M.state medium result) }
+    ensures stored { WhereTells M.tells (IfOk result (λ done. let old = (M.state medium).contents in
+        (s : WavSpecEx) (len start : ℕ) (list : List (List ℕ)) → (done.1.state ≡ HasChunksAfterData → ⊥)
+        → Head old s len start → IsSoundSpec s → AllByRecursion (λ c. length c ≡ s.bytes_per_sample) list
+        → IsStored start (concat list) 0 (length (concat list)) old
+        → IsNoPad s (shown_length start len old) (held start old) list →
+        (done.1.spec_ex ≡ s) × ReadsFrames done.1 start list (M.state done.0).contents)) }
+{
+    a_look_finds_what_a_repair_does();
+    a_repair_keeps_stored_samples();
+    let (medium, found) = find_damage(medium)?;
+    let mut medium = medium;
+    if let Err(error) = medium.go(0) {
+        return Err((medium, Error::IoError(error)));
+    }
+    let (medium, _) = repair(medium)?;
+    Ok((medium, found))
+}
+
+/// The first sample of a frame, by a reader that has read nothing yet: that of its container, or an
+/// `IoError`, for a type that reads the file (`sample`). An error is a fault of the seek, or else the result
+/// is the next item after it, none past the end (`item`).
+pub fn sample_at<S: Sample, R: Source>(
+    reader: &mut WavReader<R>,
+    time: u32,
+) -> hound::Result<Option<S>>
+    requires { reader.old.bytes_read ≡ 0 }
+    ensures sample { WhereTells R.tells (time < reader.old.num_samples / reader.old.spec_ex.spec.channels
+        → rejection_at S.rejection reader.old.spec_ex ≡ None → MatchResult result (λ sample. sample
+        ≡ Some (meaning_at S.meaning reader.old.spec_ex (container_at reader.old.spec_ex.bytes_per_sample
+        (samples_before time reader.old.spec_ex) (unread (R.state reader.old.reader))))) IsIoError) }
+    ensures item { WhereTells R.tells (MatchResult result
+        (λ sample. (mid : ReaderState R) × Seeks R.state time reader.old mid
+        × IsNext R.remaining S.rejection S.meaning (as_item sample) mid reader.new)
+        (λ e. (IsIoError e × ((R.state reader.new.reader).faults ≡ one_more (R.state reader.old.reader).faults))
+        ⊎ ((mid : ReaderState R) × Seeks R.state time reader.old mid
+        × IsNext R.remaining S.rejection S.meaning (Some (Err e)) mid reader.new))) }
+{
+    a_seek_leads_to_its_frame::<R, S>();
+    reader.seek(time)?;
+    reader.samples().next().transpose()
+}
+
+/// All samples that a reader has left, for a type that reads the file: the meanings of its
+/// containers, or an `IoError` or `OutOfMemory`.
+pub fn samples_of<S: Sample, R: io::Read + Drop>(
+    alloc: Global,
+    reader: WavReader<R>,
+) -> hound::Result<Vec<S>>
+    ensures { IfSome (R.remaining reader.reader) (λ bytes.
+        rejection_at S.rejection reader.spec_ex ≡ None → MatchResult result (λ samples. samples.items
+        ≡ map (meaning_at S.meaning reader.spec_ex)
+        (containers reader.spec_ex.bytes_per_sample (samples_left reader) bytes))
+        (λ e. IsIoError e ⊎ (e ≡ OutOfMemory))) }
+{
+    items_are_of_the_file::<R, S>();
+    an_iterator_gives_what_it_hints::<R, S>();
+    let mut samples = Vec::new(alloc);
+    for sample in reader.into_samples::<S>() {
+        samples.push(sample?)?;
+    }
+    Ok(samples)
+}
+
+/// Opens a file that was written: what is left in the reader are the containers.
+pub fn open_written(bytes: &[u8]) -> hound::Result<WavReader<&[u8]>>
+    ensures { (s : WavSpecEx) (list : List (List ℕ)) → IsWritable s → AreContainers s list → bytes.now
+        ≡ canonical s list →
+        OpensAs result (λ r. (r.spec_ex ≡ s) × (r.num_samples ≡ length list)
+        × (containers s.bytes_per_sample (length list) r.reader.now ≡ list)) }
+{
+    written_is_read();
+    one_answer();
+    WavReader::new(bytes)
 }
 
 /// A program may perform the effects of a repair itself, and may be stopped at any of them: another repair of what it

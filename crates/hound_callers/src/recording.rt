@@ -1,17 +1,19 @@
 // Recorders that make their calls themselves.
 ghost use Rattle.std.specs.Prelude.{◌≡◌, ◌⊎◌, ◌-◌, ◌/◌, ◌<◌, ◌≤◌, ℕ, Bool, false, true, List, ◌∷◌, ◌++◌, [], Err, Ok, Result, MatchResult, is_ok, IsFalse, IsOk, IfOk, IfErr, IsErrAnd, IsTrue, OnErr, OnOk, drop, length, map, replicate, take};
-ghost use Rattle.std.specs.List.{All};
-ghost use Rattle.hound.specs.{AcceptsBytes, IsSameFile, Error, i16_bytes, whole_containers, IsNotBegun, MediumState, Repair, Repairs, SurvivesLoss, Begun, Known, Left, Recorded, made, marked, new_file, publish, seen, write, int_container, Around, within, Kept, data_start, AcceptsEach, WritesToBatch, containers_in, fits, remaining, signed_bytes_of, ReadsFrames, IsSixteen, Ran, asked_by, WhereKeeps, WhereTells, WriterState, IsWhole, accepted_samples, data_length, WavSpecEx};
+ghost use Rattle.std.specs.List.{All, concat};
+ghost use Rattle.hound.specs.{Accepts, AcceptsBytes, AreKnown, Asked, Begins, ReadsAs, IsSameFile, Takes, Checkpoints, Error, Finishes, accepted_as_seen, field, found_in, start_of, i16_bytes, whole_containers, IsNotBegun, MediumState, Repair, Repairs, SurvivesLoss, Begun, Call, Known, Left, Recorded, returned, made, marked, new_file, publish, seen, write, int_container, Around, within, Kept, KeptWithin, accepted_by_all, canonical, data_start, AcceptsEach, Ascends, WritesToBatch, containers_in, fits, remaining, signed_bytes_of, ReadsFrames, IsSixteen, Ran, asked_by, containers_of, WhereKeeps, WhereTells, WriterState, IsWhole, accepted_samples, data_length, WavSpecEx};
 ghost use Rattle.hound.specs.declared.RepairState.TheVariants.{HasChunksAfterData};
 ghost use Rattle.hound.specs.declared.session.Begin.TheVariants.{New};
-ghost use Rattle.hound.specs.declared.session.End.TheVariants.{Drop};
-ghost use Rattle.hound_callers.specs.Recording.{HaveContainers, IsNoBatch, IsStopped, PublishesBlocks, StopsAt, all_asked, block_asks, containers_by, published_calls, recorder_asks};
+ghost use Rattle.hound.specs.declared.session.End.TheVariants.{Drop, Finalize};
+ghost use Rattle.hound.specs.declared.session.Step.TheVariants.{Whole};
+ghost use Rattle.hound_callers.specs.Recording.{HaveContainers, IsNoBatch, IsPublished, IsStopped, PublishesBlocks, ReadsSince, StopsAt, WritesAndFlushes, all_asked, block_asks, containers_by, published_calls, recorder_asks};
 
 use hound::{
     Begin, Durable, End, Error, Medium, Placed, Sample, SampleWriter16, Source, Step, WavSpecEx,
-    WavWriter, a_batch_is_its_values, a_repair_loses_no_published_sample, a_run_leaves_its_calls,
-    a_write_is_marked_by_its_ok, i16s_are_kept, run_session, what_a_loss_leaves, what_is_kept,
-    what_is_known,
+    WavWriter, a_batch_is_its_values, a_block_is_its_samples, a_durable_medium_ascends,
+    a_repair_loses_no_published_sample, a_run_leaves_its_calls, a_write_is_marked_by_its_ok,
+    an_ok_flush_is_kept, calls_are_a_run, i16s_are_kept, run_session, sessions_leave_one_file,
+    what_a_loss_leaves, what_is_kept, what_is_known,
 };
 use std::alloc::Global;
 use std::result;
@@ -183,6 +185,41 @@ pub fn record_steps<M: Source + Medium>(
     }
 }
 
+/// Writes a file of one integer into an empty medium by calls of its own: at an Ok it is there, and
+/// nothing else (`exact`), and these calls are a run, with all that a run promises (`run`). An error
+/// is that of the constructor, of the sample, or of the end (`err`).
+pub fn pack_one<M: Source + Medium>(
+    medium: M,
+    spec_ex: WavSpecEx,
+    value: i32,
+) -> result::Result<M, (M, Error)>
+    requires place { WhereTells M.tells ((M.state medium).place ≡ 0) }
+    requires empty { (M.state medium).contents ≡ [] }
+    ensures run { IfOk result (Ran M.Placed (New spec_ex) (Whole value ∷ [])
+        (true ∷ []) Finalize medium (Ok tt)) }
+    ensures exact { IfOk result (λ left. WhereTells M.tells ((M.state left).contents
+        ≡ canonical spec_ex (containers_of spec_ex (Whole value ∷ [])))) }
+    ensures err { IfErr result (λ rejected.
+        IsNotBegun M.Placed spec_ex medium rejected.0 rejected.1
+        ⊎ ((first last : WriterState M) × Begins M.Placed spec_ex (M.state medium) first
+        × ((Takes M.Placed (Whole value) (Err rejected.1) first last
+        × (end : Result Unit Error) × Finishes M.Placed last end rejected.0)
+        ⊎ (Takes M.Placed (Whole value) (Ok tt) first last
+        × Finishes M.Placed last (Err rejected.1) rejected.0)))) }
+{
+    let steps = [Step::Whole(value)];
+    calls_are_a_run::<M>(&steps);
+    sessions_leave_one_file::<M>(spec_ex, &[&steps[..]]);
+    let mut writer = WavWriter::try_new(medium, spec_ex)?;
+    if let Err(error) = writer.write_sample(value) {
+        return Err((writer.drop_into(), error));
+    }
+    match writer.finalize_into() {
+        (medium, Ok(())) => Ok(medium),
+        (medium, Err(error)) => Err((medium, error)),
+    }
+}
+
 /// Writes a batch, which is accepted by one call; where there is no room for it, or no memory, the
 /// writer stays as it was (`recorded`), and else the result is that of this call (`calls`). At an Ok it
 /// accepted what its values would have been accepted as one by one (`same`).
@@ -218,6 +255,61 @@ pub fn record_batch<M: Medium>(
     values.flush()
 }
 
+/// Writes samples by one call and publishes them: the file is then read as the samples before and all
+/// of these (`published`), which are those that calls of their own would have written (`same`). An
+/// error is that of one of these calls, and there is no other (`calls`).
+pub fn record_at_once<S: Sample + Copy, M: Medium>(
+    writer: &mut WavWriter<M>,
+    samples: &[S],
+) -> hound::Result<()>
+    ensures published { WhereTells M.tells (IsWhole M.state writer.old → OnOk result (IsPublished M.state
+        (containers_in S.container writer.old.spec_ex samples.now) writer.old writer.new)) }
+    ensures same { WhereTells M.tells (IsWhole M.state writer.old → OnOk result ((each : WriterState M) →
+        AcceptsEach M.Placed S.container samples.now writer.old each →
+        accepted_samples M.state writer.new ≡ accepted_samples M.state each)) }
+    ensures calls { WritesAndFlushes M.Placed
+        (containers_in S.container writer.old.spec_ex samples.now) result writer.old writer.new }
+{
+    a_block_is_its_samples::<S, M>();
+    writer.write_samples(samples)?;
+    writer.flush()
+}
+
+/// Publishes what was accepted, and continues with samples, whatever becomes of them: until the next
+/// flush the file counts exactly the samples that were accepted before this one, over a medium without
+/// a past too (`lasts`), and whoever reads it finds exactly these (`reads`), also in each state since the
+/// flush returned, wherever the writing stops. An error is that of the flush, and then nothing is written
+/// after it (`calls`).
+pub fn publish_and_continue<S: Sample + Copy, M: Medium>(
+    writer: &mut WavWriter<M>,
+    samples: &[S],
+) -> hound::Result<()>
+    ensures lasts { WhereTells M.tells (OnOk result ((s : WavSpecEx) (file : Begun) (before : List (Asked × Bool))
+        → Recorded M.Placed s file (seen before) writer.old →
+        field (start_of s file - 4) (M.state writer.new.medium).contents
+        ≡ length (concat (found_in file ++ accepted_as_seen before)))) }
+    ensures reads { WhereTells M.tells (OnOk result ((s : WavSpecEx) (file : Begun) (known : List Known)
+        → Recorded M.Placed s file known writer.old → (calls later : List Call) × AreKnown known calls
+        × (accepted_samples M.state writer.new ≡ (found_in file ++ accepted_by_all calls) ++ accepted_by_all later)
+        × ReadsAs s (start_of s file) (found_in file ++ accepted_by_all calls)
+        (M.state writer.new.medium).contents)) }
+    ensures calls { MatchResult result (λ _. (mid : WriterState M) × (answer : Result Unit Error)
+        × Checkpoints M.Placed (Ok tt) writer.old mid
+        × Accepts M.Placed (containers_in S.container mid.spec_ex samples.now) answer mid writer.new
+        × WhereKeeps M.tells M.keeps ((s : WavSpecEx) (file : Begun) (known : List Known)
+        → Recorded M.Placed s file known writer.old
+        → ReadsSince s file known (accepted_samples M.state mid) (length (M.state mid.medium).past)
+        (M.state writer.new.medium)))
+        (λ e. Checkpoints M.Placed (Err e) writer.old writer.new) }
+{
+    what_is_kept::<M>();
+    what_is_known();
+    an_ok_flush_is_kept::<M>();
+    writer.flush()?;
+    let _ = writer.write_samples(samples);
+    Ok(())
+}
+
 /// Writes an integer to a batch as itself if it has sixteen bits, and returns whether it has; a batch
 /// alone drops the higher bits of any other.
 pub fn write_if_short<M: Medium>(batch: &mut SampleWriter16<'_, M>, value: i32) -> bool
@@ -232,4 +324,20 @@ pub fn write_if_short<M: Medium>(batch: &mut SampleWriter16<'_, M>, value: i32) 
     }
     batch.write_sample(value);
     true
+}
+
+/// Ends a recording over a durable medium, and takes the medium out: the result is that of the end
+/// (`finishes`). At an Ok all that was written to it is flushed, and in any case what was written since
+/// its last flush went to ascending places.
+pub fn finish_durable<M: Medium>(writer: WavWriter<Durable<M>>) -> (M, hound::Result<()>)
+    ensures finishes { Around (within writer.medium) (M.state result.0) (λ _ last.
+        Finishes (⟦<Durable<M> as Placed>⟧) writer result.1 last) }
+    ensures flushed { WhereKeeps M.tells M.keeps (OnOk result.1 (
+        let s = M.state result.0 in s.flushed ≡ length s.past)) }
+    ensures ascends { WhereKeeps M.tells M.keeps (
+        let s = M.state result.0 in Ascends s.past s.flushed (length s.past)) }
+{
+    let (durable, result) = writer.finalize_into();
+    a_durable_medium_ascends(&durable);
+    (durable.into_inner(), result)
 }
