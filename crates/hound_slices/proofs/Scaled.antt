@@ -2,7 +2,7 @@
 use mathlib.Core.Path.{◌≡◌, refl, sym, ap, ◌∙◌}
 use Prim.Native.Nat.{ℕ, ◌*◌, ◌-◌, ◌<◌, ◌^◌, min}
 use native.Mathlib.Omega.{arith}
-use Rattle.std.proofs.Common.{ℤ, pos, negsuc, Bool, true, List, [], ◌∷◌, ◌++◌, drop, length, map, subst, Ok}
+use Rattle.std.proofs.Common.{ℤ, pos, negsuc, true, List, [], ◌∷◌, ◌++◌, drop, length, map, subst, Ok}
 use Rattle.std.proofs.lemmas.List.{drop_at, take_at}
 use lib.Pow.{pow_pos}
 use borrow.Author.Tests.{lt-ltb}
