@@ -766,19 +766,49 @@ async function readAt(handle, { place, length }) {
   return bytes;
 }
 
-async function writeAt(handle, bytes, place) {
+// So many bytes are written at once, by this thread, because the way to another one and back takes longer. After a
+// write that took so many milliseconds a file is slow, and other threads write it. Where no call goes to another thread
+// Node's loop gets a turn after so many milliseconds.
+const [AT_ONCE, SLOW, TURN] = [1 << 16, 20, 5];
+const slow = new WeakSet();
+let turned = 0;
+
+/** Writes at a place, and returns a promise only where another thread does it. */
+function writeAt(handle, bytes, place) {
+  if (bytes.length > AT_ONCE || slow.has(handle)) return writeInThread(handle, bytes, place);
+  const start = performance.now();
   for (let count = 0; count < bytes.length;) {
-    const { bytesWritten } = await handle.write(bytes, count, bytes.length - count, place + count);
-    if (bytesWritten === 0) throw new Error("nothing could be written");
-    count += bytesWritten;
+    count += someOf(node.writeSync(handle.fd, bytes, count, bytes.length - count, place + count));
   }
+  if (performance.now() - start > SLOW) slow.add(handle);
+}
+
+async function writeInThread(handle, bytes, place) {
+  for (let count = 0; count < bytes.length;) {
+    count += someOf((await handle.write(bytes, count, bytes.length - count, place + count)).bytesWritten);
+  }
+}
+
+function someOf(written) {
+  if (written === 0) throw new Error("nothing could be written");
+  return written;
+}
+
+/** Gives Node's loop a turn where that is due, since a promise that is fulfilled already gives it none. */
+function turn() {
+  if (performance.now() - turned < TURN) return undefined;
+  return new Promise((resolve) => setImmediate(() => {
+    turned = performance.now();
+    resolve();
+  }));
 }
 
 async function shortenAt(handle, place) {
   if ((await handle.stat()).size > place) await handle.truncate(place);
 }
 
-/** Performs an effect on a file of Node. Without `durable` nothing is synced: the system has what was written. */
+/** Performs an effect on a file of Node, and returns a promise only where something has to be waited for. Without
+    `durable` nothing is synced: the system has what was written. */
 function performOn(handle, durable, effect, block) {
   switch (effect.kind) {
     case READ: return readAt(handle, effect);
@@ -790,13 +820,16 @@ function performOn(handle, durable, effect, block) {
   }
 }
 
+// What Node has for files, once `files` has loaded it.
+let node;
+
 /** Node's files, once the module is there, too. */
 async function files() {
   const loaded = nodeFiles().catch(() => {
     throw new Error("files at a path are recorded and repaired in Node alone");
   });
-  const [fs] = await Promise.all([loaded, ready()]);
-  return fs;
+  [node] = await Promise.all([loaded, ready()]);
+  return node.promises;
 }
 
 /** What a repairer of this mode finds in a file of Node, which it repairs. Each step is synced. */
@@ -837,7 +870,7 @@ class Recorder {
   #noise;
   #last = Promise.resolve();
   #requests = 0;
-  #room; // What the last block was in: the next one is, too, if nothing is under way.
+  #room; // What a block was in that is written: the next one is, too.
   #closing;
   #most; // How many frames a file has at most, where the recording continues in a next one.
   #paths = []; // The files of such a recording.
@@ -886,14 +919,21 @@ class Recorder {
       `dither` is that of the first block that has it. */
   async write(samples, { onClipped = warn, dither, seed } = {}) {
     this.#checkOpen();
-    const given = taken(samples), first = noiseOf({ dither, seed });
+    const given = taken(samples), first = noiseOf({ dither, seed }), room = this.#room;
     checkChannels(given.channels, this.spec.channels);
-    const room = this.#requests === 0 ? this.#room : undefined;
+    this.#room = undefined;
     const { data, clipped } = encoded(given, this.spec, first && (this.#noise ??= first), room);
-    if (data.length <= BLOCK_BYTES) this.#room = new Uint8Array(data.buffer);
     if (clipped > 0) onClipped(clipped);
-    const isSplit = this.#most !== undefined && given.count % this.spec.channels === 0;
-    return this.#queue(() => isSplit ? this.#writeInFiles(data) : this.#perform("recorder_write", data, given.count));
+    const waits = this.#queue(() => this.#writeBlock(data, given.count));
+    if (waits) await waits;
+    if (data.length <= BLOCK_BYTES) this.#room = new Uint8Array(data.buffer);
+  }
+
+  /** Writes a block, in next files what has no room in this one. */
+  #writeBlock(data, count) {
+    const frames = count / this.spec.channels;
+    const isHere = this.#most === undefined || !Number.isInteger(frames) || frames <= this.framesLeft;
+    return isHere ? this.#perform("recorder_write", data, count) : this.#writeInFiles(data);
   }
 
   /** Writes whole frames, in a next file where they have no room in this one. A block that is larger than a file may be
@@ -933,42 +973,67 @@ class Recorder {
 
   /** Makes a checkpoint and closes the file, after an error, too. */
   close() {
-    this.#closing ??= this.#queue(() => this.#perform("recorder_checkpoint").finally(() => this.#handle.close()));
+    this.#closing ??= this.#queue(() => this.#end());
     return this.#closing;
+  }
+
+  async #end() {
+    try {
+      await this.#perform("recorder_checkpoint");
+    } finally {
+      await this.#handle.close();
+    }
   }
 
   #checkOpen() {
     if (this.#closing) throw new Error("the recorder is closed");
   }
 
-  /** Does this after all that was requested before, or at once where that is done. */
+  /** Does this after all that was requested before, or at once where that is done. Like what follows it returns a
+      promise only where something has to be waited for. */
   #queue(task) {
     const done = this.#requests > 0 ? this.#last.then(task) : task(), end = () => { this.#requests--; };
+    if (!done) return turn();
     this.#requests++;
     this.#last = done.then(end, end);
     return done;
   }
 
   /** Performs all effects of a request. */
-  async #perform(request, block, ...numbers) {
+  #perform(request, block, ...numbers) {
     checked(this.#machine.call(request, shared.at(MACHINE), ...numbers));
-    await this.#performAll(block);
+    return this.#performAll(block);
   }
 
-  /** Performs what is requested. What fails is reported as failed, and is the error if the recorder says so. */
-  async #performAll(block) {
+  /** Performs what is requested. What fails is reported as failed, and the first fault is the error if the recorder
+      says so. */
+  #performAll(block, fault) {
     const machine = this.#machine;
-    let fault, code;
+    let code;
     while ((code = machine.call("recorder_next", shared.at(MACHINE))) === 1) {
+      const { effect } = machine;
       try {
-        const { effect } = machine, performed = performOn(this.#handle, this.#durable, effect, block);
-        machine.report(effect, performed && await performed);
+        const performed = performOn(this.#handle, this.#durable, effect, block);
+        if (performed) return this.#performRest(performed, effect, block, fault);
+        machine.report(effect);
       } catch (error) {
         fault ??= error;
         machine.fail();
       }
     }
     if (code < 0) throw fault ?? errorOf(code);
+  }
+
+  /** The same once an effect has ended that is under way. */
+  async #performRest(performed, effect, block, fault) {
+    try {
+      await performed;
+      this.#machine.report(effect);
+    } catch (error) {
+      fault ??= error;
+      this.#machine.fail();
+    }
+    return this.#performAll(block, fault);
   }
 }
 
