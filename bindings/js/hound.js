@@ -287,18 +287,18 @@ function interleave({ samples, channels }, first, out) {
 /** Copies interleaved samples to the arrays of their channels, from a frame on, or all to one array. */
 function spread(samples, channels, start) {
   if (channels.length === 1) return channels[0].set(samples, start);
-  const from = exact(samples), parts = channels.map((channel) => exact(channel).subarray(start));
-  if (channels.length === 2) return spreadPairs(from, ...parts);
-  parts.forEach((to, i) => {
-    for (let place = i, frame = 0; place < from.length; place += channels.length) to[frame++] = from[place];
-  });
+  const parts = channels.map((channel) => channel.subarray(start)), last = parts.length - 2;
+  for (let i = 0; i <= last + 1; i += 2) {
+    const first = Math.min(i, last); // Of an odd number the last two but one are copied twice.
+    spreadTwo(samples, first, parts.length, parts[first], parts[first + 1]);
+  }
 }
 
-/** The same of two channels, in one pass, since most files have two. */
-function spreadPairs(from, left, right) {
-  for (let frame = 0; frame < from.length >> 1; frame++) {
-    left[frame] = from[2 * frame];
-    right[frame] = from[2 * frame + 1];
+/** Copies two channels in one pass, which takes less time than two passes. */
+function spreadTwo(from, first, step, left, right) {
+  for (let place = first, frame = 0; place < from.length; place += step) {
+    left[frame] = from[place];
+    right[frame++] = from[place + 1];
   }
 }
 
@@ -466,20 +466,41 @@ function decodedIn(bytes, spec, stored) {
   return arrayAt(stored, SECOND, checked(shared.call("decode_" + stored.call, shared.at(SPEC), ...places)));
 }
 
-/** Decodes containers to the ends of some arrays, from this place of each on: to one, or to one for each channel. Where
-    samples are scaled they are in the memory of the instance as they will be in the arrays. */
+/** The same, as floats whose full scale is 1 where the containers have integers. */
+function floatsIn(bytes, spec, type) {
+  const { length } = decodedIn(bytes, spec, storedAs(type, spec)), rest = [shared.at(FIRST), length];
+  if (spec.isFloat) checked(shared.call("f32_to_f64", shared.at(SECOND), length, ...rest));
+  else checked(shared.call("to_" + type.call, shared.at(SECOND), length, spec.bitsPerSample, ...rest));
+  return arrayAt(type, FIRST, length);
+}
+
+/** The samples in these containers. */
+function samplesIn(bytes, spec, type) {
+  if (type !== storedAs(type, spec)) return floatsIn(bytes, spec, type);
+  return numbersIn(bytes, spec, type) ?? decodedIn(bytes, spec, type);
+}
+
+/** The containers of the first channel of two, and then those of the second one, where each has two bytes. A frame is a
+    number of 32 bits then, whose lower half is the first one: V8 copies the numbers of a whole array to those of
+    another type in a tenth of the time that a loop takes. */
+function splitIn(bytes) {
+  const count = bytes.length / 4, halves = [SECOND, SECOND + 2 * count];
+  halves.forEach((place, i) => {
+    shared.bytes.set(bytes, FIRST + 2 * i);
+    arrayAt(TYPES.int16, place, count).set(arrayAt(TYPES.int32, FIRST + 4 * i, count));
+  });
+  return shared.bytes.subarray(SECOND, SECOND + bytes.length);
+}
+
+/** Decodes containers to the ends of some arrays, from this place of each on: to one, or to one for each channel. */
 function decode(bytes, spec, type, parts, start) {
-  const stored = storedAs(type, spec), samples = numbersIn(bytes, spec, stored) ?? decodedIn(bytes, spec, stored);
-  if (type === stored) return spread(samples, parts, start);
-  const count = samples.length, size = count / parts.length;
-  const part = (of, place, i) => arrayAt(of, place + i * size * of.array.BYTES_PER_ELEMENT, size);
-  spread(samples, parts.map((_, i) => part(stored, FIRST, i)), 0);
-  if (spec.isFloat) {
-    checked(shared.call("f32_to_f64", shared.at(FIRST), count, shared.at(SECOND), count));
-  } else {
-    checked(shared.call("to_" + type.call, shared.at(FIRST), count, spec.bitsPerSample, shared.at(SECOND), count));
+  if (parts.length === 2 && spec.bytesPerSample === 2) {
+    const samples = samplesIn(splitIn(bytes), spec, type), half = samples.length / 2;
+    return parts.forEach((part, i) => part.set(samples.subarray(i * half, (i + 1) * half), start));
   }
-  parts.forEach((array, i) => array.set(part(type, SECOND, i), start));
+  const samples = samplesIn(bytes, spec, type);
+  if (spec.isFloat) return spread(exact(samples), parts.map(exact), start);
+  return spread(samples, parts, start);
 }
 
 /** The noise that is added to floats before they become integers, if it is requested: the state of its generator. */
