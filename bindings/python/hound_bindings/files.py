@@ -6,6 +6,7 @@ import mmap
 import os
 import secrets
 import shutil
+import stat
 import sys
 import tempfile
 from typing import IO, Any, ContextManager, Iterator, Optional, Tuple, Union
@@ -23,18 +24,23 @@ _write = {t: function("write_" + t, POINTER, POINTER, SIZE, POINTER, SIZE) for t
 _append = {t: function("append_" + t, POINTER, SIZE, SIZE, POINTER, SIZE) for t in ("i16", "i32", "f32")}
 
 
-@contextlib.contextmanager
-def _opened(file: File) -> Iterator[streams.Reader]:
+def _opened(file: File) -> ContextManager[streams.Reader]:
     """What reads a file: at a path, of an object, or in memory."""
-    reads = isinstance(file, (str, os.PathLike)) or (hasattr(file, "read") and not isinstance(file, mmap.mmap))
-    with named(file), contextlib.ExitStack() as memory:
-        source: Any = file if reads else memory.enter_context(disk.Memory(file))
-        yield memory.enter_context(streams.Reader(source))
+    if isinstance(file, (str, os.PathLike)) or (hasattr(file, "read") and not isinstance(file, mmap.mmap)):
+        return streams.Reader(file)  # type: ignore[arg-type]
+    return _opened_in_memory(file)
+
+
+@contextlib.contextmanager
+def _opened_in_memory(content: Any) -> Iterator[streams.Reader]:
+    source: Any = disk.Memory(content)
+    with source, streams.Reader(source) as reader:
+        yield reader
 
 
 def info(file: File) -> Info:
     """What the header of a file says. The data may be missing. An object that can seek stays where it is."""
-    with _opened(file) as source:
+    with named(file), _opened(file) as source:
         source._rewind()
         return source.info
 
@@ -190,8 +196,8 @@ def _renamed(path: Path, durable: bool) -> Iterator[str]:
         with _part_of(path, os.path.dirname(name)) as part:
             yield part
             with _locked_if_there(path) as older:
-                if os.path.exists(name):
-                    shutil.copymode(name, part)
+                if older:
+                    os.chmod(part, stat.S_IMODE(os.fstat(older.descriptor).st_mode))
                 disk.replace(part, name, older)
         if durable:
             disk.sync(folder)
@@ -200,8 +206,15 @@ def _renamed(path: Path, durable: bool) -> Iterator[str]:
 def replaced(path: Path, durable: bool) -> ContextManager[str]:
     """The name of a new file, which takes the place of one at this path when the context ends, unless that is a device
     or a pipe: then it is written into that."""
-    is_device = os.path.exists(path) and not os.path.isfile(path)
-    return _written_into(path, durable) if is_device else _renamed(path, durable)
+    return _written_into(path, durable) if _is_device(path) else _renamed(path, durable)
+
+
+def _is_device(path: Path) -> bool:
+    """Whether what is at a path isn't a file."""
+    try:
+        return not stat.S_ISREG(os.stat(path).st_mode)
+    except (OSError, ValueError):
+        return False  # Whoever opens it gets the error.
 
 
 def _write_to(file: Any, content: bytearray, durable: bool) -> int:

@@ -17,10 +17,10 @@ from typing import (
 from . import conversion, disk
 from ._calls import OneAtATime, one_at_a_time
 from ._library import (
-    FIND_DAMAGE, FRONT_BYTES, HEADER_BYTES, OVERWRITE, POINTER, U64, Cause, CRecorder, CSpec, Dtype,
+    FIND_DAMAGE, FRONT_BYTES, HEADER_BYTES, OVERWRITE, POINTER, U64, Cause, CInfo, CRecorder, CSpec, Dtype,
     HoundError, Info, Path, address, check_header, checked, function, info_from, integer, name_error, named,
 )  # fmt: skip
-from ._recorder import Recorder, Recording, begin, begun, repaired, resumed, walk_over, warn_of_rest
+from ._recorder import Recorder, Recording, begin, begun, found_in, repaired, resumed, walk_over, warn_of_rest
 
 __all__ = ["Reader", "Writer", "append_to", "create", "open"]
 
@@ -130,16 +130,27 @@ class Reader(OneAtATime):
         return content
 
     def _find_data(self) -> None:
-        read = self._reading_on() if self._placed is None else self._reading_at(self._placed)
-        found = walk_over(types.SimpleNamespace(read_at=read), self._to_end)
+        found = self._found()
         self._spec, self._ways = found.spec, conversion.Ways(found.spec)
         self._size = int(found.spec.bytes_per_sample * found.spec.channels)  # of a frame
         self.info = info_from(found.spec, found.samples // found.spec.channels, found.data_start)
         self._most = _MOST_FRAMES if self._to_end else self.info.frames
 
+    def _found(self) -> CInfo:
+        """What the header says: that of most files is in the front, so that one read is enough."""
+        if self._placed is None:
+            read = self._reading_on()
+        else:
+            self._front = self._placed.read_at(FRONT_BYTES, 0)
+            found = None if self._to_end else found_in(self._front)
+            if found:
+                return found
+            read = self._reading_at(self._placed)
+        return walk_over(types.SimpleNamespace(read_at=read), self._to_end)
+
     def _reading_at(self, source: Union[disk.Descriptor, disk.Memory]) -> Callable[[int, int], bytes]:
-        """What reads a part of a file: of its front, which has the header of most files, so that one call is enough."""
-        front = self._front = source.read_at(FRONT_BYTES, 0)
+        """What reads a part of a file, also of its front."""
+        front = self._front
 
         def read(count: int, place: int) -> bytes:
             is_there = place + count <= len(front) or len(front) < FRONT_BYTES
@@ -264,8 +275,8 @@ if hasattr(os, "register_at_fork"):
     os.register_at_fork(after_in_child=_unlock_readers)
 
 # How many bytes are written at once where they need no memory. A system keeps what is written in few calls in larger
-# pieces, so that it is read in less time, too.
-_WRITTEN = 1 << 22
+# pieces, so that it is written and read in less time; above all where a call begins at a multiple of their size.
+_WRITTEN = 1 << 24
 
 
 def part_name(path: Path, number: int) -> str:
@@ -280,11 +291,13 @@ def _check_part(path: Path) -> None:
         raise FileExistsError(errno.EEXIST, os.strerror(errno.EEXIST), os.fspath(path))
 
 
-def _in_pieces(content: memoryview, most: int) -> Iterable[memoryview]:
-    """The same bytes, in pieces of at most so many."""
+def _in_pieces(content: memoryview, most: int, place: int) -> Iterable[memoryview]:
+    """The same bytes, in pieces of at most so many, which end at multiples of that in a file: the first one begins at
+    this place."""
     if len(content) <= most:
         return (content,)
-    return (content[first : first + most] for first in range(0, len(content), most))
+    ends = range(most - place % most, len(content) + most, most)
+    return (content[max(end - most, 0) : end] for end in ends)
 
 
 class Writer(Recorder):
@@ -417,7 +430,7 @@ class Writer(Recorder):
         if containers is not None:
             with containers:
                 self._begin_block(given.count)
-                recorder = self._perform_all(_in_pieces(containers, _WRITTEN))
+                recorder = self._perform_all(_in_pieces(containers, _WRITTEN, self._end()))
         elif given.count > conversion.BLOCK and way.fits:
             with contextlib.closing(self._encoded(given.parts(way, scale), way)) as pieces:
                 self._begin_block(given.count)

@@ -976,6 +976,20 @@ class Files(unittest.TestCase):
         self.assert_file(before)
         self.assertEqual(os.listdir(self.folder.name), ["a.wav"])
 
+    def test_pieces_end_at_multiples_of_their_size(self):
+        data, samples = self.large(2, 2, 200003)
+        places, pwrite = [], os.pwrite
+
+        def noted(descriptor, content, place):
+            places.append(place)
+            return pwrite(descriptor, content, place)
+
+        with hound.create(self.path, 8000, 2, 16) as writer:
+            with mock.patch.object(hound.streams, "_WRITTEN", 1 << 17), mock.patch("os.pwrite", noted):
+                writer.write(samples)
+        self.assertEqual(places, [44, *range(1 << 17, len(data), 1 << 17)])
+        self.assert_file(by_hand(data, channels=2))
+
     def test_half_a_frame_is_no_end(self):
         cut_off = by_hand(bytes(range(6)), 12, channels=2)
         self.assertEqual(list(hound.read(cut_off)), [0x100, 0x302])
