@@ -247,7 +247,7 @@ export function appendTo(path: string | URL, options?: { durable?: boolean }): P
  * at least those of the last checkpoint, and a repair finds the others.
  *
  * A block of up to 64 KiB is written before `write` returns, unless an earlier call is under way. Larger blocks and
- * syncs go to other threads, and so do all blocks after one that took 20 milliseconds.
+ * syncs go to other threads, and so do all blocks of a file after one that took 20 milliseconds.
  */
 export interface Recorder {
   readonly spec: Readonly<Spec>;

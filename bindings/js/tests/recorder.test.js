@@ -22,12 +22,12 @@ const long = (number) => Int16Array.from({ length: 33000 }, (_, i) => 10 * numbe
 
 /** The file of these blocks in the canonical layout, made from the format alone. */
 function fileOf(blocks) {
-  const data = blocks.flatMap((one) => [...one]), file = Buffer.alloc(44 + 2 * data.length);
+  const data = Buffer.concat(blocks.map((one) => Buffer.from(Int16Array.from(one).buffer)));
+  const file = Buffer.concat([Buffer.alloc(44), data]);
   for (const [place, text] of [[0, "RIFF"], [8, "WAVEfmt "], [36, "data"]]) file.write(text, place, "latin1");
-  const words = [[4, file.length - 8], [16, 16], [24, 8000], [28, 32000], [40, 2 * data.length]];
+  const words = [[4, file.length - 8], [16, 16], [24, 8000], [28, 32000], [40, data.length]];
   for (const [place, value] of words) file.writeUInt32LE(value, place);
   for (const [place, value] of [[20, 1], [22, 2], [32, 4], [34, 16]]) file.writeUInt16LE(value, place);
-  file.set(Buffer.from(Int16Array.from(data).buffer), 44);
   return file;
 }
 
