@@ -147,10 +147,7 @@ const BLOCK_BYTES = 8 * BLOCK;
 const [SPEC, MACHINE, FOUND, NOISE, HEADER, FIRST, SECOND] = [0, 16, 192, 240, 256, PAGE, PAGE + BLOCK_BYTES];
 
 // Which argument of a call has 32 bits.
-const WORDS = {
-  beginning: 1, repairer_begin: 1, recorder_resume: 1, to_f32: 2, from_f32: 2, to_f64: 2, from_f64: 2, dither_f32: 2,
-  dither_f64: 2,
-};
+const WORDS = { beginning: 1, repairer_begin: 1, recorder_resume: 1 };
 
 /** An instance of the module, and so much memory of it, which follows what the module itself uses and is there when it
     is loaded. Nothing grows it, because V8 then makes a check at each access to any typed array of a program. */
@@ -438,7 +435,10 @@ export async function info(file, { toEnd = false } = {}) {
   return { ...spec, frames: held / (channels * bytesPerSample), dataStart };
 }
 
-/** The type that is stored where samples of a type are read or written: floats may be scaled to integers. */
+/** Whether floats of a type, whose full scale is 1, are integers in a file. */
+const isScaled = (type, spec) => type.isFloat && !spec.isFloat;
+
+/** The type that is stored where samples of a type are read or written. */
 function storedAs(type, spec) {
   if (!type.isFloat) return type;
   return spec.isFloat ? TYPES.float32 : TYPES.int32;
@@ -459,25 +459,21 @@ function numbersIn(bytes, { bitsPerSample, isFloat }, type) {
 }
 
 /** Decodes containers by the library, and returns their samples, which stay in its memory until the next call. */
-function decodedIn(bytes, spec, stored) {
+function decodedIn(bytes, spec, type) {
+  const isWidened = spec.isFloat && type === TYPES.float64, stored = isWidened ? TYPES.float32 : type;
   shared.putSpec(spec);
   shared.bytes.set(bytes, FIRST);
+  const name = (isScaled(type, spec) ? "to_" : "decode_") + stored.call;
   const places = [shared.at(FIRST), bytes.length, shared.at(SECOND), BLOCK];
-  return arrayAt(stored, SECOND, checked(shared.call("decode_" + stored.call, shared.at(SPEC), ...places)));
-}
-
-/** The same, as floats whose full scale is 1 where the containers have integers. */
-function floatsIn(bytes, spec, type) {
-  const { length } = decodedIn(bytes, spec, storedAs(type, spec)), rest = [shared.at(FIRST), length];
-  if (spec.isFloat) checked(shared.call("f32_to_f64", shared.at(SECOND), length, ...rest));
-  else checked(shared.call("to_" + type.call, shared.at(SECOND), length, spec.bitsPerSample, ...rest));
-  return arrayAt(type, FIRST, length);
+  const count = checked(shared.call(name, shared.at(SPEC), ...places));
+  if (!isWidened) return arrayAt(type, SECOND, count);
+  checked(shared.call("f32_to_f64", shared.at(SECOND), count, shared.at(FIRST), count));
+  return arrayAt(type, FIRST, count);
 }
 
 /** The samples in these containers. */
 function samplesIn(bytes, spec, type) {
-  if (type !== storedAs(type, spec)) return floatsIn(bytes, spec, type);
-  return numbersIn(bytes, spec, type) ?? decodedIn(bytes, spec, type);
+  return type === storedAs(type, spec) && numbersIn(bytes, spec, type) || decodedIn(bytes, spec, type);
 }
 
 /** The containers of the first channel of two, and then those of the second one, where each has two bytes. A frame is a
@@ -511,26 +507,28 @@ function noiseOf({ dither = false, seed = 1 }) {
 }
 
 function checkNoise(noise, type, spec) {
-  if (noise && (!type.isFloat || spec.isFloat)) throw new TypeError("dither is for floats that become integers");
+  if (noise && !isScaled(type, spec)) throw new TypeError("dither is for floats that become integers");
 }
 
-/** Converts the first samples of a type to what is stored, in the memory of the instance, and returns how many were
-    clipped. A finite one that would be infinite is an error. The state of the noise becomes that for the next ones. */
-function convert(type, spec, count, noise) {
-  if (spec.isFloat) {
-    checked(shared.call("f64_to_f32", shared.at(FIRST), count, shared.at(SECOND), count, shared.at(FOUND)));
-  } else if (noise) {
-    shared.view.setBigUint64(NOISE, noise.state, true);
-    const places = [shared.at(NOISE), shared.at(SECOND), count, shared.at(FOUND)];
-    checked(shared.call("dither_" + type.call, shared.at(FIRST), count, spec.bitsPerSample, ...places));
-    noise.state = shared.view.getBigUint64(NOISE, true);
-  } else {
-    const places = [shared.at(SECOND), count, shared.at(FOUND)];
-    checked(shared.call("from_" + type.call, shared.at(FIRST), count, spec.bitsPerSample, ...places));
-  }
-  const counted = Number(shared.view.getBigUint64(FOUND, true));
-  if (spec.isFloat && counted > 0) throw new HoundError("TOO_WIDE");
-  return counted;
+/** What the last call counted. */
+const counted = () => Number(shared.view.getBigUint64(FOUND, true));
+
+/** Encodes the first samples of a type in the memory of the instance, as so many bytes, and returns how many were
+    clipped. The state of the noise becomes that for the next ones. */
+function scale(type, count, length, noise) {
+  if (noise) shared.view.setBigUint64(NOISE, noise.state, true);
+  const places = [...noise ? [shared.at(NOISE)] : [], shared.at(SECOND), length, shared.at(FOUND)];
+  checked(shared.call((noise ? "dither_" : "from_") + type.call, shared.at(SPEC), shared.at(FIRST), count, ...places));
+  if (noise) noise.state = shared.view.getBigUint64(NOISE, true);
+  return counted();
+}
+
+/** Replaces the first doubles in the memory of the instance by floats. A finite one that would be infinite is an
+    error. */
+function narrow(count) {
+  checked(shared.call("f64_to_f32", shared.at(FIRST), count, shared.at(SECOND), count, shared.at(FOUND)));
+  if (counted() > 0) throw new HoundError("TOO_WIDE");
+  shared.bytes.copyWithin(FIRST, SECOND, SECOND + 4 * count);
 }
 
 /** Encodes so many given samples from a number on into an array, and returns how many were clipped. */
@@ -541,14 +539,15 @@ function encodeBlock(given, spec, first, count, out, noise) {
     return 0;
   }
   interleave(given, first, arrayAt(type, FIRST, count));
-  const clipped = type === stored ? 0 : convert(type, spec, count, noise);
-  if (numbers && type !== stored) { // The library has clipped them to these bits.
-    numbers.set(arrayAt(stored, SECOND, count));
-    return clipped;
+  let clipped = 0;
+  if (isScaled(type, spec)) {
+    clipped = scale(type, count, out.length, noise);
+  } else {
+    if (type !== stored) narrow(count);
+    const places = [shared.at(FIRST), count, shared.at(SECOND), out.length];
+    checked(shared.call("encode_" + stored.call, shared.at(SPEC), ...places));
   }
-  const [from, to] = type === stored ? [FIRST, SECOND] : [SECOND, FIRST];
-  checked(shared.call("encode_" + stored.call, shared.at(SPEC), shared.at(from), count, shared.at(to), out.length));
-  out.set(shared.bytes.subarray(to, to + out.length));
+  out.set(shared.bytes.subarray(SECOND, SECOND + out.length));
   return clipped;
 }
 
@@ -566,7 +565,7 @@ export async function read(file, { start = 0, frames = Infinity, type, planar = 
   if (type !== undefined) typeNamed(type);
   const found = await info(given, { toEnd }), { channels, bytesPerSample, dataStart } = found;
   const form = typeNamed(type ?? (found.isFloat ? "float32" : found.bitsPerSample <= 16 ? "int16" : "int32"));
-  decodedIn(new Uint8Array(0), found, storedAs(form, found)); // An error where the type doesn't read the file.
+  decodedIn(new Uint8Array(0), found, form); // An error where the type doesn't read the file.
   const counted = Math.max(Math.min(frames, found.frames - start), 0);
   const count = Math.min(counted, Math.floor((length - dataStart) / (channels * bytesPerSample)) - start);
   if (count <= 0 && counted > 0) throw new HoundError("TRUNCATED");

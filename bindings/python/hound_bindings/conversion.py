@@ -51,18 +51,17 @@ GIVEN = "int8, int16, int32, int64, float32, float64 and lists are written"
 # processor's cache. How many bytes are written at once where they need no memory: a system keeps what is written in few
 # calls in larger pieces, so that it is written and read in less time.
 BLOCK, CACHED, WRITTEN = 1 << 16, 1 << 18, 1 << 24
-_decode = {t: function("decode_" + t, POINTER, POINTER, SIZE, POINTER, SIZE) for t in ("i8", "i16", "i32", "f32")}
+# The calls that decode and encode samples, by their kind, or by the type of floats whose full scale is 1.
+_DECODERS = {"i8": "decode_i8", "i16": "decode_i16", "i32": "decode_i32", "f32": "decode_f32"}
+_DECODERS.update({"float32": "to_f32", "float64": "to_f64"})
+_decode = {kind: function(call, POINTER, POINTER, SIZE, POINTER, SIZE) for kind, call in _DECODERS.items()}
 _encode = {t: function("encode_" + t, POINTER, POINTER, SIZE, POINTER, SIZE) for t in ("i16", "i32", "f32")}
-_TO_SCALED = {
-    name: function(call, POINTER, SIZE, ctypes.c_uint16, POINTER, SIZE)
-    for name, call in (("float32", "to_f32"), ("float64", "to_f64"))
-}
 _FROM_SCALED = {
-    name: function(call, POINTER, SIZE, ctypes.c_uint16, POINTER, SIZE, POINTER)
+    name: function(call, POINTER, POINTER, SIZE, POINTER, SIZE, POINTER)
     for name, call in (("float32", "from_f32"), ("float64", "from_f64"))
 }
 _DITHER = {
-    name: function(call, POINTER, SIZE, ctypes.c_uint16, POINTER, POINTER, SIZE, POINTER)
+    name: function(call, POINTER, POINTER, SIZE, POINTER, POINTER, SIZE, POINTER)
     for name, call in (("float32", "dither_f32"), ("float64", "dither_f64"))
 }
 _f32_to_f64 = function("f32_to_f64", POINTER, SIZE, POINTER, SIZE)
@@ -147,8 +146,8 @@ class Way:
         # Whether integers are floats, or become floats, whose full scale is 1.
         self.is_scaled = form.kind == "f32" and not is_float
         # The calls that decode the samples of the file, and whether what they give is converted to the type.
-        self.decodes = "i32" if self.is_scaled else "i8" if dtype == "int8" else form.kind
-        self.is_converted = CODES[self.decodes] != form.code
+        self.decodes = dtype if self.is_scaled else "i8" if dtype == "int8" else form.kind
+        self.is_converted = width_of(self.decodes) != width
         # The calls that encode the samples, and whether they take the type as it is.
         self.encodes = dtype if self.is_scaled else form.kind
         self.is_taken = self.is_scaled or dtype in _LIBRARYS
@@ -187,14 +186,6 @@ class Ways:
         if known is None:
             known = self._known[dtype] = Way(dtype, self._spec), False
         return known[0]
-
-
-def _convert(part: int, count: int, way: Way, out: int) -> None:
-    """Stores samples that the library decoded at an address, in another type."""
-    if way.is_scaled:
-        checked(_TO_SCALED[way.dtype](part, count, way.bits, out, count))
-    else:
-        checked(_f32_to_f64(part, count, out, count))
 
 
 def _empty_of_numpy(count: int, dtype: str) -> Any:
@@ -295,7 +286,7 @@ class Room:
             for first in range(0, count, BLOCK):
                 some = min(BLOCK, count - first)
                 checked(_decode[way.decodes](way.spec, start + first * way.size, some * way.size, place, some))
-                _convert(place, some, way, out + first * way.width)
+                checked(_f32_to_f64(place, some, out + first * way.width, some))
 
     def result(self, count: int, always_2d: bool) -> Any:
         """The samples, of which there are so many."""
@@ -384,7 +375,7 @@ class Encoder:
     def __init__(self, way: Way, noise: Optional[int] = None) -> None:
         self._way = way
         self._noise = None if noise is None else ctypes.c_uint64(noise)
-        self._out, self._integers = ctypes.create_string_buffer(0), _zeros("i", 0)
+        self._out = ctypes.create_string_buffer(0)
 
     @property
     def noise(self) -> Optional[int]:
@@ -397,16 +388,13 @@ class Encoder:
         if not way.is_scaled:
             return checked(_encode[way.encodes](way.spec, start, count, *stored))
         clipped = ctypes.c_uint64()
-        if count > len(self._integers):
-            self._integers = _zeros("i", count)
-        integers = _start(self._integers)
         if self._noise is None:
-            checked(_FROM_SCALED[way.dtype](start, count, way.bits, integers, count, ctypes.byref(clipped)))
+            used = checked(_FROM_SCALED[way.dtype](way.spec, start, count, *stored, ctypes.byref(clipped)))
         else:
             noise = ctypes.byref(self._noise)
-            checked(_DITHER[way.dtype](start, count, way.bits, noise, integers, count, ctypes.byref(clipped)))
+            used = checked(_DITHER[way.dtype](way.spec, start, count, noise, *stored, ctypes.byref(clipped)))
         self.clipped += clipped.value
-        return checked(_encode["i32"](way.spec, integers, count, *stored))
+        return used
 
     def piece(self, start: Any, count: int) -> memoryview:
         """The bytes of so many samples at an address, until the next call."""
