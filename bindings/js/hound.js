@@ -343,9 +343,10 @@ class Machine {
 
   /** Makes a call with it first or last among addresses, and returns the code. */
   call(name, ...numbers) {
-    shared.bytes.set(this.bytes, MACHINE);
+    this.there ??= shared.bytes.subarray(MACHINE, MACHINE + this.bytes.length);
+    this.there.set(this.bytes);
     const code = shared.call(name, ...numbers);
-    this.bytes.set(shared.bytes.subarray(MACHINE, MACHINE + this.bytes.length));
+    this.bytes.set(this.there);
     return code;
   }
 
@@ -502,8 +503,8 @@ function decode(bytes, spec, type, parts, start) {
 /** The noise that is added to floats before they become integers, if it is requested: the state of its generator. */
 function noiseOf({ dither = false, seed = 1 }) {
   if (typeof dither !== "boolean") throw new TypeError(`dither is ${String(dither)}, and not a boolean`);
-  const state = BigInt(integer("seed", seed, 0, Number.MAX_SAFE_INTEGER));
-  return dither ? { state } : undefined;
+  integer("seed", seed, 0, Number.MAX_SAFE_INTEGER);
+  return dither ? { state: BigInt(seed) } : undefined;
 }
 
 function checkNoise(noise, type, spec) {
