@@ -411,7 +411,7 @@ class Encoder:
         containers = given.containers(way)
         if containers is not None:
             with containers:
-                yield from in_pieces(containers, place)
+                yield from in_pieces(containers, lambda: place)
             return
         width = width_of(way.encodes)
         for samples in given.parts(way):
@@ -468,11 +468,11 @@ def _buffer_of(samples: Any) -> Any:
     return memoryview(flat).cast("B").cast(flat.typecode, [len(samples), columns])
 
 
-def in_pieces(content: memoryview, place: int) -> Iterable[memoryview]:
-    """These bytes, which begin at this place of a file, in pieces that end at multiples of their size."""
+def in_pieces(content: memoryview, place: Callable[[], int]) -> Iterable[memoryview]:
+    """These bytes, which begin at that place of a file, in pieces that end at multiples of their size."""
     if len(content) <= WRITTEN:
         return (content,)
-    ends = range(WRITTEN - place % WRITTEN, len(content) + WRITTEN, WRITTEN)
+    ends = range(WRITTEN - place() % WRITTEN, len(content) + WRITTEN, WRITTEN)
     return (content[max(end - WRITTEN, 0) : end] for end in ends)
 
 

@@ -415,7 +415,7 @@ class Writer(Recorder):
         if containers is not None:
             with containers:
                 self._begin_block(given.count)
-                self._finish_block(self._perform_all(conversion.in_pieces(containers, self._end())), 0, None)
+                self._finish_block(self._perform_all(conversion.in_pieces(containers, self._end)), 0, None)
             return
         encoder = conversion.Encoder(way, state.noise)
         if given.count > conversion.BLOCK and way.fits:
