@@ -41,12 +41,10 @@ static union { int16_t shorts[BLOCK]; int32_t ints[BLOCK]; float floats[BLOCK]; 
 
 /* Decodes the containers of a block, and returns how many bytes `out` has of them. */
 static int64_t decode(const hound_spec *spec, const uint8_t *bytes, size_t length, int as_floats) {
-    static int32_t ints[BLOCK];
     if (spec->sample_format == HOUND_FLOAT) return 4 * hound_decode_f32(spec, bytes, length, out.floats, BLOCK);
-    if (spec->bits_per_sample <= 16 && !as_floats) return 2 * hound_decode_i16(spec, bytes, length, out.shorts, BLOCK);
-    int64_t count = hound_decode_i32(spec, bytes, length, as_floats ? ints : out.ints, BLOCK);
-    if (count >= 0 && as_floats) count = hound_to_f32(ints, (size_t)count, spec->bits_per_sample, out.floats, BLOCK);
-    return 4 * count;
+    if (as_floats) return 4 * hound_to_f32(spec, bytes, length, out.floats, BLOCK);
+    if (spec->bits_per_sample <= 16) return 2 * hound_decode_i16(spec, bytes, length, out.shorts, BLOCK);
+    return 4 * hound_decode_i32(spec, bytes, length, out.ints, BLOCK);
 }
 
 static int fail(const char *why) {

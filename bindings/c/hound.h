@@ -347,31 +347,34 @@ int64_t hound_container_16(int32_t value);
 int64_t hound_container_24(int32_t value);
 int64_t hound_container_32(int32_t value);
 
-/* Converts integers of so many bits, from 1 to 32, to floats whose full scale is 1: each is divided by 2^(bits - 1).
-   Returns how many. So any file of integers can be read as floats, by hound_decode_i32 or hound_read_i32 and this;
-   integers of up to 24 bits are the same again after hound_from_f32. */
-int64_t hound_to_f32(const int32_t *samples, size_t count, uint16_t bits, float *out, size_t capacity) HOUND_NONNULL;
+/* Decodes integers of a spec as floats whose full scale is 1: each is divided by 2^(bits - 1). So any file of integers
+   can be read as floats. Returns how many, as many as fit and as the bytes hold; floats of a file are
+   HOUND_OTHER_FORMAT. Integers of up to 24 bits are the same again after hound_from_f32. */
+int64_t hound_to_f32(const hound_spec *spec, const uint8_t *bytes, size_t length, float *out,
+                     size_t count) HOUND_NONNULL;
 
-/* Converts floats whose full scale is 1 to integers of so many bits: each is multiplied by 2^(bits - 1) and rounded to
-   the nearest integer, of two the even one. What the bits don't hold is clipped, and `clipped` counts such samples; a
-   NaN is 0. Returns how many samples there are in all. */
-int64_t hound_from_f32(const float *samples, size_t count, uint16_t bits, int32_t *out, size_t capacity,
+/* Encodes floats whose full scale is 1 as integers of a spec: each is multiplied by 2^(bits - 1) and rounded to the
+   nearest integer, of two the even one. What the bits don't hold is clipped, and `clipped` counts such samples; a
+   NaN is 0. Returns how many bytes. */
+int64_t hound_from_f32(const hound_spec *spec, const float *samples, size_t count, uint8_t *out, size_t capacity,
                        uint64_t *clipped) HOUND_NONNULL;
 
 /* The same of doubles, which hold integers of up to 32 bits: each is the same again after hound_from_f64. */
-int64_t hound_to_f64(const int32_t *samples, size_t count, uint16_t bits, double *out, size_t capacity) HOUND_NONNULL;
-int64_t hound_from_f64(const double *samples, size_t count, uint16_t bits, int32_t *out, size_t capacity,
+int64_t hound_to_f64(const hound_spec *spec, const uint8_t *bytes, size_t length, double *out,
+                     size_t count) HOUND_NONNULL;
+int64_t hound_from_f64(const hound_spec *spec, const double *samples, size_t count, uint8_t *out, size_t capacity,
                        uint64_t *clipped) HOUND_NONNULL;
 
-/* Converts floats as hound_from_f32 and hound_from_f64 do, each with noise that is added before it is rounded: so what
+/* Encodes floats as hound_from_f32 and hound_from_f64 do, each with noise that is added before it is rounded: so what
    the rounding changes is noise, too, and no distortion. `state` begins as any number, which is the seed, and becomes
    the one for the samples after these: the same seed gives the same samples, in however many calls.
-   The noise of a sample comes from the next number of the generator SplitMix64. It is the upper 32 bits of that less
-   the lower 32, divided by 2^32, in steps of the integers: so it is triangular, and less than a step. The sum is a
+   The noise of a sample comes from the next state of the generator that Knuth's MMIX has: a state is the one before
+   it, times 6364136223846793005, plus 1442695040888963407, modulo 2^64. The noise is its upper 16 bits less the 16
+   bits below them, divided by 2^16, in steps of the integers: so it is triangular, and less than a step. The sum is a
    double, which is rounded once before it becomes an integer. */
-int64_t hound_dither_f32(const float *samples, size_t count, uint16_t bits, uint64_t *state, int32_t *out,
+int64_t hound_dither_f32(const hound_spec *spec, const float *samples, size_t count, uint64_t *state, uint8_t *out,
                          size_t capacity, uint64_t *clipped) HOUND_NONNULL;
-int64_t hound_dither_f64(const double *samples, size_t count, uint16_t bits, uint64_t *state, int32_t *out,
+int64_t hound_dither_f64(const hound_spec *spec, const double *samples, size_t count, uint64_t *state, uint8_t *out,
                          size_t capacity, uint64_t *clipped) HOUND_NONNULL;
 
 /* Converts the floats of a file to doubles, which are the same numbers; and doubles to the nearest floats, of two the

@@ -28,17 +28,17 @@ static int64_t call(const char *name, const uint64_t *a) {
     if (!strcmp(name, "find_damage")) return hound_find_damage(AT(uint8_t, 0), a[1], AT(hound_repair_t, 2));
     if (!strcmp(name, "header")) return hound_header(AT(hound_spec, 0), a[1], AT(uint8_t, 2), a[3]);
     if (!strcmp(name, "sizes")) return hound_sizes(AT(hound_spec, 0), a[1], a[2], AT(uint8_t, 3), a[4]);
-    if (!strcmp(name, "to_f32")) return hound_to_f32(AT(int32_t, 0), a[1], (uint16_t)a[2], AT(float, 3), a[4]);
+    if (!strcmp(name, "to_f32")) return hound_to_f32(AT(hound_spec, 0), AT(uint8_t, 1), a[2], AT(float, 3), a[4]);
     if (!strcmp(name, "from_f32"))
-        return hound_from_f32(AT(float, 0), a[1], (uint16_t)a[2], AT(int32_t, 3), a[4], AT(uint64_t, 5));
-    if (!strcmp(name, "to_f64")) return hound_to_f64(AT(int32_t, 0), a[1], (uint16_t)a[2], AT(double, 3), a[4]);
+        return hound_from_f32(AT(hound_spec, 0), AT(float, 1), a[2], AT(uint8_t, 3), a[4], AT(uint64_t, 5));
+    if (!strcmp(name, "to_f64")) return hound_to_f64(AT(hound_spec, 0), AT(uint8_t, 1), a[2], AT(double, 3), a[4]);
     if (!strcmp(name, "from_f64"))
-        return hound_from_f64(AT(double, 0), a[1], (uint16_t)a[2], AT(int32_t, 3), a[4], AT(uint64_t, 5));
+        return hound_from_f64(AT(hound_spec, 0), AT(double, 1), a[2], AT(uint8_t, 3), a[4], AT(uint64_t, 5));
     if (!strcmp(name, "dither_f32"))
-        return hound_dither_f32(AT(float, 0), a[1], (uint16_t)a[2], AT(uint64_t, 3), AT(int32_t, 4), a[5],
+        return hound_dither_f32(AT(hound_spec, 0), AT(float, 1), a[2], AT(uint64_t, 3), AT(uint8_t, 4), a[5],
                                 AT(uint64_t, 6));
     if (!strcmp(name, "dither_f64"))
-        return hound_dither_f64(AT(double, 0), a[1], (uint16_t)a[2], AT(uint64_t, 3), AT(int32_t, 4), a[5],
+        return hound_dither_f64(AT(hound_spec, 0), AT(double, 1), a[2], AT(uint64_t, 3), AT(uint8_t, 4), a[5],
                                 AT(uint64_t, 6));
     if (!strcmp(name, "f32_to_f64")) return hound_f32_to_f64(AT(float, 0), a[1], AT(double, 2), a[3]);
     if (!strcmp(name, "f64_to_f32")) return hound_f64_to_f32(AT(double, 0), a[1], AT(float, 2), a[3], AT(uint64_t, 4));

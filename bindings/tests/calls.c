@@ -419,51 +419,75 @@ static void containers_of(void) {
          "the containers of 32 bits");
 }
 
+/* The containers of integers of up to 32 bits, of so many bytes each; one byte counts from -128. */
+static const uint8_t *containers(const int32_t *values, size_t count, size_t width) {
+    static uint8_t bytes[64];
+    for (size_t i = 0; i < count * width; i++)
+        bytes[i] = (uint8_t)((uint32_t)values[i / width] >> 8 * (i % width)) ^ (width == 1 ? 0x80 : 0);
+    return bytes;
+}
+
 /* Scales of 16 bits, 8 and 32: halves go to the even integer, and what is past full scale is clipped and counted. */
 static void scales(void) {
+    const hound_spec bits8 = {48000, 1, 8, 1, HOUND_INT}, bits16 = {48000, 1, 16, 2, HOUND_INT};
+    const hound_spec bits24 = {48000, 1, 24, 3, HOUND_INT}, bits32 = {48000, 1, 32, 4, HOUND_INT};
+    const hound_spec of_floats = {48000, 1, 32, 4, HOUND_FLOAT}, no_pair = {48000, 1, 20, 4, HOUND_INT};
     const int32_t values[5] = {16384, -32768, 32767, 0, 1};
     const float floats[5] = {0.5f, -1, 32767 / 32768.0f, 0, 1 / 32768.0f};
     float out[6] = {9, 9, 9, 9, 9, 9};
-    must(hound_to_f32(values, 5, 16, out, 6) == 5 && !memcmp(out, floats, sizeof floats) && out[5] == 9,
+    must(hound_to_f32(&bits16, containers(values, 5, 2), 11, out, 6) == 5 && !memcmp(out, floats, sizeof floats)
+             && out[5] == 9,
          "16 bits as floats");
-    must(hound_to_f32(values + 4, 1, 8, out, 6) == 1 && out[0] == 1 / 128.0f, "8 bits as floats");
-    const int32_t lowest = INT32_MIN;
-    must(hound_to_f32(&lowest, 1, 32, out, 6) == 1 && out[0] == -1, "32 bits as floats");
+    must(hound_to_f32(&bits16, containers(values, 5, 2), 10, out, 4) == 4 && out[4] == 1 / 32768.0f,
+         "as many floats as have room");
+    must(hound_to_f32(&bits8, containers(values + 4, 1, 1), 1, out, 6) == 1 && out[0] == 1 / 128.0f,
+         "8 bits as floats");
+    const int32_t lowest = INT32_MIN, low24 = -8388608;
+    must(hound_to_f32(&bits24, containers(&low24, 1, 3), 3, out, 6) == 1 && out[0] == -1, "24 bits as floats");
+    must(hound_to_f32(&bits32, containers(&lowest, 1, 4), 4, out, 6) == 1 && out[0] == -1, "32 bits as floats");
     const float some[9] = {1, -1, 0.5f, 2.5f / 32768, 3.5f / 32768, -1.0001f, 4, -2.5f / 32768, 0};
     const int32_t integers[9] = {32767, -32768, 16384, 2, 4, -32768, 32767, -2, 0};
-    int32_t back[10];
+    uint8_t back[20];
     uint64_t clipped = 77;
     memset(back, 9, sizeof back);
-    must(hound_from_f32(some, 9, 16, back, 10, &clipped) == 9 && !memcmp(back, integers, sizeof integers),
+    must(hound_from_f32(&bits16, some, 9, back, 20, &clipped) == 18 && !memcmp(back, containers(integers, 9, 2), 18),
          "floats as 16 bits");
-    must(clipped == 3 && back[9] == 0x09090909, "what is clipped, and the rest");
+    must(clipped == 3 && back[18] == 9 && back[19] == 9, "what is clipped, and the rest");
     const uint32_t nan = 0x7fc00001;
     float number;
     memcpy(&number, &nan, sizeof number);
-    must(hound_from_f32(&number, 1, 24, back, 10, &clipped) == 1 && back[0] == 0 && clipped == 0, "no number");
-    must(hound_from_f32(floats, 5, 16, back, 10, &clipped) == 5 && !memcmp(back, values, sizeof values) && clipped == 0,
+    must(hound_from_f32(&bits24, &number, 1, back, 20, &clipped) == 3 && back[0] + back[1] + back[2] == 0
+             && clipped == 0,
+         "no number");
+    must(hound_from_f32(&bits8, some + 2, 1, back, 20, &clipped) == 1 && back[0] == 192, "a float as 8 bits");
+    must(hound_from_f32(&bits16, floats, 5, back, 20, &clipped) == 10 && !memcmp(back, containers(values, 5, 2), 10)
+             && clipped == 0,
          "what comes back");
     clipped = 77;
-    must(hound_to_f32(values, 5, 16, out, 4) == HOUND_NO_ROOM
-             && hound_from_f32(some, 9, 16, back, 8, &clipped) == HOUND_NO_ROOM,
-         "no room for scaled samples");
-    for (int bits = 0; bits <= 33; bits += 33)
-        must(hound_to_f32(values, 5, (uint16_t)bits, out, 6) == HOUND_NOT_WRITABLE
-             && hound_from_f32(some, 9, (uint16_t)bits, back, 10, &clipped) == HOUND_NOT_WRITABLE, "no such bits");
-    must(out[0] == -1 && back[0] == 16384 && clipped == 77, "an error scales nothing");
+    must(hound_from_f32(&bits16, some, 9, back, 17, &clipped) == HOUND_NO_ROOM, "no room for scaled samples");
+    must(hound_to_f32(&no_pair, back, 4, out, 6) == HOUND_NOT_WRITABLE
+             && hound_from_f32(&no_pair, some, 1, back, 20, &clipped) == HOUND_NOT_WRITABLE
+             && hound_to_f32(&of_floats, back, 4, out, 6) == HOUND_OTHER_FORMAT
+             && hound_from_f32(&of_floats, some, 1, back, 20, &clipped) == HOUND_OTHER_FORMAT,
+         "no such integers");
+    must(out[0] == -1 && back[1] == 0x40 && clipped == 77, "an error scales nothing");
 }
 
 /* Doubles, which have all integers of 32 bits, and halves of a step that a float hasn't. */
 static void scales_of_doubles(void) {
+    const hound_spec bits8 = {48000, 1, 8, 1, HOUND_INT}, bits16 = {48000, 1, 16, 2, HOUND_INT};
+    const hound_spec bits32 = {48000, 1, 32, 4, HOUND_INT}, of_floats = {48000, 1, 32, 4, HOUND_FLOAT};
     const int32_t values[5] = {INT32_MAX, INT32_MIN, 1, 0, -16777217};
     const double doubles[5] = {2147483647 / 2147483648.0, -1, 1 / 2147483648.0, 0, -16777217 / 2147483648.0};
     double out[6] = {9, 9, 9, 9, 9, 9};
-    must(hound_to_f64(values, 5, 32, out, 6) == 5 && !memcmp(out, doubles, sizeof doubles) && out[5] == 9,
+    must(hound_to_f64(&bits32, containers(values, 5, 4), 20, out, 6) == 5 && !memcmp(out, doubles, sizeof doubles)
+             && out[5] == 9,
          "32 bits as doubles");
-    must(hound_to_f64(values + 2, 1, 8, out, 6) == 1 && out[0] == 1 / 128.0, "8 bits as doubles");
-    int32_t back[10];
+    must(hound_to_f64(&bits8, containers(values + 2, 1, 1), 1, out, 6) == 1 && out[0] == 1 / 128.0,
+         "8 bits as doubles");
+    uint8_t back[24];
     uint64_t clipped = 77;
-    must(hound_from_f64(doubles, 5, 32, back, 10, &clipped) == 5 && !memcmp(back, values, sizeof values)
+    must(hound_from_f64(&bits32, doubles, 5, back, 24, &clipped) == 20 && !memcmp(back, containers(values, 5, 4), 20)
              && clipped == 0,
          "what comes back of doubles");
     /* The next doubles after 2.5 steps, and infinities and the largest doubles. */
@@ -471,56 +495,59 @@ static void scales_of_doubles(void) {
                             1.7976931348623157e308, -32768.5 / 32768};
     const int32_t integers[9] = {32767, -32768, 2, 3, 4, 32767, -32768, 32767, -32768};
     memset(back, 9, sizeof back);
-    must(hound_from_f64(some, 9, 16, back, 10, &clipped) == 9 && !memcmp(back, integers, sizeof integers),
+    must(hound_from_f64(&bits16, some, 9, back, 24, &clipped) == 18 && !memcmp(back, containers(integers, 9, 2), 18),
          "doubles as 16 bits");
-    must(clipped == 4 && back[9] == 0x09090909, "what is clipped of doubles, and the rest");
+    must(clipped == 4 && back[18] == 9, "what is clipped of doubles, and the rest");
     const uint64_t nan = 0x7ff8000000000001;
     double number;
     memcpy(&number, &nan, sizeof number);
-    must(hound_from_f64(&number, 1, 24, back, 10, &clipped) == 1 && back[0] == 0 && clipped == 0,
+    must(hound_from_f64(&bits16, &number, 1, back, 24, &clipped) == 2 && back[0] == 0 && back[1] == 0 && clipped == 0,
          "no number of 64 bits");
     clipped = 77;
-    must(hound_to_f64(values, 5, 16, out, 4) == HOUND_NO_ROOM
-             && hound_from_f64(some, 9, 16, back, 8, &clipped) == HOUND_NO_ROOM,
-         "no room for scaled doubles");
-    for (int bits = 0; bits <= 33; bits += 33)
-        must(hound_to_f64(values, 5, (uint16_t)bits, out, 6) == HOUND_NOT_WRITABLE
-                 && hound_from_f64(some, 9, (uint16_t)bits, back, 10, &clipped) == HOUND_NOT_WRITABLE,
-             "no such bits of doubles");
+    must(hound_from_f64(&bits16, some, 9, back, 17, &clipped) == HOUND_NO_ROOM
+             && hound_to_f64(&of_floats, back, 4, out, 6) == HOUND_OTHER_FORMAT
+             && hound_from_f64(&of_floats, some, 1, back, 24, &clipped) == HOUND_OTHER_FORMAT,
+         "no such integers for doubles");
     must(out[0] == 1 / 128.0 && back[0] == 0 && clipped == 77, "an error scales no double");
 }
 
 /* Noise: what is expected was computed with fractions. A file that is written in parts is the same. */
 static void dithers(void) {
+    const hound_spec bits8 = {48000, 1, 8, 1, HOUND_INT}, bits16 = {48000, 1, 16, 2, HOUND_INT};
+    const hound_spec bits24 = {48000, 1, 24, 4, HOUND_INT}, of_floats = {48000, 1, 32, 4, HOUND_FLOAT};
     const double doubles[13] = {0, 0, 0, 0, 0, 0, 2.5 / 32768, -2.5 / 32768, 0.5, 1, -1, 32767 / 32768.0, -1.5};
-    const int32_t integers[13] = {0, 0, 0, 0, 0, 0, 3, -2, 16384, 32767, -32768, 32767, -32768};
-    const int32_t others[13] = {1, 0, 0, 0, 0, 0, 3, -3, 16385, 32767, -32768, 32767, -32768};
+    const int32_t integers[13] = {0, 0, 0, 0, 0, 0, 2, -3, 16385, 32767, -32768, 32767, -32768};
+    const int32_t others[13] = {0, 0, 1, 0, 1, 0, 3, -2, 16384, 32767, -32768, 32767, -32768};
     const float floats[4] = {0.1f, -0.3f, 0.7f, 1};
-    const int32_t wide[4] = {838861, -2516582, 5872025, 8388607};
-    int32_t out[14];
+    const int32_t wide[4] = {838861, -2516583, 5872025, 8388607};
+    uint8_t out[28];
     uint64_t state = 1, clipped = 77;
     memset(out, 9, sizeof out);
-    must(hound_dither_f64(doubles, 13, 16, &state, out, 14, &clipped) == 13 && !memcmp(out, integers, sizeof integers)
-             && clipped == 3 && out[13] == 0x09090909 && state == 635340061525167378u,
+    must(hound_dither_f64(&bits16, doubles, 13, &state, out, 28, &clipped) == 26
+             && !memcmp(out, containers(integers, 13, 2), 26) && clipped == 1 && out[26] == 9
+             && state == 14456408541175185048u,
          "doubles with noise");
     state = UINT64_MAX;
-    must(hound_dither_f64(doubles, 7, 16, &state, out, 14, &clipped) == 7 && clipped == 0
-             && hound_dither_f64(doubles + 7, 6, 16, &state, out + 7, 6, &clipped) == 6
-             && !memcmp(out, others, sizeof others) && clipped == 2 && state == 635340061525167376u,
+    must(hound_dither_f64(&bits16, doubles, 7, &state, out, 28, &clipped) == 14 && clipped == 0
+             && hound_dither_f64(&bits16, doubles + 7, 6, &state, out + 14, 12, &clipped) == 12
+             && !memcmp(out, containers(others, 13, 2), 26) && clipped == 2 && state == 5784830984886631774u,
          "doubles with noise, in parts");
     state = 1;
-    must(hound_dither_f32(floats, 4, 24, &state, out, 14, &clipped) == 4 && !memcmp(out, wide, sizeof wide)
-             && clipped == 1 && state == 8709371129873690709u,
+    uint8_t padded[16]; /* 24 bits in four bytes, of which the last is 0 */
+    memcpy(padded, containers(wide, 4, 4), 16);
+    for (int i = 0; i < 4; i++) padded[4 * i + 3] = 0;
+    must(hound_dither_f32(&bits24, floats, 4, &state, out, 28, &clipped) == 16 && !memcmp(out, padded, 16)
+             && clipped == 1 && state == 7062582979898595269u,
          "floats with noise");
     const uint32_t nan = 0x7fc00001;
     float number;
     memcpy(&number, &nan, sizeof number);
-    must(hound_dither_f32(&number, 1, 8, &state, out, 14, &clipped) == 1 && out[0] == 0 && clipped == 0,
+    must(hound_dither_f32(&bits8, &number, 1, &state, out, 28, &clipped) == 1 && out[0] == 128 && clipped == 0,
          "no number with noise");
     state = clipped = 77;
-    must(hound_dither_f32(floats, 4, 24, &state, out, 3, &clipped) == HOUND_NO_ROOM
-             && hound_dither_f64(doubles, 13, 33, &state, out, 14, &clipped) == HOUND_NOT_WRITABLE && state == 77
-             && clipped == 77 && out[0] == 0 && out[1] == wide[1],
+    must(hound_dither_f32(&bits24, floats, 4, &state, out, 15, &clipped) == HOUND_NO_ROOM
+             && hound_dither_f64(&of_floats, doubles, 13, &state, out, 28, &clipped) == HOUND_OTHER_FORMAT
+             && state == 77 && clipped == 77 && out[0] == 128 && out[1] == padded[1],
          "an error takes no noise");
 }
 

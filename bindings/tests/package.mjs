@@ -40,7 +40,7 @@ const put = (bytes) => memory.fill(0, file).set(bytes, file);
 async function compare(bytes, kind) {
   put(bytes);
   const code = call("info", file, bytes.length, start), info = await given("info", hound.info(kind));
-  const [channels, bits, format] = [4, 6, 10].map((n) => view.getUint16(start + n, true));
+  const [channels, format] = [4, 10].map((n) => view.getUint16(start + n, true));
   const counted = view.getUint32(start + 12, true);
   if (code < 0) {
     must(info === names.get(code), "info", bytes, info, code);
@@ -53,7 +53,10 @@ async function compare(bytes, kind) {
     const isScaled = suffix === "f32" && code === 0 && format === 0; // Integers that are read as floats.
     const count = call(isScaled ? "read_i32" : "read_" + suffix, file, bytes.length, 0, out, ROOM / 4);
     const read = await given("read", hound.read(kind, { type }));
-    if (isScaled && count > 0) exports.hound_to_f32(BigInt(out), BigInt(count), bits, BigInt(scaled), BigInt(count));
+    if (isScaled && count > 0) {
+      const data = file + Number(view.getBigUint64(start + 16, true));
+      call("to_f32", start, data, file + bytes.length - data, scaled, count);
+    }
     const whole = count - count % channels;
     const samples = () => new array(memory.buffer, isScaled ? scaled : out, whole);
     const expected = count < 0 ? names.get(count) : count > 0 && whole === 0 ? "TRUNCATED" : samples();

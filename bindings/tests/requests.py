@@ -147,11 +147,10 @@ def requests(file, some):
         if suffix == "i8":
             continue
         if suffix == "i32":
-            yield f"to_f32 @{SAMPLES} {few} #{some.choice((bits, 0, 33))} @{OUT} {some.choice((COUNT, few, 0))}"
-            yield f"to_f64 @{SAMPLES} {few} #{some.choice((bits, 0, 33))} @{OUT} {some.choice((COUNT, few, 0))}"
+            yield f"to_f32 @{SPEC} @{FILE} {used} @{OUT} {some.choice((ROOM // 4, few, 0))}"
+            yield f"to_f64 @{SPEC} @{FILE} {used} @{OUT} {some.choice((ROOM // 8, few, 0))}"
         if suffix == "f32":
-            to, room = some.choice((bits, 1, 33)), some.choice((COUNT, few, 0))
-            yield f"from_f32 @{SAMPLES} {few} #{to} @{OUT} {room} @{FOUND}"
+            yield f"from_f32 @{SPEC} @{SAMPLES} {few} @{OUT} {capacities[1]} @{FOUND}"
         for first, count in ((0, ROOM // 4), (some.randrange(9), some.randrange(9)), (2**33, 4)):
             yield f"read_{suffix} @{FILE} {used} {first} @{OUT} {count}"
         for capacity in capacities:
@@ -173,14 +172,16 @@ def conversions(some):
     doubles = [numbers(some) for _ in range(half)]
     floats = struct.pack(f"<{half}f", *(number if abs(number) < 3e38 else math.inf for number in doubles))
     for samples in (struct.pack(f"<{half}d", *doubles), floats):
-        yield f"memory {FILE} {(bytes(SAMPLES) + samples).hex()}"
-        room = some.choice((half, half - 1))
+        bits, width, is_float = some.choice((*PAIRS, (8, 1, 0), (16, 2, 0), (24, 3, 0), (32, 4, 0)))
+        spec = struct.pack("<IHHHH", 44100, 1, bits, width, is_float)
+        yield f"memory {FILE} {(spec.ljust(SAMPLES, bytes(1)) + samples).hex()}"
+        room, capacity = some.choice((half, half - 1)), some.choice((4 * half, half))
         if samples is floats:
             yield f"f32_to_f64 @{SAMPLES} {half} @{OUT} {room}"
-            yield f"dither_f32 @{SAMPLES} {half} #{some.choice((8, 16, 24, 0))} @{FOUND + 8} @{OUT} {room} @{FOUND}"
+            yield f"dither_f32 @{SPEC} @{SAMPLES} {half} @{FOUND + 8} @{OUT} {capacity} @{FOUND}"
         else:
-            yield f"from_f64 @{SAMPLES} {half} #{some.choice((8, 16, 24, 32, 1, 0, 33))} @{OUT} {room} @{FOUND}"
-            yield f"dither_f64 @{SAMPLES} {half} #{some.choice((16, 24, 32, 33))} @{FOUND + 8} @{OUT} {room} @{FOUND}"
+            yield f"from_f64 @{SPEC} @{SAMPLES} {half} @{OUT} {capacity} @{FOUND}"
+            yield f"dither_f64 @{SPEC} @{SAMPLES} {half} @{FOUND + 8} @{OUT} {capacity} @{FOUND}"
             yield f"f64_to_f32 @{SAMPLES} {half} @{OUT} {room} @{FOUND}"
 
 

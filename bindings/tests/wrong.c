@@ -86,48 +86,50 @@ REAL(int64_t, sizes, (const hound_spec *spec, uint64_t data_start, uint64_t samp
     return n > 0 && n % 2 == 0 && has("sizes without a pad byte") ? n - 1 : n;
 }
 
-REAL(int64_t, to_f32, (const int32_t *samples, size_t count, uint16_t bits, float *out, size_t capacity)) {
-    return __real_hound_to_f32(samples, count, has("floats of 16 bits alone") && bits <= 32 ? 16 : bits, out, capacity);
-}
-
-REAL(int64_t, from_f32,
-     (const float *samples, size_t count, uint16_t bits, int32_t *out, size_t capacity, uint64_t *clipped)) {
-    int64_t n = __real_hound_from_f32(samples, count, bits, out, capacity, clipped);
-    if (n >= 0 && has("no clipped sample")) *clipped = 0;
-    for (int64_t i = 0; i < n; i++) if (has("halves upwards") && samples[i] == 2.5f / 32768) out[i] = 3;
+REAL(int64_t, to_f32, (const hound_spec *spec, const uint8_t *bytes, size_t length, float *out, size_t count)) {
+    int64_t n = __real_hound_to_f32(spec, bytes, length, out, count);
+    float factor = n > 0 ? (float)(1u << (spec->bits_per_sample - 1)) / 32768 : 1;
+    for (int64_t i = 0; i < n; i++) if (has("floats of 16 bits alone")) out[i] *= factor;
     return n;
 }
 
-REAL(int64_t, to_f64, (const int32_t *samples, size_t count, uint16_t bits, double *out, size_t capacity)) {
-    int64_t n = __real_hound_to_f64(samples, count, bits, out, capacity);
+REAL(int64_t, from_f32, (const hound_spec *spec, const float *samples, size_t count, uint8_t *out, size_t capacity,
+                         uint64_t *clipped)) {
+    int64_t n = __real_hound_from_f32(spec, samples, count, out, capacity, clipped);
+    if (n >= 0 && has("no clipped sample")) *clipped = 0;
+    if (n > 0 && has("halves upwards"))
+        for (size_t i = 0; i < count; i++) if (samples[i] == 2.5f / 32768) out[(size_t)n / count * i] = 3;
+    return n;
+}
+
+REAL(int64_t, to_f64, (const hound_spec *spec, const uint8_t *bytes, size_t length, double *out, size_t count)) {
+    int64_t n = __real_hound_to_f64(spec, bytes, length, out, count);
     for (int64_t i = 0; i < n; i++) if (has("doubles are floats")) out[i] = (float)out[i];
     return n;
 }
 
-REAL(int64_t, from_f64,
-     (const double *samples, size_t count, uint16_t bits, int32_t *out, size_t capacity, uint64_t *clipped)) {
-    int64_t n = __real_hound_from_f64(samples, count, bits, out, capacity, clipped);
+REAL(int64_t, from_f64, (const hound_spec *spec, const double *samples, size_t count, uint8_t *out, size_t capacity,
+                         uint64_t *clipped)) {
+    int64_t n = __real_hound_from_f64(spec, samples, count, out, capacity, clipped);
     if (n >= 0 && has("no clipped double")) *clipped = 0;
-    for (int64_t i = 0; i < n; i++) if (has("doubles rounded twice") && (float)samples[i] == 2.5f / 32768) out[i] = 2;
+    if (n > 0 && has("doubles rounded twice"))
+        for (size_t i = 0; i < count; i++) if ((float)samples[i] == 2.5f / 32768) out[(size_t)n / count * i] = 2;
     return n;
 }
 
-REAL(int64_t, dither_f32, (const float *samples, size_t count, uint16_t bits, uint64_t *state, int32_t *out,
+REAL(int64_t, dither_f32, (const hound_spec *spec, const float *samples, size_t count, uint64_t *state, uint8_t *out,
                            size_t capacity, uint64_t *clipped)) {
     uint64_t seed = *state;
-    int64_t n = __real_hound_dither_f32(samples, count, bits, state, out, capacity, clipped);
+    int64_t n = __real_hound_dither_f32(spec, samples, count, state, out, capacity, clipped);
     if (n >= 0 && has("each block has the same noise")) *state = seed;
     return n;
 }
 
-REAL(int64_t, dither_f64, (const double *samples, size_t count, uint16_t bits, uint64_t *state, int32_t *out,
+REAL(int64_t, dither_f64, (const hound_spec *spec, const double *samples, size_t count, uint64_t *state, uint8_t *out,
                            size_t capacity, uint64_t *clipped)) {
-    if (has("doubles without noise")) {
-        int64_t n = __real_hound_from_f64(samples, count, bits, out, capacity, clipped);
-        *state += n > 0 ? 0x9e3779b97f4a7c15 * (uint64_t)n : 0;
-        return n;
-    }
-    return __real_hound_dither_f64(samples, count, bits, state, out, capacity, clipped);
+    int64_t n = __real_hound_dither_f64(spec, samples, count, state, out, capacity, clipped);
+    int has_noise = n < 0 || !has("doubles without noise");
+    return has_noise ? n : __real_hound_from_f64(spec, samples, count, out, capacity, clipped);
 }
 
 REAL(int64_t, f32_to_f64, (const float *samples, size_t count, double *out, size_t capacity)) {

@@ -11,24 +11,23 @@ ghost use Rattle.std.specs.Option.{option_len};
 ghost use Rattle.std.specs.Result.{result_unwrap_or};
 ghost use Rattle.hound_number.specs.{bytes_of};
 ghost use Rattle.hound_walk.specs.{Readable, Unreadable};
-ghost use Rattle.hound_sample.specs.{double_of_int, float_of_int, int_container, pattern_container, float_rejection, int_meaning, int_rejection, pattern};
+ghost use Rattle.hound_sample.specs.{double_of_int, float_of_int, int_container, pattern_container, float_rejection, int_meaning, int_rejection, pattern, with_noise};
 ghost use Rattle.hound_spec.specs.declared.spec.SampleFormat.TheVariants.{Float, Int};
 ghost use Rattle.hound_walk.specs.declared.cause.Cause.{Cause};
 ghost use Rattle.hound_writer.specs.{Advances, AsksForBlock, AsksForCheckpoint, BeginsRecorder, LeavesRoom, Resumes};
-ghost use Rattle.hound_slices.specs.{AppendsInPlace, BeginsForC, BeginsRepairer, CountsWhole, Decodes, Encodes, FindsInFile, GivesBeginning, GivesHeader, GivesSizes, GuessesData, IsDamageError, IsExplicit, IsKind, MakesContainer, NarrowsFloats, ReadsInto, Records, RepairsFile, Returns, ScalesToFloats, ScalesToIntegers, Sizes, StepsRepairer, TakesNumbers, TakesPart, WidensFloats, WritesFile, effect_of, error_code, found_file, mends, overwrites, recorder_of, report_of, spec_from_c, with_noise};
+ghost use Rattle.hound_slices.specs.{AppendsInPlace, BeginsForC, BeginsRepairer, CountsClipped, CountsWhole, Decodes, Encodes, FindsInFile, GivesBeginning, GivesHeader, GivesSizes, GuessesData, IsDamageError, IsExplicit, IsKind, MakesContainer, NarrowsFloats, ReadsInto, Records, RepairsFile, Returns, Sizes, StepsRepairer, TakesNumbers, TakesPart, WidensFloats, WritesFile, clipped_among, effect_of, error_code, found_file, integers, mends, overwrites, recorder_of, report_of, spec_from_c};
 ghost use Rattle.hound_slices.specs.declared.error.CallError.{CallError as AnyError};
 ghost use Rattle.hound_slices.specs.declared.error.CallError.TheVariants.{Head};
 
 use hound_repair::Task;
-use hound_sample::FloatBits;
+use hound_sample::{FloatBits, UnitDouble, UnitFloat};
 use hound_slices::{
     CallError, HoundEffect, HoundInfo, HoundRecorder, HoundRepair, HoundRepairer, HoundSpec,
     HoundWalk, append_block, begin_repairer, beginning_for_c, code_of, code_of_error,
-    container_of_8, container_of_16, container_of_24, container_of_32, decode_block,
-    dither_doubles, dither_floats, encode_block, file_kind, file_size, find_file_damage,
-    find_samples, found_file, guess_data, info_for_c, mends, narrow_floats, overwrites, read_block,
-    recorder_for_c, recorder_of, repair_file, report_of, scale_doubles_to_integers,
-    scale_to_doubles, scale_to_floats, scale_to_integers, spec_from_c, step_repairer, step_walk,
+    container_of_8, container_of_16, container_of_24, container_of_32, decode_block, encode_block,
+    encode_floats, encode_with_noise, file_kind, file_size, find_file_damage, find_samples,
+    found_file, guess_data, info_for_c, mends, narrow_floats, overwrites, read_block,
+    recorder_for_c, recorder_of, repair_file, report_of, spec_from_c, step_repairer, step_walk,
     value_of_8, value_of_16, value_of_24, value_of_32, whole_frames, widen_floats, write_file,
     write_header, write_sizes,
 };
@@ -392,78 +391,94 @@ pub extern "C" fn hound_container_32(value: i32) -> i64
     code_of(container_of_32(value))
 }
 
-/// Scales integers of so many bits to floats whose full scale is 1.
+/// Decodes integers of a spec to floats whose full scale is 1.
 #[unsafe(no_mangle)]
-pub extern "C" fn hound_to_f32(samples: &[i32], bits: u16, out: &mut [f32]) -> i64
-    ensures { Returns result (ScalesToFloats float_of_int bits samples.now out.old out.new) }
+pub extern "C" fn hound_to_f32(spec: &HoundSpec, bytes: &[u8], out: &mut [UnitFloat]) -> i64
+    ensures { Returns result (Decodes (int_rejection 4)
+        (λ _ width bits c. record { 0 = float_of_int bits (int_meaning width bits c) })
+        (spec_from_c spec.now) bytes.now out.old out.new) }
 {
-    code_of(scale_to_floats(samples, bits, out))
+    code_of(decode_block::<UnitFloat>(*spec, bytes, out))
 }
 
 /// The same to floats of 64 bits, which are exact.
 #[unsafe(no_mangle)]
-pub extern "C" fn hound_to_f64(samples: &[i32], bits: u16, out: &mut [f64]) -> i64
-    ensures { Returns result (ScalesToFloats double_of_int bits samples.now out.old out.new) }
+pub extern "C" fn hound_to_f64(spec: &HoundSpec, bytes: &[u8], out: &mut [UnitDouble]) -> i64
+    ensures { Returns result (Decodes (int_rejection 4)
+        (λ _ width bits c. record { 0 = double_of_int bits (int_meaning width bits c) })
+        (spec_from_c spec.now) bytes.now out.old out.new) }
 {
-    code_of(scale_to_doubles(samples, bits, out))
+    code_of(decode_block::<UnitDouble>(*spec, bytes, out))
 }
 
-/// Scales floats whose full scale is 1 to integers of so many bits, and counts those that were clipped.
+/// Encodes floats whose full scale is 1 as integers of a spec, and counts those that were clipped.
 #[unsafe(no_mangle)]
 pub extern "C" fn hound_from_f32(
+    spec: &HoundSpec,
     samples: &[f32],
-    bits: u16,
-    out: &mut [i32],
+    out: &mut [u8],
     clipped: &mut u64,
 ) -> i64
-    ensures { Returns result (ScalesToIntegers bits samples.now out.old out.new clipped.old clipped.new) }
+    ensures encodes { let s = spec_from_c spec.now in Returns result
+        (Encodes Int int_container s (integers (λ x. x) s samples.now) out.old out.new) }
+    ensures counts { Returns result (CountsClipped (clipped_among (λ x. x) (spec_from_c spec.now) samples.now)
+        clipped.old clipped.new) }
 {
-    code_of(scale_to_integers(samples, bits, out, clipped))
+    code_of(encode_floats::<f32>(*spec, samples, out, clipped))
 }
 
 /// The same of floats of 64 bits.
 #[unsafe(no_mangle)]
 pub extern "C" fn hound_from_f64(
+    spec: &HoundSpec,
     samples: &[f64],
-    bits: u16,
-    out: &mut [i32],
+    out: &mut [u8],
     clipped: &mut u64,
 ) -> i64
-    ensures { Returns result (ScalesToIntegers bits samples.now out.old out.new clipped.old clipped.new) }
+    ensures encodes { let s = spec_from_c spec.now in Returns result
+        (Encodes Int int_container s (integers (λ x. x) s samples.now) out.old out.new) }
+    ensures counts { Returns result (CountsClipped (clipped_among (λ x. x) (spec_from_c spec.now) samples.now)
+        clipped.old clipped.new) }
 {
-    code_of(scale_doubles_to_integers(samples, bits, out, clipped))
+    code_of(encode_floats::<f64>(*spec, samples, out, clipped))
 }
 
-/// The same with noise, whose state becomes that for the next floats.
+/// Encodes floats with noise, whose state becomes that for the next floats.
 #[unsafe(no_mangle)]
 pub extern "C" fn hound_dither_f32(
+    spec: &HoundSpec,
     samples: &[f32],
-    bits: u16,
     state: &mut u64,
-    out: &mut [i32],
+    out: &mut [u8],
     clipped: &mut u64,
 ) -> i64
-    ensures scales { Returns result (ScalesToIntegers bits (with_noise bits state.old samples.now)
-        out.old out.new clipped.old clipped.new) }
-    ensures takes { Returns result (TakesNumbers samples.now state.old state.new) }
+    ensures encodes { let s = spec_from_c spec.now in Returns result (Encodes Int int_container s
+        (integers (λ x. x) s (with_noise (λ x. x) s.spec.bits_per_sample state.old samples.now)) out.old out.new) }
+    ensures counts { let s = spec_from_c spec.now in Returns result (CountsClipped
+        (clipped_among (λ x. x) s (with_noise (λ x. x) s.spec.bits_per_sample state.old samples.now))
+        clipped.old clipped.new) }
+    ensures takes { Returns result (TakesNumbers (length samples.now) state.old state.new) }
 {
-    code_of(dither_floats(samples, bits, state, out, clipped))
+    code_of(encode_with_noise::<f32>(*spec, samples, state, out, clipped))
 }
 
 /// The same of floats of 64 bits.
 #[unsafe(no_mangle)]
 pub extern "C" fn hound_dither_f64(
+    spec: &HoundSpec,
     samples: &[f64],
-    bits: u16,
     state: &mut u64,
-    out: &mut [i32],
+    out: &mut [u8],
     clipped: &mut u64,
 ) -> i64
-    ensures scales { Returns result (ScalesToIntegers bits (with_noise bits state.old samples.now)
-        out.old out.new clipped.old clipped.new) }
-    ensures takes { Returns result (TakesNumbers samples.now state.old state.new) }
+    ensures encodes { let s = spec_from_c spec.now in Returns result (Encodes Int int_container s
+        (integers (λ x. x) s (with_noise (λ x. x) s.spec.bits_per_sample state.old samples.now)) out.old out.new) }
+    ensures counts { let s = spec_from_c spec.now in Returns result (CountsClipped
+        (clipped_among (λ x. x) s (with_noise (λ x. x) s.spec.bits_per_sample state.old samples.now))
+        clipped.old clipped.new) }
+    ensures takes { Returns result (TakesNumbers (length samples.now) state.old state.new) }
 {
-    code_of(dither_doubles(samples, bits, state, out, clipped))
+    code_of(encode_with_noise::<f64>(*spec, samples, state, out, clipped))
 }
 
 /// Widens floats to 64 bits, which changes none.

@@ -1,20 +1,21 @@
 -- Floats that are whole numbers, and the signs of those that are rounded.
 use mathlib.Core.Path.{◌≡◌, refl, sym, ap, ◌∙◌, subst}
-use mathlib.Core.Bool.{Bool, true, false, cond, not, true≢false}
+use mathlib.Core.Bool.{Bool, true, false, cond, not, ◌&&◌, true≢false}
 use Prim.Native.Nat.{ℕ, zero, suc, ◌+◌, ◌-◌, ◌*◌, ◌/◌, ◌%◌, ◌^◌, ◌≤◌, ◌<◌, compare, min, Ordering}
 use Prim.Native.Nat.compare
-use native.Mathlib.Nat.{add-mul, div-add-mod', div-eq_of_lt-le, div-lt_iff_lt-mul, eq_of_mul-eq-mul_right, le-div_iff_mul-le, lt_of_le_of_lt, lt_of_lt_of_le, lt_of_not-le, mod-lt, mul-div_cancel, mul-le-mul_right, mul-lt-mul_of_pos_right, mul-mod_left, mul-one, mul-pos, not-le_of_lt}
+use native.Mathlib.Nat.{add-mul, div-add-mod', div-eq_of_lt-le, div-lt_iff_lt-mul, eq_of_mul-eq-mul_right, le-div_iff_mul-le, lt_of_le_of_lt, lt_of_lt_of_le, lt_of_mul-lt-mul_right, lt_of_not-le, mod-lt, mul-div_cancel, mul-le-mul_right, mul-lt-mul_of_pos_right, mul-mod_left, mul-one, mul-pos, not-le_of_lt}
 use native.Mathlib.Omega.{arith}
 use lib.Dec.{T, eqb, ltb, ltb→lt, lit≤}
+use Rattle.std.proofs.lemmas.Bool.{eqb-true}
 use lib.IntN.{ℤ, pos, negsuc, nat_abs, neg_ℤ, ◌+ℤ◌, ◌-ℤ◌}
 use mir.Facts.{to_z-of_z}
-use Rattle.std.proofs.Common.{[], ◌∷◌, FitsSigned, of_z, slice_index_or, to_z, w64}
+use Rattle.std.proofs.Common.{[], ◌∷◌, FitsSigned, of_z, slice_index_or, to_z, w32, w64}
 use mir.Val.{bool_byte}
 use lib.Pow.{pow_mono, pow_pos, shl_lt}
 use lib.Signed.{lt_z}
 use borrow.Author.Differences.{ints, neg_is, same_in, sum_is_lem}
 use borrow.Author.Tests.{le-leb, lt-ltb, ltb-false, ltb-true}
-use lib.Ieee.{Float, Format, binary32, binary64, nan, inf, fin, prec, low, emax, up, down, odd, size, nearest, units, round, sum, add, neg, mul, div, unlike, lt, of_bits, of_int, in_signed, to_signed, whole}
+use lib.Ieee.{Float, Format, binary32, binary64, nan, inf, fin, prec, low, emax, up, down, odd, size, nearest, units, round, sum, add, neg, mul, div, unlike, below, lt, of_bits, of_int, in_signed, to_signed, whole}
 use lib.Ieee.Digits.{size-le, size-lt}
 use lib.Ieee.Exact.{HasValue, round_exact, units_val}
 use lib.Ieee.Fits.{core, down_pos, nearest-le, round_is}
@@ -95,13 +96,16 @@ whole_of (fin t m e) s n v h =
     by true = ap (λ k. neg_ℤ (pos k)) (omega arith)
     by false = ap pos (omega arith)
 
-rounded : (s : Bool) (n : ℕ) → n ≤ 2 ^ 52 → Whole (round binary64 s n 1) s n
-rounded s n h =
+-- a whole number is a float of 64 bits itself
+exact : (s : Bool) (n : ℕ) → n ≤ 2 ^ 52 → HasValue (round binary64 s n 1) s n 1
+exact s n h =
     let small : n < 2 ^ 53 = omega arith in
     let fine : n * 2 ^ low binary64 < 2 ^ (low binary64 + suc (emax binary64)) =
     lt_of_lt_of_le (shl_lt 53 (low binary64) small) (pow_mono {i = 53 + low binary64} {j = low binary64 + suc (emax binary64)} (lit≤ (tt {0}))) in
-    whole_of (round binary64 s n 1) s n
-    (round_exact binary64 s n 1 n (low binary64) (lit≤ tt) small fine (sym (mul-one (n * 2 ^ low binary64)))) (omega (arith, h))
+    round_exact binary64 s n 1 n (low binary64) (lit≤ tt) small fine (sym (mul-one (n * 2 ^ low binary64)))
+
+rounded : (s : Bool) (n : ℕ) → n ≤ 2 ^ 52 → Whole (round binary64 s n 1) s n
+rounded s n h = whole_of (round binary64 s n 1) s n (exact s n h) (omega (arith, h))
 
 -- ---- the whole number that is nearest to a float, by a sum where floats are 1 apart
 
@@ -214,120 +218,149 @@ added h a d some =
 abbrev moved : Bool → ℕ → ℕ
 moved s n = cond s (3 * 2 ^ 51 - n) (n + 3 * 2 ^ 51)
 
--- it is n with the sign s, and so are the sum and what the float is rounded to
-abbrev Nearest : Float → Type 0
-Nearest x = (s : Bool) × (n : ℕ) × (n ≤ 2 ^ 51) × HasValue (add binary64 x (fin false 3 (pos 51))) false (moved s n) 1
+-- a float within a limit is rounded to n with the sign s, and so is its sum, and n is within it
+abbrev Nearest : Float → ℕ → Type 0
+Nearest x limit = (s : Bool) × (n : ℕ) × (n ≤ limit) × HasValue (add binary64 x (fin false 3 (pos 51))) false (moved s n) 1
     × (to_signed 63 (round_ties_even binary64 x) ≡ cond s (neg_ℤ (pos n)) (pos n))
 
-by_value : (x : Float) → lt (fin true 1 (pos 51)) x ≡ true → lt x (fin false 1 (pos 51)) ≡ true → Nearest x
-unfolding lt round_with add sum
-by_value nan g h = absurd (true≢false (sym h))
-by_value (inf false) g h = absurd (true≢false (sym h))
-by_value (inf true) g h = absurd (true≢false (sym g))
-by_value (fin s m e) g h = (s, closest (m * up e) (down e), most, (by s).0, (by s).1)
+by_value : (x y : Float) (limit : ℕ) → limit < 2 ^ 31 → HasValue y false limit 1 → lt (neg y) x ≡ true → lt x y ≡ true
+    → Nearest x limit
+unfolding lt neg round_with add sum
+by_value x nan limit few v g h = absurd v
+by_value x (inf t) limit few v g h = absurd v
+by_value nan (fin t a b) limit few v g h = absurd (true≢false (sym h))
+by_value (inf false) (fin t a b) limit few v g h = absurd (true≢false (sym h))
+by_value (inf true) (fin t a b) limit few v g h = absurd (true≢false (sym g))
+by_value (fin s m e) (fin t a b) limit few v g h = (s, closest (m * up e) (down e), most, (by s).0, (by s).1)
   where
-    size-lt_of : (s : Bool) → lt (fin true 1 (pos 51)) (fin s m e) ≡ true → lt (fin s m e) (fin false 1 (pos 51)) ≡ true → m * up e < 2 ^ 51 * down e
-    size-lt_of false g h = omega (arith, ltb-true _ _ h)
-    size-lt_of true g h = omega (arith, ltb-true _ _ g)
+    sizes : (s t : Bool) → t ≡ false → below (not t) (a * up b * down e) s (m * up e * down b) ≡ true
+        → below s (m * up e * down b) t (a * up b * down e) ≡ true → m * up e * down b < a * up b * down e
+    sizes s true is g h = absurd (true≢false is)
+    sizes false false is g h = ltb-true _ _ h
+    sizes true false is g h = ltb-true _ _ g
 
-    below : m * up e < 2 ^ 51 * down e
-    below = size-lt_of s g h
+    within : m * up e < limit * down e
+    within =
+        let limit_is : a * up b ≡ limit * down b = sym (mul-one (a * up b)) ∙ v.1 in
+        lt_of_mul-lt-mul_right (down b) (omega (arith, sizes s t v.0 g h, ap (λ k. k * down e) limit_is))
 
-    most : closest (m * up e) (down e) ≤ 2 ^ 51
+    small : m * up e < 2 ^ 31 * down e
+    small = lt_of_lt_of_le within (mul-le-mul_right (down e) (omega (arith, few)))
+
+    most : closest (m * up e) (down e) ≤ limit
     most =
-        let low : m * up e / down e < 2 ^ 51 = (div-lt_iff_lt-mul (down_pos e)).1 below in
+        let low : m * up e / down e < limit = (div-lt_iff_lt-mul (down_pos e)).1 within in
         let next = nearest-le (m * up e / down e) (compare (m * up e % down e * 2) (down e)) in
         omega arith
 
     by : (s : Bool) → HasValue (add binary64 (fin s m e) (fin false 3 (pos 51))) false (moved s (closest (m * up e) (down e))) 1
         × (to_signed 63 (round_ties_even binary64 (fin s m e)) ≡ cond s (neg_ℤ (pos (closest (m * up e) (down e)))) (pos (closest (m * up e) (down e))))
     by false = (
-      spaced (m * up e * 1 + 3 * 2 ^ 51 * down e) (down e * 1) (closest (m * up e) (down e) + 3 * 2 ^ 51) (omega (arith, down_pos e)) (omega (arith, below)) (omega (arith, below))
+      spaced (m * up e * 1 + 3 * 2 ^ 51 * down e) (down e * 1) (closest (m * up e) (down e) + 3 * 2 ^ 51) (omega (arith, down_pos e)) (omega (arith, small)) (omega (arith, small))
           (ap (λ d. closest (m * up e * 1 + 3 * 2 ^ 51 * down e) d) (mul-one (down e)) ∙ ap (λ a. closest (a + 3 * 2 ^ 51 * down e) (down e)) (mul-one (m * up e)) ∙ added (3 * 2 ^ 50) (m * up e) (down e) (down_pos e))
-          (omega (arith, most)),
-      (rounded false (closest (m * up e) (down e)) (omega (arith, most))).1,
+          (omega (arith, most, few)),
+      (rounded false (closest (m * up e) (down e)) (omega (arith, most, few))).1,
     )
     by true = (
-      rw (lt-ltb (m * up e * 1) (3 * 2 ^ 51 * down e) (omega (arith, below)))
-          (spaced (3 * 2 ^ 51 * down e - m * up e * 1) (down e * 1) (3 * 2 ^ 51 - closest (m * up e) (down e)) (omega (arith, down_pos e)) (omega (arith, below)) (omega (arith, below))
-          (ap (λ d. closest (3 * 2 ^ 51 * down e - m * up e * 1) d) (mul-one (down e)) ∙ ap (λ a. closest (3 * 2 ^ 51 * down e - a) (down e)) (mul-one (m * up e)) ∙ mirrored (3 * 2 ^ 50) (m * up e) (down e) (down_pos e) (omega (arith, below)))
-          (omega (arith, most))),
-      (rounded true (closest (m * up e) (down e)) (omega (arith, most))).1,
+      rw (lt-ltb (m * up e * 1) (3 * 2 ^ 51 * down e) (omega (arith, small)))
+          (spaced (3 * 2 ^ 51 * down e - m * up e * 1) (down e * 1) (3 * 2 ^ 51 - closest (m * up e) (down e)) (omega (arith, down_pos e)) (omega (arith, small)) (omega (arith, small))
+          (ap (λ d. closest (3 * 2 ^ 51 * down e - m * up e * 1) d) (mul-one (down e)) ∙ ap (λ a. closest (3 * 2 ^ 51 * down e - a) (down e)) (mul-one (m * up e)) ∙ mirrored (3 * 2 ^ 50) (m * up e) (down e) (down_pos e) (omega (arith, small)))
+          (omega (arith, most, few))),
+      (rounded true (closest (m * up e) (down e)) (omega (arith, most, few))).1,
     )
 
--- 2^51, less 2^51 and 3 * 2^51 as literals
-most_is : of_bits binary64 0x4320_0000_0000_0000 ≡ fin false 1 (pos 51)
-unfolding of_bits
-most_is = refl
-
-least_is : neg (of_bits binary64 0x4320_0000_0000_0000) ≡ fin true 1 (pos 51)
-unfolding of_bits neg
-least_is = refl
-
+-- 3 * 2^51 as a literal
 middle_is : of_bits binary64 0x4338_0000_0000_0000 ≡ fin false 3 (pos 51)
 unfolding of_bits
 middle_is = refl
 
 -- what a sum has over 3 * 2^51
-difference : (s : Bool) (n : ℕ) → n ≤ 2 ^ 51
+difference : (s : Bool) (n : ℕ) → n < 2 ^ 31
     → FitsSigned w64 (pos (moved s n) -ℤ pos (3 * 2 ^ 51)) × (pos (moved s n) -ℤ pos (3 * 2 ^ 51) ≡ cond s (neg_ℤ (pos n)) (pos n))
-difference s n most = (subst (FitsSigned w64) (sym (is s)) (held s n most), is s)
+difference s n few = (subst (FitsSigned w64) (sym (is s)) (held s n few), is s)
   where
-    held : (s : Bool) (n : ℕ) → n ≤ 2 ^ 51 → FitsSigned w64 (cond s (neg_ℤ (pos n)) (pos n))
+    held : (s : Bool) (n : ℕ) → n < 2 ^ 31 → FitsSigned w64 (cond s (neg_ℤ (pos n)) (pos n))
     held false n h = record { sfits = omega (arith, h) }
     held true zero h = record { sfits = omega (arith, h) }
     held true (suc n) h = record { sfits = omega (arith, h) }
 
     is : (s : Bool) → pos (moved s n) -ℤ pos (3 * 2 ^ 51) ≡ cond s (neg_ℤ (pos n)) (pos n)
     is false = same_in (pos (n + 3 * 2 ^ 51) +ℤ neg_ℤ (pos (3 * 2 ^ 51))) (pos n) (omega (arith, ints, sum_is_lem, neg_is))
-    is true = same_in (pos (3 * 2 ^ 51 - n) +ℤ neg_ℤ (pos (3 * 2 ^ 51))) (neg_ℤ (pos n)) (omega (arith, ints, sum_is_lem, neg_is, most))
+    is true = same_in (pos (3 * 2 ^ 51 - n) +ℤ neg_ℤ (pos (3 * 2 ^ 51))) (neg_ℤ (pos n)) (omega (arith, ints, sum_is_lem, neg_is, few))
 
--- a float below 2^51: the sum loses nothing as an integer, and what it has over 3 * 2^51 is nearest to the float
-module _ (x : Float) (above : lt (neg (of_bits binary64 0x4320_0000_0000_0000)) x ≡ true)
-    (below : lt x (of_bits binary64 0x4320_0000_0000_0000) ≡ true) where
+-- a float within a limit: the sum loses nothing as an integer, and what it has over 3 * 2^51 is nearest to the float
+module _ (x : Float) (limit : ℕ) (few : limit < 2 ^ 31) (above : lt (neg (of_int binary64 (pos limit))) x ≡ true)
+    (below : lt x (of_int binary64 (pos limit)) ≡ true) where
   abbrev total : Float
   total = add binary64 x (of_bits binary64 0x4338_0000_0000_0000)
 
   abbrev rest : ℤ
   rest = to_z w64 (of_z w64 (to_signed 63 total)) -ℤ pos (3 * 2 ^ 51)
 
-  near : Nearest x
-  near = by_value x (ap (λ y. lt y x) (sym least_is) ∙ above) (ap (lt x) (sym most_is) ∙ below)
+  near : Nearest x limit
+  unfolding of_int
+  near = by_value x (of_int binary64 (pos limit)) limit few (exact false limit (omega (arith, few))) above below
+
+  low_near : near.1 < 2 ^ 31
+  low_near = omega (arith, near.2, few)
 
   total_is : Whole total false (moved near.0 near.1)
   total_is = whole_of total false (moved near.0 near.1)
-      (subst (λ y. HasValue (add binary64 x y) false (moved near.0 near.1) 1) (sym middle_is) near.3) (few near.0 near.1 near.2)
+      (subst (λ y. HasValue (add binary64 x y) false (moved near.0 near.1) 1) (sym middle_is) near.3) (held near.0 near.1 low_near)
     where
-      few : (s : Bool) (n : ℕ) → n ≤ 2 ^ 51 → moved s n ≤ 2 ^ 53
-      few true n h = omega (arith, h)
-      few false n h = omega (arith, h)
+      held : (s : Bool) (n : ℕ) → n < 2 ^ 31 → moved s n ≤ 2 ^ 53
+      held true n h = omega (arith, h)
+      held false n h = omega (arith, h)
 
   pub can_cast : T (in_signed binary64 63 total)
   can_cast = total_is.0 refl
 
-  rest_is : rest ≡ pos (moved near.0 near.1) -ℤ pos (3 * 2 ^ 51)
+  rest_is : rest ≡ cond near.0 (neg_ℤ (pos near.1)) (pos near.1)
   rest_is = ap (λ z. to_z w64 (of_z w64 z) -ℤ pos (3 * 2 ^ 51)) total_is.1
-      ∙ ap (λ z. z -ℤ pos (3 * 2 ^ 51)) (to_z-of_z {w = w64} {z = pos (moved near.0 near.1)} (held near.0 near.1 near.2))
+      ∙ ap (λ z. z -ℤ pos (3 * 2 ^ 51)) (to_z-of_z {w = w64} {z = pos (moved near.0 near.1)} (held near.0 near.1 low_near))
+      ∙ (difference near.0 near.1 low_near).1
     where
-      held : (s : Bool) (n : ℕ) → n ≤ 2 ^ 51 → FitsSigned w64 (pos (moved s n))
+      held : (s : Bool) (n : ℕ) → n < 2 ^ 31 → FitsSigned w64 (pos (moved s n))
       held true n h = record { sfits = omega (arith, h) }
       held false n h = record { sfits = omega (arith, h) }
 
   pub rest_fits : FitsSigned w64 rest
-  rest_fits = subst (FitsSigned w64) (sym rest_is) (difference near.0 near.1 near.2).0
+  rest_fits = subst (FitsSigned w64) ((difference near.0 near.1 low_near).1 ∙ sym rest_is) (difference near.0 near.1 low_near).0
 
-  pub rest_is_nearest : to_z w64 (of_z w64 rest) ≡ to_signed 63 (round_ties_even binary64 x)
-  rest_is_nearest = to_z-of_z {w = w64} {z = rest} rest_fits ∙ rest_is ∙ (difference near.0 near.1 near.2).1 ∙ sym near.4
+  rest_within : nat_abs rest ≤ limit
+  rest_within = subst (λ z. nat_abs z ≤ limit) (sym rest_is) (held near.0 near.1 near.2)
+    where
+      held : (s : Bool) (n : ℕ) → n ≤ limit → nat_abs (cond s (neg_ℤ (pos n)) (pos n)) ≤ limit
+      held false n h = h
+      held true zero h = h
+      held true (suc n) h = h
+
+  -- the same as an integer of 32 bits
+  pub narrow_fits : FitsSigned w32 (to_z w64 (of_z w64 rest))
+  narrow_fits = subst (FitsSigned w32) (sym (to_z-of_z {w = w64} {z = rest} rest_fits)) (held rest rest_within)
+    where
+      held : (z : ℤ) → nat_abs z ≤ limit → FitsSigned w32 z
+      held (pos n) h = record { sfits = omega (arith, h, few) }
+      held (negsuc n) h = record { sfits = omega (arith, h, few) }
+
+  narrow_is : to_z w32 (of_z w32 (to_z w64 (of_z w64 rest))) ≡ rest
+  narrow_is = to_z-of_z {w = w32} {z = to_z w64 (of_z w64 rest)} narrow_fits ∙ to_z-of_z {w = w64} {z = rest} rest_fits
+
+  pub narrow_is_nearest : to_z w32 (of_z w32 (to_z w64 (of_z w64 rest))) ≡ to_signed 63 (round_ties_even binary64 x)
+  narrow_is_nearest = narrow_is ∙ rest_is ∙ sym near.4
+
+  pub narrow_within : nat_abs (to_z w32 (of_z w32 (to_z w64 (of_z w64 rest)))) ≤ limit
+  narrow_within = subst (λ z. nat_abs z ≤ limit) (sym narrow_is) rest_within
 
 -- ---- a power of two as a divisor, and 1 over it as a factor
 
 -- the exponent of 1 over 2^k
-abbrev below : ℕ → ℤ
-below zero = pos 0
-below (suc k) = negsuc k
+abbrev over_one : ℕ → ℤ
+over_one zero = pos 0
+over_one (suc k) = negsuc k
 
 -- a float times 1 over 2^k is the float over 2^k
-product_is : (f : Format) (k : ℕ) (x : Float) → mul f x (fin false 1 (below k)) ≡ div f x (fin false 1 (pos k))
+product_is : (f : Format) (k : ℕ) (x : Float) → mul f x (fin false 1 (over_one k)) ≡ div f x (fin false 1 (pos k))
 unfolding mul div
 product_is f zero nan = refl
 product_is f zero (inf s) = refl
@@ -342,240 +375,91 @@ product_is f (suc k) (fin s m e) = (λ i. round f (unlike s false) (m * up e * 1
     by : down e * 2 ^ suc k ≡ 1 * 2 ^ suc k * down e
     by = omega arith
 
--- what holds of each number below n holds of one
-abbrev AllBelow : (ℕ → Type 0) → ℕ → Type 0
-AllBelow P zero = Unit {0}
-AllBelow P (suc n) = P n × AllBelow P n
+-- whether a float is 2^k, and whether it is 1 over it
+is_power : ℕ → Float → Bool
+is_power k (fin false (suc zero) (pos j)) = eqb j k
+is_power k _ = false
 
-one_below : (P : ℕ → Type 0) (n k : ℕ) → AllBelow P n → k < n → P k
-one_below P zero k all low = absurd (omega (arith, low))
-one_below P (suc n) k (last, others) low = by (ltb k n) refl (λ h. one_below P n k others h)
-  where
-    by : (b : Bool) → ltb k n ≡ b → (k < n → P k) → P k
-    by true h before = before (ltb-true _ _ h)
-    by false h before = subst P (omega (arith, low, ltb-false _ _ h)) last
+is_step : ℕ → Float → Bool
+is_step zero (fin false (suc zero) (pos zero)) = true
+is_step (suc k) (fin false (suc zero) (negsuc j)) = eqb j k
+is_step k _ = false
 
--- 2^k as a float, and 1 over it, which is a float, too
+power_of : (k : ℕ) (x : Float) → is_power k x ≡ true → x ≡ fin false 1 (pos k)
+unfolding is_power
+power_of k (fin false (suc zero) (pos j)) h = ap (λ i. fin false 1 (pos i)) (eqb-true j k h)
+power_of k _ h = absurd (true≢false (sym h))
+
+step_of : (k : ℕ) (x : Float) → is_step k x ≡ true → x ≡ fin false 1 (over_one k)
+unfolding is_step
+step_of zero (fin false (suc zero) (pos zero)) h = refl
+step_of (suc k) (fin false (suc zero) (negsuc j)) h = ap (λ i. fin false 1 (negsuc i)) (eqb-true j k h)
+step_of k _ h = absurd (true≢false (sym h))
+
+-- whether all powers below 2^n, and 1 over each, are floats; one is the pattern of 1
+are_powers : Format → ℕ → ℕ → Bool
+unfolding of_int of_bits div round units odd size
+are_powers f one zero = true
+are_powers f one (suc n) =
+    is_power n (of_int f (pos (2 ^ n))) && (is_step n (div f (of_bits f one) (fin false 1 (pos n))) && are_powers f one n)
+
+both : (a b : Bool) → (a && b) ≡ true → (a ≡ true) × (b ≡ true)
+both true b h = (refl, h)
+both false b h = absurd (true≢false (sym h))
+
 abbrev IsPower : Format → ℕ → ℕ → Type 0
-IsPower f one k = (of_int f (pos (2 ^ k)) ≡ fin false 1 (pos k))
-    × (div f (of_bits f one) (fin false 1 (pos k)) ≡ fin false 1 (below k))
+IsPower f one k = (is_power k (of_int f (pos (2 ^ k))) ≡ true) × (is_step k (div f (of_bits f one) (fin false 1 (pos k))) ≡ true)
 
-powers32 : AllBelow (IsPower binary32 0x3f80_0000) 32
-unfolding of_int of_bits div round units odd size
-powers32 = (
-  (refl, refl),
-  (
-    (refl, refl),
-    (
-      (refl, refl),
-      (
-        (refl, refl),
-        (
-          (refl, refl),
-          (
-            (refl, refl),
-            (
-              (refl, refl),
-              (
-                (refl, refl),
-                (
-                  (refl, refl),
-                  (
-                    (refl, refl),
-                    (
-                      (refl, refl),
-                      (
-                        (refl, refl),
-                        (
-                          (refl, refl),
-                          (
-                            (refl, refl),
-                            (
-                              (refl, refl),
-                              (
-                                (refl, refl),
-                                (
-                                  (refl, refl),
-                                  (
-                                    (refl, refl),
-                                    (
-                                      (refl, refl),
-                                      (
-                                        (refl, refl),
-                                        (
-                                          (refl, refl),
-                                          (
-                                            (refl, refl),
-                                            (
-                                              (refl, refl),
-                                              (
-                                                (refl, refl),
-                                                (
-                                                  (refl, refl),
-                                                  (
-                                                    (refl, refl),
-                                                    (
-                                                      (refl, refl),
-                                                      (
-                                                        (refl, refl),
-                                                        (
-                                                          (refl, refl),
-                                                          (
-                                                            (refl, refl),
-                                                            (
-                                                              (refl, refl),
-                                                              (
-                                                                (refl, refl),
-                                                                tt,
-                                                              ),
-                                                            ),
-                                                          ),
-                                                        ),
-                                                      ),
-                                                    ),
-                                                  ),
-                                                ),
-                                              ),
-                                            ),
-                                          ),
-                                        ),
-                                      ),
-                                    ),
-                                  ),
-                                ),
-                              ),
-                            ),
-                          ),
-                        ),
-                      ),
-                    ),
-                  ),
-                ),
-              ),
-            ),
-          ),
-        ),
-      ),
-    ),
-  ),
-)
+last_and_others : (f : Format) (one n : ℕ) → are_powers f one (suc n) ≡ true → IsPower f one n × (are_powers f one n ≡ true)
+unfolding are_powers
+last_and_others f one n all =
+    let (power, more) = both (is_power n (of_int f (pos (2 ^ n)))) (is_step n (div f (of_bits f one) (fin false 1 (pos n))) && are_powers f one n) all in
+    let (step, others) = both (is_step n (div f (of_bits f one) (fin false 1 (pos n)))) (are_powers f one n) more in
+    ((power, step), others)
 
-powers64 : AllBelow (IsPower binary64 0x3ff0_0000_0000_0000) 32
-unfolding of_int of_bits div round units odd size
-powers64 = (
-  (refl, refl),
-  (
-    (refl, refl),
-    (
-      (refl, refl),
-      (
-        (refl, refl),
-        (
-          (refl, refl),
-          (
-            (refl, refl),
-            (
-              (refl, refl),
-              (
-                (refl, refl),
-                (
-                  (refl, refl),
-                  (
-                    (refl, refl),
-                    (
-                      (refl, refl),
-                      (
-                        (refl, refl),
-                        (
-                          (refl, refl),
-                          (
-                            (refl, refl),
-                            (
-                              (refl, refl),
-                              (
-                                (refl, refl),
-                                (
-                                  (refl, refl),
-                                  (
-                                    (refl, refl),
-                                    (
-                                      (refl, refl),
-                                      (
-                                        (refl, refl),
-                                        (
-                                          (refl, refl),
-                                          (
-                                            (refl, refl),
-                                            (
-                                              (refl, refl),
-                                              (
-                                                (refl, refl),
-                                                (
-                                                  (refl, refl),
-                                                  (
-                                                    (refl, refl),
-                                                    (
-                                                      (refl, refl),
-                                                      (
-                                                        (refl, refl),
-                                                        (
-                                                          (refl, refl),
-                                                          (
-                                                            (refl, refl),
-                                                            (
-                                                              (refl, refl),
-                                                              (
-                                                                (refl, refl),
-                                                                tt,
-                                                              ),
-                                                            ),
-                                                          ),
-                                                        ),
-                                                      ),
-                                                    ),
-                                                  ),
-                                                ),
-                                              ),
-                                            ),
-                                          ),
-                                        ),
-                                      ),
-                                    ),
-                                  ),
-                                ),
-                              ),
-                            ),
-                          ),
-                        ),
-                      ),
-                    ),
-                  ),
-                ),
-              ),
-            ),
-          ),
-        ),
-      ),
-    ),
-  ),
-)
+one_below : (f : Format) (one n k : ℕ) → are_powers f one n ≡ true → k < n → IsPower f one k
+one_below f one zero k all less = absurd (omega (arith, less))
+one_below f one (suc n) k all less =
+    let (last, others) = last_and_others f one n all in
+    by (ltb k n) refl last (λ h. one_below f one n k others h)
+  where
+    by : (b : Bool) → ltb k n ≡ b → IsPower f one n → (k < n → IsPower f one k) → IsPower f one k
+    by true h last before = before (ltb-true _ _ h)
+    by false h last before = subst (λ j. IsPower f one j) (let same : n ≡ k = omega (arith, less, ltb-false _ _ h) in same) last
 
 -- a float times 1 over 2^k, by what the code has of both
-times_step : (f : Format) (one k : ℕ) → IsPower f one k → (x : Float)
+times_step : (f : Format) (one n : ℕ) → are_powers f one n ≡ true → (k : ℕ) → k < n → (x : Float)
     → mul f x (div f (of_bits f one) (of_int f (pos (2 ^ k)))) ≡ div f x (of_int f (pos (2 ^ k)))
-times_step f one k (power, step) x =
+times_step f one n all k low x =
+    let (is, step) = one_below f one n k all low in
+    let power = power_of k (of_int f (pos (2 ^ k))) is in
     ap (λ y. mul f x (div f (of_bits f one) y)) power
-    ∙ ap (mul f x) step
+    ∙ ap (mul f x) (step_of k (div f (of_bits f one) (fin false 1 (pos k))) step)
     ∙ product_is f k x
     ∙ ap (div f x) (sym power)
 
 pub times_step32 : (k : ℕ) → k < 32 → (x : Float)
     → mul binary32 x (div binary32 (of_bits binary32 0x3f80_0000) (of_int binary32 (pos (2 ^ k))))
     ≡ div binary32 x (of_int binary32 (pos (2 ^ k)))
-times_step32 k low = times_step binary32 0x3f80_0000 k (one_below (IsPower binary32 0x3f80_0000) 32 k powers32 low)
+unfolding are_powers is_power is_step
+times_step32 = times_step binary32 0x3f80_0000 32 refl
 
-pub times_step64 : (k : ℕ) → k < 32 → (x : Float)
+pub times_step64 : (k : ℕ) → k < 48 → (x : Float)
     → mul binary64 x (div binary64 (of_bits binary64 0x3ff0_0000_0000_0000) (of_int binary64 (pos (2 ^ k))))
     ≡ div binary64 x (of_int binary64 (pos (2 ^ k)))
-times_step64 k low =
-    times_step binary64 0x3ff0_0000_0000_0000 k (one_below (IsPower binary64 0x3ff0_0000_0000_0000) 32 k powers64 low)
+unfolding are_powers is_power is_step
+times_step64 = times_step binary64 0x3ff0_0000_0000_0000 48 refl
+
+-- a float times 1 over 2^k, where 1 is an integer
+one_is : of_int binary64 (pos 1) ≡ of_bits binary64 0x3ff0_0000_0000_0000
+unfolding of_int of_bits round units odd size
+one_is = refl
+
+pub times_one_over : (k : ℕ) → k < 48 → (x : Float)
+    → mul binary64 x (div binary64 (of_int binary64 (pos 1)) (of_int binary64 (pos (2 ^ k))))
+    ≡ div binary64 x (of_int binary64 (pos (2 ^ k)))
+times_one_over k less x =
+    ap (λ y. mul binary64 x (div binary64 y (of_int binary64 (pos (2 ^ k))))) one_is ∙ times_step64 k less x
+
+pub one_over : (y : Float) → div binary64 (of_bits binary64 0x3ff0_0000_0000_0000) y ≡ div binary64 (of_int binary64 (pos 1)) y
+one_over y = ap (λ x. div binary64 x y) (sym one_is)

@@ -1,3 +1,4 @@
+pub mod Amplitudes
 pub mod Back
 pub mod Containers
 pub mod Floats

@@ -26,6 +26,10 @@ abbrev pub scaled : ℕ → Float → ℤ
 scaled bits x = float_to_signed w64
     (round_ties_even binary64 (mul binary64 x (of_int binary64 (full_scale bits))))
 
+-- the same, clipped
+abbrev pub scaled_to : ℕ → Float → ℤ
+scaled_to bits x = clipped bits (scaled bits x)
+
 -- an integer of so many bits with others, not clipped: more bits are zeros below; of fewer it is the
 -- nearest, a half upwards
 abbrev pub with_bits : ℕ → ℕ → ℤ → ℤ

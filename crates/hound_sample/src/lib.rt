@@ -1,6 +1,7 @@
 //! Samples, and their containers: the bytes that they take in a file.
 #![tactic(auto)]
 
+mod amplitude;
 mod decode;
 mod float;
 mod integer;
@@ -10,6 +11,7 @@ mod sample;
 mod scale;
 mod slices;
 
+pub use amplitude::{Amplitude, UnitDouble, UnitFloat, store_amplitudes, store_with_noise};
 pub use decode::Decode;
 pub use float::FloatBits;
 pub use item::{ContainerReader, SampleError, error_of_sample, reason_of};

@@ -1,6 +1,6 @@
 // Samples as floats whose full scale is 1, and as integers of other bits.
-ghost use Rattle.std.specs.Prelude.{◌≡◌, ◌<◌, ◌≤◌, ◌-◌, ◌+ℤ◌, ◌*ℤ◌, ◌^◌, nat_abs, not, pos};
-ghost use lib.Ieee.{binary32, binary64, of_int};
+ghost use Rattle.std.specs.Prelude.{◌≡◌, ◌<◌, ◌≤◌, ◌-◌, ◌+ℤ◌, ◌*ℤ◌, ◌^◌, nat_abs, not, pos, true};
+ghost use lib.Ieee.{binary32, binary64, lt, neg, of_int};
 ghost use Rattle.std.specs.Float.{float_to_signed, round_ties_even};
 ghost use Rattle.std.specs.Int.{int_shr, w64};
 ghost use Rattle.hound_sample.specs.Container.{fits};
@@ -76,27 +76,37 @@ pub fn double_to_int(number: f64, bits: u16) -> (i32, bool)
     ensures value { result.0 ≡ clipped bits (scaled bits number) }
     ensures is_clipped { result.1 ≡ not (fits bits (scaled bits number)) }
 {
-    clip(nearest_integer(number * f64::from(two_to(bits - 1))), bits)
+    let scaled = number * f64::from(two_to(bits - 1));
+    let limit = two_to(bits - 1) - 1;
+    if -f64::from(limit) < scaled && scaled < f64::from(limit) {
+        return (nearest_within(scaled, limit), false);
+    }
+    clip_distant(scaled, bits)
 }
 
-// The nearest integer, of two the even one; past the ends of an `i64` the nearer end, and 0 for a NaN.
+// The nearest integer, of two the even one, to a number within a limit.
 #[inline(always)]
-fn nearest_integer(number: f64) -> i64
-    ensures { result ≡ float_to_signed w64 (round_ties_even binary64 number) }
+fn nearest_within(number: f64, limit: u32) -> i32
+    requires most { limit < 2 ^ 31 }
+    requires above { lt (neg (of_int binary64 (pos limit))) number ≡ true }
+    requires below { lt number (of_int binary64 (pos limit)) ≡ true }
+    ensures value { result ≡ float_to_signed w64 (round_ties_even binary64 number) }
+    ensures within { nat_abs result ≤ limit }
 {
     // Between 2^52 and 2^53 floats are 1 apart, so a sum that is there has no fraction.
-    if -2251799813685248.0 < number && number < 2251799813685248.0 {
-        return (number + 6755399441055744.0) as i64 - 6755399441055744;
-    }
-    nearest_to_distant(number)
+    ((number + 6755399441055744.0) as i64 - 6755399441055744) as i32
 }
 
-// The same of any number. It is a call of its own, so that the loops above stay short.
+// The integer of so many bits that is nearest to any number, and whether another integer is nearer.
+// It is a call of its own, so that the loops over it stay short.
 #[inline(never)]
-fn nearest_to_distant(number: f64) -> i64
-    ensures { result ≡ float_to_signed w64 (round_ties_even binary64 number) }
+fn clip_distant(number: f64, bits: u16) -> (i32, bool)
+    requires some { 0 < bits }
+    requires most { bits ≤ 32 }
+    ensures value { result.0 ≡ clipped bits (float_to_signed w64 (round_ties_even binary64 number)) }
+    ensures is_clipped { result.1 ≡ not (fits bits (float_to_signed w64 (round_ties_even binary64 number))) }
 {
-    saturating_f64_to_i64(number.round_ties_even())
+    clip(saturating_f64_to_i64(number.round_ties_even()), bits)
 }
 
 /// An integer of so many bits as one of others, and whether it was clipped.

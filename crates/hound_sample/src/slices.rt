@@ -84,9 +84,9 @@ pub fn check_containers<S: Sample + Copy>(
     Ok(())
 }
 
-// Stores a container of this many bytes.
+/// Stores a container of this many bytes.
 #[inline(always)]
-fn store_container(bytes: &mut [u8], at: usize, container: [u8; 4], width: usize)
+pub(crate) fn store_container(bytes: &mut [u8], at: usize, container: [u8; 4], width: usize)
     requires width { width ≤ 4 }
     requires room { at + width ≤ length bytes.old }
     ensures stored { take (at + width) bytes.new ≡ take at bytes.old ++ take width container }

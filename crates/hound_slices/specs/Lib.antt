@@ -4,9 +4,7 @@ pub use Rattle.hound_slices.specs.Reading.{Decodes, DecodesSamples, IsCutBefore,
 pub use Rattle.hound_slices.specs.Writing.{AppendsInPlace, AppendsSamples, Encodes, GivesHeader, GivesSizes, HasPlace, IsAppendingError, IsEncodeError, IsExplicit, IsFile, IsRejectedBy, IsSizeError, IsUnencoded, IsWriteError, Sizes, WritesFile, file_size, spec_from_c}
 pub use Rattle.hound_slices.specs.Repairing.{FindsInFile, HasHeadOf, IsDamageError, IsFileError, IsReported, RepairsFile, state_code, state_of_code}
 pub use Rattle.hound_slices.specs.Walks.{AnswersPart, AreAsked, Asks, AsksAgain, AsksOn, FindsHead, HasNoHead, IsHeadOf, IsStepNumber, Steps, TakesPart, bytes_of_part, found_of, part_end, part_of, walk_of, walk_with}
-pub use Rattle.hound_slices.specs.Scaling.{AreBits, IsScaleError, IsSmall, NarrowsFloats, ScalesToFloats, ScalesToIntegers, WidensFloats, becomes_infinite}
-pub use Rattle.hound_slices.specs.Dithering.{TakesNumbers, folded, halves, noise, number_of, state_after}
-unfoldable pub use Rattle.hound_slices.specs.Dithering.{with_noise}
+pub use Rattle.hound_slices.specs.Scaling.{CountsClipped, IsNoInteger, NarrowsFloats, TakesNumbers, WidensFloats, becomes_infinite, clipped_among, integers}
 pub use Rattle.hound_slices.specs.Effects.{GivesBeginning, beginning_of, effect_of, effect_with, report_of}
 pub use Rattle.hound_slices.specs.Recording.{BeginsForC, block_of, found_file, health_of_code, mends, overwrites, phase_of_code, recorder_of}
 pub use Rattle.hound_slices.specs.Repairers.{BeginsRepairer, GivesStep, StepsRepairer, after_head, bytes_read, count_of, error_of, failure_of_code, head_of, head_with, if_head, repairing_of, task_of}
@@ -19,7 +17,6 @@ pub mod Writing
 pub mod Repairing
 pub mod Walks
 pub mod Scaling
-pub mod Dithering
 pub mod Effects
 pub mod Recording
 pub mod Repairers

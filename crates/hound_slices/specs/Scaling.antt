@@ -1,41 +1,39 @@
--- Integers as floats whose full scale is 1, and back; and floats of 32 bits as those of 64, and back.
-use Rattle.std.specs.Prelude.{◌≡◌, ℕ, ℤ, Bool, ◌&&◌, ◌≤◌, ◌<◌, ◌^◌, List, length, nat_abs, take, drop, map, not, Result, Ok, Err}
+-- Floats whose full scale is 1 as integers of a file; and floats of 32 bits as those of 64, and back.
+use Rattle.std.specs.Prelude.{◌≡◌, ℕ, ℤ, Bool, ◌*◌, ◌&&◌, ◌<◌, List, length, take, drop, map, not, Result, Ok, Err}
 use Rattle.std.specs.Float.{Float, binary32, float_is_finite, round_to_format}
 use Rattle.std.specs.List.{count_by}
-use Rattle.hound_sample.specs.{clipped, fits, scaled}
+use Rattle.hound_spec.specs.{IsPair}
+use Rattle.hound_spec.specs.declared.spec.SampleFormat.TheVariants.{Int}
+use Rattle.hound_spec.specs.declared.spec.WavSpecEx.{WavSpecEx}
+use Rattle.hound_sample.specs.{fits, scaled, scaled_to, state_after}
 use Rattle.hound_slices.specs.declared.error.CallError.{CallError}
-use Rattle.hound_slices.specs.declared.error.CallError.TheVariants.{NoRoom, NotWritable}
+use Rattle.hound_slices.specs.declared.error.CallError.TheVariants.{NoRoom, NotWritable, OtherFormat}
 
--- integers have so many bits
-abbrev pub AreBits : ℕ → Type 0
-AreBits bits = (1 ≤ bits) × (bits ≤ 32)
+-- the integers of a spec that values are as floats: times full scale, the nearest, and clipped
+abbrev pub integers : {A : Type 0} → (A → Float) → WavSpecEx → List A → List ℤ
+integers float s values = map (λ x. scaled_to s.spec.bits_per_sample (float x)) values
 
--- why so many values aren't scaled into so many places
-abbrev pub IsScaleError : ℕ → ℕ → ℕ → CallError → Type 0
-IsScaleError bits count room NotWritable = AreBits bits → ⊥
-IsScaleError bits count room NoRoom = room < count
-IsScaleError bits count room _ = ⊥
+-- how many of them are clipped
+abbrev pub clipped_among : {A : Type 0} → (A → Float) → WavSpecEx → List A → ℕ
+clipped_among float s values =
+    count_by (λ x. not (fits s.spec.bits_per_sample (scaled s.spec.bits_per_sample (float x)))) values
 
--- an integer is a float of 32 bits itself, as those of 24 bits are
-abbrev pub IsSmall : ℤ → Type 0
-IsSmall v = nat_abs v ≤ 2 ^ 24
+-- why so many integers of a spec aren't encoded into so many bytes
+abbrev pub IsNoInteger : WavSpecEx → ℕ → ℕ → CallError → Type 0
+IsNoInteger s count room OtherFormat = s.spec.sample_format ≡ Int → ⊥
+IsNoInteger s count room NotWritable = IsPair s.spec.sample_format s.spec.bits_per_sample s.bytes_per_sample → ⊥
+IsNoInteger s count room NoRoom = room < count * s.bytes_per_sample
+IsNoInteger s count room _ = ⊥
 
--- what scaling integers does: each is over full scale, as a float of a type, which is `float_of_int` or
--- `double_of_int`
-abbrev pub ScalesToFloats : (ℕ → ℤ → Float) → ℕ → List ℤ → List Float → List Float → Result ℕ CallError → Type 0
-ScalesToFloats of_int bits values old new (Ok n) = AreBits bits × (n ≡ length values)
-    × (take n new ≡ map (of_int bits) values) × (drop n new ≡ drop n old)
-ScalesToFloats of_int bits values old new (Err error) = (new ≡ old)
-    × IsScaleError bits (length values) (length old) error
+-- a call counts what was clipped, and at an error leaves the count
+abbrev pub CountsClipped : ℕ → ℕ → ℕ → Result ℕ CallError → Type 0
+CountsClipped clipped before count (Ok n) = count ≡ clipped
+CountsClipped clipped before count (Err error) = count ≡ before
 
--- what scaling floats of either type does: each is times full scale, as the nearest integer, and clipped to what
--- has so many bits; and so many were clipped
-abbrev pub ScalesToIntegers : ℕ → List Float → List ℤ → List ℤ → ℕ → ℕ → Result ℕ CallError → Type 0
-ScalesToIntegers bits values old new before count (Ok n) = AreBits bits × (n ≡ length values)
-    × (take n new ≡ map (λ x. clipped bits (scaled bits x)) values) × (drop n new ≡ drop n old)
-    × (count ≡ count_by (λ x. not (fits bits (scaled bits x))) values)
-ScalesToIntegers bits values old new before count (Err error) = (new ≡ old) × (count ≡ before)
-    × IsScaleError bits (length values) (length old) error
+-- a call takes a state of the noise for each value, and at an error none
+abbrev pub TakesNumbers : ℕ → ℕ → ℕ → Result ℕ CallError → Type 0
+TakesNumbers count old new (Ok n) = new ≡ state_after count old
+TakesNumbers count old new (Err error) = new ≡ old
 
 -- what widening floats does: each is the same number
 abbrev pub WidensFloats : List Float → List Float → List Float → Result ℕ CallError → Type 0

@@ -5,7 +5,6 @@
 #![tactic(auto)]
 
 mod appending;
-mod dithering;
 mod effect;
 mod error;
 mod head;
@@ -21,7 +20,6 @@ mod walking;
 mod writing;
 
 pub use appending::append_block;
-pub use dithering::{dither_doubles, dither_floats};
 pub use effect::{HoundEffect, beginning_for_c, effect_for_c, report_of};
 pub use error::{CallError, code_of, code_of_error};
 pub use head::find_samples;
@@ -29,10 +27,7 @@ pub use reading::{decode_block, read_block};
 pub use recording::{HoundRecorder, found_file, mends, overwrites, recorder_for_c, recorder_of};
 pub use repairer::{HoundRepairer, begin_repairer, step_repairer};
 pub use repairing::{find_file_damage, repair_file};
-pub use scaling::{
-    narrow_floats, scale_doubles_to_integers, scale_to_doubles, scale_to_floats, scale_to_integers,
-    widen_floats,
-};
+pub use scaling::{encode_floats, encode_with_noise, narrow_floats, widen_floats};
 pub use searching::{file_kind, guess_data, whole_frames};
 pub use spec::{HoundInfo, HoundRepair, HoundSpec, HoundWalk, info_for_c, spec_from_c};
 pub use value::{

@@ -1,135 +1,93 @@
-// Integers as floats whose full scale is 1, and back; and floats of 32 bits as those of 64, and back.
-ghost use Rattle.std.specs.Prelude.{◌≡◌, ◌≤◌, IfOk, IfErr, IsTrue, drop, length, map, take};
-ghost use Rattle.std.specs.List.{All};
+// Floats whose full scale is 1 as integers of a file; and floats of 32 bits as those of 64, and back.
+ghost use Rattle.std.specs.Prelude.{◌≡◌, ◌*◌, ◌≤◌, IfErr, IfOk, length};
 ghost use Rattle.std.specs.Float.{round_to_format};
 ghost use lib.Ieee.{binary32};
-ghost use Rattle.hound_sample.specs.{double_of_int, float_of_int};
-ghost use Rattle.hound_slices.specs.Scaling.{AreBits, IsScaleError, IsSmall, NarrowsFloats, ScalesToFloats, ScalesToIntegers, WidensFloats, becomes_infinite};
+ghost use Rattle.hound_sample.specs.{int_container, with_noise};
+ghost use Rattle.hound_spec.specs.{IsPair};
+ghost use Rattle.hound_spec.specs.declared.spec.SampleFormat.TheVariants.{Int};
+ghost use Rattle.hound_slices.specs.Scaling.{CountsClipped, IsNoInteger, NarrowsFloats, TakesNumbers, WidensFloats, becomes_infinite, clipped_among, integers};
+ghost use Rattle.hound_slices.specs.Writing.{Encodes, spec_from_c};
 
 use crate::error::CallError;
-use hound_sample::{double_to_int, float_to_int, int_to_double, int_to_float, small_int_to_float};
+use crate::spec::{HoundSpec, spec_from_c};
+use hound_sample::{Amplitude, store_amplitudes, store_with_noise};
+use hound_spec::{SampleFormat, WavSpecEx, is_pair};
 use std::num::{f32_to_f64_with_nan, nearest_f64_to_f32_with_nan};
 
-// Checks that integers have so many bits, and that there is room for so many values.
-pub(crate) fn check_scale(bits: u16, count: usize, room: usize) -> Result<(), CallError>
-    ensures bits { IfOk result (λ _. AreBits bits) }
-    ensures room { IfOk result (λ _. count ≤ room) }
-    ensures error { IfErr result (IsScaleError bits count room) }
+// How many bytes so many integers of a spec take, if they are written and there is room for them.
+fn size_of_integers(spec_ex: WavSpecEx, count: usize, room: usize) -> Result<usize, CallError>
+    ensures format { IfOk result (λ _. spec_ex.spec.sample_format ≡ Int) }
+    ensures pair { IfOk result (λ _. IsPair Int spec_ex.spec.bits_per_sample spec_ex.bytes_per_sample) }
+    ensures size { IfOk result (λ n. n ≡ count * spec_ex.bytes_per_sample) }
+    ensures room { IfOk result (λ n. n ≤ room) }
+    ensures error { IfErr result (IsNoInteger spec_ex count room) }
 {
-    if bits == 0 || bits > 32 {
+    let spec = spec_ex.spec;
+    let width = spec_ex.bytes_per_sample;
+    if spec.sample_format != SampleFormat::Int {
+        return Err(CallError::OtherFormat);
+    }
+    if !is_pair(SampleFormat::Int, spec.bits_per_sample, width) {
         return Err(CallError::NotWritable);
     }
-    if count > room {
+    if count > room / width as usize {
         return Err(CallError::NoRoom);
     }
-    Ok(())
+    Ok(count * width as usize)
 }
 
-// Whether each integer is a float itself, as those of 24 bits are.
-fn are_small(samples: &[i32]) -> bool
-    ensures { IsTrue result → All IsSmall samples.now }
-{
-    let mut are_large = false;
-    for i in 0..samples.len() {
-        are_large |= samples[i].unsigned_abs() > 0x100_0000;
-    }
-    !are_large
-}
-
-// Scales such integers, in a loop of which LLVM makes vectors.
-fn scale_small(samples: &[i32], bits: u16, out: &mut [f32])
-    requires bits { AreBits bits }
-    requires room { length samples.now ≤ length out.now }
-    requires small { All IsSmall samples.now }
-    ensures front { take (length samples.now) out.new ≡ map (float_of_int bits) samples.now }
-    ensures rest { drop (length samples.now) out.new ≡ drop (length samples.now) out.old }
-    ensures same { length out.new ≡ length out.old }
-{
-    for i in 0..samples.len() {
-        out[i] = small_int_to_float(samples[i], bits);
-    }
-}
-
-// Scales any integers.
-fn scale_large(samples: &[i32], bits: u16, out: &mut [f32])
-    requires bits { AreBits bits }
-    requires room { length samples.now ≤ length out.now }
-    ensures front { take (length samples.now) out.new ≡ map (float_of_int bits) samples.now }
-    ensures rest { drop (length samples.now) out.new ≡ drop (length samples.now) out.old }
-    ensures same { length out.new ≡ length out.old }
-{
-    for i in 0..samples.len() {
-        out[i] = int_to_float(samples[i], bits);
-    }
-}
-
-/// Scales integers of so many bits to floats, and returns how many.
-pub fn scale_to_floats(samples: &[i32], bits: u16, out: &mut [f32]) -> Result<usize, CallError>
-    ensures scales { ScalesToFloats float_of_int bits samples.now out.old out.new result }
-    ensures within { IfOk result (λ n. n ≤ length out.old) }
-{
-    check_scale(bits, samples.len(), out.len())?;
-    if are_small(samples) {
-        scale_small(samples, bits, out);
-    } else {
-        scale_large(samples, bits, out);
-    }
-    Ok(samples.len())
-}
-
-/// The same to floats of 64 bits, which are exact.
-pub fn scale_to_doubles(samples: &[i32], bits: u16, out: &mut [f64]) -> Result<usize, CallError>
-    ensures scales { ScalesToFloats double_of_int bits samples.now out.old out.new result }
-    ensures within { IfOk result (λ n. n ≤ length out.old) }
-{
-    check_scale(bits, samples.len(), out.len())?;
-    for i in 0..samples.len() {
-        out[i] = int_to_double(samples[i], bits);
-    }
-    Ok(samples.len())
-}
-
-/// Scales floats to integers of so many bits, counts those that were clipped, and returns how many
-/// there are in all.
-pub fn scale_to_integers(
-    samples: &[f32],
-    bits: u16,
-    out: &mut [i32],
+/// Encodes floats as integers of a spec, one after the other, counts those that were clipped, and returns how many
+/// bytes.
+pub fn encode_floats<S: Amplitude>(
+    spec: HoundSpec,
+    samples: &[S],
+    out: &mut [u8],
     clipped: &mut u64,
 ) -> Result<usize, CallError>
-    ensures scales { ScalesToIntegers bits samples.now out.old out.new clipped.old clipped.new result }
+    ensures encodes { Encodes Int int_container (spec_from_c spec)
+        (integers S.amplitude (spec_from_c spec) samples.now) out.old out.new result }
+    ensures counts { CountsClipped (clipped_among S.amplitude (spec_from_c spec) samples.now)
+        clipped.old clipped.new result }
     ensures within { IfOk result (λ n. n ≤ length out.old) }
 {
-    check_scale(bits, samples.len(), out.len())?;
-    let mut count = 0;
-    for i in 0..samples.len() {
-        let (sample, is_clipped) = float_to_int(samples[i], bits);
-        out[i] = sample;
-        count += is_clipped as u64;
-    }
-    *clipped = count;
-    Ok(samples.len())
+    let spec_ex = spec_from_c(spec);
+    let end = size_of_integers(spec_ex, samples.len(), out.len())?;
+    *clipped = store_amplitudes(
+        &mut out[..end],
+        samples,
+        spec_ex.spec.bits_per_sample,
+        spec_ex.bytes_per_sample,
+    );
+    Ok(end)
 }
 
-/// The same of floats of 64 bits.
-pub fn scale_doubles_to_integers(
-    samples: &[f64],
-    bits: u16,
-    out: &mut [i32],
+/// The same with noise, whose state becomes that for the next floats.
+pub fn encode_with_noise<S: Amplitude>(
+    spec: HoundSpec,
+    samples: &[S],
+    state: &mut u64,
+    out: &mut [u8],
     clipped: &mut u64,
 ) -> Result<usize, CallError>
-    ensures scales { ScalesToIntegers bits samples.now out.old out.new clipped.old clipped.new result }
+    ensures encodes { let s = spec_from_c spec in Encodes Int int_container s
+        (integers (λ x. x) s (with_noise S.amplitude s.spec.bits_per_sample state.old samples.now))
+        out.old out.new result }
+    ensures counts { let s = spec_from_c spec in CountsClipped
+        (clipped_among (λ x. x) s (with_noise S.amplitude s.spec.bits_per_sample state.old samples.now))
+        clipped.old clipped.new result }
+    ensures takes { TakesNumbers (length samples.now) state.old state.new result }
     ensures within { IfOk result (λ n. n ≤ length out.old) }
 {
-    check_scale(bits, samples.len(), out.len())?;
-    let mut count = 0;
-    for i in 0..samples.len() {
-        let (sample, is_clipped) = double_to_int(samples[i], bits);
-        out[i] = sample;
-        count += is_clipped as u64;
-    }
-    *clipped = count;
-    Ok(samples.len())
+    let spec_ex = spec_from_c(spec);
+    let end = size_of_integers(spec_ex, samples.len(), out.len())?;
+    *clipped = store_with_noise(
+        &mut out[..end],
+        samples,
+        spec_ex.spec.bits_per_sample,
+        spec_ex.bytes_per_sample,
+        state,
+    );
+    Ok(end)
 }
 
 /// Widens floats to 64 bits, which changes none, and returns how many.

@@ -1,0 +1,86 @@
+-- Floats that are stored as integers, one after the other, with noise or without.
+use mathlib.Core.Path.{◌≡◌, refl, sym, ap, ◌∙◌}
+use Prim.Native.Nat.{ℕ, zero, suc, ◌+◌, ◌<◌}
+use native.Mathlib.Omega.{arith}
+use Rattle.std.proofs.Common.{ℤ, Bool, true, false, cond, List, [], ◌∷◌, ◌++◌, length, drop, get_or, map, rules, slice_index_or, take, Ok, Err, is_ok}
+use Rattle.std.proofs.lemmas.List.{append-nil, drop_more, map-append, take_more}
+use Rattle.std.proofs.lemmas.List.Sums.{count_by_more_no, count_by_more_yes}
+use Rattle.std.proofs.lemmas.Grind.{flat_map-append}
+use Rattle.std.specs.List.{count_by, flat_map}
+use mir.Val.{bool_byte}
+use Rattle.std.specs.Float.{Float, binary64}
+use lib.Ieee.{add, nan}
+use Rattle.hound_spec.specs.{IsPair}
+use Rattle.hound_spec.specs.declared.spec.SampleFormat.TheVariants.{Int}
+use Rattle.hound_sample.specs.Container.{Rejection, bytes_in, fits, if_fits, int_bytes, int_container, joined_containers, unsupported}
+use Rattle.hound_sample.specs.Dithering.{next_state, noise, state_after, with_noise}
+use Rattle.hound_sample.specs.Scale.{scaled_to}
+
+-- an integer that fits has a container
+pub fits_container : (v : ℤ) (bits width : ℕ) → IsPair Int bits width → fits bits v ≡ true
+    → is_ok (int_container v bits width) ≡ true
+unfolding int_container
+fits_container v bits width pair fit =
+    ap (λ b. is_ok (cond b (if_fits bits v (int_bytes v bits width)) (Err unsupported))) pair
+    ∙ ap (λ b. is_ok (cond b (Ok (int_bytes v bits width)) (Err Rejection.too_wide))) fit
+
+-- ---- noise
+
+-- there are as many floats with noise
+pub with_noise-length : {A : Type 0} (float : A → Float) (bits state : ℕ) (values : List A)
+    → length (with_noise float bits state values) ≡ length values
+unfolding with_noise
+with_noise-length float bits state [] = refl
+with_noise-length float bits state (x ∷ values) = ap suc (with_noise-length float bits (next_state state) values)
+
+-- where those that are left begin with a state, the next one has the noise of the state after it, and the others begin
+-- with that
+pub next_with_noise : {A : Type 0} (float : A → Float) (bits seed state i : ℕ) (values : List A) (x : A) → i < length values
+    → x ≡ get_or values i x
+    → drop i (with_noise float bits seed values) ≡ with_noise float bits state (drop i values)
+    → (slice_index_or (with_noise float bits seed values) i nan ≡ add binary64 (float x) (noise bits (next_state state)))
+    × (drop (i + 1) (with_noise float bits seed values) ≡ with_noise float bits (next_state state) (drop (i + 1) values))
+unfolding with_noise
+next_with_noise float bits seed state i values x less is left =
+    let some : i < length (with_noise float bits seed values) = omega (arith, less, with_noise-length float bits seed values) in
+    let first = drop_more values i x less ∙ ap (λ y. y ∷ drop (i + 1) values) (sym is) in
+    let both = sym (drop_more (with_noise float bits seed values) i nan some) ∙ left ∙ ap (with_noise float bits state) first in
+    (heads both, tails both)
+  where
+    heads : {x y : Float} {xs ys : List Float} → x ∷ xs ≡ y ∷ ys → x ≡ y
+    heads {x} h = ap (λ zs. slice_index_or zs 0 x) h
+
+    tails : {x y : Float} {xs ys : List Float} → x ∷ xs ≡ y ∷ ys → xs ≡ ys
+    tails h = ap (drop 1) h
+
+-- one state more
+pub one_more : (i state : ℕ) → next_state (state_after i state) ≡ state_after (i + 1) state
+unfolding state_after
+one_more zero state = refl
+one_more (suc i) state =
+    one_more i (next_state state) ∙ ap (λ n. state_after n state) (let same : suc (i + 1) ≡ suc i + 1 = omega arith in same)
+
+-- a state after no other is itself
+pub none_more : (state : ℕ) → state ≡ state_after 0 state
+unfolding state_after
+none_more state = refl
+
+-- the containers of floats, and of one more
+pub joined_next : (bits width : ℕ) (floats : List Float) (i : ℕ) (c : List ℕ) → i < length floats
+    → int_container (scaled_to bits (slice_index_or floats i nan)) bits width ≡ Ok c
+    → joined_containers (λ v. int_container v bits width) (map (scaled_to bits) (take (i + 1) floats))
+    ≡ joined_containers (λ v. int_container v bits width) (map (scaled_to bits) (take i floats)) ++ c
+joined_next bits width floats i c less is =
+    let container = λ (v : ℤ). bytes_in (int_container v bits width) in
+    ap (λ xs. flat_map container (map (scaled_to bits) xs)) (take_more floats i nan less)
+    ∙ ap (flat_map container) (map-append (scaled_to bits) (take i floats) (slice_index_or floats i nan ∷ []))
+    ∙ flat_map-append container (map (scaled_to bits) (take i floats)) (scaled_to bits (slice_index_or floats i nan) ∷ [])
+    ∙ ap (λ xs. flat_map container (map (scaled_to bits) (take i floats)) ++ xs)
+    (append-nil (container (scaled_to bits (slice_index_or floats i nan))) ∙ ap bytes_in is)
+
+-- so many of the floats meet a condition, and one more may
+pub counted : (p : Float → Bool) (xs : List Float) (i n : ℕ) (b : Bool) → i < length xs
+    → n ≡ count_by p (take i xs) → b ≡ p (slice_index_or xs i nan)
+    → n + bool_byte b ≡ count_by p (take (i + 1) xs)
+counted p xs i n true less count is = search (rules, count_by_more_yes p xs i nan less (sym is), count)
+counted p xs i n false less count is = search (rules, count_by_more_no p xs i nan less (sym is), count)

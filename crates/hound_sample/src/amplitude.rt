@@ -1,0 +1,274 @@
+// Floats whose full scale is 1: decoded from containers of integers, and stored in them, with or without noise.
+ghost use Rattle.std.specs.Prelude.{◌≡◌, ◌+◌, ◌*◌, ◌≤◌, Ok, length, map, not, pos, take, true};
+ghost use Rattle.std.specs.Float.{Float};
+ghost use Rattle.std.specs.List.{count_by};
+ghost use lib.Ieee.{binary64, div, of_int};
+ghost use Rattle.hound_sample.specs.Container.{fits, int_container, joined_containers};
+ghost use Rattle.hound_sample.specs.Dithering.{difference, next_state, noise, state_after, with_noise};
+ghost use Rattle.hound_sample.specs.Reading.{int_meaning, int_rejection};
+ghost use Rattle.hound_sample.specs.Scale.{double_of_int, float_of_int, full_scale, scaled, scaled_to};
+ghost use Rattle.hound_spec.specs.{IsPair};
+ghost use Rattle.hound_spec.specs.declared.spec.SampleFormat.TheVariants.{Int};
+
+use crate::decode::{Decode, check_type};
+use crate::integer::encode_integer;
+use crate::scale::{double_to_int, int_to_double, int_to_float, small_int_to_float};
+use crate::slices::store_container;
+use hound_number::{i16_from_le, i24_from_le, i32_from_le, signed_from_u8};
+use hound_spec::{Result, SampleFormat};
+use std::num::{f32_to_f64_with_nan, nearest_u64_to_f64};
+
+/// A float of 32 bits whose full scale is 1, as which integers of a file are decoded.
+#[repr(C)]
+#[derive(Clone, Copy)]
+pub struct UnitFloat(pub f32);
+
+/// The same of 64 bits.
+#[repr(C)]
+#[derive(Clone, Copy)]
+pub struct UnitDouble(pub f64);
+
+impl Decode for UnitFloat {
+    ghost decode_rejection = { int_rejection 4 };
+
+    ghost value = { λ fmt width bits container.
+        record { 0 = float_of_int bits (int_meaning width bits container) } };
+
+    #[inline(always)]
+    fn check(fmt: SampleFormat, width: u16, bits: u16) -> Result<()> {
+        check_type(SampleFormat::Int, 4, fmt, width, bits)
+    }
+
+    #[inline(always)]
+    fn decode(container: &[u8], fmt: SampleFormat, width: u16, bits: u16) -> UnitFloat {
+        match bits {
+            16 => UnitFloat(small_int_to_float(
+                i16_from_le([container[0], container[1]]) as i32,
+                16,
+            )),
+            24 => UnitFloat(small_int_to_float(
+                i24_from_le([container[0], container[1], container[2]]),
+                24,
+            )),
+            8 => UnitFloat(small_int_to_float(signed_from_u8(container[0]) as i32, 8)),
+            _ => UnitFloat(int_to_float(
+                i32_from_le([container[0], container[1], container[2], container[3]]),
+                32,
+            )),
+        }
+    }
+}
+
+impl Decode for UnitDouble {
+    ghost decode_rejection = { int_rejection 4 };
+
+    ghost value = { λ fmt width bits container.
+        record { 0 = double_of_int bits (int_meaning width bits container) } };
+
+    #[inline(always)]
+    fn check(fmt: SampleFormat, width: u16, bits: u16) -> Result<()> {
+        check_type(SampleFormat::Int, 4, fmt, width, bits)
+    }
+
+    #[inline(always)]
+    fn decode(container: &[u8], fmt: SampleFormat, width: u16, bits: u16) -> UnitDouble {
+        UnitDouble(int_to_double(i32::decode(container, fmt, width, bits), bits))
+    }
+}
+
+/// A float whose full scale is 1, of 32 or of 64 bits.
+pub trait Amplitude: Copy {
+    /// The number.
+    ghost amplitude: { Self → Float };
+
+    /// The same as a float of 64 bits.
+    fn to_f64(self) -> f64
+        ensures { result ≡ amplitude self };
+}
+
+impl Amplitude for f32 {
+    ghost amplitude = { λ x. x };
+
+    #[inline(always)]
+    fn to_f64(self) -> f64 {
+        f32_to_f64_with_nan(self)
+    }
+}
+
+impl Amplitude for f64 {
+    ghost amplitude = { λ x. x };
+
+    #[inline(always)]
+    fn to_f64(self) -> f64 {
+        self
+    }
+}
+
+// The container of an integer that has no more than so many bits, in the first bytes.
+#[inline(always)]
+fn container_of(sample: i32, bits: u16, width: u16) -> [u8; 4]
+    requires pair { IsPair Int bits width }
+    requires fits { fits bits sample ≡ true }
+    ensures { int_container sample bits width ≡ Ok (take width result) }
+{
+    match encode_integer(sample, bits, width) {
+        Ok(container) => container,
+        Err(_) => [0; 4],
+    }
+}
+
+// Stores floats as integers in containers, one after the other, and returns how many were clipped.
+#[inline(always)]
+fn scale_each<S: Amplitude>(bytes: &mut [u8], amplitudes: &[S], bits: u16, width: u16) -> u64
+    requires pair { IsPair Int bits width }
+    requires room { length bytes.old ≡ width * length amplitudes.now }
+    ensures stored { bytes.new ≡ joined_containers (λ v. int_container v bits width)
+        (map (λ x. scaled_to bits (S.amplitude x)) amplitudes.now) }
+    ensures clipped { result ≡ count_by (λ x. not (fits bits (scaled bits (S.amplitude x)))) amplitudes.now }
+{
+    let mut count = 0;
+    for i in 0..amplitudes.len() {
+        let (sample, is_clipped) = double_to_int(amplitudes[i].to_f64(), bits);
+        store_container(
+            bytes,
+            i * width as usize,
+            container_of(sample, bits, width),
+            width as usize,
+        );
+        count += is_clipped as u64;
+    }
+    count
+}
+
+/// Stores floats as integers in containers, one after the other, and returns how many were clipped.
+pub fn store_amplitudes<S: Amplitude>(
+    bytes: &mut [u8],
+    amplitudes: &[S],
+    bits: u16,
+    width: u16,
+) -> u64
+    requires pair { IsPair Int bits width }
+    requires room { length bytes.old ≡ width * length amplitudes.now }
+    ensures stored { bytes.new ≡ joined_containers (λ v. int_container v bits width)
+        (map (λ x. scaled_to bits (S.amplitude x)) amplitudes.now) }
+    ensures clipped { result ≡ count_by (λ x. not (fits bits (scaled bits (S.amplitude x)))) amplitudes.now }
+{
+    match (width, bits) {
+        (1, _) => scale_each(bytes, amplitudes, 8, 1),
+        (2, _) => scale_each(bytes, amplitudes, 16, 2),
+        (3, _) => scale_each(bytes, amplitudes, 24, 3),
+        (4, 24) => scale_each(bytes, amplitudes, 24, 4),
+        _ => scale_each(bytes, amplitudes, 32, 4),
+    }
+}
+
+// The state of the generator after another one.
+#[inline(always)]
+fn next_state(state: u64) -> u64
+    ensures { result ≡ next_state state }
+{
+    state
+        .wrapping_mul(6_364_136_223_846_793_005)
+        .wrapping_add(1_442_695_040_888_963_407)
+}
+
+// The upper 16 bits of a state less the 16 bits below them.
+#[inline(always)]
+fn difference(state: u64) -> i32
+    ensures { result ≡ difference state }
+{
+    (state >> 48) as i32 - (state >> 32 & 0xffff) as i32
+}
+
+// The noise of a state for integers of so many bits. The step is the same for all of a call, so it is computed once.
+#[inline(always)]
+fn noise_of(state: u64, bits: u16, step: f64) -> f64
+    requires some { 1 ≤ bits }
+    requires most { bits ≤ 32 }
+    requires step { step ≡ div binary64 (of_int binary64 (pos 1)) (of_int binary64 (full_scale (bits + 16))) }
+    ensures { result ≡ noise bits state }
+{
+    f64::from(difference(state)) * step
+}
+
+// By what the difference is divided.
+fn noise_divisor(bits: u16) -> f64
+    requires some { 1 ≤ bits }
+    requires most { bits ≤ 32 }
+    ensures { result ≡ of_int binary64 (full_scale (bits + 16)) }
+{
+    nearest_u64_to_f64(1 << (bits + 15))
+}
+
+// The noise of a difference of 1.
+#[inline(always)]
+fn noise_step(bits: u16) -> f64
+    requires some { 1 ≤ bits }
+    requires most { bits ≤ 32 }
+    ensures { result ≡ div binary64 (of_int binary64 (pos 1)) (of_int binary64 (full_scale (bits + 16))) }
+{
+    1.0 / noise_divisor(bits)
+}
+
+// Stores floats with noise as integers in containers, and returns how many were clipped. The state becomes that for
+// the next ones.
+#[inline(always)]
+fn scale_each_with_noise<S: Amplitude>(
+    bytes: &mut [u8],
+    amplitudes: &[S],
+    bits: u16,
+    width: u16,
+    state: &mut u64,
+) -> u64
+    requires pair { IsPair Int bits width }
+    requires room { length bytes.old ≡ width * length amplitudes.now }
+    ensures stored { bytes.new ≡ joined_containers (λ v. int_container v bits width)
+        (map (scaled_to bits) (with_noise S.amplitude bits state.old amplitudes.now)) }
+    ensures clipped { result ≡ count_by (λ x. not (fits bits (scaled bits x)))
+        (with_noise S.amplitude bits state.old amplitudes.now) }
+    ensures state { state.new ≡ state_after (length amplitudes.now) state.old }
+{
+    let step = noise_step(bits);
+    let mut next = *state;
+    let mut count = 0;
+    for i in 0..amplitudes.len() {
+        next = next_state(next);
+        let number = amplitudes[i].to_f64() + noise_of(next, bits, step);
+        let (sample, is_clipped) = double_to_int(number, bits);
+        store_container(
+            bytes,
+            i * width as usize,
+            container_of(sample, bits, width),
+            width as usize,
+        );
+        count += is_clipped as u64;
+    }
+    *state = next;
+    count
+}
+
+/// Stores floats with noise as integers in containers, one after the other, and returns how many were clipped. The
+/// state of the noise becomes that for the next ones.
+pub fn store_with_noise<S: Amplitude>(
+    bytes: &mut [u8],
+    amplitudes: &[S],
+    bits: u16,
+    width: u16,
+    state: &mut u64,
+) -> u64
+    requires pair { IsPair Int bits width }
+    requires room { length bytes.old ≡ width * length amplitudes.now }
+    ensures stored { bytes.new ≡ joined_containers (λ v. int_container v bits width)
+        (map (scaled_to bits) (with_noise S.amplitude bits state.old amplitudes.now)) }
+    ensures clipped { result ≡ count_by (λ x. not (fits bits (scaled bits x)))
+        (with_noise S.amplitude bits state.old amplitudes.now) }
+    ensures state { state.new ≡ state_after (length amplitudes.now) state.old }
+{
+    match (width, bits) {
+        (1, _) => scale_each_with_noise(bytes, amplitudes, 8, 1, state),
+        (2, _) => scale_each_with_noise(bytes, amplitudes, 16, 2, state),
+        (3, _) => scale_each_with_noise(bytes, amplitudes, 24, 3, state),
+        (4, 24) => scale_each_with_noise(bytes, amplitudes, 24, 4, state),
+        _ => scale_each_with_noise(bytes, amplitudes, 32, 4, state),
+    }
+}

@@ -1,0 +1,34 @@
+use Rattle.std.proofs.Common.{Ok, ap, drop, rules, subst, sym, ◌*◌, ◌++◌, ◌∙◌}
+use Rattle.std.proofs.lemmas.List.{length-map}
+use Rattle.hound_sample.proofs.Amplitudes.{with_noise-length}
+use Rattle.hound_sample.specs.{int_container, scaled, scaled_to, with_noise}
+use Rattle.hound_spec.specs.declared.spec.SampleFormat.TheVariants.{Int}
+use Rattle.hound_slices.specs.Scaling.{integers}
+use Rattle.hound_slices.specs.Writing.{Encodes}
+use Rattle.hound_slices.proofs.Scaled.{clipped_fits, encoded}
+use Rattle.hound_slices.proofs.scaling.encode_with_noise.Goals as goal
+
+pub returns-in_err-end-clause-encodes : goal.returns-in_err-end-clause-encodes
+returns-in_err-end-clause-encodes g c =
+    let s = c.spec_from_c-spec_ex.result in
+    let noisy = with_noise g.S.Amplitude.amplitude s.spec.bits_per_sample c.args.state.now c.args.samples.now in
+    search (rules, length-map noisy (scaled_to s.spec.bits_per_sample),
+    with_noise-length g.S.Amplitude.amplitude s.spec.bits_per_sample c.args.state.now c.args.samples.now)
+
+pub returns-clause-encodes : goal.returns-clause-encodes
+returns-clause-encodes g c =
+    let s = c.spec_from_c-spec_ex.result in
+    let bits = s.spec.bits_per_sample in
+    let float = g.S.Amplitude.amplitude in
+    let seed = c.args.state.now in
+    let values = c.args.samples.now in
+    let noisy = with_noise float bits seed values in
+    let n = c.in_ok-end.end in
+    subst (λ t. Encodes Int int_container t (integers (λ x. x) t (with_noise float t.spec.bits_per_sample seed values))
+    c.args.out.now (c.store_with_noise.new.bytes ++ drop n c.args.out.now) (Ok n))
+    c.spec_from_c-spec_ex.ensures
+    (encoded s (scaled_to bits) noisy n c.store_with_noise.new.bytes c.args.out.now
+    c.in_ok-end.ensures.format c.in_ok-end.ensures.pair (λ x. clipped_fits bits (scaled bits x))
+    (c.in_ok-end.ensures.size
+    ∙ ap (λ k. k * s.bytes_per_sample) (sym (length-map noisy (scaled_to bits) ∙ with_noise-length float bits seed values)))
+    c.store_with_noise.ensures.stored)
