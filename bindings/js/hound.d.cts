@@ -245,6 +245,9 @@ export function appendTo(path: string | URL, options?: { durable?: boolean }): P
  * a block is in the file only if its `write` was fulfilled, and the next call makes a checkpoint first; after a sync
  * that failed each call is an error. Whenever the program is killed, the header counts only samples that were written,
  * at least those of the last checkpoint, and a repair finds the others.
+ *
+ * A block of up to 64 KiB is written before `write` returns, unless an earlier call is under way. Larger blocks and
+ * syncs go to other threads, and so do all blocks of a file after one that took 20 milliseconds.
  */
 export interface Recorder {
   readonly spec: Readonly<Spec>;

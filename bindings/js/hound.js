@@ -147,10 +147,7 @@ const BLOCK_BYTES = 8 * BLOCK;
 const [SPEC, MACHINE, FOUND, NOISE, HEADER, FIRST, SECOND] = [0, 16, 192, 240, 256, PAGE, PAGE + BLOCK_BYTES];
 
 // Which argument of a call has 32 bits.
-const WORDS = {
-  beginning: 1, repairer_begin: 1, recorder_resume: 1, to_f32: 2, from_f32: 2, to_f64: 2, from_f64: 2, dither_f32: 2,
-  dither_f64: 2,
-};
+const WORDS = { beginning: 1, repairer_begin: 1, recorder_resume: 1 };
 
 /** An instance of the module, and so much memory of it, which follows what the module itself uses and is there when it
     is loaded. Nothing grows it, because V8 then makes a check at each access to any typed array of a program. */
@@ -287,18 +284,18 @@ function interleave({ samples, channels }, first, out) {
 /** Copies interleaved samples to the arrays of their channels, from a frame on, or all to one array. */
 function spread(samples, channels, start) {
   if (channels.length === 1) return channels[0].set(samples, start);
-  const from = exact(samples), parts = channels.map((channel) => exact(channel).subarray(start));
-  if (channels.length === 2) return spreadPairs(from, ...parts);
-  parts.forEach((to, i) => {
-    for (let place = i, frame = 0; place < from.length; place += channels.length) to[frame++] = from[place];
-  });
+  const parts = channels.map((channel) => channel.subarray(start)), last = parts.length - 2;
+  for (let i = 0; i <= last + 1; i += 2) {
+    const first = Math.min(i, last); // Of an odd number the last two but one are copied twice.
+    spreadTwo(samples, first, parts.length, parts[first], parts[first + 1]);
+  }
 }
 
-/** The same of two channels, in one pass, since most files have two. */
-function spreadPairs(from, left, right) {
-  for (let frame = 0; frame < from.length >> 1; frame++) {
-    left[frame] = from[2 * frame];
-    right[frame] = from[2 * frame + 1];
+/** Copies two channels in one pass, which takes less time than two passes. */
+function spreadTwo(from, first, step, left, right) {
+  for (let place = first, frame = 0; place < from.length; place += step) {
+    left[frame] = from[place];
+    right[frame++] = from[place + 1];
   }
 }
 
@@ -346,9 +343,10 @@ class Machine {
 
   /** Makes a call with it first or last among addresses, and returns the code. */
   call(name, ...numbers) {
-    shared.bytes.set(this.bytes, MACHINE);
+    this.there ??= shared.bytes.subarray(MACHINE, MACHINE + this.bytes.length);
+    this.there.set(this.bytes);
     const code = shared.call(name, ...numbers);
-    this.bytes.set(shared.bytes.subarray(MACHINE, MACHINE + this.bytes.length));
+    this.bytes.set(this.there);
     return code;
   }
 
@@ -438,7 +436,10 @@ export async function info(file, { toEnd = false } = {}) {
   return { ...spec, frames: held / (channels * bytesPerSample), dataStart };
 }
 
-/** The type that is stored where samples of a type are read or written: floats may be scaled to integers. */
+/** Whether floats of a type, whose full scale is 1, are integers in a file. */
+const isScaled = (type, spec) => type.isFloat && !spec.isFloat;
+
+/** The type that is stored where samples of a type are read or written. */
 function storedAs(type, spec) {
   if (!type.isFloat) return type;
   return spec.isFloat ? TYPES.float32 : TYPES.int32;
@@ -459,57 +460,76 @@ function numbersIn(bytes, { bitsPerSample, isFloat }, type) {
 }
 
 /** Decodes containers by the library, and returns their samples, which stay in its memory until the next call. */
-function decodedIn(bytes, spec, stored) {
+function decodedIn(bytes, spec, type) {
+  const isWidened = spec.isFloat && type === TYPES.float64, stored = isWidened ? TYPES.float32 : type;
   shared.putSpec(spec);
   shared.bytes.set(bytes, FIRST);
+  const name = (isScaled(type, spec) ? "to_" : "decode_") + stored.call;
   const places = [shared.at(FIRST), bytes.length, shared.at(SECOND), BLOCK];
-  return arrayAt(stored, SECOND, checked(shared.call("decode_" + stored.call, shared.at(SPEC), ...places)));
+  const count = checked(shared.call(name, shared.at(SPEC), ...places));
+  if (!isWidened) return arrayAt(type, SECOND, count);
+  checked(shared.call("f32_to_f64", shared.at(SECOND), count, shared.at(FIRST), count));
+  return arrayAt(type, FIRST, count);
 }
 
-/** Decodes containers to the ends of some arrays, from this place of each on: to one, or to one for each channel. Where
-    samples are scaled they are in the memory of the instance as they will be in the arrays. */
+/** The samples in these containers. */
+function samplesIn(bytes, spec, type) {
+  return type === storedAs(type, spec) && numbersIn(bytes, spec, type) || decodedIn(bytes, spec, type);
+}
+
+/** The containers of the first channel of two, and then those of the second one, where each has two bytes. A frame is a
+    number of 32 bits then, whose lower half is the first one: V8 copies the numbers of a whole array to those of
+    another type in a tenth of the time that a loop takes. */
+function splitIn(bytes) {
+  const count = bytes.length / 4, halves = [SECOND, SECOND + 2 * count];
+  halves.forEach((place, i) => {
+    shared.bytes.set(bytes, FIRST + 2 * i);
+    arrayAt(TYPES.int16, place, count).set(arrayAt(TYPES.int32, FIRST + 4 * i, count));
+  });
+  return shared.bytes.subarray(SECOND, SECOND + bytes.length);
+}
+
+/** Decodes containers to the ends of some arrays, from this place of each on: to one, or to one for each channel. */
 function decode(bytes, spec, type, parts, start) {
-  const stored = storedAs(type, spec), samples = numbersIn(bytes, spec, stored) ?? decodedIn(bytes, spec, stored);
-  if (type === stored) return spread(samples, parts, start);
-  const count = samples.length, size = count / parts.length;
-  const part = (of, place, i) => arrayAt(of, place + i * size * of.array.BYTES_PER_ELEMENT, size);
-  spread(samples, parts.map((_, i) => part(stored, FIRST, i)), 0);
-  if (spec.isFloat) {
-    checked(shared.call("f32_to_f64", shared.at(FIRST), count, shared.at(SECOND), count));
-  } else {
-    checked(shared.call("to_" + type.call, shared.at(FIRST), count, spec.bitsPerSample, shared.at(SECOND), count));
+  if (parts.length === 2 && spec.bytesPerSample === 2) {
+    const samples = samplesIn(splitIn(bytes), spec, type), half = samples.length / 2;
+    return parts.forEach((part, i) => part.set(samples.subarray(i * half, (i + 1) * half), start));
   }
-  parts.forEach((array, i) => array.set(part(type, SECOND, i), start));
+  const samples = samplesIn(bytes, spec, type);
+  if (spec.isFloat) return spread(exact(samples), parts.map(exact), start);
+  return spread(samples, parts, start);
 }
 
 /** The noise that is added to floats before they become integers, if it is requested: the state of its generator. */
 function noiseOf({ dither = false, seed = 1 }) {
   if (typeof dither !== "boolean") throw new TypeError(`dither is ${String(dither)}, and not a boolean`);
-  const state = BigInt(integer("seed", seed, 0, Number.MAX_SAFE_INTEGER));
-  return dither ? { state } : undefined;
+  integer("seed", seed, 0, Number.MAX_SAFE_INTEGER);
+  return dither ? { state: BigInt(seed) } : undefined;
 }
 
 function checkNoise(noise, type, spec) {
-  if (noise && (!type.isFloat || spec.isFloat)) throw new TypeError("dither is for floats that become integers");
+  if (noise && !isScaled(type, spec)) throw new TypeError("dither is for floats that become integers");
 }
 
-/** Converts the first samples of a type to what is stored, in the memory of the instance, and returns how many were
-    clipped. A finite one that would be infinite is an error. The state of the noise becomes that for the next ones. */
-function convert(type, spec, count, noise) {
-  if (spec.isFloat) {
-    checked(shared.call("f64_to_f32", shared.at(FIRST), count, shared.at(SECOND), count, shared.at(FOUND)));
-  } else if (noise) {
-    shared.view.setBigUint64(NOISE, noise.state, true);
-    const places = [shared.at(NOISE), shared.at(SECOND), count, shared.at(FOUND)];
-    checked(shared.call("dither_" + type.call, shared.at(FIRST), count, spec.bitsPerSample, ...places));
-    noise.state = shared.view.getBigUint64(NOISE, true);
-  } else {
-    const places = [shared.at(SECOND), count, shared.at(FOUND)];
-    checked(shared.call("from_" + type.call, shared.at(FIRST), count, spec.bitsPerSample, ...places));
-  }
-  const counted = Number(shared.view.getBigUint64(FOUND, true));
-  if (spec.isFloat && counted > 0) throw new HoundError("TOO_WIDE");
-  return counted;
+/** What the last call counted. */
+const counted = () => Number(shared.view.getBigUint64(FOUND, true));
+
+/** Encodes the first samples of a type in the memory of the instance, as so many bytes, and returns how many were
+    clipped. The state of the noise becomes that for the next ones. */
+function scale(type, count, length, noise) {
+  if (noise) shared.view.setBigUint64(NOISE, noise.state, true);
+  const places = [...noise ? [shared.at(NOISE)] : [], shared.at(SECOND), length, shared.at(FOUND)];
+  checked(shared.call((noise ? "dither_" : "from_") + type.call, shared.at(SPEC), shared.at(FIRST), count, ...places));
+  if (noise) noise.state = shared.view.getBigUint64(NOISE, true);
+  return counted();
+}
+
+/** Replaces the first doubles in the memory of the instance by floats. A finite one that would be infinite is an
+    error. */
+function narrow(count) {
+  checked(shared.call("f64_to_f32", shared.at(FIRST), count, shared.at(SECOND), count, shared.at(FOUND)));
+  if (counted() > 0) throw new HoundError("TOO_WIDE");
+  shared.bytes.copyWithin(FIRST, SECOND, SECOND + 4 * count);
 }
 
 /** Encodes so many given samples from a number on into an array, and returns how many were clipped. */
@@ -520,14 +540,15 @@ function encodeBlock(given, spec, first, count, out, noise) {
     return 0;
   }
   interleave(given, first, arrayAt(type, FIRST, count));
-  const clipped = type === stored ? 0 : convert(type, spec, count, noise);
-  if (numbers && type !== stored) { // The library has clipped them to these bits.
-    numbers.set(arrayAt(stored, SECOND, count));
-    return clipped;
+  let clipped = 0;
+  if (isScaled(type, spec)) {
+    clipped = scale(type, count, out.length, noise);
+  } else {
+    if (type !== stored) narrow(count);
+    const places = [shared.at(FIRST), count, shared.at(SECOND), out.length];
+    checked(shared.call("encode_" + stored.call, shared.at(SPEC), ...places));
   }
-  const [from, to] = type === stored ? [FIRST, SECOND] : [SECOND, FIRST];
-  checked(shared.call("encode_" + stored.call, shared.at(SPEC), shared.at(from), count, shared.at(to), out.length));
-  out.set(shared.bytes.subarray(to, to + out.length));
+  out.set(shared.bytes.subarray(SECOND, SECOND + out.length));
   return clipped;
 }
 
@@ -545,7 +566,7 @@ export async function read(file, { start = 0, frames = Infinity, type, planar = 
   if (type !== undefined) typeNamed(type);
   const found = await info(given, { toEnd }), { channels, bytesPerSample, dataStart } = found;
   const form = typeNamed(type ?? (found.isFloat ? "float32" : found.bitsPerSample <= 16 ? "int16" : "int32"));
-  decodedIn(new Uint8Array(0), found, storedAs(form, found)); // An error where the type doesn't read the file.
+  decodedIn(new Uint8Array(0), found, form); // An error where the type doesn't read the file.
   const counted = Math.max(Math.min(frames, found.frames - start), 0);
   const count = Math.min(counted, Math.floor((length - dataStart) / (channels * bytesPerSample)) - start);
   if (count <= 0 && counted > 0) throw new HoundError("TRUNCATED");
@@ -766,19 +787,49 @@ async function readAt(handle, { place, length }) {
   return bytes;
 }
 
-async function writeAt(handle, bytes, place) {
+// So many bytes are written at once, by this thread, because the way to another one and back takes longer. After a
+// write that took so many milliseconds a file is slow, and other threads write it. Where no call goes to another thread
+// Node's loop gets a turn after so many milliseconds.
+const [AT_ONCE, SLOW, TURN] = [1 << 16, 20, 5];
+const slow = new WeakSet();
+let turned = 0;
+
+/** Writes at a place, and returns a promise only where another thread does it. */
+function writeAt(handle, bytes, place) {
+  if (bytes.length > AT_ONCE || slow.has(handle)) return writeInThread(handle, bytes, place);
+  const start = performance.now();
   for (let count = 0; count < bytes.length;) {
-    const { bytesWritten } = await handle.write(bytes, count, bytes.length - count, place + count);
-    if (bytesWritten === 0) throw new Error("nothing could be written");
-    count += bytesWritten;
+    count += someOf(node.writeSync(handle.fd, bytes, count, bytes.length - count, place + count));
   }
+  if (performance.now() - start > SLOW) slow.add(handle);
+}
+
+async function writeInThread(handle, bytes, place) {
+  for (let count = 0; count < bytes.length;) {
+    count += someOf((await handle.write(bytes, count, bytes.length - count, place + count)).bytesWritten);
+  }
+}
+
+function someOf(written) {
+  if (written === 0) throw new Error("nothing could be written");
+  return written;
+}
+
+/** Gives Node's loop a turn where that is due, since a promise that is fulfilled already gives it none. */
+function turn() {
+  if (performance.now() - turned < TURN) return undefined;
+  return new Promise((resolve) => setImmediate(() => {
+    turned = performance.now();
+    resolve();
+  }));
 }
 
 async function shortenAt(handle, place) {
   if ((await handle.stat()).size > place) await handle.truncate(place);
 }
 
-/** Performs an effect on a file of Node. Without `durable` nothing is synced: the system has what was written. */
+/** Performs an effect on a file of Node, and returns a promise only where something has to be waited for. Without
+    `durable` nothing is synced: the system has what was written. */
 function performOn(handle, durable, effect, block) {
   switch (effect.kind) {
     case READ: return readAt(handle, effect);
@@ -790,13 +841,16 @@ function performOn(handle, durable, effect, block) {
   }
 }
 
+// What Node has for files, once `files` has loaded it.
+let node;
+
 /** Node's files, once the module is there, too. */
 async function files() {
   const loaded = nodeFiles().catch(() => {
     throw new Error("files at a path are recorded and repaired in Node alone");
   });
-  const [fs] = await Promise.all([loaded, ready()]);
-  return fs;
+  [node] = await Promise.all([loaded, ready()]);
+  return node.promises;
 }
 
 /** What a repairer of this mode finds in a file of Node, which it repairs. Each step is synced. */
@@ -837,7 +891,7 @@ class Recorder {
   #noise;
   #last = Promise.resolve();
   #requests = 0;
-  #room; // What the last block was in: the next one is, too, if nothing is under way.
+  #room; // What a block was in that is written: the next one is, too.
   #closing;
   #most; // How many frames a file has at most, where the recording continues in a next one.
   #paths = []; // The files of such a recording.
@@ -886,14 +940,21 @@ class Recorder {
       `dither` is that of the first block that has it. */
   async write(samples, { onClipped = warn, dither, seed } = {}) {
     this.#checkOpen();
-    const given = taken(samples), first = noiseOf({ dither, seed });
+    const given = taken(samples), first = noiseOf({ dither, seed }), room = this.#room;
     checkChannels(given.channels, this.spec.channels);
-    const room = this.#requests === 0 ? this.#room : undefined;
+    this.#room = undefined;
     const { data, clipped } = encoded(given, this.spec, first && (this.#noise ??= first), room);
-    if (data.length <= BLOCK_BYTES) this.#room = new Uint8Array(data.buffer);
     if (clipped > 0) onClipped(clipped);
-    const isSplit = this.#most !== undefined && given.count % this.spec.channels === 0;
-    return this.#queue(() => isSplit ? this.#writeInFiles(data) : this.#perform("recorder_write", data, given.count));
+    const waits = this.#queue(() => this.#writeBlock(data, given.count));
+    if (waits) await waits;
+    if (data.length <= BLOCK_BYTES) this.#room = new Uint8Array(data.buffer);
+  }
+
+  /** Writes a block, in next files what has no room in this one. */
+  #writeBlock(data, count) {
+    const frames = count / this.spec.channels;
+    const isHere = this.#most === undefined || !Number.isInteger(frames) || frames <= this.framesLeft;
+    return isHere ? this.#perform("recorder_write", data, count) : this.#writeInFiles(data);
   }
 
   /** Writes whole frames, in a next file where they have no room in this one. A block that is larger than a file may be
@@ -933,42 +994,67 @@ class Recorder {
 
   /** Makes a checkpoint and closes the file, after an error, too. */
   close() {
-    this.#closing ??= this.#queue(() => this.#perform("recorder_checkpoint").finally(() => this.#handle.close()));
+    this.#closing ??= this.#queue(() => this.#end());
     return this.#closing;
+  }
+
+  async #end() {
+    try {
+      await this.#perform("recorder_checkpoint");
+    } finally {
+      await this.#handle.close();
+    }
   }
 
   #checkOpen() {
     if (this.#closing) throw new Error("the recorder is closed");
   }
 
-  /** Does this after all that was requested before, or at once where that is done. */
+  /** Does this after all that was requested before, or at once where that is done. Like what follows it returns a
+      promise only where something has to be waited for. */
   #queue(task) {
     const done = this.#requests > 0 ? this.#last.then(task) : task(), end = () => { this.#requests--; };
+    if (!done) return turn();
     this.#requests++;
     this.#last = done.then(end, end);
     return done;
   }
 
   /** Performs all effects of a request. */
-  async #perform(request, block, ...numbers) {
+  #perform(request, block, ...numbers) {
     checked(this.#machine.call(request, shared.at(MACHINE), ...numbers));
-    await this.#performAll(block);
+    return this.#performAll(block);
   }
 
-  /** Performs what is requested. What fails is reported as failed, and is the error if the recorder says so. */
-  async #performAll(block) {
+  /** Performs what is requested. What fails is reported as failed, and the first fault is the error if the recorder
+      says so. */
+  #performAll(block, fault) {
     const machine = this.#machine;
-    let fault, code;
+    let code;
     while ((code = machine.call("recorder_next", shared.at(MACHINE))) === 1) {
+      const { effect } = machine;
       try {
-        const { effect } = machine, performed = performOn(this.#handle, this.#durable, effect, block);
-        machine.report(effect, performed && await performed);
+        const performed = performOn(this.#handle, this.#durable, effect, block);
+        if (performed) return this.#performRest(performed, effect, block, fault);
+        machine.report(effect);
       } catch (error) {
         fault ??= error;
         machine.fail();
       }
     }
     if (code < 0) throw fault ?? errorOf(code);
+  }
+
+  /** The same once an effect has ended that is under way. */
+  async #performRest(performed, effect, block, fault) {
+    try {
+      await performed;
+      this.#machine.report(effect);
+    } catch (error) {
+      fault ??= error;
+      this.#machine.fail();
+    }
+    return this.#performAll(block, fault);
   }
 }
 

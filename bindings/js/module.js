@@ -1,9 +1,9 @@
 // What Node has, and the library's WebAssembly module: beside this file in a package, and in bindings/lib in a clone.
 // A bundler for browsers takes browser.js in the place of this file.
-export const nodeFiles = () => import(/* webpackIgnore: true */ "node:fs/promises");
+export const nodeFiles = async () => (await import(/* webpackIgnore: true */ "node:fs")).default;
 
 async function load(url) {
-  if (url.protocol === "file:") return (await nodeFiles()).readFile(url);
+  if (url.protocol === "file:") return (await nodeFiles()).promises.readFile(url);
   const response = await fetch(url);
   if (!response.ok) throw new Error(`${url} isn't there: ${response.status}`);
   return response.arrayBuffer();

@@ -2,6 +2,7 @@
 import assert from "node:assert/strict";
 import { test } from "node:test";
 import { spawn, spawnSync } from "node:child_process";
+import node from "node:fs";
 import fs from "node:fs/promises";
 import os from "node:os";
 import path from "node:path";
@@ -16,14 +17,17 @@ const fails = (promise, code) => assert.rejects(promise, (error) => error instan
 /** Some frames of two channels, which differ from those of each other number. */
 const block = (number) => Int16Array.from({ length: 6 }, (_, i) => 10 * number + i);
 
+/** More of them than are written at once: 66,000 bytes. */
+const long = (number) => Int16Array.from({ length: 33000 }, (_, i) => 10 * number + i % 1000);
+
 /** The file of these blocks in the canonical layout, made from the format alone. */
 function fileOf(blocks) {
-  const data = blocks.flatMap((one) => [...one]), file = Buffer.alloc(44 + 2 * data.length);
+  const data = Buffer.concat(blocks.map((one) => Buffer.from(Int16Array.from(one).buffer)));
+  const file = Buffer.concat([Buffer.alloc(44), data]);
   for (const [place, text] of [[0, "RIFF"], [8, "WAVEfmt "], [36, "data"]]) file.write(text, place, "latin1");
-  const words = [[4, file.length - 8], [16, 16], [24, 8000], [28, 32000], [40, 2 * data.length]];
+  const words = [[4, file.length - 8], [16, 16], [24, 8000], [28, 32000], [40, data.length]];
   for (const [place, value] of words) file.writeUInt32LE(value, place);
   for (const [place, value] of [[20, 1], [22, 2], [32, 4], [34, 16]]) file.writeUInt16LE(value, place);
-  data.forEach((sample, i) => file.writeInt16LE(sample, 44 + 2 * i));
   return file;
 }
 
@@ -51,14 +55,51 @@ test("a checkpoint is what a reader finds, and a closed file is canonical", asyn
 });
 
 test("calls at once are performed in their order, with the samples of the call", async () => {
-  const recorder = await record(take, SPEC), samples = new Int16Array(6), calls = [];
-  for (let i = 0; i < 50; i++) {
-    samples.set(block(i));
-    calls.push(recorder.write(samples));
-    if (i % 7 === 0) calls.push(recorder.flush());
+  for (const durable of [false, true]) {
+    const recorder = await record(take, SPEC, { durable }), blocks = [], calls = [];
+    for (let i = 0; i < 50; i++) {
+      const samples = i % 9 === 4 ? long(i) : block(i);
+      blocks.push(samples.slice());
+      calls.push(recorder.write(samples));
+      samples.fill(-1);
+      if (i % 7 === 0) calls.push(recorder.flush());
+    }
+    await Promise.all([...calls, recorder.close()]);
+    assert.ok((await content()).equals(fileOf(blocks)));
   }
+});
+
+test("a short block is in the file when its call returns, also one in a call of onClipped", async () => {
+  const recorder = await record(take, SPEC), clipped = Float32Array.of(2, 0.5), calls = [];
+  const onClipped = () => calls.push(recorder.write(block(2)));
+  calls.push(recorder.write(block(1)), recorder.write(clipped, { onClipped }), recorder.write(block(3)));
+  const held = node.readFileSync(take).subarray(44);
+  const blocks = [block(1), block(2), [32767, 16384], block(3)];
+  assert.ok(held.equals(fileOf(blocks).subarray(44)));
   await Promise.all([...calls, recorder.close()]);
-  assert.deepEqual(await content(), fileOf(Array.from({ length: 50 }, (_, i) => block(i))));
+  assert.deepEqual(await content(), fileOf(blocks));
+});
+
+test("timers come in time where a program waits for short blocks alone", async () => {
+  const recorder = await record(take, SPEC), end = performance.now() + 20000;
+  let isDone = false;
+  setTimeout(() => { isDone = true; }, 10);
+  while (!isDone && performance.now() < end) await recorder.write(block(1));
+  await recorder.close();
+  assert.ok(isDone);
+});
+
+test("after a write that was slow threads write the blocks", async (t) => {
+  const recorder = await record(take, SPEC), { writeSync } = node;
+  const { mock } = t.mock.method(node, "writeSync", (...given) => {
+    for (const end = performance.now() + 50; performance.now() < end;);
+    return writeSync(...given);
+  });
+  for (let i = 0; i < 4; i++) await recorder.write(block(i));
+  await recorder.close();
+  mock.restore();
+  assert.equal(mock.callCount(), 1);
+  assert.deepEqual(await content(), fileOf([0, 1, 2, 3].map(block)));
 });
 
 /** The path of a part of the recording. */
@@ -151,16 +192,19 @@ test("a file is appended to, by what append rejects elsewhere", async () => {
   }
 });
 
-/** Has each call of the system made by `made` while something is done: its name, what makes it, and its arguments. */
+/** Has each call of the system made by `made` while something is done: its name, what makes it, and its arguments. A
+    call that is made at once returns how many bytes it wrote, and others a promise. */
 async function system(t, made, during) {
-  const handle = await fs.open(take, "w"), kind = Object.getPrototypeOf(handle), mocks = [];
+  const handle = await fs.open(take, "w"), kind = Object.getPrototypeOf(handle), mocks = [], { writeSync } = node;
   await handle.close();
   for (const name of ["write", "truncate", "sync", "stat"]) {
     const real = kind[name];
-    mocks.push(t.mock.method(kind, name, function (...given) {
+    mocks.push(t.mock.method(kind, name, async function (...given) {
       return made(name, (...changed) => real.apply(this, changed), given);
     }));
   }
+  mocks.push(t.mock.method(node, "writeSync", (descriptor, ...given) =>
+    made("write", (...changed) => writeSync(descriptor, ...changed), given)));
   await during().finally(() => mocks.forEach(({ mock }) => mock.restore()));
 }
 
@@ -175,7 +219,7 @@ test("each call of the system fails where a recording continues in a next file",
       await system(t, (name, real, given) => {
         if (isOn && name !== "stat" && (made++ === at || (made > at && !once))) {
           failed = true;
-          return Promise.reject(new Error("a fault"));
+          throw new Error("a fault");
         }
         return real(...given);
       }, async () => {
@@ -224,19 +268,22 @@ test("what is durable is synced before the header counts it, and what was writte
 /** Makes one call of the system fail: a write after half of its bytes. The calls that came are counted. */
 async function failing(t, number, during) {
   let calls = 0;
-  await system(t, async (name, real, [bytes, from, length, place]) => {
+  await system(t, (name, real, [bytes, from, length, place]) => {
     if (calls++ !== number) return name === "write" ? real(bytes, from, length, place) : real(bytes);
-    if (name === "write") await real(bytes, from, length >> 1, place);
-    throw Object.assign(new Error("injected"), { code: "EIO", sync: name === "sync" });
+    const fail = () => {
+      throw Object.assign(new Error("injected"), { code: "EIO", sync: name === "sync" });
+    };
+    const half = name === "write" ? real(bytes, from, length >> 1, place) : 0;
+    return half instanceof Promise ? half.then(fail) : fail();
   }, during);
   return calls;
 }
 
 test("after an error a block is in the file only if its write was fulfilled", async (t) => {
-  for (const durable of [false, true]) {
+  for (const [durable, made] of [[false, block], [true, block], [false, long], [true, long]]) {
     let calls = Infinity, lost = 0, number = 0;
     for (; number < calls; number++) {
-      const held = [];
+      const held = [], frames = made(0).length / 2;
       let stored = 0, isClosed = false, broken;
       calls = await failing(t, number, async () => {
         const recorder = await record(take, SPEC, { durable }).catch((error) => error);
@@ -248,16 +295,17 @@ test("after an error a block is in the file only if its write was fulfilled", as
           lost++;
         });
         for (let i = 1; i < 10; i++) {
-          await tried(recorder.write(block(i)), () => held.push(block(i)));
+          await tried(recorder.write(made(i)), () => held.push(made(i)));
           if (i % 3 === 0) await tried(recorder.flush(), () => { stored = held.length; });
         }
         await tried(recorder.close(), () => { isClosed = true; });
       });
-      const file = await content(), left = file.length < 44 ? 0 : (await read(file)).length / 6;
+      const file = await content(), left = file.length < 44 ? 0 : (await read(file)).length / 2 / frames;
       const holds = isClosed ? file.equals(fileOf(held)) : left >= stored && left <= held.length;
       assert.ok(holds, `call ${number}: ${left} of ${stored} to ${held.length}`);
       if (number < calls) calls = Infinity; // There may be more of them where none fails.
-      if (left) assert.deepEqual(await read(file), Int16Array.from(held.slice(0, left).flatMap((one) => [...one])));
+      const end = 44 + 4 * frames * left;
+      if (left) assert.ok(file.subarray(44, end).equals(fileOf(held).subarray(44, end)));
     }
     assert.ok(number > 15 && lost > 10, `${number} calls, ${lost} lost`);
   }

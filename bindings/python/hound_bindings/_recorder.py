@@ -8,13 +8,16 @@ from typing import Any, Iterable, List, NamedTuple, Optional, Tuple, Union
 from . import conversion, disk
 from ._calls import OneAtATime, one_at_a_time
 from ._library import (
-    FRONT_BYTES, POINTER, U64, CEffect, CInfo, CRecorder, CRepair, CRepairer, CSpec, CWalk, HoundError, check_header,
-    checked, function,
+    FRONT_BYTES, POINTER, SIZE, U64, CEffect, CInfo, CRecorder, CRepair, CRepairer, CSpec, CWalk, HoundError,
+    check_header, checked, function,
 )  # fmt: skip
 
-__all__ = ["Recorder", "Recording", "begin", "begun", "repaired", "resumed", "walk_over", "warn_of_rest"]
+__all__ = [
+    "Recorder", "Recording", "begin", "begun", "found_in", "repaired", "resumed", "walk_over", "warn_of_rest",
+]  # fmt: skip
 
 _INT = ctypes.c_int32
+_info = function("info", POINTER, SIZE, POINTER, result=_INT)
 _walk_next = function("walk_next", POINTER, POINTER, result=_INT)
 _walk_to_end = function("walk_to_end", POINTER, POINTER, result=_INT)
 _repairer_begin = function("repairer_begin", U64, ctypes.c_uint32, POINTER, result=None)
@@ -26,6 +29,12 @@ _recorder_write = function("recorder_write", POINTER, U64, result=_INT)
 _recorder_checkpoint = function("recorder_checkpoint", POINTER, result=None)
 _recorder_frames_left = function("recorder_frames_left", POINTER)
 _recorder_next = function("recorder_next", POINTER, result=_INT)
+
+
+def found_in(front: bytes) -> Optional[CInfo]:
+    """What a walk over a file finds, in one call, where these bytes of its front have the whole header."""
+    found = CInfo()
+    return found if _info(front, len(front), ctypes.byref(found)) == 0 else None
 
 
 def walk_over(file: Any, to_end: bool = False) -> CInfo:
@@ -118,6 +127,11 @@ class Recorder(OneAtATime):
         """How many frames the file has that is written."""
         recorder = self._state.recorder
         return int(recorder.data_length // (recorder.bytes_per_sample * recorder.channels))
+
+    def _end(self) -> int:
+        """Where the frames end in the file that is written, and the next ones begin."""
+        recorder = self._state.recorder
+        return int(recorder.data_start + recorder.data_length)
 
     def _frames_with_room(self) -> int:
         """How many frames have room after those in the file that is written."""

@@ -6,15 +6,17 @@ import ctypes
 import os
 import sys
 import warnings
-from typing import Any, Callable, ContextManager, Dict, Iterator, NamedTuple, Optional, Tuple
+from typing import (
+    Any, Callable, ContextManager, Dict, Generator, Iterable, Iterator, List, NamedTuple, Optional, Tuple,
+)  # fmt: skip
 
 from ._library import (
     POINTER, SIZE, SPARE, Cause, CSpec, HoundError, Info, address, checked, function, integer,
 )  # fmt: skip
 
 __all__ = [
-    "BLOCK", "Given", "READ_TYPES", "Room", "Scale", "TYPES", "Way", "Ways", "check_columns", "check_like",
-    "check_readable", "decoded", "encoded", "exact_in", "form_of", "noise_of", "room_of", "spec_like", "spec_of",
+    "BLOCK", "CACHED", "Encoder", "Given", "READ_TYPES", "Room", "TYPES", "Way", "Ways", "check_columns", "check_like",
+    "check_readable", "decoded", "exact_in", "form_of", "in_pieces", "noise_of", "room_of", "spec_like", "spec_of",
     "type_of", "warn_caller", "width_of",
 ]  # fmt: skip
 
@@ -45,20 +47,21 @@ _FORMATS.update(((form.code, array.array(form.code).itemsize), name) for name, f
 _SPELLINGS = {"i1": "int8", "i2": "int16", "i4": "int32", "f4": "float32", "f8": "float64", "float": "float64"}
 READ = "int8, int16, int32, float32 and float64 are read"
 GIVEN = "int8, int16, int32, int64, float32, float64 and lists are written"
-# How many samples are converted or encoded at once: so they stay in the processor's cache.
-BLOCK = 1 << 16
-_decode = {t: function("decode_" + t, POINTER, POINTER, SIZE, POINTER, SIZE) for t in ("i8", "i16", "i32", "f32")}
+# How many samples are converted at once, and how many bytes of a file are decoded or encoded: so they stay in the
+# processor's cache. How many bytes are written at once where they need no memory: a system keeps what is written in few
+# calls in larger pieces, so that it is written and read in less time.
+BLOCK, CACHED, WRITTEN = 1 << 16, 1 << 18, 1 << 24
+# The calls that decode and encode samples, by their kind, or by the type of floats whose full scale is 1.
+_DECODERS = {"i8": "decode_i8", "i16": "decode_i16", "i32": "decode_i32", "f32": "decode_f32"}
+_DECODERS.update({"float32": "to_f32", "float64": "to_f64"})
+_decode = {kind: function(call, POINTER, POINTER, SIZE, POINTER, SIZE) for kind, call in _DECODERS.items()}
 _encode = {t: function("encode_" + t, POINTER, POINTER, SIZE, POINTER, SIZE) for t in ("i16", "i32", "f32")}
-_TO_SCALED = {
-    name: function(call, POINTER, SIZE, ctypes.c_uint16, POINTER, SIZE)
-    for name, call in (("float32", "to_f32"), ("float64", "to_f64"))
-}
 _FROM_SCALED = {
-    name: function(call, POINTER, SIZE, ctypes.c_uint16, POINTER, SIZE, POINTER)
+    name: function(call, POINTER, POINTER, SIZE, POINTER, SIZE, POINTER)
     for name, call in (("float32", "from_f32"), ("float64", "from_f64"))
 }
 _DITHER = {
-    name: function(call, POINTER, SIZE, ctypes.c_uint16, POINTER, POINTER, SIZE, POINTER)
+    name: function(call, POINTER, POINTER, SIZE, POINTER, POINTER, SIZE, POINTER)
     for name, call in (("float32", "dither_f32"), ("float64", "dither_f64"))
 }
 _f32_to_f64 = function("f32_to_f64", POINTER, SIZE, POINTER, SIZE)
@@ -143,15 +146,15 @@ class Way:
         # Whether integers are floats, or become floats, whose full scale is 1.
         self.is_scaled = form.kind == "f32" and not is_float
         # The calls that decode the samples of the file, and whether what they give is converted to the type.
-        self.decodes = "i32" if self.is_scaled else "i8" if dtype == "int8" else form.kind
-        self.is_converted = CODES[self.decodes] != form.code
+        self.decodes = dtype if self.is_scaled else "i8" if dtype == "int8" else form.kind
+        self.is_converted = width_of(self.decodes) != width
         # The calls that encode the samples, and whether they take the type as it is.
-        self.encodes = "i32" if self.is_scaled else form.kind
-        self.is_taken = dtype in _LIBRARYS and not self.is_scaled
+        self.encodes = dtype if self.is_scaled else form.kind
+        self.is_taken = self.is_scaled or dtype in _LIBRARYS
         # Whether the samples are the containers of the file as they are, so that what decodes and encodes them copies
         # them only: those of 8 bits aren't, since they have no sign in a file.
         is_number = self.bits == 8 * width and self.size == width and width > 1 and sys.byteorder == "little"
-        self.are_containers = is_number and self.is_taken and (dtype == "float32") == is_float
+        self.are_containers = is_number and dtype in _LIBRARYS and (dtype == "float32") == is_float
         # Whether the file has a container for each value of the type, so that no sample is an error.
         is_narrow = dtype not in ("int64", "float64") and form.bits <= self.bits
         self.fits = self.is_scaled or (is_narrow and (form.kind == "f32") == is_float)
@@ -183,20 +186,6 @@ class Ways:
         if known is None:
             known = self._known[dtype] = Way(dtype, self._spec), False
         return known[0]
-
-
-def _convert(part: int, count: int, way: Way, out: int) -> None:
-    """Stores samples that the library decoded at an address, in another type."""
-    if way.is_scaled:
-        checked(_TO_SCALED[way.dtype](part, count, way.bits, out, count))
-    else:
-        checked(_f32_to_f64(part, count, out, count))
-
-
-def encoded(way: Way, start: int, count: int, out: Any) -> memoryview:
-    """The bytes of so many samples at an address, which are stored in this buffer."""
-    used = checked(_encode[way.encodes](way.spec, start, count, out, len(out)))
-    return memoryview(out)[:used]
 
 
 def _empty_of_numpy(count: int, dtype: str) -> Any:
@@ -297,7 +286,7 @@ class Room:
             for first in range(0, count, BLOCK):
                 some = min(BLOCK, count - first)
                 checked(_decode[way.decodes](way.spec, start + first * way.size, some * way.size, place, some))
-                _convert(place, some, way, out + first * way.width)
+                checked(_f32_to_f64(place, some, out + first * way.width, some))
 
     def result(self, count: int, always_2d: bool) -> Any:
         """The samples, of which there are so many."""
@@ -376,35 +365,69 @@ def warn_caller(sentence: str) -> None:
     warnings.warn(sentence, RuntimeWarning, level)
 
 
-class Scale:
-    """Floats whose full scale is 1 as integers of so many bits: `clipped` counts those that these don't hold. With the
-    state of some noise, which becomes that for the next ones, each gets noise of a triangular distribution, of at most
-    one step."""
+class Encoder:
+    """What encodes samples for a file. Of floats whose full scale is 1 `clipped` counts those that the integers of the
+    file don't hold. With the state of some noise, which becomes that for the next ones, each gets noise of a triangular
+    distribution, of at most one step."""
 
     clipped = 0
 
-    def __init__(self, bits: int, noise: Optional[int] = None) -> None:
-        self._bits = bits
+    def __init__(self, way: Way, noise: Optional[int] = None) -> None:
+        self._way = way
         self._noise = None if noise is None else ctypes.c_uint64(noise)
-        self._integers = _zeros("i", 0)
+        self._out = ctypes.create_string_buffer(0)
 
     @property
     def noise(self) -> Optional[int]:
         """The state of the noise after all floats."""
         return None if self._noise is None else self._noise.value
 
-    def integers(self, dtype: str, start: Any, count: int) -> memoryview:
-        """The integers of so many floats of a type at an address, until the next call."""
+    def _encode(self, start: Any, count: int) -> int:
+        """Stores the bytes of so many samples at an address, and returns how many there are."""
+        way, stored = self._way, (self._out, len(self._out))
+        if not way.is_scaled:
+            return checked(_encode[way.encodes](way.spec, start, count, *stored))
         clipped = ctypes.c_uint64()
-        if count > len(self._integers):
-            self._integers = _zeros("i", count)
-        out = _start(self._integers), count, ctypes.byref(clipped)
         if self._noise is None:
-            checked(_FROM_SCALED[dtype](start, count, self._bits, *out))
+            used = checked(_FROM_SCALED[way.dtype](way.spec, start, count, *stored, ctypes.byref(clipped)))
         else:
-            checked(_DITHER[dtype](start, count, self._bits, ctypes.byref(self._noise), *out))
+            noise = ctypes.byref(self._noise)
+            used = checked(_DITHER[way.dtype](way.spec, start, count, noise, *stored, ctypes.byref(clipped)))
         self.clipped += clipped.value
-        return memoryview(self._integers)[:count]
+        return used
+
+    def piece(self, start: Any, count: int) -> memoryview:
+        """The bytes of so many samples at an address, until the next call."""
+        if count * self._way.size > len(self._out):
+            self._out = ctypes.create_string_buffer(count * self._way.size)
+        used = self._encode(start, count)
+        return memoryview(self._out)[:used]
+
+    def pieces(self, given: "Given", place: int) -> Generator[memoryview, None, None]:
+        """The bytes of all given samples, which begin at this place of a file: in pieces that stay in the processor's
+        cache, each of them until the next one. A system stores them in less time because they end at multiples of their
+        size."""
+        way = self._way
+        containers = given.containers(way)
+        if containers is not None:
+            with containers:
+                yield from in_pieces(containers, lambda: place)
+            return
+        width = width_of(way.encodes)
+        for samples in given.parts(way):
+            with address(samples, width) as (start, length):
+                end = start + length
+                while start < end:
+                    count = min(-(-(CACHED - place % CACHED) // way.size), (end - start) // width)
+                    yield self.piece(start, count)
+                    start, place = start + count * width, place + count * way.size
+
+    def at_once(self, given: "Given") -> List[Any]:
+        """The same, of which each stays; a short block is one piece, until the next call."""
+        if not 0 < given.count <= BLOCK:
+            return list(map(bytes, self.pieces(given, 0)))
+        with address(given.part(given.view, self._way), width_of(self._way.encodes)) as (start, _):
+            return [self.piece(start, given.count)]
 
     def warn(self, count: int) -> None:
         """Warns where samples were clipped."""
@@ -445,7 +468,12 @@ def _buffer_of(samples: Any) -> Any:
     return memoryview(flat).cast("B").cast(flat.typecode, [len(samples), columns])
 
 
-_UNSCALED = Scale(0)
+def in_pieces(content: memoryview, place: Callable[[], int]) -> Iterable[memoryview]:
+    """These bytes, which begin at that place of a file, in pieces that end at multiples of their size."""
+    if len(content) <= WRITTEN:
+        return (content,)
+    ends = range(WRITTEN - place() % WRITTEN, len(content) + WRITTEN, WRITTEN)
+    return (content[max(end - WRITTEN, 0) : end] for end in ends)
 
 
 class Given:
@@ -474,15 +502,12 @@ class Given:
         part.count = part.view.nbytes // part.view.itemsize
         return part
 
-    def scale(self, way: Way, noise: Optional[int]) -> Scale:
-        """What scales the samples for a file; an error where it has other channels, or noise can't be added to them."""
+    def check(self, way: Way, noise: Optional[int]) -> None:
+        """An error where the file has other channels, or noise can't be added to the samples."""
         if self.columns is not None:
             check_columns(self._name, self.columns, way.channels)
-        if way.is_scaled:
-            return Scale(way.bits, noise)
-        if noise is not None:
+        if noise is not None and not way.is_scaled:
             raise ValueError("dither is for floats that become integers")
-        return _UNSCALED
 
     def containers(self, way: Way) -> Optional[memoryview]:
         """The bytes of the samples, where they are the containers of a file."""
@@ -490,27 +515,24 @@ class Given:
             return self.view.cast("B")
         return None
 
-    def part(self, view: memoryview, way: Way, scale: Scale) -> Any:
+    def part(self, view: memoryview, way: Way) -> Any:
         """A buffer of some of the samples, as the library takes them."""
-        return view if way.is_taken else self._converted(view, way, scale)
+        return view if way.is_taken else self._converted(view)
 
-    def parts(self, way: Way, scale: Scale) -> Iterator[Any]:
-        """All samples so: they are one part, or where they are converted, parts of whole frames."""
-        if way.is_taken:
+    def parts(self, way: Way) -> Iterator[Any]:
+        """All samples so: they are one part, or where they are copied or converted, parts of whole frames."""
+        if way.is_taken and self.view.c_contiguous:
             yield self.view
             return
         rows = max(BLOCK // way.channels, 1) * (1 if self.columns else way.channels)
         for first in range(0, len(self.view), rows):
-            yield self._converted(self.view[first : first + rows], way, scale)
+            yield self.part(self.view[first : first + rows], way)
 
-    def _converted(self, view: memoryview, way: Way, scale: Scale) -> Any:
+    def _converted(self, view: memoryview) -> Any:
         """Samples in a type of the library, until the next ones."""
         if self.form.kind == "f32":
             with address(view, view.itemsize) as (start, length):
-                count = length // view.itemsize
-                if way.is_scaled:
-                    return scale.integers(self.dtype, start, count)
-                return _rounded(start, count)
+                return _rounded(start, length // view.itemsize)
         samples: "array.array[int]" = array.array(self.form.code, view.tobytes())
         try:
             return array.array("h" if self.dtype == "int8" else "i", samples)

@@ -23,7 +23,7 @@ from ._library import DONE, FAILED, READ, SHORTEN, SYNC, SYNC_FOLDER, WRITE, WRI
 
 __all__ = [
     "DONE", "Descriptor", "FAILED", "File", "Medium", "Memory", "READ", "SHORTEN", "SYNC", "Stream", "WRITE",
-    "WRITE_BLOCK", "check_object", "descriptor_of", "folder_of", "opened", "perform", "piece_of", "place_of",
+    "WRITE_BLOCK", "check_object", "descriptor_of", "folder_of", "made", "opened", "perform", "piece_of", "place_of",
     "put_here", "read_at", "read_into", "replace", "sync", "sync_folder", "sync_once",
 ]  # fmt: skip
 
@@ -242,6 +242,11 @@ def opened(path: Any) -> Descriptor:
     """A file at a path, which is only read."""
     _check_no_pipe(path)
     return Descriptor(io.open(path, "rb", buffering=0))
+
+
+def made(path: Any) -> Descriptor:
+    """A new file at a path, which is only written."""
+    return Descriptor(io.open(path, "xb", buffering=0))
 
 
 class Memory:

@@ -6,35 +6,40 @@ import mmap
 import os
 import secrets
 import shutil
+import stat
 import sys
 import tempfile
-from typing import IO, Any, ContextManager, Iterator, Optional, Tuple, Union
+from typing import IO, Any, Callable, ContextManager, Iterator, Optional, Tuple, Union
 
 from . import conversion, disk, streams
 from ._library import (
-    POINTER, SIZE, SPARE, U64, CSpec, Dtype, File, HoundError, Info, Path, address, checked, function, integer,
+    HEADER_BYTES, POINTER, SIZE, SPARE, U64, CSpec, Dtype, File, HoundError, Info, Path, checked, function, integer,
     name_error, named,
 )  # fmt: skip
 
 __all__ = ["append", "info", "read", "read_into", "read_with_info", "replaced", "to_bytes", "write"]
 
 _size = function("size", POINTER, U64)
-_write = {t: function("write_" + t, POINTER, POINTER, SIZE, POINTER, SIZE) for t in ("i16", "i32", "f32")}
-_append = {t: function("append_" + t, POINTER, SIZE, SIZE, POINTER, SIZE) for t in ("i16", "i32", "f32")}
+_header = function("header", POINTER, U64, POINTER, SIZE)
+
+
+def _opened(file: File) -> ContextManager[streams.Reader]:
+    """What reads a file: at a path, of an object, or in memory."""
+    if isinstance(file, (str, os.PathLike)) or (hasattr(file, "read") and not isinstance(file, mmap.mmap)):
+        return streams.Reader(file)  # type: ignore[arg-type]
+    return _opened_in_memory(file)
 
 
 @contextlib.contextmanager
-def _opened(file: File) -> Iterator[streams.Reader]:
-    """What reads a file: at a path, of an object, or in memory."""
-    reads = isinstance(file, (str, os.PathLike)) or (hasattr(file, "read") and not isinstance(file, mmap.mmap))
-    with named(file), contextlib.ExitStack() as memory:
-        source: Any = file if reads else memory.enter_context(disk.Memory(file))
-        yield memory.enter_context(streams.Reader(source))
+def _opened_in_memory(content: Any) -> Iterator[streams.Reader]:
+    source: Any = disk.Memory(content)
+    with source, streams.Reader(source) as reader:
+        yield reader
 
 
 def info(file: File) -> Info:
     """What the header of a file says. The data may be missing. An object that can seek stays where it is."""
-    with _opened(file) as source:
+    with named(file), _opened(file) as source:
         source._rewind()
         return source.info
 
@@ -129,19 +134,40 @@ def to_bytes(
     integers. What doesn't fit is an error.
     """
     with conversion.Given(samples) as given:
-        spec = _spec_for(given, rate, channels, bits, bytes_per_sample, like)
-        way = conversion.Way(given.dtype, spec)
-        scale = given.scale(way, conversion.noise_of(dither))
-        file = bytearray(checked(_size(ctypes.byref(spec), given.count)))
-        with address(file) as (out, capacity):
-            empty = "f32" if spec.sample_format else "i16"
-            used = checked(_write[empty](ctypes.byref(spec), SPARE, 0, out, capacity))
-            width = conversion.width_of(way.encodes)
-            for part in given.parts(way, scale):
-                with address(part, width) as (start, length):
-                    used = checked(_append[way.encodes](out, capacity, used, start, length // width))
-        scale.warn(given.count)
+        whole = _Whole(given, _spec_for(given, rate, channels, bits, bytes_per_sample, like), dither)
+        file = bytearray(whole.length)
+
+        def put(content: Any, place: int) -> None:
+            file[place : place + len(content)] = content
+
+        whole.put(put)
     return file
+
+
+class _Whole:
+    """A file of some samples, which has so many bytes."""
+
+    def __init__(self, given: conversion.Given, spec: CSpec, dither: int) -> None:
+        self.length = checked(_size(ctypes.byref(spec), given.count))
+        self._given, self._spec = given, spec
+        way, noise = conversion.Way(given.dtype, spec), conversion.noise_of(dither)
+        given.check(way, noise)
+        self._encoder = conversion.Encoder(way, noise)
+        if given.count == 0:
+            self._encoder.piece(SPARE, 0)  # An error where the type isn't written.
+
+    def put(self, put: Callable[[Any, int], None]) -> None:
+        """Lets a call put each piece of the file at its place."""
+        given, encoder, header = self._given, self._encoder, ctypes.create_string_buffer(HEADER_BYTES)
+        place = checked(_header(ctypes.byref(self._spec), given.count, header, HEADER_BYTES))
+        put(memoryview(header)[:place], 0)
+        with contextlib.closing(encoder.pieces(given, place)) as pieces:
+            for piece in pieces:
+                put(piece, place)
+                place += len(piece)
+        if place < self.length:
+            put(bytes(self.length - place), place)  # the pad byte
+        encoder.warn(given.count)
 
 
 def _locked_if_there(path: Path) -> ContextManager[Any]:
@@ -190,8 +216,8 @@ def _renamed(path: Path, durable: bool) -> Iterator[str]:
         with _part_of(path, os.path.dirname(name)) as part:
             yield part
             with _locked_if_there(path) as older:
-                if os.path.exists(name):
-                    shutil.copymode(name, part)
+                if older:
+                    os.chmod(part, stat.S_IMODE(os.fstat(older.descriptor).st_mode))
                 disk.replace(part, name, older)
         if durable:
             disk.sync(folder)
@@ -200,8 +226,15 @@ def _renamed(path: Path, durable: bool) -> Iterator[str]:
 def replaced(path: Path, durable: bool) -> ContextManager[str]:
     """The name of a new file, which takes the place of one at this path when the context ends, unless that is a device
     or a pipe: then it is written into that."""
-    is_device = os.path.exists(path) and not os.path.isfile(path)
-    return _written_into(path, durable) if is_device else _renamed(path, durable)
+    return _written_into(path, durable) if _is_device(path) else _renamed(path, durable)
+
+
+def _is_device(path: Path) -> bool:
+    """Whether what is at a path isn't a file."""
+    try:
+        return not stat.S_ISREG(os.stat(path).st_mode)
+    except (OSError, ValueError):
+        return False  # Whoever opens it gets the error.
 
 
 def _write_to(file: Any, content: bytearray, durable: bool) -> int:
@@ -235,14 +268,14 @@ def write(
     with named(path):
         if not isinstance(path, (str, os.PathLike)):
             form = rate, channels, bits
-            file = to_bytes(samples, *form, bytes_per_sample=bytes_per_sample, like=like, dither=dither)
-            return _write_to(path, file, durable)
+            content = to_bytes(samples, *form, bytes_per_sample=bytes_per_sample, like=like, dither=dither)
+            return _write_to(path, content, durable)
         with conversion.Given(samples) as given:
-            spec = _spec_for(given, rate, channels, bits, bytes_per_sample, like)
-            length = checked(_size(ctypes.byref(spec), given.count))
-            with replaced(path, durable) as part, streams._begun(part, spec, False, True, dither) as writer:
-                writer._end_with(given, durable)
-        return length
+            whole = _Whole(given, _spec_for(given, rate, channels, bits, bytes_per_sample, like), dither)
+            with replaced(path, durable) as part, disk.made(part) as file:
+                whole.put(file.put)
+                file.sync(durable)
+        return whole.length
 
 
 def append(

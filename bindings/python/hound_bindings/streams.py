@@ -11,16 +11,16 @@ import types
 import warnings
 import weakref
 from typing import (
-    IO, Any, Callable, Generator, Iterable, Iterator, List, NamedTuple, NoReturn, Optional, Set, Tuple, Union,
+    IO, Any, Callable, Iterator, List, NamedTuple, NoReturn, Optional, Set, Tuple, Union,
 )  # fmt: skip
 
 from . import conversion, disk
 from ._calls import OneAtATime, one_at_a_time
 from ._library import (
-    FIND_DAMAGE, FRONT_BYTES, HEADER_BYTES, OVERWRITE, POINTER, U64, Cause, CRecorder, CSpec, Dtype,
-    HoundError, Info, Path, address, check_header, checked, function, info_from, integer, name_error, named,
+    FIND_DAMAGE, FRONT_BYTES, HEADER_BYTES, OVERWRITE, POINTER, U64, Cause, CInfo, CRecorder, CSpec, Dtype,
+    HoundError, Info, Path, check_header, checked, function, info_from, integer, name_error, named,
 )  # fmt: skip
-from ._recorder import Recorder, Recording, begin, begun, repaired, resumed, walk_over, warn_of_rest
+from ._recorder import Recorder, Recording, begin, begun, found_in, repaired, resumed, walk_over, warn_of_rest
 
 __all__ = ["Reader", "Writer", "append_to", "create", "open"]
 
@@ -34,9 +34,8 @@ class _Next(NamedTuple):
     held: List[Any]
 
 
-# How many bytes are read at once, of them those that stay in the processor's cache, and how many frames a stream has at
-# most.
-_PIECE, _CACHED, _MOST_FRAMES = 1 << 20, 1 << 18, 1 << 46
+# How many bytes are read at once, and how many frames a stream has at most.
+_PIECE, _MOST_FRAMES = 1 << 20, 1 << 46
 
 
 class Reader(OneAtATime):
@@ -130,16 +129,27 @@ class Reader(OneAtATime):
         return content
 
     def _find_data(self) -> None:
-        read = self._reading_on() if self._placed is None else self._reading_at(self._placed)
-        found = walk_over(types.SimpleNamespace(read_at=read), self._to_end)
+        found = self._found()
         self._spec, self._ways = found.spec, conversion.Ways(found.spec)
         self._size = int(found.spec.bytes_per_sample * found.spec.channels)  # of a frame
         self.info = info_from(found.spec, found.samples // found.spec.channels, found.data_start)
         self._most = _MOST_FRAMES if self._to_end else self.info.frames
 
+    def _found(self) -> CInfo:
+        """What the header says: that of most files is in the front, so that one read is enough."""
+        if self._placed is None:
+            read = self._reading_on()
+        else:
+            self._front = self._placed.read_at(FRONT_BYTES, 0)
+            found = None if self._to_end else found_in(self._front)
+            if found:
+                return found
+            read = self._reading_at(self._placed)
+        return walk_over(types.SimpleNamespace(read_at=read), self._to_end)
+
     def _reading_at(self, source: Union[disk.Descriptor, disk.Memory]) -> Callable[[int, int], bytes]:
-        """What reads a part of a file: of its front, which has the header of most files, so that one call is enough."""
-        front = self._front = source.read_at(FRONT_BYTES, 0)
+        """What reads a part of a file, also of its front."""
+        front = self._front
 
         def read(count: int, place: int) -> bytes:
             is_there = place + count <= len(front) or len(front) < FRONT_BYTES
@@ -173,7 +183,7 @@ class Reader(OneAtATime):
         if a read fails."""
         size, channels = self._size, room.way.channels
         length, place = frames * size, self.info.data_start + self._state.frame * size
-        is_small = length <= _CACHED
+        is_small = length <= conversion.CACHED
         if self._placed is not None and (is_small or self._placed.size() >= place + length):
             count = self._stored_at(self._placed, place, frames, room)
             if count == frames or not is_small:  # Else the file became shorter, or holds fewer frames than it says.
@@ -192,7 +202,7 @@ class Reader(OneAtATime):
         if way.are_containers:
             return room.fill(frames * way.channels, lambda content: source.read_into(content, place)) // size
         with room.place(frames * way.channels) as (start, _):
-            for piece in source.pieces(place, frames * size, max(_CACHED // size, 1) * size):
+            for piece in source.pieces(place, frames * size, max(conversion.CACHED // size, 1) * size):
                 whole = len(piece) // size
                 room.decode(piece, whole * way.channels, start + count * way.channels * way.width)
                 count += whole
@@ -263,10 +273,6 @@ def _unlock_readers() -> None:
 if hasattr(os, "register_at_fork"):
     os.register_at_fork(after_in_child=_unlock_readers)
 
-# How many bytes are written at once where they need no memory. A system keeps what is written in few calls in larger
-# pieces, so that it is read in less time, too.
-_WRITTEN = 1 << 22
-
 
 def part_name(path: Path, number: int) -> str:
     """The name of a further file of a recording, as take-002.wav is the second one of take.wav."""
@@ -278,13 +284,6 @@ def _check_part(path: Path) -> None:
     """An error where a file of this name is there, also a link to none."""
     if os.path.lexists(path):
         raise FileExistsError(errno.EEXIST, os.strerror(errno.EEXIST), os.fspath(path))
-
-
-def _in_pieces(content: memoryview, most: int) -> Iterable[memoryview]:
-    """The same bytes, in pieces of at most so many."""
-    if len(content) <= most:
-        return (content,)
-    return (content[first : first + most] for first in range(0, len(content), most))
 
 
 class Writer(Recorder):
@@ -324,7 +323,6 @@ class Writer(Recorder):
     ) -> None:
         super().__init__(file, spec, recorder, durable, dither)
         self._ways = conversion.Ways(spec)
-        self._out = ctypes.create_string_buffer(0)
         _WRITERS[self] = file
         self._process = os.getpid()
 
@@ -412,24 +410,26 @@ class Writer(Recorder):
     def _write(self, given: conversion.Given) -> None:
         state: Recording = self._state
         way = self._ways.of_given(given.dtype)
-        scale = given.scale(way, state.noise)
+        given.check(way, state.noise)
         containers = given.containers(way)
         if containers is not None:
             with containers:
                 self._begin_block(given.count)
-                recorder = self._perform_all(_in_pieces(containers, _WRITTEN))
-        elif given.count > conversion.BLOCK and way.fits:
-            with contextlib.closing(self._encoded(given.parts(way, scale), way)) as pieces:
-                self._begin_block(given.count)
+                self._finish_block(self._perform_all(conversion.in_pieces(containers, self._end)), 0, None)
+            return
+        encoder = conversion.Encoder(way, state.noise)
+        if given.count > conversion.BLOCK and way.fits:
+            self._begin_block(given.count)
+            with contextlib.closing(encoder.pieces(given, self._end())) as pieces:
                 recorder = self._perform_all(pieces)
         else:
             # Where a sample may be an error all are encoded before any is written.
-            encoded = self._encoded_at_once(given, way, scale)
+            encoded = encoder.at_once(given)
             self._begin_block(given.count)
             recorder = self._perform_all(encoded)
-        if scale.clipped:
-            scale.warn(given.count)
-        self._finish_block(recorder, scale.clipped, scale.noise)
+        if encoder.clipped:
+            encoder.warn(given.count)
+        self._finish_block(recorder, encoder.clipped, encoder.noise)
 
     def _begin_block(self, count: int) -> None:
         """Requests the write of so many samples, in a next file where they have no room in this one."""
@@ -493,28 +493,6 @@ class Writer(Recorder):
                 os.unlink(path)
         self._attempted = None
 
-    def _encoded(self, parts: Iterable[Any], way: conversion.Way) -> Generator[memoryview, None, None]:
-        """The bytes of all parts, in pieces that stay in the processor's cache, each of them until the next one."""
-        width = conversion.width_of(way.encodes)
-        for samples in parts:
-            with address(samples, width) as (start, length):
-                for first in range(0, length, conversion.BLOCK * width):
-                    yield self._piece(way, start + first, min(conversion.BLOCK, (length - first) // width))
-
-    def _encoded_at_once(self, given: conversion.Given, way: conversion.Way, scale: conversion.Scale) -> List[Any]:
-        """The same, of which each stays; a short block is one piece, until the next one."""
-        if not 0 < given.count <= conversion.BLOCK:
-            return list(map(bytes, self._encoded(given.parts(way, scale), way)))
-        samples = given.part(given.view, way, scale)
-        with address(samples, conversion.width_of(way.encodes)) as (start, _):
-            return [self._piece(way, start, given.count)]
-
-    def _piece(self, way: conversion.Way, start: Any, count: int) -> memoryview:
-        """The bytes of so many samples at an address, until the next call."""
-        if count * way.size > len(self._out):
-            self._out = ctypes.create_string_buffer(count * way.size)
-        return conversion.encoded(way, start, count, self._out)
-
     @one_at_a_time
     def flush(self) -> None:
         """Makes the header count all frames, and if the file is durable, stores them."""
@@ -530,14 +508,6 @@ class Writer(Recorder):
         self._close()
         if not was_closed:
             self._warn_of_rest()
-
-    def _end_with(self, block: Any, durable: bool) -> None:
-        """Writes the last block, and closes the file. If it is durable it is stored by one sync, which is enough for a
-        file that nobody knows yet."""
-        self.write(block)
-        self.flush()
-        self._file.sync(durable)
-        self._file.close()
 
     def _append(self, block: Any) -> None:
         """Writes a block and closes the file. Where that fails the block is cut off again."""

@@ -927,7 +927,7 @@ class Files(unittest.TestCase):
         """The next read begins at the same frame."""
         self.leave(by_hand(bytes(range(40)), channels=2))
         samples = array.array("h", bytes(range(40)))
-        with mock.patch.object(hound.streams, "_CACHED", 8):
+        with mock.patch.object(hound.conversion, "CACHED", 8):
             for at in itertools.count(1, 3):
                 with hound.open(self.path) as reader:
                     found = array.array("h")
@@ -956,7 +956,7 @@ class Files(unittest.TestCase):
 
             with hound.create(self.path, 8000, 2, 16) as writer:
                 writer.write(small)
-                pieces = mock.patch.object(hound.streams, "_WRITTEN", 1 << 17)
+                pieces = mock.patch.object(hound.conversion, "WRITTEN", 1 << 17)
                 with pieces, mock.patch("os.pwrite", failing), contextlib.suppress(OSError):
                     writer.write(samples)
                     self.assertGreater(left[0], 0)
@@ -975,6 +975,20 @@ class Files(unittest.TestCase):
             self.fails(Cause.TOO_WIDE, lambda: writer.write(wide))
         self.assert_file(before)
         self.assertEqual(os.listdir(self.folder.name), ["a.wav"])
+
+    def test_pieces_end_at_multiples_of_their_size(self):
+        data, samples = self.large(2, 2, 200003)
+        places, pwrite = [], os.pwrite
+
+        def noted(descriptor, content, place):
+            places.append(place)
+            return pwrite(descriptor, content, place)
+
+        with hound.create(self.path, 8000, 2, 16) as writer:
+            with mock.patch.object(hound.conversion, "WRITTEN", 1 << 17), mock.patch("os.pwrite", noted):
+                writer.write(samples)
+        self.assertEqual(places, [44, *range(1 << 17, len(data), 1 << 17)])
+        self.assert_file(by_hand(data, channels=2))
 
     def test_half_a_frame_is_no_end(self):
         cut_off = by_hand(bytes(range(6)), 12, channels=2)

@@ -22,8 +22,8 @@ if "hound_bindings" in sys.modules:
 # What the package may use of these modules.
 NAMES = {
     os: (
-        "O_CREAT O_EXCL O_RDONLY O_RDWR O_WRONLY PathLike SEEK_END SEEK_SET close environ fsdecode fspath fstat fsync"
-        " ftruncate getpid lseek name path read stat unlink write"
+        "O_CREAT O_EXCL O_RDONLY O_RDWR O_WRONLY PathLike SEEK_END SEEK_SET chmod close environ fsdecode fspath fstat"
+        " fsync ftruncate getpid lseek name path read stat unlink write"
     ),
     mmap: "mmap",
 }
