@@ -1,6 +1,6 @@
 use Rattle.std.proofs.lemmas.Grind.{common_steps}
 use Rattle.std.proofs.Common.{◌≡◌, ◌≤◌, ◌<◌, ◌+◌, ◌-◌, ◌*◌, ◌^◌, ℕ, List, [], ◌∷◌, ◌++◌, map, length, take, drop, refl, sym, ap, ◌∙◌, subst, arith, rules, IsTrue, Some, Ok, Err}
-use Rattle.std.specs.Prelude.{IfErr, OnErr, OnOk}
+use Rattle.std.specs.Prelude.{OnOk}
 use borrow.Rule.Slice.PartMut.{put_mid, same_len_mid}
 use Rattle.std.proofs.lemmas.List.{length-drop, length-take-le, take-append-le}
 use Rattle.std.proofs.lemmas.Nat.{mul-le}
@@ -11,7 +11,6 @@ use Rattle.hound_sample.proofs.Many.{drop_further}
 use Rattle.hound_spec.proofs.WritableLemmas.{pair_facts}
 use Rattle.hound_walk.specs.{unread}
 use Rattle.hound_reader.specs.Getting.{IsGetError, PassesBytes}
-use Rattle.hound_reader.specs.Memory.{IsReasonOf}
 use Rattle.hound_reader.specs.Reader.{meaning_at, rejection_at}
 use Rattle.hound_reader.proofs.GettingLemmas.{has_given, in_place, piece_came, rest_put, unread_after, whole_piece, why_fewer}
 use Rattle.hound_reader.proofs.MemoryLemmas.{are_first, are_long, are_read, are_read_before_part, are_whole, reason_is_cut}
@@ -20,28 +19,15 @@ use Rattle.hound_reader.proofs.getting.get_many.Goals as goal
 -- the piece that was requested fits into the buffer
 asked : (g : _) (c : goal.In-Err-answer g) → length c.get_all-taken.new.buf
     ≡ c.min-wanted.result * c.args.spec_ex.bytes_per_sample
-asked g c =
-    let w = c.args.spec_ex.bytes_per_sample in
-    let fits = are_whole c.min-wanted.result _ 1024 w c.min-wanted.ensures in
-    let size : length c.loop-done.piece ≡ 1024 = search rules in
-    c.get_all-taken.auto.buf ∙ length-take-le (c.min-wanted.result * w) c.loop-done.piece (omega (arith, fits, size))
+asked g c = grind (arith, common_steps, length-take-le, are_whole)
 
 -- the part of the slice for its samples
 room : (g : _) (c : goal.In-Err-answer g) → length c.decode_many-count.new.samples ≡ c.min-wanted.result
-room g c =
-    let done = c.loop-done.done in
-    let k = done + c.min-wanted.result - done in
-    c.decode_many-count.auto.samples
-    ∙ length-take-le k (drop done c.loop-done.samples)
-    (omega (arith, length-drop done c.loop-done.samples, c.min-wanted.ensures))
-    ∙ omega arith
+room g c = grind (arith, common_steps, length-drop, length-take-le)
 
 -- fewer samples came than were requested, since the bytes of the piece end
 fewer : (g : _) (c : goal.In-Err-answer g) → c.decode_many-count.result.0 < c.min-wanted.result
-fewer g c =
-    let less = subst (λ r. OnErr r (c.decode_many-count.result.0 < length c.decode_many-count.new.samples))
-    c.in-Err-answer.is c.decode_many-count.ensures.front.part in
-    omega (arith, less, room g c)
+fewer g c = grind (arith, common_steps, room)
 
 -- the bytes of the piece that came
 abbrev part : (g : _) (c : goal.In-Err-answer g) → List ℕ
@@ -50,18 +36,7 @@ part g c = take c.get_all-taken.result
 
 cut : (g : _) (c : goal.In-Err-answer g) → (c.in-Err-answer.no_sample ≡ Failed)
     × (c.get_all-taken.result < (c.decode_many-count.result.0 + 1) * c.args.spec_ex.bytes_per_sample)
-cut g c =
-    let s = c.args.spec_ex in
-    let count = c.decode_many-count.result.0 in
-    let within = c.get_all-taken.ensures.within in
-    let why = reason_is_cut g.S.Decode.decode_rejection s count (part g c) c.in-Err-answer.no_sample
-    (sym c.in_default.is ∙ c.check.ensures.check)
-    (subst (λ r. IfErr r (IsReasonOf g.S.Decode.decode_rejection s count (part g c))) c.in-Err-answer.is
-    c.decode_many-count.ensures.cause) in
-    let long = ap length (take-append-le c.get_all-taken.result c.get_all-taken.new.buf
-    (drop (c.min-wanted.result * s.bytes_per_sample) c.loop-done.piece) within)
-    ∙ length-take-le c.get_all-taken.result c.get_all-taken.new.buf within in
-    (why.0, omega (arith, why.1, long))
+cut g c = grind (arith, common_steps, length-take-le, take-append-le, reason_is_cut)
 
 -- what came of the piece
 came : (g : _) (c : goal.In-Err-answer g) → IsTrue g.R.Placed.tells
@@ -82,18 +57,7 @@ came g c t =
     c.decode_many-count.ensures.samples
 
 pub returns-in-Err-answer-clause-front : goal.returns-in-Err-answer-clause-front
-returns-in-Err-answer-clause-front g c =
-    let done = c.loop-done.done in
-    let count = c.decode_many-count.result.0 in
-    let xs = c.loop-done.samples in
-    let values = c.decode_many-count.new.samples in
-    let k = done + c.min-wanted.result - done in
-    let front = c.decode_many-count.ensures.front in
-    let rest = rest_put done k count xs values c.loop-done.invariant.within front.within
-    c.decode_many-count.auto.samples front.rest ∙ drop_further done count xs c.args.samples.now c.loop-done.invariant.rest in
-    let same = same_len_mid done k xs values c.decode_many-count.auto.samples in
-    let less : done + count < length xs = omega (arith, fewer g c, c.min-wanted.ensures) in
-    record { within = omega (arith, less, same); full = tt; part = omega (arith, less, same); rest = rest }
+returns-in-Err-answer-clause-front g c = grind (arith, common_steps, drop_further, rest_put, fewer)
 
 pub returns-in-Err-answer-clause-answers : goal.returns-in-Err-answer-clause-answers
 returns-in-Err-answer-clause-answers g c t fault =
@@ -212,13 +176,4 @@ loop-done-preserved g c =
     }
 
 pub returns-clause-answers : goal.returns-clause-answers
-returns-clause-answers g c t fault =
-    let s = c.args.spec_ex in
-    let w = s.bytes_per_sample in
-    let passes = c.loop-done.invariant.passes t in
-    let none : length c.args.samples.now ≡ 0 → ⊥ = search rules in
-    are_read (meaning_at g.S.Decode.value s) w c.loop-done.done (unread (g.R.Placed.state c.args.reader.now.reader))
-    passes.within (take c.loop-done.done c.loop-done.samples) (c.loop-done.invariant.samples t) _
-    (sym c.in_default.is ∙ c.check.ensures.check) _
-    (omega (arith, none, c.loop-done-test.false, c.loop-done.invariant.same))
-    (unread_after _ _ _ passes)
+returns-clause-answers g c t fault = grind (arith, common_steps, unread_after, are_read)

@@ -9,8 +9,7 @@ returns-clause-item g c = item_counted g.R.Read.remaining g.S.Sample.rejection g
 
 pub returns-clause-block : goal.returns-clause-block
 returns-clause-block g c bytes old new count result before after at_count block =
-    took_counted g.R.Read.remaining bytes old new at_count
-    (run_takes g.S.Sample.rejection g.S.Sample.meaning _ _ _ block.items).0
+    grind (arith, common_steps, took_counted, run_takes)
 
 pub returns-clause-passes_block : goal.returns-clause-passes_block
 returns-clause-passes_block g c old new count result before after block place = grind (arith, common_steps, run_takes)

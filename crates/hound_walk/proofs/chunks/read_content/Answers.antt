@@ -58,26 +58,4 @@ returns-in_ok-skip_bytes-in-Fmt g c =
 
 pub returns-in_ok-skip_bytes-in-Other : goal.returns-in_ok-skip_bytes-in-Other
 unfolding spec_after
-returns-in_ok-skip_bytes-in-Other g c =
-    let tag = c.args.tag.now in
-    let len = c.args.chunk_len in
-    let did = rw c.in-Other.is at c.in_ok-spec_ex.ensures in
-    let (content, taken, l) = c.in_ok-skip_bytes-in-Other.ensures.ok in
-    record {
-      sound = search rules;
-      failures = c.in_ok-skip_bytes-in-Other.ensures.failures;
-      ok = known_from content _ _
-          (ReadsContent c.args.taken c.args.found tag len
-          (Other c.args.found (c.args.taken + 8 + padded len))) taken (λ ys. (
-            content,
-            l,
-            did.says.0,
-            rw did.says.1 refl,
-            omega arith,
-            rw did.says.1 refl,
-            omega (arith, l),
-            refl,
-          ));
-      err = tt;
-      taken = tt;
-    }
+returns-in_ok-skip_bytes-in-Other g c = grind (arith, common_steps, known_from)

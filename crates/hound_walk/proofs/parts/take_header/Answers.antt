@@ -1,24 +1,16 @@
-use Rattle.std.proofs.Common.{◌≡◌, ◌+◌, ◌++◌, ◌<◌, slice_range, take, arith, sym, subst, length, drop}
+use Rattle.std.proofs.lemmas.Grind.{common_steps}
+use Rattle.std.proofs.Common.{◌≡◌, ◌+◌, ◌++◌, slice_range, take, arith, sym, subst, drop}
 use Rattle.std.proofs.lemmas.Result.{err_from_is_err_and}
-use Rattle.hound_spec.specs.{padded, fmt_tag}
-use Rattle.hound_walk.specs.declared.cause.Cause.TheVariants.{Ended, Format}
-use Rattle.hound_walk.specs.declared.cause.Reason.TheVariants.{NoDataChunk}
+use Rattle.hound_spec.specs.{fmt_tag}
 use Rattle.hound_walk.proofs.WalkLemmas.{same_tag}
 use Rattle.hound_walk.proofs.PartLemmas.{over_fault, header_cut, rejected_at, rejected_header, head_at, header_parts, size_long, reaches, passed_header, header_inside}
 use Rattle.hound_walk.proofs.parts.take_header.Goals as goal
 
 pub returns-then-taken-clause-leads : goal.returns-then-taken-clause-leads
-returns-then-taken-clause-leads c = λ file w is.
-    let t = c.args.taken in
-    rejected_at file (drop (12 + t) file) c.args.found t (Format NoDataChunk) w
-    (over_fault t c.args.found (drop (12 + t) file) (omega arith))
+returns-then-taken-clause-leads c = grind (arith, common_steps, over_fault, rejected_at)
 
 pub returns-then-bytes-lt8-clause-leads : goal.returns-then-bytes-lt8-clause-leads
-returns-then-bytes-lt8-clause-leads c = λ file w is.
-    let t = c.args.taken in
-    let rest = drop (12 + t) file in
-    rejected_at file rest c.args.found t Ended w
-    (header_cut t c.args.found rest (omega arith) (subst (λ h. length h < 8) is c.if-bytes-lt8.true))
+returns-then-bytes-lt8-clause-leads c = grind (arith, common_steps, header_cut, rejected_at)
 
 pub returns-in_err-spec_ex-clause-leads : goal.returns-in_err-spec_ex-clause-leads
 returns-in_err-spec_ex-clause-leads c = λ file w is.
@@ -29,10 +21,7 @@ returns-in_err-spec_ex-clause-leads c = λ file w is.
     c.in_err-spec_ex.ensures.says.0)
 
 pub returns-in-Data-clause-leads : goal.returns-in-Data-clause-leads
-returns-in-Data-clause-leads c = λ file w is.
-    let did = rw c.in-Data.is at c.in_ok-spec_ex.ensures in
-    head_at file c.args.bytes.now c.args.found c.args.taken c.in-Data.spec_ex c.u32_at-chunk_len.result
-    w is (omega arith) (omega arith) did.says.0 did.says.1 c.u32_at-chunk_len.ensures
+returns-in-Data-clause-leads c = grind (arith, common_steps, head_at)
 
 pub returns-in-Fmt-clause-leads : goal.returns-in-Fmt-clause-leads
 returns-in-Fmt-clause-leads c = λ file w is.
@@ -48,13 +37,4 @@ returns-in-Fmt-clause-leads c = λ file w is.
     )
 
 pub returns-in-Other-clause-leads : goal.returns-in-Other-clause-leads
-returns-in-Other-clause-leads c = λ file w is.
-    let did = rw c.in-Other.is at c.in_ok-spec_ex.ensures in
-    let h = c.args.bytes.now in
-    let len = c.u32_at-chunk_len.result in
-    let t = c.args.taken in
-    reaches file c.skip.result (padded len) 0 c.args.found (t + 8 + padded len)
-    (passed_header file h c.args.found t len w is (omega arith) c.u32_at-chunk_len.ensures did.says.0
-    did.says.1 did.says.2)
-    c.skip.ensures.part c.skip.ensures.found c.skip.ensures.taken
-    (λ none. omega (arith, none, header_inside file h t is (omega arith)))
+returns-in-Other-clause-leads c = grind (arith, common_steps, reaches, passed_header, header_inside)

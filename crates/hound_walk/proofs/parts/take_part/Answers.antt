@@ -1,3 +1,4 @@
+use Rattle.std.proofs.lemmas.Grind.{common_steps}
 use Rattle.std.proofs.Common.{arith}
 use Rattle.hound_walk.proofs.PartLemmas.{last_is_there, last_is_missing}
 use Rattle.hound_walk.proofs.parts.take_part.Goals as goal
@@ -7,16 +8,10 @@ returns-in-Front-clause-leads c = λ file at is.
     c.take_front.ensures.leads file (rw c.in-Front.is at is)
 
 pub returns-then-bytes-eq0-clause-leads : goal.returns-then-bytes-eq0-clause-leads
-returns-then-bytes-eq0-clause-leads c = λ file at is.
-    last_is_missing file c.args.bytes.now c.args.walk.found c.args.walk.taken (rw c.in-Last.is at at)
-    (rw c.in-Last.is at is) c.if-bytes-eq0.true
+returns-then-bytes-eq0-clause-leads c = grind (arith, common_steps, last_is_missing)
 
 pub returns-else-bytes-eq0-clause-leads : goal.returns-else-bytes-eq0-clause-leads
-returns-else-bytes-eq0-clause-leads c = λ file at is.
-    let (w, e) =
-    last_is_there file c.args.bytes.now c.args.walk.found c.args.walk.taken (rw c.in-Last.is at at)
-    (rw c.in-Last.is at is) (omega arith) in
-    c.take_header-in-Last.ensures.leads file w (grind (arith, e))
+returns-else-bytes-eq0-clause-leads c = grind (arith, common_steps, last_is_there)
 
 pub returns-in-Fmt-clause-leads : goal.returns-in-Fmt-clause-leads
 returns-in-Fmt-clause-leads c = λ file at is.

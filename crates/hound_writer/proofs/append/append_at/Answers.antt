@@ -1,3 +1,5 @@
+use Rattle.std.proofs.lemmas.Grind.{common_steps}
+use Rattle.std.proofs.Common.{arith}
 use Rattle.std.proofs.Common.{rules}
 use Rattle.hound_writer.proofs.Appending.{sound_head, at_most_on, follows}
 use Rattle.hound_writer.proofs.append.append_at.Goals as goal
@@ -9,11 +11,7 @@ at_end-requires-clause-sound g c =
     c.in_default.ensures
 
 pub at_end-requires-clause-at_most : goal.at_end-requires-clause-at_most
-at_end-requires-clause-at_most g c tells =
-    let head = c.args.head in
-    at_most_on head.spec_ex head.data_length head.data_start
-    (g.W.Placed.state c.args.writer).contents _ (c.requires.head tells)
-    (c.in_default-go.ensures tells).stays.contents
+at_end-requires-clause-at_most g c tells = grind (arith, common_steps, at_most_on)
 
 pub returns-clause-appends : goal.returns-clause-appends
 returns-clause-appends g c =

@@ -1,20 +1,15 @@
-use Rattle.std.proofs.Common.{◌≡◌, ◌∙◌, ◌-◌, ap, sym, arith, drop, inl, inr, length, length-drop, length-take, min, take, List, ℕ}
+use Rattle.std.proofs.lemmas.Grind.{common_steps}
+use Rattle.std.proofs.Common.{◌≡◌, ◌∙◌, ◌-◌, ap, arith, drop, length, length-drop, length-take, min, take, List, ℕ}
 use Rattle.std.proofs.lemmas.Bool.{cases_lt}
 use Rattle.std.proofs.lemmas.List.{drop_all, take_all}
 use Rattle.hound_writer.proofs.effects.part_from.Goals as goal
 
 -- a place past the end is the end
 drop_min : (l : List ℕ) (n k : ℕ) → k ≡ min (length l) n → drop k l ≡ drop n l
-drop_min l n k is = elim (cases_lt n (length l)) [
-  | inl less ↦ ap (λ k. drop k l) (omega (arith, is, less))
-  | inr past ↦ drop_all k l (omega (arith, is, past)) ∙ sym (drop_all n l past)
-]
+drop_min l n k is = grind (arith, common_steps, cases_lt, drop_all)
 
 take_min : (l : List ℕ) (n k : ℕ) → k ≡ min (length l) n → take k l ≡ take n l
-take_min l n k is = elim (cases_lt n (length l)) [
-  | inl less ↦ ap (λ k. take k l) (omega (arith, is, less))
-  | inr past ↦ take_all k l (omega (arith, is, past)) ∙ sym (take_all n l past)
-]
+take_min l n k is = grind (arith, common_steps, cases_lt, take_all)
 
 pub returns : goal.returns
 returns c =

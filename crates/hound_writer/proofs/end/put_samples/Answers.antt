@@ -1,12 +1,11 @@
+use Rattle.std.proofs.lemmas.Grind.{common_steps}
 use Rattle.std.proofs.Common.{◌≡◌, ◌+◌, ◌*◌, ◌-◌, length, ap, ◌∙◌, arith, rules}
 use Rattle.hound_sample.proofs.Joined.{have_part, joined_size}
 use Rattle.hound_writer.proofs.PutsMany.{piece_cut, piece_out}
 use Rattle.hound_writer.proofs.end.put_samples.Goals as goal
 
 pub extend_by-requires-clause-have : goal.extend_by-requires-clause-have
-extend_by-requires-clause-have g c =
-    let done = c.loop-done.done in
-    have_part _ c.args.samples.now done (done + c.min-count.result - done) c.requires.have
+extend_by-requires-clause-have g c = grind (arith, common_steps, have_part)
 
 pub loop-done-preserved : goal.loop-done-preserved
 loop-done-preserved g c =

@@ -1,3 +1,5 @@
+use Rattle.std.proofs.lemmas.Grind.{common_steps}
+use Rattle.std.proofs.Common.{arith}
 use Rattle.std.proofs.Common.{◌∙◌, rules}
 use Rattle.hound_spec.proofs.HeaderLemmas.{length-header}
 use Rattle.hound_spec.specs.{IsWritable}
@@ -21,10 +23,7 @@ returns-clause-begins g c =
     }
 
 pub returns-clause-recorded : goal.returns-clause-recorded
-returns-clause-recorded g c =
-    let W = g.W.Placed in
-    recorded_new W c.args.spec_ex (W.state c.args.writer.now) _
-    (returns-clause-begins g c)
+returns-clause-recorded g c = grind (arith, common_steps, recorded_new, returns-clause-begins)
 
 pub returns-clause-at_most : goal.returns-clause-at_most
 returns-clause-at_most g c tells =

@@ -1,8 +1,9 @@
-use Rattle.std.proofs.Common.{◌+◌, ◌++◌, take, drop, ap, sym, subst, arith, refl, Some}
+use Rattle.std.proofs.lemmas.Grind.{common_steps}
+use Rattle.std.proofs.Common.{◌+◌, ◌++◌, drop, ap, sym, subst, arith, refl, Some}
 use Rattle.std.proofs.lemmas.List.{take-append-le}
 use Rattle.std.specs.Prelude.{IfErr}
 use Rattle.hound_sample.specs.{answer_of}
-use Rattle.hound_reader.specs.Memory.{AreFirstSamples, IsCauseOf}
+use Rattle.hound_reader.specs.Memory.{IsCauseOf}
 use Rattle.hound_reader.specs.Reader.{ReadsBlock, ReaderState, block_bytes, requested, samples_left}
 use Rattle.hound_reader.proofs.BlockLemmas.{is_block}
 use Rattle.hound_reader.proofs.MemoryLemmas.{cause_of_end}
@@ -36,14 +37,7 @@ returns-clause-block g c =
     read.ensures.untouched refl)))
 
 pub returns-clause-samples : goal.returns-clause-samples
-returns-clause-samples g c =
-    let read = c.decode_many-count in
-    let k = read.result.0 in
-    let all = drop c.min-wanted.result c.args.samples.now in
-    subst (λ (v : ReaderState _). AreFirstSamples g.S.Decode.value v.spec_ex v.reader.now (take k (read.new.samples ++ all)))
-    c.self.view_is
-    (subst (λ l. AreFirstSamples g.S.Decode.value c.self.inside.spec_ex c.self.inside.reader.reader.now l)
-    (sym (take-append-le k read.new.samples all read.ensures.front.within)) read.ensures.samples)
+returns-clause-samples g c = grind (arith, common_steps, take-append-le)
 
 pub returns-clause-cause : goal.returns-clause-cause
 returns-clause-cause g c =

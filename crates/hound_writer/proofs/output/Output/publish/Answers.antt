@@ -1,7 +1,6 @@
 use Rattle.std.proofs.lemmas.Grind.{common_steps}
-use Rattle.std.proofs.Common.{◌∙◌, Ok, ap, inl, refl, arith}
+use Rattle.std.proofs.Common.{Ok, inl, refl, arith}
 use Rattle.std.proofs.lemmas.Bool.{true≢false}
-use Rattle.hound_medium.specs.{one_more}
 use Rattle.hound_writer.proofs.Keeping.{consistent_gone}
 use Rattle.hound_writer.proofs.PatchMoments.{patches_still}
 use Rattle.hound_writer.proofs.Patching.{cut}
@@ -35,13 +34,7 @@ invariant_of-self-2 g c =
     (λ modelled _. (c.in_ok-go.ensures modelled).place)
 
 pub returns-in_err-go-clause-patches : goal.returns-in_err-go-clause-patches
-returns-in_err-go-clause-patches g c tells =
-    let go = c.in_err-go.ensures tells in
-    let patches = rw c.riff_size-riff_size.ensures at (c.in_ok-patch.ensures.patches tells) in
-    let modelled = c.from_residual-in_err-go in
-    rw (← c.self.view_is)
-    (cut _ _ _ patches.half.0 modelled.result _ _ modelled.ensures.0 patches.half.1
-    (rw go.stays.contents patches.half.2) (go.faults ∙ ap one_more patches.faults))
+returns-in_err-go-clause-patches g c tells = grind (arith, common_steps, cut)
 
 pub returns-clause-moments : goal.returns-clause-moments
 returns-clause-moments g c tells keeps =

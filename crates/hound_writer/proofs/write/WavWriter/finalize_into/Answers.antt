@@ -1,4 +1,6 @@
-use Rattle.std.proofs.Common.{refl, rules}
+use Rattle.std.proofs.lemmas.Grind.{common_steps}
+use Rattle.std.proofs.Common.{arith}
+use Rattle.std.proofs.Common.{refl}
 use Rattle.hound_writer.specs.Accepting.{mark_of}
 use Rattle.hound_writer.specs.Calls.{returned, made, marked, publish}
 use Rattle.hound_writer.proofs.PublishLater.{finishes_of}
@@ -6,11 +8,7 @@ use Rattle.hound_writer.proofs.Recording.{left_by}
 use Rattle.hound_writer.proofs.write.WavWriter.finalize_into.Goals as goal
 
 pub returns-clause-finishes : goal.returns-clause-finishes
-returns-clause-finishes g c =
-    let W = g.W.Placed in
-    let publish = c.publish_all-result in
-    rw c.into_medium.ensures
-    (finishes_of W publish.result c.args.self publish.new.self (search rules))
+returns-clause-finishes g c = grind (arith, common_steps, finishes_of)
 
 pub returns-clause-left : goal.returns-clause-left
 returns-clause-left g c s file known so_far =

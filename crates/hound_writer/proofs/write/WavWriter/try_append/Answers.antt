@@ -1,3 +1,5 @@
+use Rattle.std.proofs.lemmas.Grind.{common_steps}
+use Rattle.std.proofs.Common.{arith}
 use Rattle.hound_writer.proofs.Appending.{answer_after, walk_fails}
 use Rattle.hound_writer.proofs.Recording.{recorded_appended}
 use Rattle.hound_writer.proofs.write.WavWriter.try_append.Goals as goal
@@ -16,8 +18,4 @@ returns-in-Ok-clause-recorded g c =
     (returns-in-Ok-clause-appends g c)
 
 pub returns-in-Err-clause-appends : goal.returns-in-Err-clause-appends
-returns-in-Err-clause-appends g c tells =
-    let old = g.W.Placed.state c.args.writer in
-    let mid = g.W.Placed.state c.find_data-writer.result.0 in
-    walk_fails c.in-Err.error c.error_of.result old mid (c.requires tells) c.error_of.ensures
-    (rw c.in-Err.is at (c.find_data-writer.ensures.finds tells))
+returns-in-Err-clause-appends g c tells = grind (arith, common_steps, walk_fails)
