@@ -273,10 +273,11 @@ PARTS = [
     ("bindings/js/hound.js", "The names of kinds of files", files_js),
     ("bindings/js/hound.d.cts", "The names of states and errors", codes_ts),
 ]
-# The names that each of these folders has to use outside of such parts, and how it writes them: a name that is new in
-# hound.h is one that no code of a package knows yet.
+# The names that each of these files and folders has to use outside of such parts, and how it writes them: a name that
+# is new in hound.h is one that no code of a package knows yet.
 USES = [
-    ("bindings/c", r"\bHOUND_{}\b", EFFECTS),
+    ("bindings/c/hound_file.h", r"\bHOUND_{}\b", EFFECTS),
+    ("bindings/c/board.c", r"\bHOUND_{}\b", EFFECTS),
     ("bindings/rust/src", r"\bc::{}\b", [*EFFECTS, *FORMATS, *STATES, *MODES, *ALLOWED]),
     ("bindings/python/hound_bindings", r"\b_?{}\b", [*EFFECTS, *STATES, *MODES]),
     ("bindings/js", r"\b{}\b", [*EFFECTS, *FORMATS, *MODES]),
@@ -315,6 +316,8 @@ TABLES = [
 CHOICES = [
     (HEADER, r"not read or written \((.*)\)"),
     ("bindings/js/guess.js", r"^const SAMPLE_FORMS = (.*)$"),
+    ("bindings/js/page/page.js", r"^const READS = .* integers of (.*) bits, and"),
+    ("README.md", r"^\| Samples \| (.*) \|$"),
 ]
 
 
@@ -324,14 +327,14 @@ def pairs_of(path, form):
 
 
 def unused():
-    """The names that a folder has to use, and doesn't."""
+    """The names that a file or folder has to use, and doesn't."""
     made = re.compile(rf"{BEGIN}.*?{END}", flags=re.S)
-    for folder, form, names in USES:
-        names_there = [name for name in os.listdir(os.path.join(TOP, folder)) if "." in name]
-        # In hound.h itself they are defined.
-        paths = [os.path.join(folder, name) for name in names_there if name not in ("hound.h", "hound_c.c")]
+    for place, form, names in USES:
+        paths = [place]
+        if os.path.isdir(os.path.join(TOP, place)):
+            paths = [os.path.join(place, name) for name in os.listdir(os.path.join(TOP, place)) if "." in name]
         code = "".join(made.sub("", read(path)) for path in paths)
-        yield from (f"{name} ({folder})" for name in names if not re.search(form.format(name), code))
+        yield from (f"{name} ({place})" for name in names if not re.search(form.format(name), code))
 
 
 def with_part(path, text, words, lines):
