@@ -1,6 +1,6 @@
 //! Floats whose full scale is 1, of any samples.
 use crate::{c, checked, decode, encode, f32_to_f64, f64_to_f32, header_to, info, read_into, size};
-use crate::{Error, Format, Recorder, Result, Spec};
+use crate::{Error, Format, Result, Spec};
 
 // How many floats are made wider or narrower at once.
 const BLOCK: usize = 1024;
@@ -146,7 +146,6 @@ pub fn read_scaled<F: Scaled>(file: &[u8], first: u64, out: &mut [F]) -> Result<
 pub fn write_scaled<F: Scaled>(spec: &Spec, samples: &[F]) -> Result<(Vec<u8>, u64)> {
     let count = samples.len() as u64;
     let mut file = vec![0; size(spec, count)?];
-    Recorder::begin(spec)?.write(count)?; // which takes whole frames only
     let data_start = header_to(spec, count, &mut file)?;
     let (_, clipped) = encode_scaled(spec, samples, &mut file[data_start..])?;
     Ok((file, clipped))
