@@ -36,7 +36,7 @@
 //!
 //! What hound doesn't have is marked "own": [`blocks`], [`WavWriter::create_durable`], [`WavWriter::append_durable`],
 //! [`repair_file`], [`repair_file_to_end`]. The crate `hound_bindings`, which can be used beside it, looks for damage
-//! and writes nothing (`find_damage`), and scales without a file (`to_f32`, `from_f32`).
+//! and writes nothing (`find_damage`), and adds noise to floats before they are rounded (`encode_with_noise`).
 //!
 //! # Differences from hound 3.5.1
 //!

@@ -173,40 +173,43 @@ impl<R: Read> WavReader<R> {
 
     // What `ReadSamples` does.
     pub(crate) fn read_into<S: Sample>(&mut self, samples: &mut [S]) -> (usize, Result<()>) {
+        self.read_by(
+            samples,
+            Self::read_block,
+            #[inline(always)] // without it a sample of a small block takes a third more instructions
+            |reader| reader.next_sample(),
+        )
+    }
+
+    // What `ReadSamples` does with floats.
+    pub(crate) fn read_scaled_into<F: proved::Scaled>(&mut self, samples: &mut [F]) -> (usize, Result<()>) {
+        match self.spec.sample_format {
+            SampleFormat::Int => self.read_by(samples, Self::read_scaled_block::<i32, F>, Self::next_scaled::<i32, F>),
+            SampleFormat::Float => {
+                self.read_by(samples, Self::read_scaled_block::<f32, F>, Self::next_scaled::<f32, F>)
+            }
+        }
+    }
+
+    // Reads blocks, and one by one where they are few or no block is read.
+    #[inline(always)]
+    fn read_by<T>(
+        &mut self,
+        samples: &mut [T],
+        read_block: impl Fn(&mut Self, &mut [T]) -> usize,
+        next: impl Fn(&mut Self) -> Option<Result<T>>,
+    ) -> (usize, Result<()>) {
         let (mut count, in_blocks) = (0, samples.len() >= SHORTEST_BLOCK);
         while count < samples.len() {
-            let decoded = if in_blocks { self.read_block(&mut samples[count..]) } else { 0 };
+            let decoded = if in_blocks { read_block(self, &mut samples[count..]) } else { 0 };
             count += decoded;
             if decoded == 0 {
-                match self.next_sample() {
+                match next(self) {
                     Some(Ok(sample)) => samples[count] = sample,
                     Some(Err(error)) => return (count, Err(error)),
                     None => return (count, Ok(())),
                 }
                 count += 1;
-            }
-        }
-        (count, Ok(()))
-    }
-
-    // What `ReadSamples` does with floats.
-    pub(crate) fn read_scaled_into<F: proved::Scaled>(&mut self, samples: &mut [F]) -> (usize, Result<()>) {
-        let (mut integers, mut floats, mut count) = ([0; BLOCK / 4], [0.0; BLOCK / 4], 0);
-        for block in samples.chunks_mut(BLOCK / 4) {
-            let (more, result) = if self.spec.sample_format == SampleFormat::Float {
-                let (more, result) = self.read_into(&mut floats[..block.len()]);
-                assert_eq!(F::of_floats(&floats[..more], block), Ok(more));
-                (more, result)
-            } else {
-                let (more, result) = self.read_into(&mut integers[..block.len()]);
-                if more > 0 {
-                    assert_eq!(F::of_integers(&integers[..more], self.spec.bits_per_sample, block), Ok(more));
-                }
-                (more, result)
-            };
-            count += more;
-            if more < block.len() {
-                return (count, result);
             }
         }
         (count, Ok(()))
@@ -344,13 +347,30 @@ impl<R: Read> WavReader<R> {
 
     // Decodes the next samples into the front of these. Returns how many: 0 where they are read one by one.
     fn read_block<S: Sample>(&mut self, samples: &mut [S]) -> usize {
-        self.begin_block::<S>().map_or(0, |coding| {
-            let count = self.decode_next(coding.decode, &self.containers(), samples);
-            self.source.consume(count * usize::from(self.bytes_per_sample));
-            self.samples_read += count as u64;
-            self.find_way();
-            count
-        })
+        self.begin_block::<S>().map_or(0, |coding| self.take_block(coding.decode, samples))
+    }
+
+    // The same as floats, of samples that this type holds.
+    fn read_scaled_block<S: Sample, F: proved::Scaled>(&mut self, samples: &mut [F]) -> usize {
+        self.begin_block::<S>().map_or(0, |_| self.take_block(proved::decode_scaled, samples))
+    }
+
+    fn take_block<T>(&mut self, decode: Decode<T>, samples: &mut [T]) -> usize {
+        let count = self.decode_next(decode, &self.containers(), samples);
+        self.source.consume(count * usize::from(self.bytes_per_sample));
+        self.samples_read += count as u64;
+        self.find_way();
+        count
+    }
+
+    // The next sample of a type that holds it, as a float.
+    fn next_scaled<S: Sample + proved::Coded, F: proved::Scaled>(&mut self) -> Option<Result<F>> {
+        Some(self.next_sample::<S>()?.and_then(|sample| {
+            let (spec, mut container, mut scaled) = (self.containers(), [0; 4], [F::default()]);
+            let length = proved::encode(&spec, &[sample], &mut container)?;
+            proved::decode_scaled(&spec, &container[..length], &mut scaled)?;
+            Ok(scaled[0])
+        }))
     }
 
     // Decodes up to so many samples before they are asked for.

@@ -134,7 +134,8 @@ fn floats_are_scaled_where_a_file_has_integers() {
         file.rewind().unwrap();
         let (mut reader, mut out) = (WavReader::new(&mut file).unwrap(), vec![9.0; 5004]);
         assert_eq!(reader.samples::<i32>().next().unwrap().unwrap(), integers[0]);
-        assert!(matches!(reader.read_scaled(&mut out[1..20]), (19, Ok(()))));
+        assert!(matches!(reader.read_scaled(&mut out[1..4]), (3, Ok(())))); // one by one, and then blocks
+        assert!(matches!(reader.read_scaled(&mut out[4..20]), (16, Ok(()))));
         assert!(matches!(reader.read_scaled(&mut out[20..5002]), (4982, Ok(()))));
         assert!(out[1..5002] == floats[1..]);
         assert!(matches!(reader.read_scaled(&mut out), (count, Err(Error::IoError(_))) if count < 2));
@@ -148,6 +149,24 @@ fn floats_are_scaled_where_a_file_has_integers() {
     let mut out = [0.0; 3];
     assert!(matches!(WavReader::new(file).unwrap().read_scaled(&mut out), (2, Ok(()))));
     assert_eq!(out.map(f32::to_bits), [0x4020_0000, 0x7fc1_2345, 0]);
+}
+
+// Where samples were decoded before they are asked for, and where the buffer of a file tears one.
+#[test]
+fn floats_of_a_file_follow_samples() {
+    let integers: Vec<i32> = (0..20_000).map(|number| number * 419 - 4_190_000).collect();
+    let path = Path::new("floats-after-samples");
+    fs::write(&path, written(WavSpec { bits_per_sample: 24, ..MONO }, &integers)).unwrap();
+    let (mut reader, mut out) = (WavReader::open(&path).unwrap(), vec![9.0f32; 20_000]);
+    for integer in &integers[..3] {
+        assert_eq!(reader.samples::<i32>().next().unwrap().unwrap(), *integer);
+    }
+    assert!(matches!(reader.read_scaled(&mut out[3..9]), (6, Ok(()))));
+    assert!(matches!(reader.read_scaled(&mut out[9..19_000]), (18_991, Ok(()))));
+    assert!(out[3..19_000].iter().zip(&integers[3..]).all(|(float, integer)| *float == *integer as f32 / 8_388_608.0));
+    assert_eq!(reader.samples::<i32>().next().unwrap().unwrap(), integers[19_000]);
+    assert!(matches!(reader.read_scaled(&mut out), (999, Ok(()))));
+    assert_eq!(out[998], integers[19_999] as f32 / 8_388_608.0);
 }
 
 #[test]

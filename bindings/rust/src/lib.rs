@@ -11,7 +11,7 @@ mod machines;
 mod scaled;
 
 pub use machines::{beginning, Allowed, Effect, Kind, Medium, Mode, Next, Recorder, Repairer, Walk};
-pub use scaled::{decode_scaled, encode_scaled, read_scaled, write_scaled, Scaled};
+pub use scaled::{decode_scaled, encode_scaled, encode_with_noise, read_scaled, write_scaled, Scaled};
 
 use std::time::Duration;
 use std::{error, fmt, fs, io};
@@ -364,21 +364,21 @@ mod c {
     macro_rules! scaling {
         ($float:ty, $to:ident, $from:ident, $dither:ident) => {
             extern "C" {
-                pub fn $to(samples: *const i32, count: usize, bits: u16, out: *mut $float, capacity: usize) -> i64;
+                pub fn $to(spec: *const Spec, bytes: *const u8, length: usize, out: *mut $float, count: usize) -> i64;
                 pub fn $from(
+                    spec: *const Spec,
                     samples: *const $float,
                     count: usize,
-                    bits: u16,
-                    out: *mut i32,
+                    out: *mut u8,
                     capacity: usize,
                     clipped: *mut u64,
                 ) -> i64;
                 pub fn $dither(
+                    spec: *const Spec,
                     samples: *const $float,
                     count: usize,
-                    bits: u16,
                     state: *mut u64,
-                    out: *mut i32,
+                    out: *mut u8,
                     capacity: usize,
                     clipped: *mut u64,
                 ) -> i64;
@@ -877,61 +877,6 @@ pub fn container_24(value: i32) -> Result<u32> {
 #[inline(always)]
 pub fn container_32(value: i32) -> Result<u32> {
     checked(unsafe { c::hound_container_32(value) }).map(|number| number as u32)
-}
-
-// The calls that scale samples to floats of a type, and those of this type to integers.
-macro_rules! scaling {
-    (
-        $float:ty;
-        $(#[$to_page:meta])* $to:ident = $hound_to:ident;
-        $(#[$from_page:meta])* $from:ident = $hound_from:ident;
-        $(#[$dither_page:meta])* $dither:ident = $hound_dither:ident;
-    ) => {
-        $(#[$to_page])*
-        pub fn $to(samples: &[i32], bits: u16, out: &mut [$float]) -> Result<usize> {
-            // SAFETY: as above; so below.
-            checked(unsafe { c::$hound_to(samples.as_ptr(), samples.len(), bits, out.as_mut_ptr(), out.len()) })
-        }
-
-        $(#[$from_page])*
-        pub fn $from(samples: &[$float], bits: u16, out: &mut [i32]) -> Result<u64> {
-            let (count, room, mut clipped) = (samples.len(), out.len(), 0);
-            checked(unsafe {
-                c::$hound_from(samples.as_ptr(), count, bits, out.as_mut_ptr(), room, &mut clipped)
-            })?;
-            Ok(clipped)
-        }
-
-        $(#[$dither_page])*
-        pub fn $dither(samples: &[$float], bits: u16, state: &mut u64, out: &mut [i32]) -> Result<u64> {
-            let (count, room, mut clipped) = (samples.len(), out.len(), 0);
-            checked(unsafe {
-                c::$hound_dither(samples.as_ptr(), count, bits, state, out.as_mut_ptr(), room, &mut clipped)
-            })?;
-            Ok(clipped)
-        }
-    };
-}
-scaling! {
-    f32;
-    /// Scales integers of so many bits, from 1 to 32, to floats whose full scale is 1, and returns how many. Other
-    /// bits are `NotWritable`, and where `out` is shorter the error is `NoRoom`.
-    to_f32 = hound_to_f32;
-    /// Scales floats whose full scale is 1 to integers of so many bits, each to the nearest one, and returns
-    /// how many were clipped. The errors are those of [`to_f32`].
-    from_f32 = hound_from_f32;
-    /// Scales floats as [`from_f32`] does, each with triangular noise of at most one step, which is added before it is
-    /// rounded. `state` begins as any number, the seed, and becomes the one for the samples after these.
-    dither_f32 = hound_dither_f32;
-}
-scaling! {
-    f64;
-    /// Scales integers as [`to_f32`] does, to floats of 64 bits, which hold those of up to 32 bits.
-    to_f64 = hound_to_f64;
-    /// Scales floats of 64 bits as [`from_f32`] does those of 32.
-    from_f64 = hound_from_f64;
-    /// Scales floats of 64 bits as [`dither_f32`] does those of 32.
-    dither_f64 = hound_dither_f64;
 }
 
 /// Widens floats to 64 bits, which are the same numbers, and returns how many.

@@ -1,10 +1,9 @@
 //! The calls over small files.
 use hound_bindings::{
     append_to, container_16, container_24, container_32, container_8, decode, decode_scaled, encode, encode_scaled,
-    dither_f32, dither_f64, find_damage, from_f32, from_f64, guess_data, header, info, kind, read, read_into,
-    read_scaled, repair, repair_to_end, size, sizes, to_f32, to_f64, value_16, value_24, value_32, value_8,
-    whole_frames, write, write_scaled, write_to, Allowed, Container, Error, Format, Kind, Medium, Mode, Next,
-    Recorder, Repairer, Spec, State, Walk, ERRORS,
+    encode_with_noise, find_damage, guess_data, header, info, kind, read, read_into, read_scaled, repair,
+    repair_to_end, size, sizes, value_16, value_24, value_32, value_8, whole_frames, write, write_scaled, write_to,
+    Allowed, Container, Error, Format, Kind, Medium, Mode, Next, Recorder, Repairer, Spec, State, Walk, ERRORS,
 };
 use std::panic::{catch_unwind, AssertUnwindSafe};
 use std::path::{Path, PathBuf};
@@ -317,18 +316,13 @@ fn damage_is_found_and_left() {
 }
 
 #[test]
-fn eight_bits_and_scales() {
+fn eight_bits() {
     let spec = Spec { bits_per_sample: 8, ..SPEC };
     let mut bytes = [9; 3];
     assert_eq!(encode(&spec, &[-128i8, 127], &mut bytes), Ok(2));
     assert_eq!(bytes, [0, 255, 9]);
     let mut out = [9i8; 3];
     assert_eq!((decode(&spec, &bytes[..2], &mut out), out), (Ok(2), [-128, 127, 9]));
-    let mut floats = [9.0; 2];
-    assert_eq!((to_f32(&[16384], 16, &mut floats), floats), (Ok(1), [0.5, 9.0]));
-    let mut integers = [9; 3];
-    assert_eq!((from_f32(&[1.0, -1.0, 0.25], 16, &mut integers), integers), (Ok(1), [32767, -32768, 8192]));
-    assert_eq!(from_f32(&[1.0], 0, &mut integers), Err(Error::NotWritable));
 }
 
 #[test]
@@ -376,6 +370,7 @@ fn doubles_are_read_and_written() {
     wide[1999] = 1e39;
     assert_eq!((encode_scaled(&floats, &wide, &mut bytes), bytes), (Err(Error::TooWide), [7; 8192]));
     assert_eq!(write_scaled(&floats, &wide), Err(Error::TooWide));
+    assert_eq!((encode_scaled(&floats, &[0.5f64; 2049], &mut bytes), bytes), (Err(Error::NoRoom), [7; 8192]));
 }
 
 #[test]
@@ -526,16 +521,6 @@ fn a_block_that_failed_is_cut_off() {
 }
 
 #[test]
-fn scales_have_1_to_32_bits() {
-    for bits in [0, 33] {
-        assert_eq!(to_f32(&[1], bits, &mut [0.0]), Err(Error::NotWritable));
-        assert_eq!(from_f32(&[1.0], bits, &mut [0]), Err(Error::NotWritable));
-    }
-    assert_eq!((to_f32(&[1], 1, &mut [0.0]), to_f32(&[1], 32, &mut [0.0])), (Ok(1), Ok(1)));
-    assert_eq!((to_f32(&[1], 8, &mut []), from_f32(&[1.0], 8, &mut [])), (Err(Error::NoRoom), Err(Error::NoRoom)));
-}
-
-#[test]
 fn single_containers() {
     assert_eq!((value_8(0), value_8(255), value_8(0x180)), (-128, 127, 0));
     assert_eq!((value_16(0x8000), value_16(0x17fff)), (-32768, 32767));
@@ -547,24 +532,31 @@ fn single_containers() {
     assert_eq!((container_32(i32::MIN), container_32(-1)), (Ok(0x8000_0000), Ok(u32::MAX)));
 }
 
+// The bytes of integers of a spec.
+fn encoded(spec: &Spec, integers: &[i32]) -> Vec<u8> {
+    let mut bytes = vec![0; 4 * integers.len()];
+    let length = encode(spec, integers, &mut bytes).unwrap();
+    bytes.truncate(length);
+    bytes
+}
+
 #[test]
 fn doubles_have_integers_of_32_bits() {
-    let integers = [i32::MAX, i32::MIN, -16_777_217, 1];
-    let mut doubles = [9.0; 5];
-    assert_eq!(to_f64(&integers, 32, &mut doubles), Ok(4));
+    let (spec, integers) = (Spec { bits_per_sample: 32, ..SPEC }, [i32::MAX, i32::MIN, -16_777_217, 1]);
+    let (bytes, mut doubles) = (encoded(&spec, &integers), [9.0; 5]);
+    assert_eq!(decode_scaled(&spec, &bytes, &mut doubles), Ok(4));
     assert_eq!(
         doubles,
         [2_147_483_647.0 / 2_147_483_648.0, -1.0, -16_777_217.0 / 2_147_483_648.0, 0.5f64.powi(31), 9.0]
     );
-    let mut back = [9; 5];
-    assert_eq!((from_f64(&doubles, 32, &mut back), back), (Ok(1), [i32::MAX, i32::MIN, -16_777_217, 1, i32::MAX]));
-    assert_eq!(from_f64(&[0.5 / 32768.0, f64::NAN, -1.0001], 16, &mut back), Ok(1));
-    assert_eq!(back[..3], [0, 0, -32768]);
-    for bits in [0, 33] {
-        assert_eq!(to_f64(&[1], bits, &mut [0.0]), Err(Error::NotWritable));
-        assert_eq!(from_f64(&[1.0], bits, &mut [0]), Err(Error::NotWritable));
-    }
-    assert_eq!((to_f64(&[1], 8, &mut []), from_f64(&[1.0], 8, &mut [])), (Err(Error::NoRoom), Err(Error::NoRoom)));
+    let mut back = [9; 20];
+    assert_eq!(encode_scaled(&spec, &doubles, &mut back), Ok((20, 1)));
+    assert_eq!((&back[..16], &back[16..]), (&bytes[..], &[255, 255, 255, 127][..]));
+    assert_eq!(encode_scaled(&SPEC, &[2.5 / 32768.0, f64::NAN, -1.0001, 1.0], &mut back), Ok((8, 2)));
+    assert_eq!(back[..8], [2, 0, 0, 0, 0, 128, 255, 127]);
+    assert_eq!(decode_scaled(&spec, &bytes, &mut doubles[..2]), Ok(2));
+    assert_eq!(encode_scaled(&spec, &doubles, &mut back[..19]), Err(Error::NoRoom));
+    assert_eq!(back[..8], [2, 0, 0, 0, 0, 128, 255, 127]);
 }
 
 // What is expected was computed with fractions.
@@ -572,22 +564,33 @@ fn doubles_have_integers_of_32_bits() {
 fn floats_with_noise() {
     let doubles =
         [0.0, 0.0, 0.0, 0.0, 0.0, 0.0, 2.5 / 32768.0, -2.5 / 32768.0, 0.5, 1.0, -1.0, 32767.0 / 32768.0, -1.5];
-    let (mut state, mut out) = (1, [9; 14]);
-    assert_eq!(dither_f64(&doubles, 16, &mut state, &mut out), Ok(3));
-    assert_eq!(out, [0, 0, 0, 0, 0, 0, 3, -2, 16384, 32767, -32768, 32767, -32768, 9]);
-    assert_eq!(state, 635_340_061_525_167_378);
-    let mut parts = 1;
-    assert_eq!(dither_f64(&doubles[..5], 16, &mut parts, &mut out), Ok(0));
-    assert_eq!(dither_f64(&doubles[5..], 16, &mut parts, &mut out), Ok(3));
-    assert_eq!((parts, &out[..8]), (state, &[0, 3, -2, 16384, 32767, -32768, 32767, -32768][..]));
+    let (mut state, mut out) = (1, [9; 28]);
+    assert_eq!(encode_with_noise(&SPEC, &doubles, &mut state, &mut out), Ok((26, 1)));
+    let integers = [0, 0, 0, 0, 0, 0, 2, -3, 16385, 32767, -32768, 32767, -32768];
+    assert_eq!(
+        (state, &out[..26], &out[26..]),
+        (14_456_408_541_175_185_048, &encoded(&SPEC, &integers)[..], &[9, 9][..])
+    );
+    // In parts, from the last seed on.
+    let mut state = u64::MAX;
+    assert_eq!(encode_with_noise(&SPEC, &doubles[..5], &mut state, &mut out), Ok((10, 0)));
+    assert_eq!(state, 17_926_616_799_853_148_662);
+    assert_eq!(encode_with_noise(&SPEC, &doubles[5..], &mut state, &mut out[10..]), Ok((16, 2)));
+    let integers = [0, 0, 1, 0, 1, 0, 3, -2, 16384, 32767, -32768, 32767, -32768];
+    assert_eq!((state, &out[..26]), (5_784_830_984_886_631_774, &encoded(&SPEC, &integers)[..]));
+    let (padded, floats) = (Spec { bits_per_sample: 24, bytes_per_sample: 4, ..SPEC }, [0.1f32, -0.3, 0.7, 1.0]);
     let mut state = 1;
-    assert_eq!(dither_f32(&[0.1, -0.3, 0.7, 1.0], 24, &mut state, &mut out), Ok(1));
-    assert_eq!((state, &out[..4]), (8_709_371_129_873_690_709, &[838_861, -2_516_582, 5_872_025, 8_388_607][..]));
-    for bits in [0, 33] {
-        assert_eq!(dither_f32(&[1.0], bits, &mut state, &mut [0]), Err(Error::NotWritable));
-    }
-    assert_eq!(dither_f64(&[1.0], 8, &mut state, &mut []), Err(Error::NoRoom));
-    assert_eq!(state, 8_709_371_129_873_690_709);
+    assert_eq!(encode_with_noise(&padded, &floats, &mut state, &mut out), Ok((16, 1)));
+    let integers = [838_861, -2_516_583, 5_872_025, 8_388_607];
+    assert_eq!((state, &out[..16]), (7_062_582_979_898_595_269, &encoded(&padded, &integers)[..]));
+    // An error takes no noise, and writes nothing.
+    let before = out;
+    let of_floats = Spec { bits_per_sample: 32, format: Format::Float, ..SPEC };
+    assert_eq!(encode_with_noise(&of_floats, &floats, &mut state, &mut out), Err(Error::OtherFormat));
+    assert_eq!(encode_with_noise(&padded, &doubles, &mut state, &mut out), Err(Error::NoRoom));
+    let strange = Spec { bits_per_sample: 12, ..SPEC };
+    assert_eq!(encode_with_noise(&strange, &floats, &mut state, &mut out), Err(Error::NotWritable));
+    assert_eq!((state, out), (7_062_582_979_898_595_269, before));
 }
 
 #[test]
