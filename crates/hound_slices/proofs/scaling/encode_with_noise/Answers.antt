@@ -12,8 +12,11 @@ pub returns-in_err-end-clause-encodes : goal.returns-in_err-end-clause-encodes
 returns-in_err-end-clause-encodes g c =
     let s = c.spec_from_c-spec_ex.result in
     let noisy = with_noise g.S.Amplitude.amplitude s.spec.bits_per_sample c.args.state.now c.args.samples.now in
-    search (rules, length-map noisy (scaled_to s.spec.bits_per_sample),
-    with_noise-length g.S.Amplitude.amplitude s.spec.bits_per_sample c.args.state.now c.args.samples.now)
+    search (
+      rules,
+      length-map noisy (scaled_to s.spec.bits_per_sample),
+      with_noise-length g.S.Amplitude.amplitude s.spec.bits_per_sample c.args.state.now c.args.samples.now,
+    )
 
 pub returns-clause-encodes : goal.returns-clause-encodes
 returns-clause-encodes g c =
