@@ -16,8 +16,8 @@ use Rattle.hound_repair.specs.declared.look.Damage.{Damage}
 use Rattle.hound_repair.specs.declared.stages.Task.{Task}
 use Rattle.hound_writer.specs.declared.resuming.RepairState.{RepairState}
 use Rattle.hound_writer.specs.declared.resuming.RepairState.TheVariants.{HasChunksAfterData}
-use Rattle.hound_repair.specs.declared.stages.Rejection.{Rejection}
-use Rattle.hound_repair.specs.declared.stages.Rejection.TheVariants as rejections
+use Rattle.hound_repair.specs.declared.stages.Unrepairable.{Unrepairable}
+use Rattle.hound_repair.specs.declared.stages.Unrepairable.TheVariants as reasons
 use Rattle.hound_repair.proofs.Lost.{first_sector, kept_loss, mending_is_safe, same_sector, survives}
 use Rattle.hound_repair.proofs.Mending.{length_is, put_ok, repairs_kept}
 use Rattle.hound_repair.proofs.Performing.{allowed, faults_of, mends, spans}
@@ -27,7 +27,7 @@ truth : {b : Bool} → IsTrue b → b ≡ true
 truth {b = b} kept = grind (arith, common_steps)
 
 -- the fault of the bytes
-pub fault_of : (why : Rejection) (bytes : List ℕ) → IsRejectedFor bytes why → IsRepairFault bytes (rejected_for why)
+pub fault_of : (why : Unrepairable) (bytes : List ℕ) → IsRejectedFor bytes why → IsRepairFault bytes (rejected_for why)
 fault_of why bytes is = grind (arith, common_steps)
 
 -- where nothing is found nothing is repaired

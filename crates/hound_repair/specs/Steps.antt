@@ -18,8 +18,8 @@ use Rattle.hound_repair.specs.declared.look.Damage.{Damage}
 use Rattle.hound_repair.specs.declared.sizes.Repair.{Repair}
 use Rattle.hound_writer.specs.declared.resuming.RepairState.{RepairState}
 use Rattle.hound_writer.specs.declared.resuming.RepairState.TheVariants.{HasChunksAfterData}
-use Rattle.hound_repair.specs.declared.stages.Rejection.{Rejection}
-use Rattle.hound_repair.specs.declared.stages.Rejection.TheVariants as rejections
+use Rattle.hound_repair.specs.declared.stages.Unrepairable.{Unrepairable}
+use Rattle.hound_repair.specs.declared.stages.Unrepairable.TheVariants as reasons
 use Rattle.hound_repair.specs.declared.stages.Stage.{Stage}
 use Rattle.hound_repair.specs.declared.stages.Stage.TheVariants as stages
 use Rattle.hound_spec.specs.declared.error.Error.{Error}
@@ -32,8 +32,8 @@ use Rattle.hound_writer.specs.declared.effects.Report.TheVariants.{Pending, Done
 use Rattle.hound_repair.specs.declared.machine.RepairStep.{RepairStep}
 use Rattle.hound_repair.specs.declared.machine.RepairStep.TheVariants as steps
 use Rattle.hound_repair.specs.declared.machine.RepairStep.TheVariants.{Asks}
-use Rattle.hound_repair.specs.declared.machine.Failure.{Failure}
-use Rattle.hound_repair.specs.declared.machine.Failure.TheVariants as failures
+use Rattle.hound_repair.specs.declared.machine.FailedAction.{FailedAction}
+use Rattle.hound_repair.specs.declared.machine.FailedAction.TheVariants as failures
 use Rattle.hound_repair.specs.declared.stages.Task.{Task}
 use Rattle.hound_repair.specs.declared.stages.Task.TheVariants as tasks
 use Rattle.hound_repair.specs.declared.stages.Task.TheVariants.{FindDamage, RepairToEnd}
@@ -144,19 +144,19 @@ pub record IsMeasured (file : List ℕ) (d : Damage) : Type 0 where
   pub state : d.state ≡ unfollowed_state (has_all file d.head)
 
 -- the fault of the bytes for which a file isn't repaired
-abbrev pub rejected_for : Rejection → AppendFault
-rejected_for (rejections.Head cause) = by_bytes cause
-rejected_for rejections.Unsupported = by_bytes causes.Unsupported
-rejected_for rejections.TooLong = too_long
+abbrev pub rejected_for : Unrepairable → AppendFault
+rejected_for (reasons.Head cause) = by_bytes cause
+rejected_for reasons.Unsupported = by_bytes causes.Unsupported
+rejected_for reasons.TooLong = too_long
 
 -- the bytes have that fault: they have no head for its cause, or one that fails a check
-abbrev pub IsRejectedFor : List ℕ → Rejection → Type 0
-IsRejectedFor bytes (rejections.Head cause) = Rejected bytes cause
-IsRejectedFor bytes rejections.Unsupported = HasUnfitHead bytes (by_bytes causes.Unsupported)
-IsRejectedFor bytes rejections.TooLong = HasUnfitHead bytes too_long
+abbrev pub IsRejectedFor : List ℕ → Unrepairable → Type 0
+IsRejectedFor bytes (reasons.Head cause) = Rejected bytes cause
+IsRejectedFor bytes reasons.Unsupported = HasUnfitHead bytes (by_bytes causes.Unsupported)
+IsRejectedFor bytes reasons.TooLong = HasUnfitHead bytes too_long
 
 -- what is measured of a file with a head, or its fault
-abbrev pub MeasuresTo : List ℕ → Result Damage Rejection → Type 0
+abbrev pub MeasuresTo : List ℕ → Result Damage Unrepairable → Type 0
 MeasuresTo file (Ok d) = IsMeasured file d
 MeasuresTo file (Err why) = IsRejectedFor file why
 
@@ -166,7 +166,7 @@ IsFoundAs looks file head state =
     state ≡ state_of (has_right file head) (looks && followed file head) (has_all file head)
 
 -- where one part of the file leads: on, to what is found of the whole file, or to its fault
-abbrev pub LooksTo : Bool → List ℕ → Result LookStep Rejection → Type 0
+abbrev pub LooksTo : Bool → List ℕ → Result LookStep Unrepairable → Type 0
 LooksTo looks file (Ok (Next stage)) = IsAtStage looks file stage
 LooksTo looks file (Ok (Found d)) =
     IsFoundAt looks file (repair_of d) d.head.data_length d.head.data_start
@@ -365,7 +365,7 @@ abbrev pub effects_of_task : Task → Damage → List Effect
 effects_of_task task d = effects_where (mends_for task d.state) d
 
 -- what it means that an effect failed
-abbrev pub failure_of : Effect → Failure
+abbrev pub failure_of : Effect → FailedAction
 failure_of Sync = failures.Sync
 failure_of _ = failures.Call
 
@@ -440,7 +440,7 @@ abbrev pub Remeasures : ℕ → SeenHead → Repairing → Repairing → Result 
 Remeasures n head old new result P =
     ((d : Damage) × IsSoundDamage d × IsUnfollowed d × (d.head ≡ head) × P d
     × WhereFound n head (λ file. IsMeasured file d))
-    ⊎ ((why : Rejection) × (result ≡ Err (errors.Rejected why)) × (new ≡ old)
+    ⊎ ((why : Unrepairable) × (result ≡ Err (errors.Rejected why)) × (new ≡ old)
     × WhereFound n head (λ file. IsRejectedFor file why))
 
 -- what comes of a part, by how its read has ended

@@ -6,7 +6,7 @@ ghost use Rattle.hound_repair.specs.Damages.{FindsDamage, IsSoundDamage, LacksRo
 ghost use Rattle.hound_repair.specs.Steps.{IsRejectedFor, IsRepair, looks_for_chunks};
 
 use crate::look::Damage;
-use crate::stages::{LookStep, Rejection, Stage, Task, take_asked};
+use crate::stages::{LookStep, Unrepairable, Stage, Task, take_asked};
 use hound_number::le_u32;
 use hound_walk::bytes_at;
 
@@ -22,7 +22,7 @@ pub fn set_sizes(bytes: &mut [u8], place: usize, riff_size: u32, data_length: u3
 
 /// Looks at the file that takes all of these bytes, as [`find_damage`](crate::find_damage) does at one
 /// in a source; no chunks are looked for where the task is to repair it to its end.
-pub fn find_damage_in_bytes(bytes: &[u8], task: Task) -> Result<Damage, Rejection>
+pub fn find_damage_in_bytes(bytes: &[u8], task: Task) -> Result<Damage, Unrepairable>
     ensures sound { IfOk result IsSoundDamage }
     ensures inside { IfOk result (λ damage. damage.head.data_start + damage.held ≡ length bytes.now) }
     ensures finds { IfOk result (λ damage.

@@ -24,7 +24,7 @@ pub use laws::{
     a_second_repair_writes_nothing, a_stopped_repair_is_done_again, effects_mend,
 };
 pub use look::{Damage, SeenHead, find_damage};
-pub use machine::{Failure, RepairError, RepairStep, Repairing, repair_next};
+pub use machine::{FailedAction, RepairError, RepairStep, Repairing, repair_next};
 pub use mend::{repair, repair_to_end};
 pub use sizes::Repair;
-pub use stages::{Rejection, Stage, Task};
+pub use stages::{Unrepairable, Stage, Task};

@@ -7,7 +7,7 @@ ghost use Rattle.hound_repair.specs.Steps.{IsSoundStage, AsksEffect, AsksMore, A
 ghost use Rattle.hound_repair.specs.declared.machine.Repairing.TheVariants as states;
 
 use crate::look::{Damage, SeenHead};
-use crate::stages::{LookStep, Rejection, Stage, Task, measured, take_asked};
+use crate::stages::{LookStep, Unrepairable, Stage, Task, measured, take_asked};
 use hound_writer::{Action, Effect, RepairState, Report};
 
 impl Damage {
@@ -33,7 +33,7 @@ impl Damage {
 
 /// What failed, so that the repair has ended.
 #[derive(Clone, Copy, Debug, PartialEq, Eq)]
-pub enum Failure {
+pub enum FailedAction {
     /// A sync: nobody knows what is stored.
     Sync,
 
@@ -54,7 +54,7 @@ pub enum Repairing {
     Found(SeenHead, RepairState),
 
     /// It has ended, since this failed.
-    Failed(Failure),
+    Failed(FailedAction),
 }
 
 /// What its caller does next.
@@ -71,19 +71,19 @@ pub enum RepairStep {
 #[derive(Clone, Copy, Debug, PartialEq, Eq)]
 pub enum RepairError {
     /// The bytes decide it, and nothing was written.
-    Rejected(Rejection),
+    Rejected(Unrepairable),
 
     /// An effect failed: another repair, from the beginning, finds the same frames.
-    Failed(Failure),
+    Failed(FailedAction),
 }
 
 // What it means that an effect failed.
-fn failure_of(effect: Effect) -> Failure
+fn failure_of(effect: Effect) -> FailedAction
     ensures { result ≡ failure_of effect }
 {
     match effect {
-        Effect::Sync => Failure::Sync,
-        Effect::Pad(_) | Effect::Size(..) => Failure::Call,
+        Effect::Sync => FailedAction::Sync,
+        Effect::Pad(_) | Effect::Size(..) => FailedAction::Call,
     }
 }
 
@@ -178,8 +178,8 @@ pub fn repair_next(
             Report::Pending => Ok(RepairStep::Asks(stage.action(length))),
             Report::Done => after_part(state, length, task, stage, bytes),
             Report::Failed => {
-                *state = Repairing::Failed(Failure::Call);
-                Err(RepairError::Failed(Failure::Call))
+                *state = Repairing::Failed(FailedAction::Call);
+                Err(RepairError::Failed(FailedAction::Call))
             }
         },
         Repairing::Mends(head, number) => {

@@ -10,7 +10,7 @@ ghost use Rattle.hound_repair.specs.Steps.{IsRepair, PerformedOn, PerformsOn, Me
 use crate::look::Damage;
 use crate::read_at::{length_of, part_at};
 use crate::sizes::Repair;
-use crate::stages::{LookStep, Rejection, Stage, Task, take_asked};
+use crate::stages::{LookStep, Unrepairable, Stage, Task, take_asked};
 use hound_medium::{Medium, Source};
 use hound_number::le_u32;
 use hound_spec::Error;
@@ -19,14 +19,14 @@ use hound_writer::{Effect, put_all_at};
 use std::io;
 
 // The error that callers get.
-fn error_for(why: Rejection) -> Error
+fn error_for(why: Unrepairable) -> Error
     ensures names { NamesFault result (rejected_for why) }
     ensures reported { IsMediumError result }
 {
     match why {
-        Rejection::Head(cause) => error_of(HeadError::Rejected(cause)),
-        Rejection::Unsupported => Error::Unsupported,
-        Rejection::TooLong => Error::TooLong,
+        Unrepairable::Head(cause) => error_of(HeadError::Rejected(cause)),
+        Unrepairable::Unsupported => Error::Unsupported,
+        Unrepairable::TooLong => Error::TooLong,
     }
 }
 

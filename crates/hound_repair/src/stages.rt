@@ -46,7 +46,7 @@ impl Task {
 
 /// Why a file isn't repaired, by its bytes.
 #[derive(Clone, Copy, Debug, PartialEq, Eq)]
-pub enum Rejection {
+pub enum Unrepairable {
     /// It has no head.
     Head(Cause),
 
@@ -148,7 +148,7 @@ fn unfollowed_state(counts_all: bool) -> RepairState
 }
 
 // What is found of a file of so many bytes with this head that isn't whole, and whose data nothing follows.
-pub(crate) fn measured(size: u64, head: SeenHead) -> Result<Damage, Rejection>
+pub(crate) fn measured(size: u64, head: SeenHead) -> Result<Damage, Unrepairable>
     requires sound { IsSoundHead head }
     ensures measures { (file : List ℕ) → IsLengthOf size file
         → Head file head.spec_ex head.data_length head.data_start → IsShown file head
@@ -161,14 +161,14 @@ pub(crate) fn measured(size: u64, head: SeenHead) -> Result<Damage, Rejection>
     let spec = head.spec_ex.spec;
     let width = head.spec_ex.bytes_per_sample;
     if !is_pair(spec.sample_format, spec.bits_per_sample, width) {
-        return Err(Rejection::Unsupported);
+        return Err(Unrepairable::Unsupported);
     }
     let size = size.min(LIMIT);
     if head.data_start > size {
-        return Err(Rejection::Head(Cause::Ended));
+        return Err(Unrepairable::Head(Cause::Ended));
     }
     let held = size - head.data_start;
-    let sizes = right_sizes(head, head.shown(), held).ok_or(Rejection::TooLong)?;
+    let sizes = right_sizes(head, head.shown(), held).ok_or(Unrepairable::TooLong)?;
     let state = unfollowed_state(head.data_length == sizes.data_length);
     Ok(Damage {
         head,
@@ -242,7 +242,7 @@ fn after_sizes(damage: Damage) -> LookStep
 }
 
 // Takes the RIFF size.
-fn take_size(task: Task, damage: Damage, bytes: &[u8]) -> Result<LookStep, Rejection>
+fn take_size(task: Task, damage: Damage, bytes: &[u8]) -> Result<LookStep, Unrepairable>
     requires sound { IsSoundDamage damage }
     ensures leads { (file : List ℕ) → IsMeasured file damage → (bytes.now ≡ take 4 (drop 4 file))
         → LooksTo (looks_for_chunks task) file result }
@@ -252,7 +252,7 @@ fn take_size(task: Task, damage: Damage, bytes: &[u8]) -> Result<LookStep, Rejec
     ensures enough { IfOk result (λ _. 4 ≤ length bytes.now) }
 {
     if bytes.len() < 4 {
-        return Err(Rejection::Head(Cause::Ended));
+        return Err(Unrepairable::Head(Cause::Ended));
     }
     let sizes = damage.sizes;
     if u32_at(bytes, 0) == sizes.riff_size && damage.head.data_length == sizes.data_length {
@@ -347,7 +347,7 @@ fn take_last(head: SeenHead, bytes: &[u8]) -> LookStep
 }
 
 // Takes a part of the header.
-fn take_header(length: u64, walk: HeadWalk, bytes: &[u8]) -> Result<LookStep, Rejection>
+fn take_header(length: u64, walk: HeadWalk, bytes: &[u8]) -> Result<LookStep, Unrepairable>
     requires sound { IsSoundOption walk.found }
     ensures leads { (looks : Bool) (file : List ℕ) → IsLengthOf length file → IsAt file walk
         → (bytes.now ≡ part_bytes walk file) → LooksTo looks file result }
@@ -357,7 +357,7 @@ fn take_header(length: u64, walk: HeadWalk, bytes: &[u8]) -> Result<LookStep, Re
     match take_part(walk, bytes) {
         Ok(Step::Next(next)) => Ok(LookStep::Next(Stage::Head(next))),
         Ok(Step::Data(head)) => Ok(LookStep::Next(after_head(length, head))),
-        Err(cause) => Err(Rejection::Head(cause)),
+        Err(cause) => Err(Unrepairable::Head(cause)),
     }
 }
 
@@ -368,7 +368,7 @@ pub(crate) fn take_asked(
     task: Task,
     stage: Stage,
     bytes: &[u8],
-) -> Result<LookStep, Rejection>
+) -> Result<LookStep, Unrepairable>
     requires sound { IsSoundStage stage }
     ensures leads { (file : List ℕ) → IsLengthOf length file
         → IsAtStage (looks_for_chunks task) file stage → IsAsked length stage file bytes.now

@@ -113,7 +113,7 @@ fn container_of(sample: i32, bits: u16, width: u16) -> [u8; 4]
 {
     match encode_integer(sample, bits, width) {
         Ok(container) => container,
-        Err(_) => [0; 4],
+        Err(_) => unreachable!(),
     }
 }
 
@@ -135,7 +135,9 @@ fn scale_each<S: Amplitude>(bytes: &mut [u8], amplitudes: &[S], bits: u16, width
             container_of(sample, bits, width),
             width as usize,
         );
-        count += is_clipped as u64;
+        if is_clipped {
+            count += 1;
+        }
     }
     count
 }
@@ -241,7 +243,9 @@ fn scale_each_with_noise<S: Amplitude>(
             container_of(sample, bits, width),
             width as usize,
         );
-        count += is_clipped as u64;
+        if is_clipped {
+            count += 1;
+        }
     }
     *state = next;
     count

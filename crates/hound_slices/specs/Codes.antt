@@ -4,8 +4,8 @@ use Rattle.hound_walk.specs.declared.cause.Cause.{Cause}
 use Rattle.hound_walk.specs.declared.cause.Cause.TheVariants.{Ended, Format, Unsupported}
 use Rattle.hound_walk.specs.declared.cause.Reason.{Reason}
 use Rattle.hound_walk.specs.declared.cause.Reason.TheVariants.{NoRiffTag, NoWaveTag, NoDataChunk, NoFmtChunk, FmtSize, UnexpectedFmtSize, ZeroChannels, BitsExceedWidth, Inconsistent, BitsNotWholeBytes, ZeroBits, BitsNot8Or16, ExSize, BitsNot32, ExtensibleSize, DataLength, FrameLength}
-use Rattle.hound_repair.specs.declared.stages.Rejection.{Rejection}
-use Rattle.hound_repair.specs.declared.stages.Rejection.TheVariants as rejections
+use Rattle.hound_repair.specs.declared.stages.Unrepairable.{Unrepairable}
+use Rattle.hound_repair.specs.declared.stages.Unrepairable.TheVariants as reasons
 use Rattle.hound_writer.specs.declared.recorder.RecorderError.{RecorderError}
 use Rattle.hound_writer.specs.declared.recorder.RecorderError.TheVariants as recorder_errors
 use Rattle.hound_slices.specs.declared.error.CallError.{CallError}
@@ -52,10 +52,10 @@ error_code (Recorder recorder_errors.NeedsMend) = negsuc 28
 error_code (Recorder recorder_errors.NeedsOverwrite) = negsuc 29
 
 -- the error of bytes that are rejected by a look at them
-abbrev pub error_of_rejection : Rejection → CallError
-error_of_rejection (rejections.Head cause) = Head cause
-error_of_rejection rejections.Unsupported = NotWritable
-error_of_rejection rejections.TooLong = TooLong
+abbrev pub error_of_rejection : Unrepairable → CallError
+error_of_rejection (reasons.Head cause) = Head cause
+error_of_rejection reasons.Unsupported = NotWritable
+error_of_rejection reasons.TooLong = TooLong
 
 -- the bytes have no data to be read, for a cause that P holds for
 abbrev pub IsHeadError : (Cause → Type 0) → CallError → Type 0

@@ -4,8 +4,8 @@ use Rattle.hound_spec.specs.{greatest_u32}
 use Rattle.hound_spec.specs.declared.spec.WavSpecEx.{WavSpecEx}
 use Rattle.hound_repair.specs.{AsksNext, asked_count, frame_length, repair_of}
 use Rattle.hound_repair.specs.declared.look.SeenHead.{SeenHead}
-use Rattle.hound_repair.specs.declared.machine.Failure.{Failure}
-use Rattle.hound_repair.specs.declared.machine.Failure.TheVariants.{Sync, Call}
+use Rattle.hound_repair.specs.declared.machine.FailedAction.{FailedAction}
+use Rattle.hound_repair.specs.declared.machine.FailedAction.TheVariants.{Sync, Call}
 use Rattle.hound_repair.specs.declared.machine.RepairError.{RepairError}
 use Rattle.hound_repair.specs.declared.machine.RepairError.TheVariants.{Rejected, Failed}
 use Rattle.hound_repair.specs.declared.machine.RepairStep.{RepairStep}
@@ -32,7 +32,7 @@ task_of mode =
     else if mode == 3 then MakeCanonical else FindDamage
 
 -- what failed, by its number
-abbrev pub failure_of_code : ℕ → Failure
+abbrev pub failure_of_code : ℕ → FailedAction
 failure_of_code number = if number == 0 then Sync else Call
 
 -- the head whose spec is this, if its data begin where those of a file may

@@ -3,7 +3,7 @@ ghost use Rattle.std.specs.Prelude.{◌≡◌, ◌<◌, ◌^◌, IfOk};
 ghost use Rattle.hound_slices.specs.Codes.{error_code, error_of_rejection, code_for};
 ghost use Rattle.hound_slices.specs.declared.error.CallError.TheVariants.{Head};
 
-use hound_repair::Rejection;
+use hound_repair::Unrepairable;
 use hound_walk::Cause;
 use hound_writer::RecorderError;
 
@@ -40,14 +40,14 @@ impl From<Cause> for CallError {
     }
 }
 
-impl From<Rejection> for CallError {
+impl From<Unrepairable> for CallError {
     ghost from_gives = { λ why error. error ≡ error_of_rejection why };
 
-    fn from(why: Rejection) -> CallError {
+    fn from(why: Unrepairable) -> CallError {
         match why {
-            Rejection::Head(cause) => CallError::Head(cause),
-            Rejection::Unsupported => CallError::NotWritable,
-            Rejection::TooLong => CallError::TooLong,
+            Unrepairable::Head(cause) => CallError::Head(cause),
+            Unrepairable::Unsupported => CallError::NotWritable,
+            Unrepairable::TooLong => CallError::TooLong,
         }
     }
 }

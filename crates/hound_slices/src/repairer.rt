@@ -12,7 +12,7 @@ use crate::repairing::{repair_for_c, state_code, state_of_code};
 use crate::spec::{HoundRepair, HoundSpec};
 use crate::walking::{found_for_c, found_of, numbers_of, walk_with};
 use hound_repair::{
-    Failure, RepairError, RepairStep, Repairing, SeenHead, Stage, Task, repair_next,
+    FailedAction, RepairError, RepairStep, Repairing, SeenHead, Stage, Task, repair_next,
 };
 use hound_writer::{Action, RecorderError};
 
@@ -47,22 +47,22 @@ fn task_of(mode: u32) -> Task
 }
 
 // What failed, by its number.
-fn failure_of_code(number: u32) -> Failure
+fn failure_of_code(number: u32) -> FailedAction
     ensures { result ≡ failure_of_code number }
 {
     match number {
-        0 => Failure::Sync,
-        _ => Failure::Call,
+        0 => FailedAction::Sync,
+        _ => FailedAction::Call,
     }
 }
 
 // The number of what failed.
-fn code_of_failure(failure: Failure) -> u32
+fn code_of_failure(failure: FailedAction) -> u32
     ensures { failure_of_code result ≡ failure }
 {
     match failure {
-        Failure::Sync => 0,
-        Failure::Call => 1,
+        FailedAction::Sync => 0,
+        FailedAction::Call => 1,
     }
 }
 
@@ -113,7 +113,7 @@ fn repairing_of(c: HoundRepairer) -> Repairing
         return Repairing::Failed(failure_of_code(c.number));
     }
     match head_of(c) {
-        None => Repairing::Failed(Failure::Call),
+        None => Repairing::Failed(FailedAction::Call),
         Some(head) => after_head(c, head),
     }
 }
@@ -195,8 +195,8 @@ fn error_of(error: RepairError) -> CallError
 {
     match error {
         RepairError::Rejected(why) => why.into(),
-        RepairError::Failed(Failure::Sync) => CallError::Recorder(RecorderError::SyncFailed),
-        RepairError::Failed(Failure::Call) => CallError::NotPerformed,
+        RepairError::Failed(FailedAction::Sync) => CallError::Recorder(RecorderError::SyncFailed),
+        RepairError::Failed(FailedAction::Call) => CallError::NotPerformed,
     }
 }
 

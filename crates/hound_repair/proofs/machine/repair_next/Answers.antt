@@ -1,6 +1,6 @@
 use Rattle.std.proofs.Common.{◌≡◌, Ok, Err, inl, inr, refl, sym, subst, rules}
 use Rattle.hound_repair.specs.Steps.{AsksNext, MeasuresTo}
-use Rattle.hound_repair.specs.declared.stages.Rejection.{Rejection}
+use Rattle.hound_repair.specs.declared.stages.Unrepairable.{Unrepairable}
 use Rattle.hound_repair.specs.declared.machine.RepairError.TheVariants.{Rejected as rejected}
 use Rattle.hound_repair.specs.declared.machine.RepairStep.TheVariants.{Found}
 use Rattle.hound_repair.proofs.Stepping.{mapped_ok}
@@ -40,7 +40,7 @@ returns-in_ok-damage-in-Found-clause-next c =
 
 pub returns-in_err-damage-in-Mends-clause-next : goal.returns-in_err-damage-in-Mends-clause-next
 returns-in_err-damage-in-Mends-clause-next c =
-    let found : (why : Rejection) × (c.measured.result ≡ Err why) × (c.from_residual.result ≡ Err (rejected why)) = search rules in
+    let found : (why : Unrepairable) × (c.measured.result ≡ Err why) × (c.from_residual.result ≡ Err (rejected why)) = search rules in
     subst (λ old. AsksNext c.args.task c.args.length c.args.bytes.now c.args.report old old c.from_residual.result)
     (sym c.in-Mends.is)
     (inr (
@@ -53,7 +53,7 @@ returns-in_err-damage-in-Mends-clause-next c =
 
 pub returns-in_err-damage-in-Found-clause-next : goal.returns-in_err-damage-in-Found-clause-next
 returns-in_err-damage-in-Found-clause-next c =
-    let found : (why : Rejection) × (c.measured-in-Found.result ≡ Err why)
+    let found : (why : Unrepairable) × (c.measured-in-Found.result ≡ Err why)
     × (c.from_residual-in_err-damage-in-Found.result ≡ Err (rejected why)) = search rules in
     subst (λ old. AsksNext c.args.task c.args.length c.args.bytes.now c.args.report old old c.from_residual-in_err-damage-in-Found.result)
     (sym c.in-Found.is) (
