@@ -80,7 +80,7 @@ WRONG_IN_C = {
     ),
     "wrong C (sizes that aren't synced)": (SYNC_IN_C, SYNC_BUT_IN_C.format(3)),
 }
-SYNC, WRITTEN = "(self.sync)(&mut self.writer)", "Ok(self.recorder.run(&mut self.medium, &self.bytes[..length])??)"
+SYNC, WRITTEN = "(self.sync)(&mut self.writer)", "Ok(self.recorder.run(&mut self.target, &self.bytes[..length])??)"
 # Of a checkpoint's two syncs, that after the samples is the first.
 SYNC_ONE = (
     "static SYNCS: std::sync::atomic::AtomicUsize = std::sync::atomic::AtomicUsize::new(0); "
@@ -89,13 +89,13 @@ SYNC_ONE = (
 # The sizes count a block that is reported as done, and is written after that.
 BEFORE_IT = (
     "if let proved::Next::Effect(effect) = self.recorder.next()? { let place = effect.place(); effect.done(); "
-    "self.checkpoint()?; proved::Medium::write_at(&mut self.medium, place, &self.bytes[..length])?; } Ok(())"
+    "self.checkpoint()?; proved::Medium::write_at(&mut self.target, place, &self.bytes[..length])?; } Ok(())"
 )
 ONLY_SYNC = "|writer| writer.get_ref().sync_data()"
 BUFFERED = (
     "BufWriter::with_capacity(0, file)",
     "BufWriter::with_capacity(1 << 16, file)",
-    "medium.write_at = Medium::write_without_seek;",
+    "target.write_at = Target::write_without_seek;",
     "let _ = Medium::write_without_seek;",
 )
 WRONG_IN_CARGO = {
@@ -744,7 +744,7 @@ def compile_in_rust(folder):
         shutil.copytree(
             os.path.join(HERE, "bindings", part), os.path.join(copy, part), ignore=shutil.ignore_patterns("target")
         )
-    paths = ["bindings/hound/src/writer.rs", "bindings/hound/src/medium.rs"]
+    paths = ["bindings/hound/src/writer.rs", "bindings/hound/src/target.rs"]
     for name, texts in versions(paths, "recordCargo", {**WRONG_IN_CARGO, **WRONG_ON_FULL_DISKS, **WRONG_IN_FRAMES}):
         for path, text in texts.items():
             with open(os.path.join(folder, path), "w") as file:

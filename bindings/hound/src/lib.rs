@@ -104,12 +104,12 @@ extern crate hound_bindings as proved;
 
 pub mod blocks;
 mod error;
-mod medium;
 mod reader;
 mod repair;
 mod sample;
 mod source;
 mod spec;
+mod target;
 mod writer;
 
 pub use error::{Error, Result};

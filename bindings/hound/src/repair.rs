@@ -1,6 +1,6 @@
-use crate::medium::open_locked;
 pub use crate::proved::State as RepairState;
 use crate::proved::{Mode, Repairer};
+use crate::target::open_locked;
 use crate::{Error, Result, WavSpecEx};
 use std::io::{self, Seek, SeekFrom};
 use std::{fs, path};

@@ -1,7 +1,7 @@
-use crate::medium::{open_locked, Medium};
 use crate::proved::{self, Allowed, Info, Mode, Recorder, Repair, Repairer, State, Walk};
 use crate::reader::read_header;
 use crate::spec::containers;
+use crate::target::{open_locked, Target};
 use crate::{Error, Result, Sample, SampleFormat, WavSpec, WavSpecEx, BLOCK};
 use std::io::{self, Read, Seek, SeekFrom, Write};
 use std::{fs, iter, panic, path};
@@ -23,7 +23,7 @@ pub struct WavWriter<W: Write + Seek> {
 // What a batch needs of a writer. Accepted samples are integers first, then containers, then in the file.
 pub(crate) struct Core<W> {
     spec_ex: WavSpecEx,
-    medium: Medium<W>,
+    target: Target<W>,
     recorder: Recorder,
     width: usize, // the bytes of a sample, and of a frame
     frame: usize,
@@ -172,14 +172,14 @@ impl<W: Write + Seek> Core<W> {
     fn write_frames(&mut self, length: usize) -> Result<()> {
         self.recorder.write((length / self.width) as u64)?;
         self.is_begun = true;
-        Ok(self.recorder.run(&mut self.medium, &self.bytes[..length])??)
+        Ok(self.recorder.run(&mut self.target, &self.bytes[..length])??)
     }
 
     // Writes the sizes that count all samples that are written.
     fn checkpoint(&mut self) -> Result<()> {
         self.is_begun = true;
         self.recorder.checkpoint();
-        Ok(self.recorder.run(&mut self.medium, &[])??)
+        Ok(self.recorder.run(&mut self.target, &[])??)
     }
 
     // Writes samples after the buffered ones.
@@ -275,7 +275,7 @@ impl<W: Write + Seek> Core<W> {
         let published = self.checkpoint();
         written.and(published)?;
         if flushes {
-            self.medium.writer.flush()?;
+            self.target.writer.flush()?;
         }
         if self.waiting == 0 {
             Ok(())
@@ -350,16 +350,16 @@ impl<W: Write + Seek> WavWriter<W> {
     fn begin(mut writer: W, spec: &proved::Spec) -> Result<WavWriter<W>> {
         let recorder = Recorder::begin(spec)?;
         let length = write_header(&mut writer, spec)?;
-        Ok(WavWriter::at(Medium::new(writer, Some(length)), spec, recorder).begun())
+        Ok(WavWriter::at(Target::new(writer, Some(length)), spec, recorder).begun())
     }
 
-    fn at(medium: Medium<W>, spec: &proved::Spec, recorder: Recorder) -> WavWriter<W> {
+    fn at(target: Target<W>, spec: &proved::Spec, recorder: Recorder) -> WavWriter<W> {
         let width = recorder.width();
         let spec_ex = WavSpecEx { bytes_per_sample: width as u16, ..WavSpecEx::from(*spec) };
         WavWriter {
             core: Core {
                 spec_ex,
-                medium,
+                target,
                 recorder,
                 width,
                 frame: width * usize::from(spec_ex.spec.channels),
@@ -475,7 +475,7 @@ impl<W: Read + Write + Seek> WavWriter<W> {
     pub fn new_append(mut writer: W) -> Result<WavWriter<W>> {
         let info = Walk::over(&mut writer)??;
         let recorder = after_counted(&info, writer.seek(SeekFrom::End(0)).ok())?;
-        Ok(WavWriter::at(Medium::new(writer, None), &info.spec, recorder))
+        Ok(WavWriter::at(Target::new(writer, None), &info.spec, recorder))
     }
 }
 
@@ -492,7 +492,7 @@ impl WavWriter<io::BufWriter<fs::File>> {
         let mut file = fs::OpenOptions::new().read(true).write(true).open(filename)?;
         let info = read_header(&mut io::BufReader::new(&file))?;
         let recorder = after_counted(&info, Some(file.seek(SeekFrom::End(0))?))?;
-        Ok(WavWriter::at(Medium::of_file(file, None, false), &info.spec, recorder))
+        Ok(WavWriter::at(Target::of_file(file, None, false), &info.spec, recorder))
     }
 
     /// Creates a file that survives a loss of power (own). When this returns, a WAV file without samples and its
@@ -513,9 +513,9 @@ impl WavWriter<io::BufWriter<fs::File>> {
         let spec = spec.into();
         Recorder::begin(&spec)?; // A file that there is stays as it is where the spec can't be written.
         let file = open_alone(fs::OpenOptions::new().write(true).create(true).truncate(false), filename.as_ref())?;
-        let mut medium = Medium::of_file(file, Some(0), true);
-        let recorder = Recorder::create(&spec, &mut medium)??;
-        Ok(WavWriter::at(medium, &spec, recorder))
+        let mut target = Target::of_file(file, Some(0), true);
+        let recorder = Recorder::create(&spec, &mut target)??;
+        Ok(WavWriter::at(target, &spec, recorder))
     }
 
     /// Appends to a file as [`append`](WavWriter::append) does, so that it survives a loss of power (own). When
@@ -531,7 +531,7 @@ impl WavWriter<io::BufWriter<fs::File>> {
         let length = file.seek(SeekFrom::End(0))?;
         let found = Repairer::new(length, Mode::FindDamage).run(&mut file)??;
         let recorder = Recorder::resume(&found, Allowed::default())?;
-        Ok(WavWriter::at(Medium::of_file(file, None, true), &found.spec, recorder))
+        Ok(WavWriter::at(Target::of_file(file, None, true), &found.spec, recorder))
     }
 
     // Writes the header of a new file, which isn't opened if the spec can't be written.
@@ -540,7 +540,7 @@ impl WavWriter<io::BufWriter<fs::File>> {
         let recorder = Recorder::begin(&spec)?;
         let mut file = open()?;
         let length = write_header(&mut file, &spec)?;
-        Ok(WavWriter::at(Medium::of_file(file, Some(length), false), &spec, recorder).begun())
+        Ok(WavWriter::at(Target::of_file(file, Some(length), false), &spec, recorder).begun())
     }
 }
 

@@ -3,9 +3,9 @@ use std::io::{self, BufWriter, Seek, SeekFrom, Write};
 use std::{fs, path};
 
 // What a recorder's effects are performed on.
-pub(crate) struct Medium<W> {
+pub(crate) struct Target<W> {
     pub(crate) writer: W,
-    write_at: fn(&mut Medium<W>, u64, &[u8]) -> io::Result<usize>,
+    write_at: fn(&mut Target<W>, u64, &[u8]) -> io::Result<usize>,
     sync: fn(&mut W) -> io::Result<()>,
     cut: fn(&mut W, u64) -> io::Result<()>,
     place: Option<u64>, // where the writer is, if that is known
@@ -13,11 +13,11 @@ pub(crate) struct Medium<W> {
     goes_back: Option<bool>,
 }
 
-impl<W: Write + Seek> Medium<W> {
-    pub(crate) fn new(writer: W, place: Option<u64>) -> Medium<W> {
+impl<W: Write + Seek> Target<W> {
+    pub(crate) fn new(writer: W, place: Option<u64>) -> Target<W> {
         let cut = |_: &mut W, _| Err(io::ErrorKind::Unsupported.into());
-        let write_at = Medium::seek_and_write;
-        Medium { writer, write_at, sync: |_| Ok(()), cut, place, goes_back: None }
+        let write_at = Target::seek_and_write;
+        Target { writer, write_at, sync: |_| Ok(()), cut, place, goes_back: None }
     }
 
     fn seek_and_write(&mut self, place: u64, bytes: &[u8]) -> io::Result<usize> {
@@ -46,21 +46,21 @@ fn never_goes_back() -> io::Error {
     io::Error::new(io::ErrorKind::InvalidInput, text)
 }
 
-impl Medium<BufWriter<fs::File>> {
+impl Target<BufWriter<fs::File>> {
     /// A file of this crate's own. Its `BufWriter` has no bytes: what the recorder takes for written is with the
     /// system. So what a full disk has no room for can be cut off, the sizes before it can be written, and a write that
     /// fails isn't one of a sync.
-    pub(crate) fn of_file(file: fs::File, place: Option<u64>, is_durable: bool) -> Medium<BufWriter<fs::File>> {
-        let mut medium = Medium::new(BufWriter::with_capacity(0, file), place);
+    pub(crate) fn of_file(file: fs::File, place: Option<u64>, is_durable: bool) -> Target<BufWriter<fs::File>> {
+        let mut target = Target::new(BufWriter::with_capacity(0, file), place);
         #[cfg(unix)]
         {
-            medium.write_at = Medium::write_without_seek;
+            target.write_at = Target::write_without_seek;
         }
-        medium.cut = |writer, place| proved::Medium::cut(writer.get_mut(), place);
+        target.cut = |writer, place| proved::Medium::cut(writer.get_mut(), place);
         if is_durable {
-            medium.sync = |writer| writer.get_ref().sync_data();
+            target.sync = |writer| writer.get_ref().sync_data();
         }
-        medium
+        target
     }
 
     // By one call of the system, also where it isn't at this place. A pipe takes what is written in order.
@@ -76,7 +76,7 @@ impl Medium<BufWriter<fs::File>> {
     }
 }
 
-impl<W: Write + Seek> proved::Medium for Medium<W> {
+impl<W: Write + Seek> proved::Medium for Target<W> {
     fn write_at(&mut self, place: u64, bytes: &[u8]) -> io::Result<usize> {
         (self.write_at)(self, place, bytes)
     }
