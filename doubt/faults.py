@@ -96,7 +96,7 @@ BUFFERED = (
     "BufWriter::with_capacity(0, file)",
     "BufWriter::with_capacity(1 << 16, file)",
     "target.write_at = Target::write_without_seek;",
-    "let _ = Medium::write_without_seek;",
+    "let _ = Target::write_without_seek;",
 )
 WRONG_IN_CARGO = {
     "wrong Cargo (no sync)": (ONLY_SYNC, "|_| Ok(())"),
