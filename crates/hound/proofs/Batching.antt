@@ -14,8 +14,7 @@ use Rattle.hound_writer.proofs.Recording.{same_but_memory}
 use Rattle.hound.proofs.Calling.{Went, call_went, went_still, went_then}
 
 -- the bytes of a batch's values are those of its containers, two to each
-joined : (values : List ℤ)
-    → flat_map (signed_bytes_of 2) values ≡ concat (map (signed_bytes_of 2) values)
+joined : (values : List ℤ) → flat_map (signed_bytes_of 2) values ≡ concat (map (signed_bytes_of 2) values)
 joined values = grind (arith, common_steps, concat_is, flat_map-map)
 
 wide : (values : List ℤ) → AllByRecursion (λ c. length c ≡ 2) (map (signed_bytes_of 2) values)
@@ -88,7 +87,6 @@ module _ {M : Type 0} (kind : Ghosts M) (modelled : IsTrue kind.tells) where
       (call_went kind modelled (Ok tt) a.batch_memory a b (write (Ok list))
       batch) in
       let l = each_went values first c sixteen each in (
-        t.accepted whole ∙ ap (λ x. accepted_samples kind.state first ++ x) same
-            ∙ sym (l.accepted whole),
+        t.accepted whole ∙ ap (λ x. accepted_samples kind.state first ++ x) same ∙ sym (l.accepted whole),
         omega (arith, t.size, l.size, ap (λ x. length (concat x)) same),
       )

@@ -80,8 +80,7 @@ module _ (s : WavSpecEx) (front rest : List ℕ) (parts : front ++ rest ≡ head
         length-header s 0 0,
       ) in (
         few,
-        zero_number (take 4 (drop p left)) (λ i less.
-            let inside : p + i < length left =
+        zero_number (take 4 (drop p left)) (λ i less. let inside : p + i < length left =
             omega (arith, less, length-take 4 (drop p left), length-drop p left) in
             let four : i < 4 = omega (arith, less, length-take 4 (drop p left)) in
             let from = lost.sectors ((p + i) / sector) in

@@ -65,8 +65,7 @@ module _ {W : Type 0} (kind : Ghosts W) (modelled : IsTrue kind.tells) where
         → ChangesSizesOnly old.data_start (kind.state old.medium).contents (kind.state new.medium).contents
     pub begun : IsBegun kind.state old → IsBegun kind.state new
     pub whole : IsWhole kind.state old → IsWhole kind.state new
-    pub accepted : IsWhole kind.state old
-        → accepted_samples kind.state new ≡ accepted_samples kind.state old ++ list
+    pub accepted : IsWhole kind.state old → accepted_samples kind.state new ≡ accepted_samples kind.state old ++ list
     pub counts : IsWhole kind.state old → IsCounted kind.state old → IsCounted kind.state new
     pub faults : FaultsGrow (kind.state old.medium) (kind.state new.medium)
     pub reach : NoFault (kind.state old.medium) (kind.state new.medium)
@@ -86,8 +85,7 @@ module _ {W : Type 0} (kind : Ghosts W) (modelled : IsTrue kind.tells) where
   pub went_still : (w : WriterState W) (memory : List ℕ) → Went [] w (with_memory w memory)
   went_still w memory = grind (arith, common_steps, sizes_still, append-nil, later_still, moment_last)
 
-  pub went_then : (l m : List (List ℕ)) (a b c : WriterState W) → Went l a b → Went m b c
-      → Went (l ++ m) a c
+  pub went_then : (l m : List (List ℕ)) (a b c : WriterState W) → Went l a b → Went m b c → Went (l ++ m) a c
   went_then l m a b c first then = record {
     spec_ex = then.spec_ex ∙ first.spec_ex;
     data_start = then.data_start ∙ first.data_start;
@@ -95,8 +93,7 @@ module _ {W : Type 0} (kind : Ghosts W) (modelled : IsTrue kind.tells) where
     front = grind (arith, common_steps, sizes_then);
     begun = λ begun. then.begun (first.begun begun);
     whole = λ whole. then.whole (first.whole whole);
-    accepted = λ whole. then.accepted (first.whole whole)
-        ∙ ap (λ (x : List (List ℕ)). x ++ m) (first.accepted whole)
+    accepted = λ whole. then.accepted (first.whole whole) ∙ ap (λ (x : List (List ℕ)). x ++ m) (first.accepted whole)
         ∙ append_assoc (accepted_samples kind.state a) l m;
     counts = λ whole counts. then.counts (first.whole whole) (first.counts whole counts);
     faults = grow_then (kind.state a.medium) (kind.state b.medium) (kind.state c.medium) first.faults then.faults;
@@ -106,25 +103,21 @@ module _ {W : Type 0} (kind : Ghosts W) (modelled : IsTrue kind.tells) where
         omega (arith, first.reach parts.0, then.reach parts.1, then.data_start, then.size);
     later = λ kept whole. later_then (kind.state a.medium) (kind.state b.medium) (kind.state c.medium)
         (first.later kept whole) (then.later kept (first.whole whole));
-    sizes = λ kept replays beyond whole k from to.
-        let h = a.data_start in
+    sizes = λ kept replays beyond whole k from to. let h = a.data_start in
         let base = (kind.state a.medium).contents in
         let there = first.whole whole in
         let end = kind.state c.medium in
         let now = moment end.start end.past k in
         elim (cases_lt (length (kind.state b.medium).past) k) [
-          | inr within ↦
-              subst (ChangesSizesOnly h base)
+          | inr within ↦ subst (ChangesSizesOnly h base)
               (same_moment (kind.state b.medium) end k (then.later kept there) within)
               (first.sizes kept replays beyond whole k from within)
-          | inl after ↦
-              sizes_then h base (kind.state b.medium).contents now (first.front beyond)
+          | inl after ↦ sizes_then h base (kind.state b.medium).contents now (first.front beyond)
               (subst (λ n. ChangesSizesOnly n (kind.state b.medium).contents now) first.data_start
               (then.sizes kept replays (omega (arith, beyond, first.data_start)) there k
               (omega (arith, after)) to))
         ];
-    stored = λ kept whole.
-        let list = accepted_samples kind.state a in
+    stored = λ kept whole. let list = accepted_samples kind.state a in
         let there = first.whole whole in
         let one = first.later kept whole in
         let two = then.later kept there in
@@ -149,8 +142,7 @@ module _ {W : Type 0} (kind : Ghosts W) (modelled : IsTrue kind.tells) where
     call_faults publish c = (c.publishes modelled).faults
 
     -- and unless it met one, the contents end no later than before, or at the end of the data
-    pub call_reach : (asked : Asked) → Did asked
-        → UnlessFailed answer (length (kind.state new.medium).contents
+    pub call_reach : (asked : Asked) → Did asked → UnlessFailed answer (length (kind.state new.medium).contents
         ≤ max (length (kind.state old.medium).contents) (padded_end new))
     call_reach (write containers) a =
         unless_then answer (λ le. omega (arith, le)) (a.file modelled).reach
@@ -223,8 +215,7 @@ module _ {W : Type 0} (kind : Ghosts W) (modelled : IsTrue kind.tells) where
       faults = grows_reported answer (kind.state old.medium) (kind.state new.medium) (c.publishes modelled).faults;
       reach = call_reached publish c;
       later = call_later publish c;
-      sizes = λ kept replays beyond whole k from to.
-          ((c.moments modelled kept).half.each k from to).front;
+      sizes = λ kept replays beyond whole k from to. ((c.moments modelled kept).half.each k from to).front;
       stored = λ kept whole. (c.moments modelled kept).stored whole;
     }
 
@@ -236,8 +227,7 @@ module _ {W : Type 0} (kind : Ghosts W) (modelled : IsTrue kind.tells) where
       (call_went call.answer memory old mid call.asked does) (went calls mid new rest)
 
   -- the first calls of a list led to where the others began
-  pub lead_parts : (before after : List Call) (old new : WriterState W)
-      → Lead kind (before ++ after) old new
+  pub lead_parts : (before after : List Call) (old new : WriterState W) → Lead kind (before ++ after) old new
       → (mid : WriterState W) × Lead kind before old mid
       × Lead kind after mid new
   lead_parts [] after old new lead = (old, (old.batch_memory, refl), lead)
@@ -285,8 +275,7 @@ module _ {W : Type 0} (kind : Ghosts W) (modelled : IsTrue kind.tells) where
       (front_stays calls mid new rest only)
       ∙ by call.asked does writes
     where
-      by : (asked : Asked) → Does kind asked call.answer (with_memory old memory) mid
-          → (asked ≡ publish → ⊥)
+      by : (asked : Asked) → Does kind asked call.answer (with_memory old memory) mid → (asked ≡ publish → ⊥)
           → take old.data_start (kind.state mid.medium).contents
           ≡ take old.data_start (kind.state old.medium).contents
       by (write list) does writes = (does.file modelled).front
@@ -297,8 +286,7 @@ module _ {W : Type 0} (kind : Ghosts W) (modelled : IsTrue kind.tells) where
   begin calls old new given = grind (arith, common_steps)
 
   module _ (kept : IsTrue kind.keeps) where
-    pub later : (calls : List Call) (old new : WriterState W)
-        → Lead kind calls old new → IsWhole kind.state old
+    pub later : (calls : List Call) (old new : WriterState W) → Lead kind calls old new → IsWhole kind.state old
         → Later (kind.state old.medium) (kind.state new.medium)
     later calls old new lead = (went calls old new lead).later kept
 

@@ -78,7 +78,8 @@ pub holds_at_end : (s : WavSpecEx) (file : Begun) (calls : List Call) (m : Mediu
     → length (found_in file ++ accepted_by_all before) % s.spec.channels ≡ 0
     → ReadsAs s (start_of s file) (found_in file ++ accepted_by_all before) m.contents
 holds_at_end s file calls m end before later flush is published none frames =
-    reads_front s (start_of s file) (found_in file ++ accepted_by_all before) (accepted_by_all (flush ∷ later)) m.contents
+    reads_front s (start_of s file) (found_in file ++ accepted_by_all before) (accepted_by_all (flush ∷ later))
+    m.contents
     end.sound.1 (wide_before s file calls before (flush ∷ later) m end is) frames
     (end.lasts before later flush is published none)
     (rw (is, accepted_after (found_in file) before (flush ∷ later)) at end.counts)
@@ -93,7 +94,8 @@ pub holds_at_each : (s : WavSpecEx) (file : Begun) (calls : List Call) (m : Medi
     → ReadsAs s (start_of s file) (found_in file ++ accepted_by_all before) (moment m.start m.past k)
 holds_at_each s file calls m keeps before later after flush k is published none from to frames =
     let p = keeps.promises in
-    let (more, counts) = counted_since s (start_of s file) (found_in file) calls m p.counted p.in_order before later after
+    let (more, counts) = counted_since s (start_of s file) (found_in file) calls m p.counted p.in_order before later
+    after
     flush k is from to in
     reads_front s (start_of s file) (found_in file ++ accepted_by_all before) more (moment m.start m.past k)
     keeps.at_end.sound.1 (wide_before s file calls before (flush ∷ (later ++ after)) m keeps.at_end is) frames

@@ -34,7 +34,8 @@ use Rattle.hound.proofs.Lengths.{front_in_writes, mixed, never_less, old_or_new,
 -- its accepted samples, joined, have the length that it counts
 pub sized : {M : Type 0} (state : M → MediumState) (w : WriterState M) → IsSound w → w.buffered ≡ []
     → IsWhole state w → length (concat (accepted_samples state w)) ≡ data_length w
-sized state w sound none whole = grind (arith, common_steps, concat-samples, length-take-le, length-drop, length_written)
+sized state w sound none whole =
+    grind (arith, common_steps, concat-samples, length-take-le, length-drop, length_written)
 
 -- the result of a call that publishes says whether so many samples are whole frames
 says_frames : {M : Type 0} (answer : Result (Unit {0}) Error) (w : WriterState M) (s : WavSpecEx)
@@ -42,13 +43,11 @@ says_frames : {M : Type 0} (answer : Result (Unit {0}) Error) (w : WriterState M
     → SaysFrames s list answer
 says_frames answer w s list spec count is = grind (arith, common_steps)
 
-if_begun_then : {P Q : Type 0} (s : WavSpecEx) (file : Begun) → IfBegun s file P → (P → Q)
-    → IfBegun s file Q
+if_begun_then : {P Q : Type 0} (s : WavSpecEx) (file : Begun) → IfBegun s file P → (P → Q) → IfBegun s file Q
 if_begun_then s file here on = grind (arith, common_steps)
 
 -- What the first writer of a file has, as its constructor returned it.
-pub record First {W : Type 0} (kind : Ghosts W) (s : WavSpecEx)
-    (file : Begun) (first : WriterState W) : Type 0 where
+pub record First {W : Type 0} (kind : Ghosts W) (s : WavSpecEx) (file : Begun) (first : WriterState W) : Type 0 where
   pub sound : IsSound first
   pub none_buffered : first.buffered ≡ []
   pub sound_spec : IsSoundSpec s
@@ -57,8 +56,7 @@ pub record First {W : Type 0} (kind : Ghosts W) (s : WavSpecEx)
   pub whole : IsTrue kind.tells → IsWhole kind.state first
   pub found : IsTrue kind.tells → accepted_samples kind.state first ≡ found_in file
   pub counts : IsTrue kind.tells → IsCounted kind.state first
-  pub head : IsTrue kind.tells
-      → (len : ℕ) × Head (kind.state first.medium).contents first.spec_ex len first.data_start
+  pub head : IsTrue kind.tells → (len : ℕ) × Head (kind.state first.medium).contents first.spec_ex len first.data_start
   pub begun : IsTrue kind.tells → IfBegun s file (IsBegun kind.state first)
   pub faults : IsTrue kind.tells → (kind.state first.medium).faults ≡ (handed_in file).faults
   pub reach : IsTrue kind.tells → length (kind.state first.medium).contents
@@ -101,8 +99,7 @@ module _ {W : Type 0} (kind : Ghosts W) where
         counts = λ modelled. (a.file modelled).counts (opens.whole modelled);
         head = λ modelled. let f = a.file modelled in (
           data_length first,
-          subst (λ c. Head c first.spec_ex (data_length first) first.data_start)
-              (sym f.puts.stays.contents) f.head,
+          subst (λ c. Head c first.spec_ex (data_length first) first.data_start) (sym f.puts.stays.contents) f.head,
         );
         begun = λ modelled at header. (
           subst (λ (x : WavSpecEx × List ℕ). HasHeader x.0 x.1)
@@ -268,8 +265,7 @@ module _ {W : Type 0} (kind : Ghosts W) where
           )
 
       -- so it has the head of its spec
-      head_at_each : HeadAtEach first.spec_ex first.data_start (accepted_samples kind.state first) calls
-          end
+      head_at_each : HeadAtEach first.spec_ex first.data_start (accepted_samples kind.state first) calls end
       head_at_each k from to =
           let f = fronts k from to in
           let head = is_first.head modelled in
@@ -298,12 +294,10 @@ module _ {W : Type 0} (kind : Ghosts W) where
           record {
             counted = counts;
             head = head_at_each;
-            front = λ k m from along to.
-                let a = (fronts k from (omega (arith, along, to))).0 in
+            front = λ k m from along to. let a = (fronts k from (omega (arith, along, to))).0 in
                 let b = (fronts m (omega (arith, from, along)) to).0 in
                 record { front = b.front ∙ sym a.front; middle = b.middle ∙ sym a.middle };
-            front_in_writes = front_in_writes kind modelled kept replays calls first last
-                lead beyond whole size;
+            front_in_writes = front_in_writes kind modelled kept replays calls first last lead beyond whole size;
             mixed = mixed kind modelled kept replays calls first last lead beyond whole size;
             old_or_new = old_or_new kind modelled kept replays calls first last lead beyond whole size;
             published = published kind modelled kept replays calls first last lead beyond whole size;
@@ -328,12 +322,10 @@ module _ {W : Type 0} (kind : Ghosts W) where
           sound = is_first.sound_spec;
           wide = of_file (λ s start found. AllByRecursion (λ c. length c ≡ s.bytes_per_sample)
               (found ++ accepted_by_all calls)) all_wide;
-          counts = of_file (λ s start found. Counts s start (found ++ accepted_by_all calls)
-              m.contents) counts_at_end;
+          counts = of_file (λ s start found. Counts s start (found ++ accepted_by_all calls) m.contents) counts_at_end;
           lasts = of_file (λ s start found. LastsToEnd s start found calls m) lasts_to_end;
           says = of_file (λ s start found. SaidByFlushes s start found calls m) said_by_flushes;
-          exact = if_begun_then s file (is_first.begun modelled) (λ begun (none, small) before end same
-              asked.
+          exact = if_begun_then s file (is_first.begun modelled) (λ begun (none, small) before end same asked.
               let faults = is_first.faults modelled in
               of_file (λ s start found.
               let list = canonical s (found ++ accepted_by_all before) in
@@ -352,8 +344,7 @@ module _ {W : Type 0} (kind : Ghosts W) where
     keeps_promises kept replays = grind (arith, common_steps, of_file, promised)
 
   -- what a writer left holds what its calls promise
-  pub left_holds : (s : WavSpecEx) (file : Begun) (known : List Known) (medium : W)
-      → Left kind s file known medium
+  pub left_holds : (s : WavSpecEx) (file : Begun) (known : List Known) (medium : W) → Left kind s file known medium
       → WhereTells kind.tells (Holds kind s file known medium)
   unfolding Left
   left_holds s file known medium left modelled =
@@ -361,7 +352,8 @@ module _ {W : Type 0} (kind : Ghosts W) where
       record {
         left = left;
         at_end = subst (λ m. HoldsAtEnd s file r.calls (kind.state m))
-            (sym left.is) (holds_at_end s file r.calls r.first left.last (first_of s file r.first r.opens) r.lead modelled);
+            (sym left.is) (holds_at_end s file r.calls r.first left.last (first_of s file r.first r.opens) r.lead
+            modelled);
       }
 
   pub left_so_far : (s : WavSpecEx) (file : Begun) (known : List Known) (w : WriterState W)
@@ -404,12 +396,11 @@ module _ {W : Type 0} (kind : Ghosts W) where
       let first = first_of s file r.first r.opens in
       record {
         left = left;
-        promised = subst (λ m. Keeps s file r.calls (kind.state m)) (sym left.is)
-            (record {
-              at_end = holds_at_end s file r.calls r.first left.last first r.lead modelled;
-              promises = keeps_promises s file r.calls r.first left.last first r.lead modelled kept
-                  (λ m. replays m modelled kept);
-            });
+        promised = subst (λ m. Keeps s file r.calls (kind.state m)) (sym left.is) (record {
+          at_end = holds_at_end s file r.calls r.first left.last first r.lead modelled;
+          promises = keeps_promises s file r.calls r.first left.last first r.lead modelled kept
+              (λ m. replays m modelled kept);
+        });
       }
 
   -- further calls keep what all of them promise
@@ -429,7 +420,8 @@ module _ {W : Type 0} (kind : Ghosts W) where
         accepts_calls modelled s file known mid r,
         record {
           at_end = holds_at_end s file (r.calls ++ later) r.first w first all modelled;
-          promises = keeps_promises s file (r.calls ++ later) r.first w first all modelled kept (λ m. replays m modelled kept);
+          promises = keeps_promises s file (r.calls ++ later) r.first w first all modelled kept
+              (λ m. replays m modelled kept);
         },
       )
 
@@ -450,8 +442,8 @@ module _ {W : Type 0} (kind : Ghosts W) where
       ((went kind modelled r.calls r.first left.last r.lead).front
       (omega (arith, a.sound.after_head)))
 
--- What survives in a medium of this past that was flushed up to f, no earlier than the flushes of
--- these calls did, and then wrote bytes at ascending places only, if what a loss leaves counts.
+-- What survives in a medium of this past that was flushed up to f, no earlier than the flushes of these calls did, and
+-- then wrote bytes at ascending places only, if what a loss leaves counts.
 pub survives_counted : (s : WavSpecEx) (start : ℕ) (found : List (List ℕ)) (calls : List Call)
     (medium : MediumState) (f n : ℕ) → Promises s start found calls medium
     → medium.flushed ≤ f → f ≤ length medium.past → Ascends medium.past f (length medium.past)
@@ -461,8 +453,7 @@ pub survives_counted : (s : WavSpecEx) (start : ℕ) (found : List (List ℕ)) (
     → Counts s start (found ++ accepted_by_all calls) contents)
     → SurvivesAtEnd s start found calls (record medium { flushed = f; faults = n })
 survives_counted s start found calls medium f n p later within ascends counts = record {
-  header = λ front after flush at has_all.
-      let parts = at ∙ sym (append_assoc front (flush ∷ []) after) in
+  header = λ front after flush at has_all. let parts = at ∙ sym (append_assoc front (flush ∷ []) after) in
       omega (
         arith,
         p.flushed front after flush at has_all,

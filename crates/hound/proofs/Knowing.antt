@@ -72,8 +72,7 @@ pub at_ok : {T E P : Type 0} (r : Result T E) → is_ok r ≡ true → OnOk r P 
 at_ok r is here = grind (arith, common_steps)
 
 -- calls that steps asked
-pub known_steps : (s : WavSpecEx) (steps : List Step) (calls : List Call)
-    → asked_by_all calls ≡ map (asked_by s) steps
+pub known_steps : (s : WavSpecEx) (steps : List Step) (calls : List Call) → asked_by_all calls ≡ map (asked_by s) steps
     → AreKnown (map (λ step. made (asked_by s step)) steps) calls
 known_steps s [] [] asked = tt
 known_steps s (step ∷ steps) (call ∷ calls) asked =

@@ -25,8 +25,7 @@ later_still a = record {
 pub later_then : (a b c : MediumState) → Later a b → Later b c → Later a c
 later_then a b c = join (λ _ _. ⊤) 0 a b c
 
-pub span_later : (At : ℕ → List ℕ → Type 0) (split : ℕ) (old new : MediumState)
-    → Span At split old new → Later old new
+pub span_later : (At : ℕ → List ℕ → Type 0) (split : ℕ) (old new : MediumState) → Span At split old new → Later old new
 span_later At split old new span =
     record {
       start = span.start;
@@ -58,6 +57,5 @@ pub grow_then : (a b c : MediumState) → FaultsGrow a b → FaultsGrow b c → 
 grow_then a b c first then small = grind (arith, common_steps)
 
 -- no fault in the whole is none in either part
-pub no_fault_parts : (a b c : MediumState) → FaultsGrow a b → FaultsGrow b c → NoFault a c
-    → NoFault a b × NoFault b c
+pub no_fault_parts : (a b c : MediumState) → FaultsGrow a b → FaultsGrow b c → NoFault a c → NoFault a b × NoFault b c
 no_fault_parts a b c first then (same, small) = grind (arith, common_steps)

@@ -1,6 +1,5 @@
--- The bytes before the data in each state of a list of calls: they stay while samples are written, and
--- in a patch the data length is mixed; what a flush has published is counted until the next one, and
--- never undercut.
+-- The bytes before the data in each state of a list of calls: they stay while samples are written, and in a patch the
+-- data length is mixed; what a flush has published is counted until the next one, and never undercut.
 use Rattle.std.proofs.lemmas.Grind.{common_steps}
 use Rattle.std.proofs.Common.{◌≡◌, ℕ, ◌+◌, ◌-◌, ◌<◌, ◌≤◌, min, ◌⊎◌, List, [], ◌∷◌, ◌++◌, length, take, Result, IsTrue, refl, sym, ◌∙◌, ap, subst, arith, inl, inr}
 use Rattle.std.proofs.lemmas.Bool.{cases_lt}
@@ -28,10 +27,9 @@ outside_within p hi a b end k later ends each i since to at before = grind (arit
 module _ {W : Type 0} (kind : Ghosts W) (modelled : IsTrue kind.tells) (kept : IsTrue kind.keeps)
     (replays : (m : W) → (kind.state m).contents ≡ overlay (kind.state m).start (kind.state m).past)
     (p : ℕ) (P : ℕ → Type 0) where
-  -- a call that writes leaves the field at p, and one that publishes and cuts no write of it gives it
-  -- the length of all that was accepted
-  call_field : (asked : Asked) (answer : Result (Unit {0}) Error) (memory : List ℕ)
-      (old new : WriterState W)
+  -- a call that writes leaves the field at p, and one that publishes and cuts no write of it gives it the length of all
+  -- that was accepted
+  call_field : (asked : Asked) (answer : Result (Unit {0}) Error) (memory : List ℕ) (old new : WriterState W)
       → Does kind asked answer (with_memory old memory) new → p ≡ old.data_start - 4
       → 4 ≤ old.data_start → IsWhole kind.state old → P (field p (kind.state old.medium).contents)
       → (k : ℕ) → length (kind.state old.medium).past ≤ k → k ≤ length (kind.state new.medium).past
@@ -45,8 +43,7 @@ module _ {W : Type 0} (kind : Ghosts W) (modelled : IsTrue kind.tells) (kept : I
       (omega (arith, at, beyond)) (((does.moments modelled kept).front whole).each k from to)))) has_it
   call_field publish answer memory old new does at beyond whole has_it k from to (inl none) =
       absurd (none refl)
-  call_field publish answer memory old new does at beyond whole has_it k from to
-      (inr (all, outside)) =
+  call_field publish answer memory old new does at beyond whole has_it k from to (inr (all, outside)) =
       let or_new : IsOldOrNew p (field p (kind.state old.medium).contents) (data_length old)
       (kind.state old.medium) (kind.state new.medium) =
       subst (λ n. IsOldOrNew n (field n (kind.state old.medium).contents) (data_length old)
@@ -56,8 +53,8 @@ module _ {W : Type 0} (kind : Ghosts W) (modelled : IsTrue kind.tells) (kept : I
         | inr is ↦ subst P (sym is) all
       ]
 
-  -- so in each state the field has what it had, if calls only write, or if all that may be accepted
-  -- has it too and no write of the field is cut
+  -- so in each state the field has what it had, if calls only write, or if all that may be accepted has it too and no
+  -- write of the field is cut
   stays : (calls : List Call) (old new : WriterState W) → Lead kind calls old new
       → p ≡ old.data_start - 4 → 4 ≤ old.data_start → IsWhole kind.state old
       → P (field p (kind.state old.medium).contents)
@@ -84,25 +81,21 @@ module _ {W : Type 0} (kind : Ghosts W) (modelled : IsTrue kind.tells) (kept : I
       let here = call_field call.asked call.answer memory old mid does at beyond whole has_it j
       (omega (arith, from, up)) (omega arith) (elim fine [
         | inl writes ↦ inl writes.0
-        | inr (grows, uncut) ↦
-            inr (
-              grows (data_length old) (omega arith),
-              outside_within p (begins_at calls end.past) (kind.state old.medium) (kind.state mid.medium) end j
-                  then ends
-                  (λ i since less before is.
-                  let four = uncut [] calls call i refl (omega (arith, since, begins)) less
-                  (omega (arith, before)) is in
-                  (four.0, omega (arith, four.0, four.1, ends))),
-            )
+        | inr (grows, uncut) ↦ inr (
+          grows (data_length old) (omega arith),
+          outside_within p (begins_at calls end.past) (kind.state old.medium) (kind.state mid.medium) end j then ends
+              (λ i since less before is.
+              let four = uncut [] calls call i refl (omega (arith, since, begins)) less
+              (omega (arith, before)) is in
+              (four.0, omega (arith, four.0, four.1, ends))),
+        )
       ]) in
       elim (cases_lt last k) [
-        | inr within ↦
-            let e : j ≡ k = omega (arith, within) in
+        | inr within ↦ let e : j ≡ k = omega (arith, within) in
             subst (λ c. P (field p c))
             (ap (moment (kind.state mid.medium).start (kind.state mid.medium).past) e
             ∙ same_moment (kind.state mid.medium) end k then within) here
-        | inl after ↦
-            let e : j ≡ last = omega (arith, after) in
+        | inl after ↦ let e : j ≡ last = omega (arith, after) in
             stays calls mid new rest (at ∙ ap (λ n. n - 4) (sym t.data_start))
             (omega (arith, beyond, t.data_start)) (t.whole whole)
             (subst (λ c. P (field p c))
@@ -110,13 +103,12 @@ module _ {W : Type 0} (kind : Ghosts W) (modelled : IsTrue kind.tells) (kept : I
             ∙ moment_last (kind.state mid.medium) (replays mid.medium)) here) k (omega (arith, after)) to
             (elim fine [
               | inl writes ↦ inl writes.1
-              | inr (grows, uncut) ↦
-                  inr (
-                    λ n le. grows n (omega (arith, le, t.size)),
-                    λ before rest one i is since less first place.
-                        uncut (call ∷ before) rest one i (ap (λ l. call ∷ l) is) since less first
-                        place,
-                  )
+              | inr (grows, uncut) ↦ inr (
+                λ n le. grows n (omega (arith, le, t.size)),
+                λ before rest one i is since less first place.
+                    uncut (call ∷ before) rest one i (ap (λ l. call ∷ l) is) since less first
+                    place,
+              )
             ])
       ]
 
@@ -150,8 +142,7 @@ module _ {W : Type 0} (kind : Ghosts W) (modelled : IsTrue kind.tells) (kept : I
         → moment (kind.state next.medium).start (kind.state next.medium).past k ≡ moment end.start end.past k
     first : moment end.start end.past call.began ≡ (kind.state mid.medium).contents
 
-  call_of : (before after : List Call) (call : Call) → calls ≡ before ++ (call ∷ after)
-      → CallOf before after call
+  call_of : (before after : List Call) (call : Call) → calls ≡ before ++ (call ∷ after) → CallOf before after call
   call_of before after call same =
       let m = made kind modelled calls before after call old new same lead in
       let w = m.earlier in
@@ -193,8 +184,7 @@ module _ {W : Type 0} (kind : Ghosts W) (modelled : IsTrue kind.tells) (kept : I
       (((does.moments modelled kept).front whole).each k from to)
   front_of publish answer memory a b does writes whole k from to = absurd (writes refl)
 
-  pub front_in_writes : FrontInWrites old.spec_ex old.data_start (accepted_samples kind.state old) calls
-      end
+  pub front_in_writes : FrontInWrites old.spec_ex old.data_start (accepted_samples kind.state old) calls end
   front_in_writes before after call k same writes from to =
       let c = call_of before after call same in
       grind (arith, common_steps, front_of)
@@ -209,16 +199,14 @@ module _ {W : Type 0} (kind : Ghosts W) (modelled : IsTrue kind.tells) (kept : I
         omega (arith, c.began, p.puts.later),
         λ k m le. (omega (arith, le), omega arith),
         λ has_all. omega (arith, c.ended, where_marked patch.answer has_all.1 p.whole),
-        λ k from to.
-            let since : length (kind.state c.mid.medium).past ≤ k = omega (arith, from, c.began) in
+        λ k from to. let since : length (kind.state c.mid.medium).past ≤ k = omega (arith, from, c.began) in
             let until : k ≤ length (kind.state c.next.medium).past = omega (arith, to, c.ended) in
             let few : k - p.split ≡ min 4 (k - p.split) = omega (arith, until, p.puts.within) in (
               subst (λ (x : (ℕ × ℕ) × (ℕ × (List ℕ × List ℕ))).
                   field (x.0.0 - 4) x.1.1.0 ≡ mix x.0.1 (field (x.0.0 - 4) x.1.1.1) x.1.0)
                   (λ i. ((c.start i, few i), (c.all i, (c.still k to i, sym c.first i))))
                   (p.half.each k since until).length_is,
-              λ some.
-                  let split : p.split < k = omega (arith, some) in
+              λ some. let split : p.split < k = omega (arith, some) in
                   let last : p.split < length (kind.state c.next.medium).past =
                   omega (arith, split, until) in
                   omega (
@@ -233,8 +221,7 @@ module _ {W : Type 0} (kind : Ghosts W) (modelled : IsTrue kind.tells) (kept : I
             ),
       )
 
-  pub old_or_new : OldOrNewInPatches old.spec_ex old.data_start (accepted_samples kind.state old) calls
-      end
+  pub old_or_new : OldOrNewInPatches old.spec_ex old.data_start (accepted_samples kind.state old) calls end
   old_or_new before after patch k same asked from to uncut =
       let c = call_of before after patch same in
       let does = subst (λ a. Does kind a patch.answer (with_memory c.mid c.memory)
@@ -282,8 +269,7 @@ module _ {W : Type 0} (kind : Ghosts W) (modelled : IsTrue kind.tells) (kept : I
       (omega (arith, from, begin kind modelled (then ++ after) f.next new f.rest))
       (omega (arith, to, begin kind modelled after far new rest)) (inl only))
 
-  pub never_less : NeverLess old.spec_ex old.data_start (accepted_samples kind.state old) calls
-      (kind.state new.medium)
+  pub never_less : NeverLess old.spec_ex old.data_start (accepted_samples kind.state old) calls (kind.state new.medium)
   never_less before after flush k same has_all from to uncut =
       let (f, says, all) = flushed before after flush same has_all in
       let n = length (concat (accepted_samples kind.state old ++ accepted_by_all before)) in

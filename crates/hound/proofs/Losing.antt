@@ -81,18 +81,16 @@ next start past m less =
     let x : ℕ × ℕ = get_or past m (0, 0) in
     (x.1, ap (moment start past) (sym e) ∙ overlay_more start past m (0, 0) less)
 
-longer_then : {P : Type 0} (n : ℕ) (a b : List ℕ) → length a ≤ length b → P ⊎ (n < length a)
-    → P ⊎ (n < length b)
+longer_then : {P : Type 0} (n : ℕ) (a b : List ℕ) → length a ≤ length b → P ⊎ (n < length a) → P ⊎ (n < length b)
 longer_then n a b le given = grind (arith, common_steps)
 
 -- States from f to k between which bytes went to ascending places, with all that is before the data.
 module _ (h f k : ℕ) (start : List ℕ) (past : List (ℕ × ℕ)) (beyond : 20 ≤ h)
     (within : k ≤ length past) (ascends : Ascends past f k)
     (long : (j : ℕ) → f ≤ j → j ≤ k → h ≤ length (moment start past j)) where
-  -- What holds of a state since it holds of the next one, where a byte before the data is written,
-  -- and else since its data length is that of a later state.
-  back : (j : ℕ) (X : ℕ → Type 0)
-      → ((m : ℕ) → f ≤ m → m < k → place_of past m < h → X (suc m) → X m)
+  -- What holds of a state since it holds of the next one, where a byte before the data is written, and else since its
+  -- data length is that of a later state.
+  back : (j : ℕ) (X : ℕ → Type 0) → ((m : ℕ) → f ≤ m → m < k → place_of past m < h → X (suc m) → X m)
       → ((m : ℕ) → f ≤ m → m ≤ j
       → field (h - 4) (moment start past m) ≡ field (h - 4) (moment start past j) → X m)
       → (d m : ℕ) → f ≤ m → m + d ≡ j → j ≤ k
@@ -111,33 +109,29 @@ module _ (h f k : ℕ) (start : List ℕ) (past : List (ℕ × ℕ)) (beyond : 2
           over m from less low rest.0,
           λ high. absurd (omega (arith, low, high m (omega arith) (omega (arith, is)))),
         )
-        | inr high ↦
-            let at = moment start past in
+        | inr high ↦ let at = moment start past in
             let one = next start past m (omega (arith, less, within)) in
             let front : take h (at (suc m)) ≡ take h (at m) =
             ap (take h) one.1
             ∙ take_overlay_before (one.0 ∷ []) h p (at m) high (long m from (omega (arith, less))) in
             let says : field (h - 4) (at m) ≡ field (h - 4) (at j) =
             sym (ap number (front_part h (h - 4) 4 (at (suc m)) (at m) (omega (arith, beyond)) front))
-            ∙ rest.1 (λ t le before. omega (arith, high, ascends m t from (omega (arith, le)) (omega (arith, before, to)))) in
+            ∙ rest.1 (λ t le before.
+            omega (arith, high, ascends m t from (omega (arith, le)) (omega (arith, before, to)))) in
             (same m from (omega (arith, is)) says, λ _. says)
       ]
 
-  -- If in each state the data length is n or more than that is held, that is so of the data length
-  -- of one state and of what another holds.
-  pub either_survives : (n : ℕ)
-      → ((j : ℕ) → f ≤ j → j ≤ k → (field (h - 4) (moment start past j) ≡ n)
+  -- If in each state the data length is n or more than that is held, that is so of the data length of one state and of
+  -- what another holds.
+  pub either_survives : (n : ℕ) → ((j : ℕ) → f ≤ j → j ≤ k → (field (h - 4) (moment start past j) ≡ n)
       ⊎ (h + n < length (moment start past j)))
       → (j m : ℕ) → f ≤ j → j ≤ k → f ≤ m → m ≤ k
       → (field (h - 4) (moment start past j) ≡ n) ⊎ (h + n < length (moment start past m))
   either_survives n either j m from to since until =
       let at = moment start past in
       elim (cases_lt m j) [
-        | inr after ↦
-            longer_then (h + n) (at j) (at m) (moments_grow start past j m after) (either j from to)
-        | inl before ↦
-            (back j (λ m. (field (h - 4) (at j) ≡ n) ⊎ (h + n < length (at m)))
-            (λ m from less low.
+        | inr after ↦ longer_then (h + n) (at j) (at m) (moments_grow start past j m after) (either j from to)
+        | inl before ↦ (back j (λ m. (field (h - 4) (at j) ≡ n) ⊎ (h + n < length (at m))) (λ m from less low.
             let one = next start past m (omega (arith, less, within)) in
             longer_then (h + n) (at (suc m)) (at m) (omega (
               arith,
@@ -150,8 +144,8 @@ module _ (h f k : ℕ) (start : List ℕ) (past : List (ℕ × ℕ)) (beyond : 2
             (either m from (omega (arith, le, to)))) (j - m) m since (omega (arith, before)) to).0
       ]
 
--- A file whose data begin at h, whose past has bytes at ascending places from f to k: in each of
--- these states what the data length covers of these bytes is stored, and stays so.
+-- A file whose data begin at h, whose past has bytes at ascending places from f to k: in each of these states what the
+-- data length covers of these bytes is stored, and stays so.
 module _ (h : ℕ) (bytes base start : List ℕ) (past : List (ℕ × ℕ)) (cover : ℕ → ℕ) (f k : ℕ)
     (beyond : 20 ≤ h) (within : k ≤ length past) (ascends : Ascends past f k)
     (long : (j : ℕ) → f ≤ j → j ≤ k → h ≤ length (moment start past j))
@@ -167,8 +161,7 @@ module _ (h : ℕ) (bytes base start : List ℕ) (past : List (ℕ × ℕ)) (cov
   says j = field (h - 4) (at j)
 
   -- what a later state's data length covers was stored in each earlier one
-  earlier : (j m : ℕ) → f ≤ m → m ≤ j → j ≤ k
-      → take (cover (says j)) (drop h (at m)) ≡ take (cover (says j)) bytes
+  earlier : (j m : ℕ) → f ≤ m → m ≤ j → j ≤ k → take (cover (says j)) (drop h (at m)) ≡ take (cover (says j)) bytes
   earlier j m from le to =
       (back h f k start past beyond within ascends long j
       (λ m. take (cover (says j)) (drop h (at m)) ≡ take (cover (says j)) bytes)
@@ -230,8 +223,7 @@ module _ (h : ℕ) (bytes base start : List ℕ) (past : List (ℕ × ℕ)) (cov
         anywhere chosen s.0 chosen_from chosen_to s.1 s.2))
 
     -- and so is the head
-    head_after : (s : WavSpecEx) (len : ℕ) → Head base s len h → h ≤ length base
-        → Head c s (field (h - 4) c) h
+    head_after : (s : WavSpecEx) (len : ℕ) → Head base s len h → h ≤ length base → Head c s (field (h - 4) c) h
     head_after s len head whole =
         let n = h - 4 - 8 in
         let middle = take n (drop 8 base) in
@@ -249,8 +241,15 @@ module _ (h : ℕ) (bytes base start : List ℕ) (past : List (ℕ × ℕ)) (cov
         head_with base s len h head c (omega (arith, inside)) front
         (sym (between_is c 8 (h - 4)) ∙ rest ∙ between_is base 8 (h - 4))
 
-    pub left_after : (s : WavSpecEx) (len : ℕ) → Head base s len h → h ≤ length base
-        → (field (h - 4) c ≡ says chosen)
+    pub left_after : (s : WavSpecEx) (len : ℕ) → Head base s len h → h ≤ length base → (field (h - 4) c ≡ says chosen)
         × (take (cover (field (h - 4) c)) (drop h c) ≡ take (cover (field (h - 4) c)) bytes)
         × (cover (field (h - 4) c) ≤ length bytes) × Head c s (field (h - 4) c) h
-    left_after s len head whole = grind (arith, common_steps, says_chosen, stored_after, chosen_from, chosen_to, head_after)
+    left_after s len head whole = grind (
+      arith,
+      common_steps,
+      says_chosen,
+      stored_after,
+      chosen_from,
+      chosen_to,
+      head_after,
+    )

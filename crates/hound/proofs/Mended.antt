@@ -1,4 +1,5 @@
--- What a loss of power leaves of a recording that was cut off, within the first checkpoint of the recorder that mends it.
+-- What a loss of power leaves of a recording that was cut off, within the first checkpoint of the recorder that mends
+-- it.
 use Rattle.std.proofs.lemmas.Grind.{common_steps}
 use Rattle.std.proofs.lemmas.List.{length-take-le, take-take}
 use Rattle.std.proofs.Common.{◌≡◌, ℕ, zero, suc, ◌+◌, ◌-◌, ◌*◌, ◌/◌, ◌%◌, ◌≤◌, Bool, List, [], ◌∷◌, ◌++◌, length, take, drop, Result, Ok, sym, ◌∙◌, ap, subst, arith, append-nil, length-drop, length-take}
@@ -115,7 +116,8 @@ module _ (start n : ℕ) (base : List ℕ) (beyond : 20 ≤ start) where
 module _ (f : FoundFile) (n : ℕ) (old end : Log) (result : Result (Unit {0}) IoFault) (clean : Bool)
     (cut : IsCutOff f n old.state) (synced : IsSynced old.state)
     (whole : n % f.spec_ex.bytes_per_sample ≡ 0) (some : 1 ≤ f.spec_ex.bytes_per_sample)
-    (did : Performed (first_effects f.data_start n old.state.contents (head_beyond old.state.contents f.spec_ex f.data_length f.data_start cut.head) clean) result old end) where
+    (did : Performed (first_effects f.data_start n old.state.contents
+    (head_beyond old.state.contents f.spec_ex f.data_length f.data_start cut.head) clean) result old end) where
   abbrev s : WavSpecEx
   s = f.spec_ex
 
@@ -192,8 +194,8 @@ module _ (f : FoundFile) (n : ℕ) (old end : Log) (result : Result (Unit {0}) I
           (j, within, says),
         )
 
--- what is left counts no more than the samples that the recorder keeps, and as many as before or all of these, unless only
--- some bytes of the data length are new
+-- what is left counts no more than the samples that the recorder keeps, and as many as before or all of these, unless
+-- only some bytes of the data length are new
 pub mended_survives : (f : FoundFile) (mends overwrites : Bool) (old end : Log) (r : Recorder)
     (result : Result (Unit {0}) IoFault) → Resumes f mends overwrites (Ok r) → IsCutOff f r.data_length old.state
     → IsSynced old.state → Performed (effects_of r) result old end → (sector : ℕ) (left : List ℕ) → 1 ≤ sector
@@ -207,9 +209,11 @@ mended_survives f mends overwrites old end r result resumes cut synced did secto
     let width = f.spec_ex.bytes_per_sample in
     let (frames, is) = whole_frames n f.spec_ex.spec.channels width takes.2 in
     let whole : n % width ≡ 0 = ap (λ k. k % width) is ∙ mul-mod_left (frames * f.spec_ex.spec.channels) width in
-    let performed : Performed (if is_sound r.health then checkpoint f.data_start n else Sync ∷ checkpoint f.data_start n) result old end =
+    let performed : Performed (if is_sound r.health then checkpoint f.data_start n else Sync ∷ checkpoint f.data_start
+    n) result old end =
     rw at at did in
-    let (counts, says) = counted_then f n old end result (is_sound r.health) cut synced whole cut.sound.1 performed sector left wide one lost in
+    let (counts, says) = counted_then f n old end result (is_sound r.health) cut synced whole cut.sound.1 performed
+    sector left wide one lost in
     let size : n + 0 ≡ n = omega arith in
     let bytes = take n (drop f.data_start old.state.contents) in
     grind (arith, common_steps, append-nil)

@@ -27,8 +27,7 @@ module _ {W : Type 0} (kind : Ghosts W) (modelled : IsTrue kind.tells) where
         last,
         before_are,
         after_are,
-        accepts_calls kind modelled s file _ w r
-            ∙ ap (λ l. found_in file ++ accepted_by_all l) parts
+        accepts_calls kind modelled s file _ w r ∙ ap (λ l. found_in file ++ accepted_by_all l) parts
             ∙ accepted_after (found_in file) first (flush ∷ last)
             ∙ ap (λ asked. (found_in file ++ accepted_by_all first)
             ++ (accepted_of asked (mark_of flush.answer) ++ accepted_by_all last)) published.0,
@@ -49,7 +48,8 @@ module _ {W : Type 0} (kind : Ghosts W) (modelled : IsTrue kind.tells) where
       let call : Call = call_at kind publish (Ok tt) w in
       let lead = lead_more kind r.calls publish (Ok tt) r.first w last r.lead (leaves kind (Ok tt) w last finishes) in
       let end : HoldsAtEnd s file (r.calls ++ (call ∷ [])) m =
-      holds_at_end kind s file (r.calls ++ (call ∷ [])) r.first last (first_of kind s file r.first r.opens) lead modelled in (
+      holds_at_end kind s file (r.calls ++ (call ∷ [])) r.first last (first_of kind s file r.first r.opens) lead
+      modelled in (
         r.calls,
         r.are_known,
         accepts_calls kind modelled s file known w r,

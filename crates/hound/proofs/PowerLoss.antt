@@ -100,17 +100,16 @@ during (one ∷ before) after call medium j from to =
         to = here;
         earlier = refl;
       }
-      | inl later ↦
-          let d = during before after call medium j (omega (arith, later)) to in record {
-            first = one ∷ d.first;
-            rest = d.rest;
-            call = d.call;
-            others = d.others;
-            parts = ap (λ l. one ∷ l) d.parts;
-            from = d.from;
-            to = d.to;
-            earlier = ap (λ l. one ∷ l) d.earlier;
-          }
+      | inl later ↦ let d = during before after call medium j (omega (arith, later)) to in record {
+        first = one ∷ d.first;
+        rest = d.rest;
+        call = d.call;
+        others = d.others;
+        parts = ap (λ l. one ∷ l) d.parts;
+        from = d.from;
+        to = d.to;
+        earlier = ap (λ l. one ∷ l) d.earlier;
+      }
     ]
 
 -- Calls in each of whose states the samples count, and what is stored stays so.
@@ -137,8 +136,7 @@ module _ (s : WavSpecEx) (h len : ℕ) (found : List (List ℕ)) (calls : List C
   list before = found ++ accepted_by_all before
 
   -- what was accepted before others comes first
-  earlier : (first others : List Call)
-      → list (first ++ others) ≡ list first ++ accepted_by_all others
+  earlier : (first others : List Call) → list (first ++ others) ≡ list first ++ accepted_by_all others
   earlier first others = grind (arith, common_steps)
 
   pub wide_before : (before after : List Call) → calls ≡ before ++ after → AreWide w (list before)
@@ -214,14 +212,13 @@ module _ (s : WavSpecEx) (h len : ℕ) (found : List (List ℕ)) (calls : List C
       let q = (v + (w - 1)) / w in
       let among : q ≤ length all =
       elim (cases_lt (length all) q) [
-        | inl over ↦
-            absurd (omega (
-              arith,
-              some,
-              few,
-              length-concat w all wide_all,
-              mul-le (suc (length all)) w q w (omega (arith, over)) (omega arith),
-            ))
+        | inl over ↦ absurd (omega (
+          arith,
+          some,
+          few,
+          length-concat w all wide_all,
+          mul-le (suc (length all)) w q w (omega (arith, over)) (omega arith),
+        ))
         | inr under ↦ under
       ] in
       let chosen = lost.sectors ((h - 4) / sector) in (
@@ -246,14 +243,13 @@ module _ (s : WavSpecEx) (h len : ℕ) (found : List (List ℕ)) (calls : List C
               (λ _ _ _. omega arith) (λ _ _ _ _ _. refl)
               (λ j since until. sizes j (omega (arith, begun, since)) until) sector sized one c lost,
         ),
-        λ before after flush same has_all uncut.
-            omega (
-              arith,
-              uncut.3,
-              never before after flush uncut.0 same has_all
-                  (omega (arith, flushed before after flush same has_all, later, uncut.1)) uncut.2
-                  uncut.4,
-            ),
+        λ before after flush same has_all uncut. omega (
+          arith,
+          uncut.3,
+          never before after flush uncut.0 same has_all
+              (omega (arith, flushed before after flush same has_all, later, uncut.1)) uncut.2
+              uncut.4,
+        ),
       )
 
   pub after_losses : NeverLess s h found calls end → FlushedByFlushes s h found calls end

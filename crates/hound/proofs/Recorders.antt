@@ -43,8 +43,7 @@ module _ (s : WavSpecEx) (file : Begun) (known : List Known) (w : WriterState Lo
   abbrev m : MediumState
   m = w.medium.state
 
-  kept_within : (high : ℕ) → IsOrdered high m
-      → KeptWithin log_kind s file known w.medium m
+  kept_within : (high : ℕ) → IsOrdered high m → KeptWithin log_kind s file known w.medium m
   kept_within high order =
       let p = kept.promised.promises in
       record {
@@ -54,19 +53,18 @@ module _ (s : WavSpecEx) (file : Begun) (known : List Known) (w : WriterState Lo
             m.flushed m.faults p (omega arith) order.within order.ascends
             (counted_after_loss log_kind refl refl (λ m. m.replays) s file known w.medium kept
             m.flushed order.within order.ascends);
-        left_after = λ before after flush at has_all sector contents some one lost.
-            inr (inr (
-              m.flushed,
-              length m.past,
-              sector,
-              p.flushed before after flush at has_all,
-              order.within,
-              omega arith,
-              order.ascends,
-              some,
-              one,
-              lost,
-            ));
+        left_after = λ before after flush at has_all sector contents some one lost. inr (inr (
+          m.flushed,
+          length m.past,
+          sector,
+          p.flushed before after flush at has_all,
+          order.within,
+          omega arith,
+          order.ascends,
+          some,
+          one,
+          lost,
+        ));
       }
 
   -- the samples that the file had and those that its calls accepted
@@ -85,7 +83,8 @@ module _ (s : WavSpecEx) (file : Begun) (known : List Known) (w : WriterState Lo
       let here : accepted_samples log_kind.state w ≡ list =
       went.accepted (first.whole refl) ∙ ap (λ l. l ++ accepted_by_all recorded.calls) (first.found refl) in (
         went.data_start ∙ first.start,
-        sym (ap (λ l. length (concat l)) here) ∙ sized log_kind.state w idle.sound idle.none (went.whole (first.whole refl))
+        sym (ap (λ l. length (concat l)) here)
+            ∙ sized log_kind.state w idle.sound idle.none (went.whole (first.whole refl))
             ∙ length_written log_kind.state w idle.none,
       )
 
@@ -115,7 +114,8 @@ module _ (s : WavSpecEx) (file : Begun) (known : List Known) (w : WriterState Lo
       sym (ap (take (counts.samples * width)) (concat_front counts.samples list)
       ∙ take_at (concat first) (concat (drop counts.samples list)) (counts.samples * width) first_size) in
       let stored : take (counts.samples * width) (drop start cut) ≡ take (counts.samples * width) (concat list) =
-      front_part far start (counts.samples * width) cut contents (omega (arith, few, size)) same ∙ counts.stored ∙ first_is in
+      front_part far start (counts.samples * width) cut contents (omega (arith, few, size)) same ∙ counts.stored
+      ∙ first_is in
       counts_stored s start counts.samples list cut some wide head_same
       (omega (arith, counts.covers, field_same)) counts.among stored
 
@@ -132,8 +132,7 @@ module _ (s : WavSpecEx) (file : Begun) (known : List Known) (r : Recorder) wher
       let (done, same) = at_none r d.result d.writer.medium d.log none d.performed in
       (d.writer.medium, ap log_kind.state (sym same) ∙ d.state, kept s file known d.writer d.recorded)
 
-  pub directed_survives : (m : MediumState) → Directed s file known r m → r.number ≡ 0
-      → IsSynced (handed_in file)
+  pub directed_survives : (m : MediumState) → Directed s file known r m → r.number ≡ 0 → IsSynced (handed_in file)
       → (log : Log) × (log.state ≡ m) × KeptWithin log_kind s file known log m
   directed_survives m directed none synced =
       let d = directed.in_step in
@@ -180,8 +179,7 @@ module _ (s : WavSpecEx) (file : Begun) (known : List Known) (r : Recorder) wher
       → SurvivesLoss sector m.start m.past m.flushed (length m.past) contents
       → CountsCut kept.left.recorded.calls contents)
 
-  pub directed_cut_survives : (m : MediumState) → Directed s file known r m → r.number ≡ 0
-      → IsSynced (handed_in file)
+  pub directed_cut_survives : (m : MediumState) → Directed s file known r m → r.number ≡ 0 → IsSynced (handed_in file)
       → (log : Log) × (log.state ≡ m) × (kept : KeptWithin log_kind s file known log m)
       × (begins_at kept.left.recorded.calls m.past ≤ m.flushed → (sector : ℕ) (contents : List ℕ) → 1 ≤ sector
       → (start_of s file - 4) / sector ≡ (start_of s file - 1) / sector
@@ -200,7 +198,8 @@ module _ (s : WavSpecEx) (file : Begun) (known : List Known) (r : Recorder) wher
         λ header sector contents some one lost cut agree. counts_cut s file known w d.recorded contents cut
             (head_after_loss log_kind refl refl (λ m. m.replays) s file known w.medium (kept s file known w d.recorded)
             w.medium.state.flushed order.within order.ascends header sector contents some one lost)
-            (counted_after_loss log_kind refl refl (λ m. m.replays) s file known w.medium (kept s file known w d.recorded)
+            (counted_after_loss log_kind refl refl (λ m. m.replays) s file known w.medium
+            (kept s file known w d.recorded)
             w.medium.state.flushed order.within order.ascends header sector contents some one lost)
             (subst (λ n. AgreeTo n cut contents) (end_same r w at d.is long) agree),
       ) in

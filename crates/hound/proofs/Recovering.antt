@@ -80,8 +80,7 @@ module _ (s : WavSpecEx) (h : ℕ) (found : List (List ℕ)) (calls : List Call)
       let start : h + 0 ≡ h = omega arith in
       grind (arith, common_steps, take_all)
 
-  stored_later : (k : ℕ) → from ≤ k → k ≤ length end.past
-      → IsStored h (concat list) 0 (length (concat list)) (at k)
+  stored_later : (k : ℕ) → from ≤ k → k ≤ length end.past → IsStored h (concat list) 0 (length (concat list)) (at k)
   stored_later k since until =
       promises.stored before (flush ∷ after) 0 (length (concat list)) from k same began since until
       (omega arith) stored_at_return
@@ -94,8 +93,8 @@ module _ (s : WavSpecEx) (h : ℕ) (found : List (List ℕ)) (calls : List Call)
   beyond = head_beyond (at from) s (field (h - 4) (at from)) h
       (promises.head from first_began (promises.in_order before (flush ∷ []) after same).1)
 
-  -- that stays so in each state of a call: it writes only, or before a length of more is written all
-  -- of these bytes are there
+  -- that stays so in each state of a call: it writes only, or before a length of more is written all of these bytes are
+  -- there
   in_call : (first rest : List Call) (call : Call) (k : ℕ) → calls ≡ first ++ (call ∷ rest)
       → length (concat list) ≤ length (concat (found ++ accepted_by_all first))
       → CountsOrHolds (at call.began) → call.began ≤ k → k ≤ begins_at rest end.past
@@ -104,11 +103,9 @@ module _ (s : WavSpecEx) (h : ℕ) (found : List (List ℕ)) (calls : List Call)
       inr (omega (arith, longer, moments_grow end.start end.past call.began k low))
   in_call first rest call k parts few (inl says) low high =
       elim (publishes_or call.asked) [
-        | inr writes ↦
-            inl (ap number (front_part h (h - 4) 4 (at k) (at call.began) (omega (arith, beyond))
+        | inr writes ↦ inl (ap number (front_part h (h - 4) 4 (at k) (at call.began) (omega (arith, beyond))
             (promises.front_in_writes first rest call k parts writes low high)) ∙ says)
-        | inl asked ↦
-            let new = length (concat (found ++ accepted_by_all first)) in
+        | inl asked ↦ let new = length (concat (found ++ accepted_by_all first)) in
             let (count, none, grows, whole, each) = promises.mixed first rest call parts asked in
             let here = each k low high in
             let old = field (h - 4) (at call.began) in
@@ -116,23 +113,19 @@ module _ (s : WavSpecEx) (h : ℕ) (found : List (List ℕ)) (calls : List Call)
             ap (λ j. mix j old new) (sym none)
             ∙ sym (each call.began (omega arith) (omega (arith, low, high))).0 in
             elim (cases_lt 0 (count k)) [
-              | inr nothing ↦
-                  let zero : count k ≡ 0 = omega (arith, nothing) in
+              | inr nothing ↦ let zero : count k ≡ 0 = omega (arith, nothing) in
                   inl (here.0 ∙ ap (λ j. mix j old new) zero ∙ unmixed ∙ says)
-              | inl some ↦
-                  elim (cases_lt (length (concat list)) new) [
-                    | inl more ↦ inr (omega (arith, more, here.1 some))
-                    | inr all ↦
-                        let equal : new ≡ old = omega (arith, all, few, says) in
-                        inl (here.0 ∙ ap (mix (count k) old) equal ∙ mix_same (count k) old
-                        ∙ ap (mix 0 old) (sym equal) ∙ unmixed ∙ says)
-                  ]
+              | inl some ↦ elim (cases_lt (length (concat list)) new) [
+                | inl more ↦ inr (omega (arith, more, here.1 some))
+                | inr all ↦ let equal : new ≡ old = omega (arith, all, few, says) in
+                    inl (here.0 ∙ ap (mix (count k) old) equal ∙ mix_same (count k) old
+                    ∙ ap (mix 0 old) (sym equal) ∙ unmixed ∙ says)
+              ]
             ]
       ]
 
   -- a call more accepts no less
-  more : (first : List Call) (call : Call)
-      → length (concat list) ≤ length (concat (found ++ accepted_by_all first))
+  more : (first : List Call) (call : Call) → length (concat list) ≤ length (concat (found ++ accepted_by_all first))
       → length (concat list) ≤ length (concat (found ++ accepted_by_all (first ++ (call ∷ []))))
   more first call few = grind (arith, common_steps, length-concat-append, accepted_parts)
 
@@ -147,8 +140,7 @@ module _ (s : WavSpecEx) (h : ℕ) (found : List (List ℕ)) (calls : List Call)
       let next = begins_at rest end.past in
       elim (cases_lt next k) [
         | inr within ↦ in_call first rest call k parts few here low within
-        | inl after ↦
-            onward rest (first ++ (call ∷ [])) (parts ∙ sym (append_assoc first (call ∷ []) rest))
+        | inl after ↦ onward rest (first ++ (call ∷ [])) (parts ∙ sym (append_assoc first (call ∷ []) rest))
             (more first call few)
             (in_call first rest call next parts few here
             (promises.in_order first (call ∷ []) rest parts).0 (omega arith)) k

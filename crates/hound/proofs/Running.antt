@@ -41,8 +41,7 @@ module _ {M : Type 0} (kind : Ghosts M) where
 pub is_ok : (answer : Result (Unit {0}) Error) → ((e : Error) → answer ≡ Err e → ⊥) → answer ≡ Ok tt
 is_ok answer fine = grind (arith, common_steps)
 
--- Where R says what a list comes to from a state: whatever the part comes to that is left, the whole
--- comes to it too.
+-- Where R says what a list comes to from a state: whatever the part comes to that is left, the whole comes to it too.
 module _ {X S M : Type 0} (R : List X → S → Result (Unit {0}) Error → M → Type 0) where
   abbrev pub Leads : List X → List X → S → S → Type 0
   Leads xs left first now =

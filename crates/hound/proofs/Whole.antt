@@ -43,8 +43,7 @@ part_of_header kind s old back e modelled given =
     )
 
 -- the calls of steps accepted what the steps did, by their marks
-calls_accept : (s : WavSpecEx) (steps : List Step) (calls : List Call)
-    → asked_by_all calls ≡ map (asked_by s) steps
+calls_accept : (s : WavSpecEx) (steps : List Step) (calls : List Call) → asked_by_all calls ≡ map (asked_by s) steps
     → accepted_by_all calls ≡ accepted_by_steps s steps
     (map (λ (call : Call). mark_of call.answer) calls)
 calls_accept s [] [] asked = refl
@@ -55,16 +54,13 @@ calls_accept s (step ∷ steps) (call ∷ calls) asked =
 calls_accept s _ _ asked = cc
 
 module _ {M : Type 0} (kind : Ghosts M) where
-  run_spec : (begin : Begin) (old : M) (w : WriterState M) → BeginsAs kind begin old w
-      → w.spec_ex ≡ begun_spec begin w
+  run_spec : (begin : Begin) (old : M) (w : WriterState M) → BeginsAs kind begin old w → w.spec_ex ≡ begun_spec begin w
   run_spec begin old w begins = grind (arith, common_steps)
 
-  run_beyond : (begin : Begin) (old : M) (w : WriterState M) → BeginsAs kind begin old w
-      → 4 ≤ w.data_start
+  run_beyond : (begin : Begin) (old : M) (w : WriterState M) → BeginsAs kind begin old w → 4 ≤ w.data_start
   run_beyond begin old w begins = grind (arith, common_steps)
 
-  run_opens : (begin : Begin) (old : M) (w : WriterState M) → BeginsAs kind begin old w
-      → IsWhole kind.state w
+  run_opens : (begin : Begin) (old : M) (w : WriterState M) → BeginsAs kind begin old w → IsWhole kind.state w
       → Opens kind (begun_spec begin w) (file_of kind.state begin old w) w
   run_opens begin old w begins whole = grind (arith, common_steps)
 
@@ -89,8 +85,7 @@ module _ {M : Type 0} (kind : Ghosts M) where
       → ((m : M)
       → WhereKeeps kind.tells kind.keeps ((kind.state m).contents ≡ overlay (kind.state m).start (kind.state m).past))
       → Ran kind begin steps marks end old answer medium
-  ran begin steps marks end old answer finished medium first last calls begins lead asked marked ends
-      modelled replays =
+  ran begin steps marks end old answer finished medium first last calls begins lead asked marked ends modelled replays =
       let all = calls ++ (end_call kind.state last finished ∷ []) in
       let w = ended kind last medium in
       let leads = all_lead calls first last finished medium lead ends in
@@ -107,8 +102,7 @@ module _ {M : Type 0} (kind : Ghosts M) where
         marked = marked;
         ends = ends;
         reported = modelled;
-        front = λ modelled. (went kind modelled all first w leads).front
-            (run_beyond begin old first begins);
+        front = λ modelled. (went kind modelled all first w leads).front (run_beyond begin old first begins);
         holds = λ modelled whole. holds_at_end kind s file all first w
             (first_of kind s file first (run_opens begin old first begins whole)) leads
             modelled;
@@ -135,14 +129,12 @@ module _ {M : Type 0} {kind : Ghosts M} {s : WavSpecEx}
       subst (λ l. StartsWith (kind.state medium).contents (canonical s l)) steps_accepted exact.0 in
       grind (arith, common_steps, take_all, steps_accepted)
 
-  pub new_canonical : IsTrue kind.tells → end ≡ Finalize
-      → OnOk answer
+  pub new_canonical : IsTrue kind.tells → end ≡ Finalize → OnOk answer
       (StartsWith (kind.state medium).contents (canonical s (accepted_by_steps s steps marks)))
   new_canonical modelled is_finalize =
       go answer (subst (λ e. EndsAs e answer r.finished) is_finalize r.reported)
     where
-      go : (answer : Result (Unit {0}) Error) → answer ≡ r.finished
-          → OnOk answer
+      go : (answer : Result (Unit {0}) Error) → answer ≡ r.finished → OnOk answer
           (StartsWith (kind.state medium).contents (canonical s (accepted_by_steps s steps marks)))
       go (Ok x) is =
           subst (λ l. StartsWith (kind.state medium).contents (canonical s l)) steps_accepted

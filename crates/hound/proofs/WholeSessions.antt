@@ -31,8 +31,7 @@ use Rattle.hound.proofs.Calling.{call_faults, call_reach, call_went, length-conc
 use Rattle.hound.proofs.Later.{grows_reported, no_fault_parts}
 
 -- a writer that returns what one of a file of this spec does which has accepted these samples
-pub record IsAfter {W : Type 0} (s : WavSpecEx) (list : List (List ℕ))
-    (w : WriterState W) : Type 0 where
+pub record IsAfter {W : Type 0} (s : WavSpecEx) (list : List (List ℕ)) (w : WriterState W) : Type 0 where
   pub spec : w.spec_ex ≡ s
   pub start : w.data_start ≡ data_start s
   pub size : data_length w ≡ length (concat list)
@@ -56,8 +55,8 @@ module _ {M : Type 0} (kind : Ghosts M) (modelled : IsTrue kind.tells)
   abbrev Answer : Type 0
   Answer = Result (Unit {0}) Error
 
-  -- Contents that are the canonical file of these containers in whole frames, which can be appended
-  -- to, followed only by what was there at the start; and no fault was met since then.
+  -- Contents that are the canonical file of these containers in whole frames, which can be appended to, followed only
+  -- by what was there at the start; and no fault was met since then.
   record HoldsFile (list : List (List ℕ)) (contents : List ℕ) (faults : ℕ) : Type 0 where
     reads : ReadsAs s (data_start s) list contents
     size : reads.readable.len ≡ length (concat list)
@@ -74,13 +73,20 @@ module _ {M : Type 0} (kind : Ghosts M) (modelled : IsTrue kind.tells)
     begun : IsBegun kind.state w
     holds : accepted_samples kind.state w ≡ list
     none : (kind.state w.medium).faults ≡ start.faults
-    reach : length (kind.state w.medium).contents
-        ≤ max (length start.contents) (length (canonical s list))
+    reach : length (kind.state w.medium).contents ≤ max (length start.contents) (length (canonical s list))
 
   -- the writer of a new file
   on_new : (old : M) (w : WriterState M) → kind.state old ≡ start → (kind.state old).place ≡ 0
       → Begins kind s (kind.state old) w → OnFile [] w
-  on_new old w same place b = grind (arith, common_steps, none_accepted, length_overlay_max, length-take-le, length-header, length-canonical)
+  on_new old w same place b = grind (
+    arith,
+    common_steps,
+    none_accepted,
+    length_overlay_max,
+    length-take-le,
+    length-header,
+    length-canonical,
+  )
 
   -- the writer that appends to a file
   on_append : (list : List (List ℕ)) (old : M) (w : WriterState M)
@@ -101,8 +107,7 @@ module _ {M : Type 0} (kind : Ghosts M) (modelled : IsTrue kind.tells)
         after = record { spec = sym agree.0; start = at; size = size };
         whole = grind (arith, common_steps, length-take, length-canonical);
         begun = (
-          subst (λ (x : WavSpecEx × List ℕ). HasHeader x.0 x.1)
-              (λ i. (agree.0 i, sym same i)) file.header,
+          subst (λ (x : WavSpecEx × List ℕ). HasHeader x.0 x.1) (λ i. (agree.0 i, sym same i)) file.header,
           at ∙ ap data_start agree.0,
         );
         holds = grind (arith, common_steps, length_written, samples_out);
@@ -144,8 +149,7 @@ module _ {M : Type 0} (kind : Ghosts M) (modelled : IsTrue kind.tells)
       ((call_went kind modelled (Err e) old.batch_memory old new publish does).reach none))
 
   -- an Ok end leaves a file that can be appended to
-  holds_file : (list : List (List ℕ)) (w : WriterState M) (medium : M) → OnFile list w
-      → Finishes kind w (Ok tt) medium
+  holds_file : (list : List (List ℕ)) (w : WriterState M) (medium : M) → OnFile list w → Finishes kind w (Ok tt) medium
       → HoldsFile list (kind.state medium).contents (kind.state medium).faults
   holds_file list w medium on ends =
       let p = ends.publishes modelled in
@@ -163,8 +167,7 @@ module _ {M : Type 0} (kind : Ghosts M) (modelled : IsTrue kind.tells)
       p.riff_says ∙ (λ i. riff_size (at i) (size i)) in
       record {
         reads = read;
-        size = sym (head_field c s len h read.readable.head) ∙ (λ i. field (sym at i - 4) c)
-            ∙ p.length_says ∙ size;
+        size = sym (head_field c s len h read.readable.head) ∙ (λ i. field (sym at i - 4) c) ∙ p.length_says ∙ size;
         fits = omega (
           arith,
           riff,
@@ -195,8 +198,8 @@ module _ {M : Type 0} (kind : Ghosts M) (modelled : IsTrue kind.tells)
         why = subst (λ l. StopsAt s l after e) all why;
       }
 
-  -- What steps lead to after a file of these: an Ok, and the file with theirs; or an error, and the
-  -- file with those of the first of all, unless the medium failed.
+  -- What steps lead to after a file of these: an Ok, and the file with theirs; or an error, and the file with those of
+  -- the first of all, unless the medium failed.
   abbrev Leads : List (List ℕ) → List Step → List Step → MediumState → Answer → Type 0
   Leads list steps all now (Ok x) =
       HoldsFile (list ++ containers_of s steps) now.contents now.faults
@@ -207,8 +210,7 @@ module _ {M : Type 0} (kind : Ghosts M) (modelled : IsTrue kind.tells)
       → Leads list (first ++ steps) (first ++ all) now answer
   leads_later list more first steps all now answer is led = go answer led
     where
-      parts : (steps : List Step)
-          → (list ++ more) ++ containers_of s steps ≡ list ++ containers_of s (first ++ steps)
+      parts : (steps : List Step) → (list ++ more) ++ containers_of s steps ≡ list ++ containers_of s (first ++ steps)
       parts steps =
           append_assoc list more (containers_of s steps)
           ∙ ap (λ l. list ++ l) (ap (λ l. l ++ containers_of s steps) (sym is)
@@ -217,8 +219,7 @@ module _ {M : Type 0} (kind : Ghosts M) (modelled : IsTrue kind.tells)
       go : (answer : Answer) → Leads (list ++ more) steps all now answer
           → Leads list (first ++ steps) (first ++ all) now answer
       go (Ok x) file = subst (λ l. HoldsFile l now.contents now.faults) (parts steps) file
-      go (Err e) stops = λ clean.
-          let r = stops clean in
+      go (Err e) stops = λ clean. let r = stops clean in
           record {
             no_fault = r.no_fault;
             before = first ++ r.before;
@@ -249,8 +250,7 @@ module _ {M : Type 0} (kind : Ghosts M) (modelled : IsTrue kind.tells)
       → Leads list steps (steps ++ rest) (kind.state medium) answer
       × AnswersSession s list steps answer
   until list [] rest w answer medium on ends = grind (arith, common_steps, publishing_after, finish)
-  until list (step ∷ steps) rest w answer medium on
-      (inl (e, new, dropped, is, takes, ends)) =
+  until list (step ∷ steps) rest w answer medium on (inl (e, new, dropped, is, takes, ends)) =
       let does = subst (λ x. Does kind (asked_by x step) (Err e) w new) on.after.spec
       takes in
       let t = call_went kind modelled (Err e) w.batch_memory w new (asked_by s step) does in
@@ -277,8 +277,7 @@ module _ {M : Type 0} (kind : Ghosts M) (modelled : IsTrue kind.tells)
       (on_call list (asked_by s step) (Ok tt) w new on does
       (call_faults kind modelled (Ok tt) w.batch_memory w new (asked_by s step) does)
       (call_reach kind modelled (Ok tt) w.batch_memory w new (asked_by s step) does)) runs in (
-        leads_later list more (step ∷ []) steps (steps ++ rest) (kind.state medium) answer
-            (append-nil more) led,
+        leads_later list more (step ∷ []) steps (steps ++ rest) (kind.state medium) answer (append-nil more) led,
         inr (step_answers kind s w new list step (Ok tt) on.after takes, answers),
       )
 
@@ -320,13 +319,11 @@ module _ {M : Type 0} (kind : Ghosts M) (modelled : IsTrue kind.tells)
           let read = file.reads.readable in
           let b = one (appendable s read.len (data_start s)) (
             read.head,
-            no_head_fault s read.len (data_start s) writable read.frames
-                (omega (arith, file.size, file.fits)),
+            no_head_fault s read.len (data_start s) writable read.frames (omega (arith, file.size, file.fits)),
           ) in
           cc
 
-      go : RunsFrom kind Append steps mid answer medium
-          → Starts list steps answer medium
+      go : RunsFrom kind Append steps mid answer medium → Starts list steps answer medium
       go (inl (e, is, rejected)) = elim (rejected modelled).why [
         | inl (fault, here, names, same) ↦ absurd (never fault here)
         | inr (io, faults) ↦ inl (e, is, io, faults ∙ ap one_more file.none)
@@ -396,12 +393,11 @@ module _ {M : Type 0} (kind : Ghosts M) (s : WavSpecEx) (old medium : M) where
   writable_or (session ∷ sessions) answer some (inr (mid, inr (w, begins, runs), rest)) =
       inl begins.begun.writable
 
-  -- What sessions leave: the canonical file of all their steps at an Ok, and at an error, unless
-  -- the medium failed, that of the first of them.
+  -- What sessions leave: the canonical file of all their steps at an Ok, and at an error, unless the medium failed,
+  -- that of the first of them.
   pub record Leave (sessions : List (Bor (List Step))) (answer : Result (Unit {0}) Error) : Type 0
     where
-      pub file : 0 < length sessions →
-          let file = canonical s (containers_of s (all_steps sessions)) in
+      pub file : 0 < length sessions → let file = canonical s (containers_of s (all_steps sessions)) in
           OnOk answer (StartsWith (kind.state medium).contents file
           × ((kind.state old).contents ≡ [] → (kind.state medium).contents ≡ file))
       pub faults : OnOk answer ((kind.state medium).faults ≡ (kind.state old).faults)

@@ -18,14 +18,12 @@ shown {M} {g} d = own g.keeps (g.state d.inner) d.faults d.flushed
 abbrev pub durable_kind : {M : Type 0} → (g : Ghosts M) → Ghosts (Durable M g)
 durable_kind g = record { tells = g.tells; keeps = g.keeps; state = λ d. shown d }
 
-module _ {M : Type 0} {g : Ghosts M} (d : Durable M g) (modelled : IsTrue g.tells)
-    (kept : IsTrue g.keeps) where
+module _ {M : Type 0} {g : Ghosts M} (d : Durable M g) (modelled : IsTrue g.tells) (kept : IsTrue g.keeps) where
   same_past : (shown d).past ≡ (within d).past
   same_past = cond-true g.keeps (within d).past [] kept
 
   -- the state within, seen from outside
-  same_state : record (shown d) { flushed = (within d).flushed; faults = (within d).faults }
-      ≡ within d
+  same_state : record (shown d) { flushed = (within d).flushed; faults = (within d).faults } ≡ within d
   same_state = grind (arith, common_steps)
 
   flushed_later : (shown d).flushed ≤ (within d).flushed
@@ -37,8 +35,7 @@ module _ {M : Type 0} {g : Ghosts M} (d : Durable M g) (modelled : IsTrue g.tell
   ascends : Ascends (shown d).past (within d).flushed (length (shown d).past)
   ascends = subst (λ l. Ascends l (within d).flushed (length l)) (sym same_past) (d.ascends modelled kept)
 
-pub left_within : {M : Type 0} {g : Ghosts M}
-    → ((m : M) → WhereKeeps g.tells g.keeps
+pub left_within : {M : Type 0} {g : Ghosts M} → ((m : M) → WhereKeeps g.tells g.keeps
     ((g.state m).contents ≡ overlay (g.state m).start (g.state m).past))
     → IsTrue g.tells → IsTrue g.keeps → LeftWithin (durable_kind g)
 left_within {M} {g} replays modelled kept s file known d left =
@@ -65,8 +62,7 @@ left_within {M} {g} replays modelled kept s file known d left =
             ascends d modelled kept,
             some,
             one,
-            subst (λ l. SurvivesLoss sector (within d).start l (within d).flushed (length l) contents)
-                (sym same) lost,
+            subst (λ l. SurvivesLoss sector (within d).start l (within d).flushed (length l) contents) (sym same) lost,
           ));
       survives = subst (SurvivesAtEnd s (start_of s file) (found_in file) k.left.recorded.calls)
           (same_state d modelled kept)

@@ -1,5 +1,5 @@
--- What a list of calls of a writer promises, whatever failed: counted in each state, published at a
--- flush, canonical at the end.
+-- What a list of calls of a writer promises, whatever failed: counted in each state, published at a flush, canonical at
+-- the end.
 use Rattle.std.specs.Prelude.{◌≡◌, ℕ, ◌+◌, ◌-◌, ◌/◌, ◌%◌, ◌<◌, ◌≤◌, ◌⊎◌, ⊤, max, Bool, true, Result, Ok, Err, List, [], ◌∷◌, ◌++◌, length, map, take}
 use Rattle.std.specs.List.{concat, flat_map, AllByRecursion}
 use Rattle.std.specs.Io.{StartsWith}
@@ -40,8 +40,8 @@ begins_at (call ∷ calls) past = call.began
 abbrev pub HasPublished : Call → Type 0
 HasPublished call = (call.asked ≡ publish) × (mark_of call.answer ≡ true)
 
--- No write of the field at p is cut in the state after k bytes: each byte that one of these calls
--- wrote at p before k was followed by three more, within the same call and before k.
+-- No write of the field at p is cut in the state after k bytes: each byte that one of these calls wrote at p before k
+-- was followed by three more, within the same call and before k.
 abbrev pub IsUncut : ℕ → List Call → List (ℕ × ℕ) → ℕ → Type 0
 IsUncut p calls past k = (before after : List Call) (call : Call) (i : ℕ) →
     calls ≡ before ++ (call ∷ after) → call.began ≤ i → i < begins_at after past → i < k →
@@ -53,10 +53,9 @@ SaysFrames s list (Ok x) = length list % s.spec.channels ≡ 0
 SaysFrames s list (Err UnfinishedSample) = length list % s.spec.channels ≡ 0 → ⊥
 SaysFrames s list (Err e) = ⊤
 
--- Calls with the writer of a file of this spec, whose data begin at `start` and which had these
--- samples; and the medium as it is after them.
-module _ (s : WavSpecEx) (start : ℕ) (found : List (List ℕ)) (calls : List Call)
-    (medium : MediumState) where
+-- Calls with the writer of a file of this spec, whose data begin at `start` and which had these samples; and the medium
+-- as it is after them.
+module _ (s : WavSpecEx) (start : ℕ) (found : List (List ℕ)) (calls : List Call) (medium : MediumState) where
   -- the samples that the file has once these of the calls have returned
   abbrev pub accepted : List Call → List (List ℕ)
   accepted before = found ++ accepted_by_all before
@@ -65,10 +64,9 @@ module _ (s : WavSpecEx) (start : ℕ) (found : List (List ℕ)) (calls : List C
   abbrev pub contents_at : ℕ → List ℕ
   contents_at k = moment medium.start medium.past k
 
-  -- After each byte written, the length field counts no more than the accepted samples that the
-  -- medium holds, and reading then gives exactly the first ones it counts or rejects a length of no
-  -- whole frames: in each state from where a call began to where it returned, these are the samples
-  -- that were accepted before it.
+  -- After each byte written, the length field counts no more than the accepted samples that the medium holds, and
+  -- reading then gives exactly the first ones it counts or rejects a length of no whole frames: in each state from
+  -- where a call began to where it returned, these are the samples that were accepted before it.
   abbrev pub CountedAtEach : Type 0
   CountedAtEach = (before after : List Call) (call : Call) (k : ℕ) →
       calls ≡ before ++ (call ∷ after) → call.began ≤ k → k ≤ begins_at after medium.past →
@@ -91,9 +89,9 @@ module _ (s : WavSpecEx) (start : ℕ) (found : List (List ℕ)) (calls : List C
       k ≤ begins_at after medium.past →
       take start (contents_at k) ≡ take start (contents_at call.began)
 
-  -- In a patch the length field has some low bytes of the new length, that of all accepted samples,
-  -- and the others from the old one. Their number never falls, from 0 to 4, and is 4 at the return of
-  -- an Ok or an `UnfinishedSample`. Before the first of them is written, all accepted bytes are there.
+  -- In a patch the length field has some low bytes of the new length, that of all accepted samples, and the others from
+  -- the old one. Their number never falls, from 0 to 4, and is 4 at the return of an Ok or an `UnfinishedSample`.
+  -- Before the first of them is written, all accepted bytes are there.
   abbrev pub MixedInPatches : Type 0
   MixedInPatches = (before after : List Call) (patch : Call) →
       calls ≡ before ++ (patch ∷ after) → patch.asked ≡ publish →
@@ -114,8 +112,8 @@ module _ (s : WavSpecEx) (start : ℕ) (found : List (List ℕ)) (calls : List C
       (field (start - 4) (contents_at k) ≡ field (start - 4) (contents_at patch.began))
       ⊎ (field (start - 4) (contents_at k) ≡ length (concat (accepted before)))
 
-  -- An Ok `flush` counts them all: from its return, over further calls that write samples only, to
-  -- where the next one begins, the length field is that of all samples accepted before it.
+  -- An Ok `flush` counts them all: from its return, over further calls that write samples only, to where the next one
+  -- begins, the length field is that of all samples accepted before it.
   abbrev pub PublishedByFlushes : Type 0
   PublishedByFlushes = (before later after : List Call) (flush : Call) (k : ℕ) →
       calls ≡ before ++ (flush ∷ (later ++ after)) → HasPublished flush →
@@ -123,8 +121,8 @@ module _ (s : WavSpecEx) (start : ℕ) (found : List (List ℕ)) (calls : List C
       begins_at (later ++ after) medium.past ≤ k → k ≤ begins_at after medium.past →
       field (start - 4) (contents_at k) ≡ length (concat (accepted before))
 
-  -- What a flush has published is never undercut: from its return on the length field counts at
-  -- least the samples accepted before it, in each state in which no write of it since then is cut.
+  -- What a flush has published is never undercut: from its return on the length field counts at least the samples
+  -- accepted before it, in each state in which no write of it since then is cut.
   abbrev pub NeverLess : Type 0
   NeverLess = (before after : List Call) (flush : Call) (k : ℕ) →
       calls ≡ before ++ (flush ∷ after) → HasPublished flush → begins_at after medium.past ≤ k →
@@ -150,12 +148,11 @@ module _ (s : WavSpecEx) (start : ℕ) (found : List (List ℕ)) (calls : List C
       (begins_at (later ++ after) medium.past ≤ begins_at after medium.past)
       × (begins_at after medium.past ≤ length medium.past)
 
-  -- A loss of power leaves a file that counts. If a medium was flushed when f bytes had been
-  -- written, the header among them, and then wrote bytes only at ascending places, a loss after k
-  -- bytes may leave any mixture of sectors (`SurvivesLoss`). If the length field is within one
-  -- sector, it counts no more than the samples accepted by then that these contents hold, and
-  -- reading gives exactly the first ones it counts or rejects a length of no whole frames; and it is
-  -- the length field of a state from f to k.
+  -- A loss of power leaves a file that counts. If a medium was flushed when f bytes had been written, the header among
+  -- them, and then wrote bytes only at ascending places, a loss after k bytes may leave any mixture of sectors
+  -- (`SurvivesLoss`). If the length field is within one sector, it counts no more than the samples accepted by then
+  -- that these contents hold, and reading gives exactly the first ones it counts or rejects a length of no whole
+  -- frames; and it is the length field of a state from f to k.
   abbrev pub CountedAfterLoss : Type 0
   CountedAfterLoss = (before after : List Call) (call : Call) (f k sector : ℕ) (contents : List ℕ) →
       calls ≡ before ++ (call ∷ after) → begins_at calls medium.past ≤ f → f ≤ k → call.began ≤ k →
@@ -167,17 +164,17 @@ module _ (s : WavSpecEx) (start : ℕ) (found : List (List ℕ)) (calls : List C
       × (field (start - 4) contents ≡ field (start - 4) (contents_at j)))
       × Head contents s (field (start - 4) contents) start
 
-  -- The length field is that of a state since the medium was last flushed in which no write of it by
-  -- these calls is cut.
+  -- The length field is that of a state since the medium was last flushed in which no write of it by these calls is
+  -- cut.
   abbrev pub HasWholeLength : List Call → List ℕ → Type 0
   HasWholeLength after contents =
       (k : ℕ) × (medium.flushed ≤ k) × (k ≤ length medium.past)
       × (field (start - 4) contents ≡ field (start - 4) (contents_at k))
       × IsUncut (start - 4) after medium.past k
 
-  -- These contents, which a loss of power left, have lost no published sample: their length field is
-  -- that of a state since the medium was last flushed, and it counts at least the samples that were
-  -- accepted before each flush, unless a write of it is cut in every such state.
+  -- These contents, which a loss of power left, have lost no published sample: their length field is that of a state
+  -- since the medium was last flushed, and it counts at least the samples that were accepted before each flush, unless
+  -- a write of it is cut in every such state.
   abbrev pub LosesNothing : List ℕ → Type 0
   LosesNothing contents =
       ((k : ℕ) × (medium.flushed ≤ k) × (k ≤ length medium.past)
@@ -186,11 +183,10 @@ module _ (s : WavSpecEx) (start : ℕ) (found : List (List ℕ)) (calls : List C
       HasPublished flush → HasWholeLength after contents →
       length (concat (accepted before)) ≤ field (start - 4) contents)
 
-  -- What an Ok `flush` has published lasts: after further calls that write samples only, the length
-  -- field is that of all samples accepted before it.
+  -- What an Ok `flush` has published lasts: after further calls that write samples only, the length field is that of
+  -- all samples accepted before it.
   abbrev pub LastsToEnd : Type 0
-  LastsToEnd = (before later : List Call) (flush : Call) →
-      calls ≡ before ++ (flush ∷ later) → HasPublished flush →
+  LastsToEnd = (before later : List Call) (flush : Call) → calls ≡ before ++ (flush ∷ later) → HasPublished flush →
       AllByRecursion (λ call. call.asked ≡ publish → ⊥) later →
       field (start - 4) medium.contents ≡ length (concat (accepted before))
 
@@ -204,9 +200,9 @@ module _ (s : WavSpecEx) (start : ℕ) (found : List (List ℕ)) (calls : List C
   CanonicalAtEnd = (before : List Call) (end : Call) → calls ≡ before ++ (end ∷ []) →
       HasPublished end → StartsWith medium.contents (canonical s (accepted before))
 
--- A loss of power at the end loses nothing of a medium that was flushed up to f, no earlier than by
--- these calls, the header before that, and has written bytes only at ascending places since. Calls
--- that all fail from some point on are those of a machine that lost its power there.
+-- A loss of power at the end loses nothing of a medium that was flushed up to f, no earlier than by these calls, the
+-- header before that, and has written bytes only at ascending places since. Calls that all fail from some point on are
+-- those of a machine that lost its power there.
 abbrev pub KeptAfterLoss : WavSpecEx → ℕ → List (List ℕ) → List Call → MediumState → Type 0
 KeptAfterLoss s start found calls medium =
     (f sector : ℕ) (contents : List ℕ) → begins_at calls medium.past ≤ f → medium.flushed ≤ f →
@@ -215,8 +211,8 @@ KeptAfterLoss s start found calls medium =
     SurvivesLoss sector medium.start medium.past f (length medium.past) contents →
     LosesNothing s start found calls (record medium { flushed = f }) contents
 
--- What calls promise of a medium that records every byte written, in each of its states since the
--- first of them; the last state is the medium as it is now.
+-- What calls promise of a medium that records every byte written, in each of its states since the first of them; the
+-- last state is the medium as it is now.
 pub record Promises (s : WavSpecEx) (start : ℕ) (found : List (List ℕ)) (calls : List Call)
     (medium : MediumState) : Type 0 where
   pub counted : CountedAtEach s start found calls medium
@@ -239,20 +235,17 @@ abbrev pub IfBegun : WavSpecEx → Begun → Type 0 → Type 0
 IfBegun s (new_file old) P = P
 IfBegun s (appended old start found) P = start ≡ data_start s → HasHeader s old.contents → P
 
--- no call of the medium failed between these; past the largest count of faults one more isn't
--- visible
+-- no call of the medium failed between these; past the largest count of faults one more isn't visible
 abbrev pub NoFault : MediumState → MediumState → Type 0
 NoFault old new = (new.faults ≡ old.faults) × (old.faults < 18446744073709551615)
 
--- What calls leave in a medium whose bytes are known: it counts what they accepted, each sample as
--- wide as its spec says, and all that the last flush published if no other follows; and a file that
--- was begun with its header is the canonical one at an end that published, and of no more bytes than
--- that or than were handed in if no call of the medium failed.
-pub record HoldsAtEnd (s : WavSpecEx) (file : Begun) (calls : List Call)
-    (medium : MediumState) : Type 0 where
+-- What calls leave in a medium whose bytes are known: it counts what they accepted, each sample as wide as its spec
+-- says, and all that the last flush published if no other follows; and a file that was begun with its header is the
+-- canonical one at an end that published, and of no more bytes than that or than were handed in if no call of the
+-- medium failed.
+pub record HoldsAtEnd (s : WavSpecEx) (file : Begun) (calls : List Call) (medium : MediumState) : Type 0 where
   pub sound : IsSoundSpec s
-  pub wide : AllByRecursion (λ c. length c ≡ s.bytes_per_sample)
-      (found_in file ++ accepted_by_all calls)
+  pub wide : AllByRecursion (λ c. length c ≡ s.bytes_per_sample) (found_in file ++ accepted_by_all calls)
   pub counts : Counts s (start_of s file) (found_in file ++ accepted_by_all calls) medium.contents
   pub lasts : LastsToEnd s (start_of s file) (found_in file) calls medium
   pub says : SaidByFlushes s (start_of s file) (found_in file) calls medium
@@ -261,17 +254,15 @@ pub record HoldsAtEnd (s : WavSpecEx) (file : Begun) (calls : List Call)
       let list = canonical s (found_in file ++ accepted_by_all before) in
       StartsWith medium.contents list
       × (length medium.contents ≤ max (length (handed_in file).contents) (length list)))
-  pub canonical : IfBegun s file
-      (CanonicalAtEnd s (start_of s file) (found_in file) calls medium)
+  pub canonical : IfBegun s file (CanonicalAtEnd s (start_of s file) (found_in file) calls medium)
 
 -- What calls promise of a medium that records every byte written, once they have led to it.
-pub record Keeps (s : WavSpecEx) (file : Begun) (calls : List Call) (medium : MediumState) :
-    Type 0 where
+pub record Keeps (s : WavSpecEx) (file : Begun) (calls : List Call) (medium : MediumState) : Type 0 where
   pub at_end : HoldsAtEnd s file calls medium
   pub promises : Promises s (start_of s file) (found_in file) calls medium
 
--- What a writer has left in a medium whose bytes are known: calls of which these are known, each by
--- its contract, led to this medium; and what they leave there.
+-- What a writer has left in a medium whose bytes are known: calls of which these are known, each by its contract, led
+-- to this medium; and what they leave there.
 pub record Holds {W : Type 0} (kind : Ghosts W) (s : WavSpecEx)
     (file : Begun) (known : List Known) (medium : W) : Type 0 where
   pub left : LeftBy kind s file known medium
@@ -283,9 +274,9 @@ pub record Kept {W : Type 0} (kind : Ghosts W) (s : WavSpecEx)
   pub left : LeftBy kind s file known medium
   pub promised : Keeps s file left.recorded.calls (kind.state medium)
 
--- What a loss of power at the end leaves of a medium that wrote bytes at ascending places only since
--- it was flushed, the header before that, as the medium within a `Durable` does: it counts, and has
--- lost no published sample. A flush that published has flushed the header.
+-- What a loss of power at the end leaves of a medium that wrote bytes at ascending places only since it was flushed,
+-- the header before that, as the medium within a `Durable` does: it counts, and has lost no published sample. A flush
+-- that published has flushed the header.
 pub record SurvivesAtEnd (s : WavSpecEx) (start : ℕ) (found : List (List ℕ)) (calls : List Call)
     (medium : MediumState) : Type 0 where
   pub header : (before after : List Call) (flush : Call) → calls ≡ before ++ (flush ∷ after) →
@@ -296,9 +287,9 @@ pub record SurvivesAtEnd (s : WavSpecEx) (start : ℕ) (found : List (List ℕ))
       Counts s start (found ++ accepted_by_all calls) contents
       × LosesNothing s start found calls medium contents
 
--- What is left at some point after so many bytes were written: the contents as they are now or in an
--- earlier state, or what a loss of power leaves of a medium that has written bytes at ascending places
--- only since it was flushed, if the length field lies within one sector.
+-- What is left at some point after so many bytes were written: the contents as they are now or in an earlier state, or
+-- what a loss of power leaves of a medium that has written bytes at ascending places only since it was flushed, if the
+-- length field lies within one sector.
 abbrev pub IsLeftAfter : ℕ → ℕ → MediumState → List ℕ → Type 0
 IsLeftAfter start from medium contents =
     (contents ≡ medium.contents)
@@ -308,8 +299,8 @@ IsLeftAfter start from medium contents =
     × Ascends medium.past f k × (1 ≤ sector) × ((start - 4) / sector ≡ (start - 1) / sector)
     × SurvivesLoss sector medium.start medium.past f k contents)
 
--- What a writer over a `Durable` has left: calls of which these are known led to it, each by its
--- contract; all that they promise; and what a loss of power leaves within it, after each flush.
+-- What a writer over a `Durable` has left: calls of which these are known led to it, each by its contract; all that
+-- they promise; and what a loss of power leaves within it, after each flush.
 pub record KeptWithin {W : Type 0} (kind : Ghosts W) (s : WavSpecEx)
     (file : Begun) (known : List Known) (durable : W) (medium : MediumState) : Type 0 where
   pub left : LeftBy kind s file known durable

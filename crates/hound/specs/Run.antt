@@ -39,8 +39,7 @@ asked_by s (Batch values) = write (batch_containers s values.now)
 asked_by s Flush = publish
 
 -- what a step does to its writer, by its result: what its call does
-abbrev pub Takes : {M : Type 0} → Ghosts M → Step →
-    Result (Unit {0}) Error → WriterState M → WriterState M → Type 0
+abbrev pub Takes : {M : Type 0} → Ghosts M → Step → Result (Unit {0}) Error → WriterState M → WriterState M → Type 0
 Takes kind step answer old new = Does kind (asked_by old.spec_ex step) answer old new
 
 -- what a step accepted, by its mark
@@ -85,14 +84,12 @@ file_of state Append old first =
     appended (state old) first.data_start (accepted_samples state first)
 
 -- the call of an end
-abbrev pub end_call : {M : Type 0} → (M → MediumState) → WriterState M →
-    Result (Unit {0}) Error → Call
+abbrev pub end_call : {M : Type 0} → (M → MediumState) → WriterState M → Result (Unit {0}) Error → Call
 end_call state last finished =
     record { asked = publish; answer = finished; began = length (state last.medium).past }
 
--- A run that began, made the call of every step, and then that of its end: before the data only the
--- two sizes changed, and if all the data were there the medium has what any list of these calls
--- promises.
+-- A run that began, made the call of every step, and then that of its end: before the data only the two sizes changed,
+-- and if all the data were there the medium has what any list of these calls promises.
 pub record Ran {M : Type 0} (kind : Ghosts M) (begin : Begin)
     (steps : List Step) (marks : List Bool) (end : End) (old : M) (answer : Result (Unit {0}) Error)
     (medium : M) : Type 0 where

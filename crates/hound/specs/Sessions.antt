@@ -35,8 +35,8 @@ AnswersCall s list publish answer = IsPublishing answer (writer_after s list)
 abbrev pub AnswersStep : WavSpecEx → List (List ℕ) → Step → Result (Unit {0}) Error → Type 0
 AnswersStep s list step answer = AnswersCall s list (asked_by s step) answer
 
--- what a session returns whose writer has accepted these samples: the error of the first step that
--- isn't Ok, else what its end returns
+-- what a session returns whose writer has accepted these samples: the error of the first step that isn't Ok, else what
+-- its end returns
 abbrev pub AnswersSession : WavSpecEx → List (List ℕ) → List Step → Result (Unit {0}) Error → Type 0
 AnswersSession s list [] answer = IsPublishing answer (writer_after s list)
 AnswersSession s list (step ∷ steps) answer =
@@ -44,30 +44,27 @@ AnswersSession s list (step ∷ steps) answer =
     ⊎ (AnswersStep s list step (Ok tt)
     × AnswersSession s (list ++ accepted_by s step true) steps answer)
 
--- what sessions return after a file of these samples: the error of the first that isn't Ok, which
--- is that of the session or an `IoError` before it began
-abbrev pub AnswersAll : WavSpecEx → List (List ℕ) → List (Bor (List Step)) →
-    Result (Unit {0}) Error → Type 0
+-- what sessions return after a file of these samples: the error of the first that isn't Ok, which is that of the
+-- session or an `IoError` before it began
+abbrev pub AnswersAll : WavSpecEx → List (List ℕ) → List (Bor (List Step)) → Result (Unit {0}) Error → Type 0
 AnswersAll s list [] answer = answer ≡ Ok tt
 AnswersAll s list (session ∷ sessions) answer =
     ((e : Error) × (answer ≡ Err e) × (IsIoError e ⊎ AnswersSession s list session.now (Err e)))
     ⊎ (AnswersSession s list session.now (Ok tt)
     × AnswersAll s (list ++ containers_of s session.now) sessions answer)
 
--- What the result of sessions shows: over every medium, that the spec can't be written; else the
--- first error; and at an Ok, that no call of the medium failed.
+-- What the result of sessions shows: over every medium, that the spec can't be written; else the first error; and at an
+-- Ok, that no call of the medium failed.
 pub record IsReturned {M : Type 0} (kind : Ghosts M) (s : WavSpecEx)
     (sessions : List (Bor (List Step))) (old : M) (answer : Result (Unit {0}) Error)
     (medium : M) : Type 0 where
-  pub unwritable : 0 < length sessions → (IsWritable s → ⊥) →
-      (answer ≡ Err Unsupported) × (medium ≡ old)
+  pub unwritable : 0 < length sessions → (IsWritable s → ⊥) → (answer ≡ Err Unsupported) × (medium ≡ old)
   pub first_error : WhereTells kind.tells (IsWritable s → AnswersAll s [] sessions answer)
   pub no_fault : WhereTells kind.tells (OnOk answer ((kind.state medium).faults ≡ (kind.state old).faults))
 
--- Steps up to the first error, which is then the result, whatever the end of the writer, a drop, came
--- to; without an error the result is that of `finalize_into`.
-abbrev pub RunsUntil : {M : Type 0} → Ghosts M → List Step → WriterState M →
-    Result (Unit {0}) Error → M → Type 0
+-- Steps up to the first error, which is then the result, whatever the end of the writer, a drop, came to; without an
+-- error the result is that of `finalize_into`.
+abbrev pub RunsUntil : {M : Type 0} → Ghosts M → List Step → WriterState M → Result (Unit {0}) Error → M → Type 0
 RunsUntil kind [] w answer medium = Finishes kind w answer medium
 RunsUntil {M} kind (step ∷ steps) w answer medium =
     ((e : Error) × (new : WriterState M) × (dropped : Result (Unit {0}) Error) × (answer ≡ Err e)
@@ -76,16 +73,14 @@ RunsUntil {M} kind (step ∷ steps) w answer medium =
     × RunsUntil kind steps new answer medium)
 
 -- one session, up to its first error: it isn't begun, or its steps are taken
-abbrev pub RunsFrom : {M : Type 0} → Ghosts M → Begin → List Step → M →
-    Result (Unit {0}) Error → M → Type 0
+abbrev pub RunsFrom : {M : Type 0} → Ghosts M → Begin → List Step → M → Result (Unit {0}) Error → M → Type 0
 RunsFrom {M} kind begin steps old answer medium =
     ((e : Error) × (answer ≡ Err e) × IsNotBegunAs kind begin old medium e)
     ⊎ ((w : WriterState M) × BeginsAs kind begin old w
     × RunsUntil kind steps w answer medium)
 
 -- the same after the medium went to its beginning, if the session appends to the file
-abbrev pub RunsOnce : {M : Type 0} → Ghosts M → Begin → List Step → M →
-    Result (Unit {0}) Error → M → Type 0
+abbrev pub RunsOnce : {M : Type 0} → Ghosts M → Begin → List Step → M → Result (Unit {0}) Error → M → Type 0
 RunsOnce kind (New s) steps old answer medium = RunsFrom kind (New s) steps old answer medium
 RunsOnce {M} kind Append steps old answer medium =
     ((e : IoFault) × (answer ≡ Err (IoError e))
@@ -94,10 +89,9 @@ RunsOnce {M} kind Append steps old answer medium =
     × WhereTells kind.tells (Goes {T = Unit {0}} {E = IoFault} 0 (Ok tt) (kind.state old) (kind.state mid))
     × RunsFrom kind Append steps mid answer medium)
 
--- what `run_sessions` does: sessions, the first of which begins so and the others append, each of them
--- Ok except perhaps the last one that was run, whose result is returned
-abbrev pub RunsOn : {M : Type 0} → Ghosts M → Begin →
-    List (Bor (List Step)) → M → Result (Unit {0}) Error → M → Type 0
+-- what `run_sessions` does: sessions, the first of which begins so and the others append, each of them Ok except
+-- perhaps the last one that was run, whose result is returned
+abbrev pub RunsOn : {M : Type 0} → Ghosts M → Begin → List (Bor (List Step)) → M → Result (Unit {0}) Error → M → Type 0
 RunsOn kind begin [] old answer medium = (answer ≡ Ok tt) × (medium ≡ old)
 RunsOn {M} kind begin (session ∷ sessions) old answer medium =
     ((e : Error) × (answer ≡ Err e)
@@ -115,9 +109,8 @@ StopsAt s list after e =
     IsPublishing {T = Unit {0}} (Err e) (writer_after s list)
     ⊎ ((step : Step) × (rest : List Step) × (after ≡ step ∷ rest) × AnswersStep s list step (Err e))
 
--- Sessions after a file of these that stopped with an error though no call of the medium failed: it
--- is no `IoError`, the steps before it were accepted and their canonical file is there, and an end or
--- the next step gave it.
+-- Sessions after a file of these that stopped with an error though no call of the medium failed: it is no `IoError`,
+-- the steps before it were accepted and their canonical file is there, and an end or the next step gave it.
 pub record StopsEarly (s : WavSpecEx) (list : List (List ℕ)) (steps : List Step) (e : Error)
     (contents : List ℕ) : Type 0 where
   pub no_fault : IsIoError e → ⊥

@@ -1,23 +1,21 @@
 //! WAV audio, written and read: a port of the crate `hound` with every function proved.
 //!
-//! Reads PCMWAVEFORMAT, WAVEFORMATEX and WAVEFORMATEXTENSIBLE; writes the first and the third.
-//! Integers have 8, 16, 24 (in three bytes or in four) or 32 bits, floats 32, which stay as
-//! their patterns; there are up to 65535 channels. Places and sizes count bytes, a sample is of one
-//! channel, and a frame has a sample of each.
+//! Reads PCMWAVEFORMAT, WAVEFORMATEX and WAVEFORMATEXTENSIBLE; writes the first and the third. Integers have 8, 16, 24
+//! (in three bytes or in four) or 32 bits, floats 32, which stay as their patterns; there are up to 65535 channels.
+//! Places and sizes count bytes, a sample is of one channel, and a frame has a sample of each.
 //!
-//! To write a file: [`WavWriter`] (`create` on disk, `create_durable` if each `flush` has to
-//! sync, `new` into any [`Medium`], `append` and `new_append` to append to one),
-//! `write_sample`, `write_samples` of a slice or a batch of `get_i16_writer`, `flush` for a
-//! checkpoint, and `finalize`. A whole run as one call: [`run_session`], [`run_sessions`].
+//! To write a file: [`WavWriter`] (`create` on disk, `create_durable` if each `flush` has to sync, `new` into any
+//! [`Medium`], `append` and `new_append` to append to one), `write_sample`, `write_samples` of a slice or a batch of
+//! `get_i16_writer`, `flush` for a checkpoint, and `finalize`. A whole run as one call: [`run_session`],
+//! [`run_sessions`].
 //!
-//! To read one: [`WavReader`] (`open`, or `new` over any reader), `samples` or `into_samples`,
-//! `read_samples` for many at once, `seek`; [`read_wave_header`] for only the first twelve bytes. Over
-//! bytes in memory `from_bytes` and `decode_samples`, over a [`Source`] `try_new` and `try_read_samples`
-//! say by contract why each `IoError` comes.
+//! To read one: [`WavReader`] (`open`, or `new` over any reader), `samples` or `into_samples`, `read_samples` for many
+//! at once, `seek`; [`read_wave_header`] for only the first twelve bytes. Over bytes in memory `from_bytes` and
+//! `decode_samples`, over a [`Source`] `try_new` and `try_read_samples` say by contract why each `IoError` comes.
 //!
-//! To mend a file whose recording was cut off: [`repair_file`], or [`repair`] in any medium;
-//! [`find_damage_in_file`] and [`find_damage`] only look; [`repair_file_to_end`] and
-//! [`repair_to_end`] take all after the data header for samples.
+//! To mend a file whose recording was cut off: [`repair_file`], or [`repair`] in any medium; [`find_damage_in_file`]
+//! and [`find_damage`] only look; [`repair_file_to_end`] and [`repair_to_end`] take all after the data header for
+//! samples.
 //!
 //! A recorder that needs to know which samples were accepted calls a whole run at once:
 //!
@@ -41,11 +39,10 @@
 //! }
 //! ```
 //!
-//! If `SPEC` is mono, with 16 bits in two bytes, the marks are true, false, true and true, since
-//! 40000 is too wide, and the bytes are the file of 2, 5 and -7.
+//! If `SPEC` is mono, with 16 bits in two bytes, the marks are true, false, true and true, since 40000 is too wide, and
+//! the bytes are the file of 2, 5 and -7.
 //!
-//! A converter that has no use for half of a file calls [`run_sessions`], which ends at the first
-//! error:
+//! A converter that has no use for half of a file calls [`run_sessions`], which ends at the first error:
 //!
 //! ```
 //! fn record_twice(alloc: Global, steps: &[Step]) -> hound::Result<Vec<u8>> {
@@ -56,20 +53,17 @@
 //! }
 //! ```
 //!
-//! The steps 2 and a batch of 5 and -7 give the file of 2, 5, -7, 2, 5 and -7; with 40000 among
-//! them the result is `TooWide`.
+//! The steps 2 and a batch of 5 and -7 give the file of 2, 5, -7, 2, 5 and -7; with 40000 among them the result is
+//! `TooWide`.
 //!
-//! What a file is: [`WavSpec`], [`WavSpecEx`], [`SampleFormat`]; what a sample is: [`Sample`], for
-//! `i8`, `i16`, `i32`, [`FloatBits`] and types of your own; the first four are [`Decode`], too. Why a call
-//! failed: [`Error`]. What takes memory takes an `alloc`, which is `rt.alloc()`, and what opens a file takes
-//! `rt`, which `main` gets.
+//! What a file is: [`WavSpec`], [`WavSpecEx`], [`SampleFormat`]; what a sample is: [`Sample`], for `i8`, `i16`, `i32`,
+//! [`FloatBits`] and types of your own; the first four are [`Decode`], too. Why a call failed: [`Error`]. What takes
+//! memory takes an `alloc`, which is `rt.alloc()`, and what opens a file takes `rt`, which `main` gets.
 //!
-//! Memory to write into and to read from: [`Tape`]; the same with every byte written recorded, and
-//! faults on request: [`Journal`]. The traits that these and files have:
-//! [`Placed`], [`Source`], [`Medium`].
+//! Memory to write into and to read from: [`Tape`]; the same with every byte written recorded, and faults on request:
+//! [`Journal`]. The traits that these and files have: [`Placed`], [`Source`], [`Medium`].
 //!
-//! The functions without a body are laws: a call of one costs nothing, and what it ensures is known
-//! after it.
+//! The functions without a body are laws: a call of one costs nothing, and what it ensures is known after it.
 #![tactic(auto)]
 
 mod laws;

@@ -49,10 +49,8 @@ pub(crate) fn begin_writer<M: Source + Medium>(
 fn take_steps<M: Medium>(writer: &mut WavWriter<M>, steps: &[Step], marks: &mut [bool])
     requires { length steps.now ≡ length marks.old }
     ensures size { length marks.new ≡ length marks.old }
-    ensures runs { (calls : List Call)
-        × (asked_by_all calls ≡ map (asked_by writer.old.spec_ex) steps.now)
-        × (marks.new ≡ map (λ (call : Call). mark_of call.answer) calls)
-        × Lead M.Placed calls writer.old writer.new }
+    ensures runs { (calls : List Call) × (asked_by_all calls ≡ map (asked_by writer.old.spec_ex) steps.now)
+        × (marks.new ≡ map (λ (call : Call). mark_of call.answer) calls) × Lead M.Placed calls writer.old writer.new }
 {
     for i in 0..steps.len() {
         let answer = take_step(writer, steps[i]);
@@ -73,14 +71,12 @@ fn end_writer<M: Medium>(writer: WavWriter<M>, end: End) -> (M, Result<()>)
 
 /// Runs a whole session of a writer, and returns the medium.
 ///
-/// It begins a file or appends to one, takes every step whatever earlier ones returned, and ends. A
-/// mark is true if a sample or a whole batch was accepted, or a flush published all that was,
-/// with an unfinished frame too. The result is that of the constructor, if it is an error, and all
-/// marks are false; else that of `finalize_into`, or Ok at a drop.
+/// It begins a file or appends to one, takes every step whatever earlier ones returned, and ends. A mark is true if a
+/// sample or a whole batch was accepted, or a flush published all that was, with an unfinished frame too. The result is
+/// that of the constructor, if it is an error, and all marks are false; else that of `finalize_into`, or Ok at a drop.
 ///
-/// There must be as many marks as steps, with any values before, and the medium must be at 0, as
-/// each new one is; `go(0)` leads there. No memory is taken, for batches neither, so the allocator
-/// isn't used.
+/// There must be as many marks as steps, with any values before, and the medium must be at 0, as each new one is;
+/// `go(0)` leads there. No memory is taken, for batches neither, so the allocator isn't used.
 pub fn run_session<M: Source + Medium>(
     _alloc: Global,
     medium: M,
@@ -100,15 +96,13 @@ pub fn run_session<M: Source + Medium>(
         Ran M.Placed begin steps.now marks.new end medium result.1 result.0) }
 
     // A new file that was finalized is the canonical one of what was accepted.
-    ensures canonical { WhereTells M.tells ((spec_ex : WavSpecEx) → begin ≡ New spec_ex
-        → end ≡ Finalize →
+    ensures canonical { WhereTells M.tells ((spec_ex : WavSpecEx) → begin ≡ New spec_ex → end ≡ Finalize →
         OnOk result.1 (StartsWith (M.state result.0).contents
         (canonical spec_ex (accepted_by_steps spec_ex steps.now marks.new)))) }
 
     // If the medium was empty and no call of it failed, it is exactly that, also at a drop.
     ensures exact { WhereTells M.tells ((spec_ex : WavSpecEx) → begin ≡ New spec_ex
-        → IsWritable spec_ex → (M.state medium).contents ≡ [] → NoFault (M.state medium) (M.state
-        result.0) →
+        → IsWritable spec_ex → (M.state medium).contents ≡ [] → NoFault (M.state medium) (M.state result.0) →
         (M.state result.0).contents ≡ canonical spec_ex (accepted_by_steps spec_ex steps.now marks.new)) }
 {
     marks.fill(false);

@@ -20,12 +20,9 @@ use std::alloc::Global;
 
 // Takes steps up to the first that returns an error. Whatever end follows, they are then a session.
 fn take_until_error<M: Medium>(writer: &mut WavWriter<M>, steps: &[Step]) -> Result<()>
-    ensures { MatchResult result
-        (λ _. (answer : Result Unit Error) (medium : M)
-        → Finishes M.Placed writer.new answer medium
-        → RunsUntil M.Placed steps.now writer.old answer medium)
-        (λ e. (dropped : Result Unit Error) (medium : M)
-        → Finishes M.Placed writer.new dropped medium
+    ensures { MatchResult result (λ _. (answer : Result Unit Error) (medium : M)
+        → Finishes M.Placed writer.new answer medium → RunsUntil M.Placed steps.now writer.old answer medium)
+        (λ e. (dropped : Result Unit Error) (medium : M) → Finishes M.Placed writer.new dropped medium
         → RunsUntil M.Placed steps.now writer.old (Err e) medium) }
 {
     for i in 0..steps.len() {
@@ -78,17 +75,16 @@ fn append_sessions<M: Source + Medium>(medium: M, sessions: &[&[Step<'_>]]) -> (
     (medium, Ok(()))
 }
 
-/// Runs sessions over one medium: the first begins a file of this spec, each further one appends
-/// to it, and each is finalized.
+/// Runs sessions over one medium: the first begins a file of this spec, each further one appends to it, and each is
+/// finalized.
 ///
-/// It returns the first error of any call and ends there: `Unsupported`, for a spec that can't
-/// be written or a batch for samples of other than sixteen bits; an error of a sample or a batch;
-/// an `UnfinishedSample` of a flush or an end; or an `IoError` of the medium. What was accepted
-/// before is published then, unless the medium failed. Without sessions nothing is done.
+/// It returns the first error of any call and ends there: `Unsupported`, for a spec that can't be written or a batch
+/// for samples of other than sixteen bits; an error of a sample or a batch; an `UnfinishedSample` of a flush or an end;
+/// or an `IoError` of the medium. What was accepted before is published then, unless the medium failed. Without
+/// sessions nothing is done.
 ///
-/// The medium is returned. It must be at 0 before, as each new one is; `go(0)` leads there. No memory
-/// is taken, so the allocator isn't used.
-/// If steps borrow their batches, call it from a function that takes `&[Step]`, and pass these as
+/// The medium is returned. It must be at 0 before, as each new one is; `go(0)` leads there. No memory is taken, so the
+/// allocator isn't used. If steps borrow their batches, call it from a function that takes `&[Step]`, and pass these as
 /// `&[&steps[..]]`.
 pub fn run_sessions<'a, M: Source + Medium>(
     _alloc: Global,
@@ -110,10 +106,8 @@ pub fn run_sessions<'a, M: Source + Medium>(
         OnOk result.1 ((M.state result.0).contents ≡ canonical spec_ex
         (containers_of spec_ex (all_steps sessions.now)))) }
 
-    // If no call of the medium failed, an error is that of a step or an end, and those before it
-    // are there.
-    ensures stops { WhereTells M.tells (IsWritable spec_ex
-        → NoFault (M.state medium) (M.state result.0) →
+    // If no call of the medium failed, an error is that of a step or an end, and those before it are there.
+    ensures stops { WhereTells M.tells (IsWritable spec_ex → NoFault (M.state medium) (M.state result.0) →
         IfErr result.1 (λ e. StopsEarly spec_ex [] (all_steps sessions.now) e (M.state result.0).contents)) }
 {
     let Some((first, others)) = sessions.split_first() else {

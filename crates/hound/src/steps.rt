@@ -17,8 +17,7 @@ fn is_sixteen(spec: WavSpec) -> bool
 
 // Writes a batch, of samples of sixteen bits only.
 fn write_batch<M: Medium>(writer: &mut WavWriter<M>, values: &[i16]) -> Result<()>
-    ensures { Accepts M.Placed (batch_containers writer.old.spec_ex values.now)
-        result writer.old writer.new }
+    ensures { Accepts M.Placed (batch_containers writer.old.spec_ex values.now) result writer.old writer.new }
 {
     if !is_sixteen(writer.spec()) {
         return Err(Error::Unsupported);

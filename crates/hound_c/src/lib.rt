@@ -1,9 +1,7 @@
-//! WAV files in a C caller's memory: read, written and appended to, with no state, no allocation
-//! and no call back.
+//! WAV files in a C caller's memory: read, written and appended to, with no state, no allocation and no call back.
 //!
-//! `hound.h` declares what is exported, and says what a caller must keep. What the calls do is in
-//! `hound_slices`, since each build of a static library proves all of it anew, and takes libraries as
-//! they were proved.
+//! `hound.h` declares what is exported, and says what a caller must keep. What the calls do is in `hound_slices`, since
+//! each build of a static library proves all of it anew, and takes libraries as they were proved.
 #![tactic(auto)]
 
 ghost use Rattle.std.specs.Prelude.{◌≡◌, ℕ, ◌*◌, None, false, length, pos, take, true};
@@ -52,8 +50,8 @@ pub extern "C" fn hound_info(file: &[u8], info: &mut HoundInfo) -> i32
     }
 }
 
-/// Takes the part of a file that a walk asked for: 1 if the walk asks for a part, 0 if the data begin there, or
-/// why there are none. A read that failed changes nothing.
+/// Takes the part of a file that a walk asked for: 1 if the walk asks for a part, 0 if the data begin there, or why
+/// there are none. A read that failed changes nothing.
 #[unsafe(no_mangle)]
 pub extern "C" fn hound_walk_next(walk: &mut HoundWalk, info: &mut HoundInfo) -> i32
     ensures { TakesPart true result walk.old walk.new info.old info.new }
@@ -110,8 +108,7 @@ pub extern "C" fn hound_header(spec: &HoundSpec, samples: u64, out: &mut [u8]) -
     code_of(write_header(*spec, samples, out))
 }
 
-/// Writes the RIFF size and the data length of the file of so many samples, whose data begin at a
-/// place.
+/// Writes the RIFF size and the data length of the file of so many samples, whose data begin at a place.
 #[unsafe(no_mangle)]
 pub extern "C" fn hound_sizes(
     spec: &HoundSpec,
@@ -500,8 +497,7 @@ pub extern "C" fn hound_f64_to_f32(samples: &[f64], out: &mut [f32], infinite: &
 /// The effect with this number, from 0, with which a new file begins: 1, or 0 after the last.
 #[unsafe(no_mangle)]
 pub extern "C" fn hound_beginning(spec: &HoundSpec, number: u32, effect: &mut HoundEffect) -> i32
-    ensures { Records result option_len
-        (GivesBeginning (spec_from_c spec.now) number effect.old effect.new) }
+    ensures { Records result option_len (GivesBeginning (spec_from_c spec.now) number effect.old effect.new) }
 {
     let spec_ex = spec_from_c(*spec);
     match beginning_effect(spec_ex, number) {
@@ -551,8 +547,7 @@ pub extern "C" fn hound_recorder_resume(
 /// Requests that a block of so many samples is written.
 #[unsafe(no_mangle)]
 pub extern "C" fn hound_recorder_write(recorder: &mut HoundRecorder, samples: u64) -> i32
-    ensures asks { Records result (λ _. 0)
-        (AsksForBlock (report_of recorder.old.effect) samples
+    ensures asks { Records result (λ _. 0) (AsksForBlock (report_of recorder.old.effect) samples
         (recorder_of recorder.old) (recorder_of recorder.new)) }
     ensures none { recorder.new.effect ≡ effect_of None }
 {

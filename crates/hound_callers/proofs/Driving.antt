@@ -71,19 +71,22 @@ pub not_pending : (b : Bool) → report_for b ≡ Pending → ⊥
 not_pending true is = cc
 not_pending false is = cc
 
--- What is known while it runs, by whether the call is over, before and after the action that is reported.
--- These are the law's clauses, for what was requested.
+-- What is known while it runs, by whether the call is over, before and after the action that is reported. These are the
+-- law's clauses, for what was requested.
 pub record Laws (asked : Recorder) (report : Report) (before after : Option Bool → Recorder → Type 0)
     (does : Action → Type 0) : Type 0 where
   pub same : report ≡ Pending → (over : Option Bool) (r : Recorder) → before over r → after over r
-  pub performed : (r mid : Recorder) (effect : Effect) (outcome : Result (Unit {0}) RecorderError) → asked.phase ≡ Saving
+  pub performed : (r mid : Recorder) (effect : Effect) (outcome : Result (Unit {0}) RecorderError)
+      → asked.phase ≡ Saving
       → before None r → GoesOn r r (Ok (Some (Perform effect))) → does (Perform effect)
       → Settles report r mid outcome → after (reported_as outcome) mid
   pub wrote : (b : Bool) (r mid : Recorder) (n at len : ℕ) (outcome : Result (Unit {0}) RecorderError)
       → asked.phase ≡ Requested n → report ≡ report_for b → before None r → r ≡ record asked { phase = Writing n }
-      → GoesOn r r (Ok (Some (WriteBlock at len))) → does (WriteBlock at len) → HasEnded b r mid outcome → after (Some b) mid
+      → GoesOn r r (Ok (Some (WriteBlock at len))) → does (WriteBlock at len) → HasEnded b r mid outcome
+      → after (Some b) mid
   pub cut : (b : Bool) (r mid : Recorder) (at : ℕ) (outcome : Result (Unit {0}) RecorderError)
-      → before (Some false) r → cuts_next r.phase r.has_rest ≡ true → does (Shorten at) → HasEnded b r mid outcome → after (Some false) mid
+      → before (Some false) r → cuts_next r.phase r.has_rest ≡ true → does (Shorten at) → HasEnded b r mid outcome
+      → after (Some false) mid
   pub handed : (mid r : Recorder) (at len : ℕ) → mid.number ≡ 0 → after None mid
       → GoesOn mid r (Ok (Some (WriteBlock at len))) → after None r
   pub saved : (mid r : Recorder) → asked.phase ≡ Saving → mid.phase ≡ Saving → after None mid → GoesOn mid r (Ok None)
@@ -107,17 +110,20 @@ Shape (Ok x) r mid = mid ≡ record r { number = r.number + 1 }
 Shape (Err error) r mid = mid.number ≡ 0
 
 shape_by : (b : Bool) (r after mid : Recorder) (effect : Effect) (outcome : Result (Unit {0}) RecorderError)
-    → NextEffect true r after (Ok (Some effect)) → EffectEnds b r after (Ok (Some effect)) mid outcome → Shape outcome r mid
+    → NextEffect true r after (Ok (Some effect)) → EffectEnds b r after (Ok (Some effect)) mid outcome
+    → Shape outcome r mid
 shape_by true r after mid effect outcome next (ok, is) = rw ok (is ∙ next.4)
 shape_by false r after mid effect outcome next (last, error, failed, err, is) =
     let has : HasData after after.data_length = rw next.4 next.2 in
     rw err (ap (λ (x : Recorder). x.number) is ∙ fails after last error 0 has failed)
 
 pub shape : (b : Bool) (r mid : Recorder) (effect : Effect) (outcome : Result (Unit {0}) RecorderError)
-    → r.phase ≡ Saving → r.has_rest ≡ false → GoesOn r r (Ok (Some (Perform effect))) → HasEnded b r mid outcome → Shape outcome r mid
+    → r.phase ≡ Saving → r.has_rest ≡ false → GoesOn r r (Ok (Some (Perform effect))) → HasEnded b r mid outcome
+    → Shape outcome r mid
 shape b r mid effect outcome saving rest goes (inl (none, _, _)) = cc (saving, none)
 shape b r mid effect outcome saving rest goes (inr (inl (cleaning, _, _))) = cc (saving, cleaning)
-shape b r mid effect outcome saving rest goes (inr (inr (inl (_, _, cuts, _, _)))) = absurd (false≢true (sym rest ∙ cuts))
+shape b r mid effect outcome saving rest goes (inr (inr (inl (_, _, cuts, _, _)))) =
+    absurd (false≢true (sym rest ∙ cuts))
 shape b r mid effect outcome saving rest goes (inr (inr (inr (inl (n, writing, _, _, _))))) = cc (saving, writing)
 shape b r mid effect outcome saving rest (_, _, after, next) (inr (inr (inr (inr (_, _, (a, step, stepped, ends)))))) =
     let (is, same) = same_next r after a (Some effect) step next stepped in
@@ -150,7 +156,8 @@ IsBlockPhase (Requested n) = Unit
 IsBlockPhase (Writing n) = Unit
 IsBlockPhase _ = ⊥
 
-pub block_phase : (mid r : Recorder) (at len : ℕ) (phase : Phase) → mid.phase ≡ phase → GoesOn mid r (Ok (Some (WriteBlock at len)))
+pub block_phase : (mid r : Recorder) (at len : ℕ) (phase : Phase) → mid.phase ≡ phase
+    → GoesOn mid r (Ok (Some (WriteBlock at len)))
     → IsBlockPhase phase
 block_phase mid r at len phase is (n, saved, (rest, inl (writing, same)), handed) =
     let this : phase ≡ Writing n = sym is ∙ writing in rw this tt
@@ -159,7 +166,8 @@ block_phase mid r at len phase is (n, saved, (rest, inr (inl (waiting, clear, sa
 block_phase mid r at len phase is (n, saved, (rest, inr (inr (waiting, next))), handed) =
     let this : phase ≡ Requested n = sym is ∙ waiting in rw this tt
 
-pub effect_phase : (mid r : Recorder) (effect : Effect) (phase : Phase) → mid.phase ≡ phase → GoesOn mid r (Ok (Some (Perform effect)))
+pub effect_phase : (mid r : Recorder) (effect : Effect) (phase : Phase) → mid.phase ≡ phase
+    → GoesOn mid r (Ok (Some (Perform effect)))
     → MaySave phase
 effect_phase mid r effect phase is ((rest, inl saving), same, after, next) =
     let this : phase ≡ Saving = sym is ∙ saving in rw this tt
@@ -189,7 +197,8 @@ module _ (asked : Recorder) (n : ℕ) (is_asked : IsAsked asked n) where
   is_clean : (k : ℕ) → asked.phase ≡ Requested k → asked.health ≡ Sound
   is_clean k waiting = by is_asked.3
     where
-      by : (asked.phase ≡ Saving) ⊎ ((asked.phase ≡ Requested (asked.data_length + n)) × (asked.health ≡ Sound)) → asked.health ≡ Sound
+      by : (asked.phase ≡ Saving) ⊎ ((asked.phase ≡ Requested (asked.data_length + n)) × (asked.health ≡ Sound))
+          → asked.health ≡ Sound
       by (inl saving) = cc (saving, waiting)
       by (inr (_, clean)) = clean
 
@@ -225,7 +234,8 @@ module _ (asked : Recorder) (n : ℕ) (is_asked : IsAsked asked n) where
       by (inl (none, _, _)) = cc (writing, none)
       by (inr (inl (cleaning, _, _))) = cc (writing, cleaning)
       by (inr (inr (inl (_, _, cuts, _, _)))) =
-          let rest : r.has_rest ≡ false = ap (λ (x : Recorder). x.has_rest) is ∙ is_asked.2 in absurd (false≢true (sym rest ∙ cuts))
+          let rest : r.has_rest ≡ false = ap (λ (x : Recorder). x.has_rest) is
+          ∙ is_asked.2 in absurd (false≢true (sym rest ∙ cuts))
       by (inr (inr (inr (inr (may, _, _))))) = absurd (rw writing at may)
       by (inr (inr (inr (inl (m, written, _, ends, ok))))) =
           let m_is = same_written m k (sym written ∙ writing) in
@@ -237,7 +247,8 @@ module _ (asked : Recorder) (n : ℕ) (is_asked : IsAsked asked n) where
   pub settled_low : (mid : Recorder) (over : Option Bool) → IsSettled asked mid over → IsAlive mid
   settled_low mid over (inl (inl (saving, is, none))) = alive_as mid (ap (λ (x : Recorder). x.health) is)
   settled_low mid over (inl (inr (inl (k, waiting, _, is, none)))) = alive_as mid (ap (λ (x : Recorder). x.health) is)
-  settled_low mid over (inl (inr (inr (inl (k, waiting, is, none))))) = alive_as mid (ap (λ (x : Recorder). x.health) is)
+  settled_low mid over (inl (inr (inr (inl (k, waiting, is, none))))) =
+      alive_as mid (ap (λ (x : Recorder). x.health) is)
   settled_low mid over (inl (inr (inr (inr (k, waiting, is, lost))))) = λ dead.
       let suspect : mid.health ≡ Suspect = ap (λ (x : Recorder). x.health) is in cc (suspect, dead)
   settled_low mid over (inr (k, waiting, is, ok)) = λ dead.
@@ -251,7 +262,8 @@ module _ (asked : Recorder) (n : ℕ) (is_asked : IsAsked asked n) where
     After r (Err error) mid = (mid.number ≡ 0) × after (Some false) mid
 
     effect_over : (outcome : Result (Unit {0}) RecorderError) (r mid : Recorder) → asked.phase ≡ Saving
-        → r ≡ record asked { number = r.number } → Shape outcome r mid → after (reported_as outcome) mid → After r outcome mid
+        → r ≡ record asked { number = r.number } → Shape outcome r mid → after (reported_as outcome) mid
+        → After r outcome mid
     effect_over (Ok x) r mid saving is shaped known =
         let number : mid.number ≡ r.number + 1 = ap (λ (x : Recorder). x.number) shaped in (
           None,
@@ -278,7 +290,8 @@ module _ (asked : Recorder) (n : ℕ) (is_asked : IsAsked asked n) where
     -- an action was reported
     over_by : (b : Bool) → report ≡ report_for b → (r mid : Recorder) (over : Option Bool)
         (outcome : Result (Unit {0}) RecorderError) (action : Action) → IsWithin asked report r over → before over r
-        → GoesOn r r (Ok (Some action)) → does action → HasEnded b r mid outcome → Settles report r mid outcome → After r outcome mid
+        → GoesOn r r (Ok (Some action)) → does action → HasEnded b r mid outcome → Settles report r mid outcome
+        → After r outcome mid
     over_by b reported r mid over outcome (Perform effect) (inl (saving, is, none)) known goes did ended settles =
         effect_over outcome r mid saving is
         (shape b r mid effect outcome (phase_of r _ is ∙ saving) (rest_of r _ is ∙ is_asked.2) goes ended)
@@ -286,29 +299,38 @@ module _ (asked : Recorder) (n : ℕ) (is_asked : IsAsked asked n) where
     over_by b reported r mid over outcome (WriteBlock at len) (inl (saving, is, none)) known goes did ended settles =
         absurd (block_phase r r at len Saving (phase_of r _ is ∙ saving) goes)
     over_by b reported r mid over outcome (Shorten at) (inl (saving, is, none)) known goes did ended settles =
-        absurd (false≢true (cut_phase r r at Saving false (phase_of r _ is ∙ saving) (rest_of r _ is ∙ is_asked.2) goes))
+        absurd (false≢true (cut_phase r r at Saving false (phase_of r _ is ∙ saving) (rest_of r _ is ∙ is_asked.2)
+        goes))
     over_by b reported r mid over outcome (Read at len) within known goes did ended settles = absurd goes
-    over_by b reported r mid over outcome action (inr (inl (k, waiting, pending, is, none))) known goes did ended settles =
+    over_by b reported r mid over outcome action (inr (inl (k, waiting, pending, is, none))) known goes did ended
+        settles =
         absurd (not_pending b (sym reported ∙ pending))
-    over_by b reported r mid over outcome (WriteBlock at len) (inr (inr (inl (k, waiting, is, none)))) known goes did ended settles =
+    over_by b reported r mid over outcome (WriteBlock at len) (inr (inr (inl (k, waiting, is, none)))) known goes did
+        ended settles =
         let (ok, wrote) = block_ended b r mid k at len outcome waiting is ended in
         block_over b outcome r mid k waiting ok wrote
         (laws.wrote b r mid k at len outcome waiting reported (subst (λ o. before o r) none known) is goes did ended)
-    over_by b reported r mid over outcome (Perform effect) (inr (inr (inl (k, waiting, is, none)))) known goes did ended settles =
+    over_by b reported r mid over outcome (Perform effect) (inr (inr (inl (k, waiting, is, none)))) known goes did ended
+        settles =
         absurd (effect_phase r r effect (Writing k) (phase_of r _ is) goes)
-    over_by b reported r mid over outcome (Shorten at) (inr (inr (inl (k, waiting, is, none)))) known goes did ended settles =
+    over_by b reported r mid over outcome (Shorten at) (inr (inr (inl (k, waiting, is, none)))) known goes did ended
+        settles =
         absurd (false≢true (cut_phase r r at (Writing k) false (phase_of r _ is) (rest_of r _ is ∙ is_asked.2) goes))
-    over_by b reported r mid over outcome (Shorten at) (inr (inr (inr (k, waiting, is, lost)))) known goes did ended settles =
+    over_by b reported r mid over outcome (Shorten at) (inr (inr (inr (k, waiting, is, lost)))) known goes did ended
+        settles =
         cut_over b r mid outcome (phase_of r _ is) (ap (λ (x : Recorder). x.number) is ∙ is_asked.0) ended
         (laws.cut b r mid at outcome (subst (λ o. before o r) lost known) goes.0 did ended)
-    over_by b reported r mid over outcome (Perform effect) (inr (inr (inr (k, waiting, is, lost)))) known goes did ended settles =
+    over_by b reported r mid over outcome (Perform effect) (inr (inr (inr (k, waiting, is, lost)))) known goes did ended
+        settles =
         absurd (effect_phase r r effect Cleaning (phase_of r _ is) goes)
-    over_by b reported r mid over outcome (WriteBlock at len) (inr (inr (inr (k, waiting, is, lost)))) known goes did ended settles =
+    over_by b reported r mid over outcome (WriteBlock at len) (inr (inr (inr (k, waiting, is, lost)))) known goes did
+        ended settles =
         absurd (block_phase r r at len Cleaning (phase_of r _ is) goes)
 
     -- what was reported is taken in
     pub settled : (r mid : Recorder) (over : Option Bool) (outcome : Result (Unit {0}) RecorderError)
-        → IsWithin asked report r over → before over r → HasAction report does r → Settles report r mid outcome → After r outcome mid
+        → IsWithin asked report r over → before over r → HasAction report does r → Settles report r mid outcome
+        → After r outcome mid
     settled r mid over outcome within known (inr (b, reported, action, goes, did)) settles =
         over_by b reported r mid over outcome action within known goes did
         (settles_as b r mid outcome (subst (λ x. Settles x r mid outcome) reported settles)) settles
@@ -336,7 +358,8 @@ module _ (asked : Recorder) (n : ℕ) (is_asked : IsAsked asked n) where
           None,
           (λ _. inr (inr (inl (k, waiting, this, refl)))),
           known,
-          subst (λ r. GoesOn r r (Ok (Some (WriteBlock at len)))) (sym this) (k, x, (is_asked.2, inl (refl, refl)), (place, all, refl)),
+          subst (λ r. GoesOn r r (Ok (Some (WriteBlock at len)))) (sym this)
+              (k, x, (is_asked.2, inl (refl, refl)), (place, all, refl)),
         )
 
     -- a block that is due is handed out, once a checkpoint is done or at once
@@ -362,7 +385,8 @@ module _ (asked : Recorder) (n : ℕ) (is_asked : IsAsked asked n) where
       same_written k n (sym writing ∙ phase_of mid _ is),
       ap (λ (x : Recorder). record x { phase = Writing n }) (one ∙ is),
     )
-    as_handed mid saved n k is (rest, inr (inl (waiting, clear, one))) = let this = phase_of mid _ is in cc (waiting, this)
+    as_handed mid saved n k is (rest, inr (inl (waiting, clear, one))) = let this =
+        phase_of mid _ is in cc (waiting, this)
     as_handed mid saved n k is (rest, inr (inr (waiting, next))) = let this = phase_of mid _ is in cc (waiting, this)
 
     pub goes_on : (mid r : Recorder) (over : Option Bool) (action : Action) → IsSettled asked mid over → after over mid
@@ -373,7 +397,8 @@ module _ (asked : Recorder) (n : ℕ) (is_asked : IsAsked asked n) where
     goes_on mid r over (WriteBlock at len) (inl (inl (saving, is, none))) known goes =
         absurd (block_phase mid r at len Saving (phase_of mid _ is ∙ saving) goes)
     goes_on mid r over (Shorten at) (inl (inl (saving, is, none))) known goes =
-        absurd (false≢true (cut_phase mid r at Saving false (phase_of mid _ is ∙ saving) (rest_of mid _ is ∙ is_asked.2) goes))
+        absurd (false≢true (cut_phase mid r at Saving false (phase_of mid _ is ∙ saving) (rest_of mid _ is ∙ is_asked.2)
+        goes))
     goes_on mid r over (Perform effect) (inl (inr (inl (k, waiting, _, is, none)))) known goes =
         absurd (clear goes)
       where
@@ -383,22 +408,28 @@ module _ (asked : Recorder) (n : ℕ) (is_asked : IsAsked asked n) where
             doubtful (ap (λ (x : Recorder). x.health) is ∙ is_clean k waiting)
         clear ((rest, inr (samples, _, inr some)), _, _, _) =
             omega (arith, some, ap (λ (x : Recorder). x.number) is, is_asked.0)
-    goes_on mid r over (WriteBlock at len) (inl (inr (inl (k, waiting, p, is, none)))) known (samples, saved, due, handed) =
+    goes_on mid r over (WriteBlock at len) (inl (inr (inl (k, waiting, p, is, none)))) known
+        (samples, saved, due, handed) =
         let number : mid.number ≡ asked.number = ap (λ (x : Recorder). x.number) is in
         let (one, same) = as_asked mid saved k samples waiting is due in
         handed_on mid r saved k at len waiting same (subst (λ n. HandsOut n saved r (WriteBlock at len)) one handed)
-        (laws.handed mid r at len (number ∙ is_asked.0) (subst (λ o. after o mid) none known) (samples, saved, due, handed))
+        (laws.handed mid r at len (number ∙ is_asked.0) (subst (λ o. after o mid) none known)
+        (samples, saved, due, handed))
     goes_on mid r over (Shorten at) (inl (inr (inl (k, waiting, _, is, none)))) known goes =
-        absurd (false≢true (cut_phase mid r at (Requested k) false (phase_of mid asked is ∙ waiting) (rest_of mid asked is ∙ is_asked.2) goes))
+        absurd (false≢true (cut_phase mid r at (Requested k) false (phase_of mid asked is ∙ waiting)
+        (rest_of mid asked is ∙ is_asked.2) goes))
     goes_on mid r over (Perform effect) (inl (inr (inr (inl (k, waiting, is, none))))) known goes =
         absurd (effect_phase mid r effect (Writing k) (phase_of mid _ is) goes)
-    goes_on mid r over (WriteBlock at len) (inl (inr (inr (inl (k, waiting, is, none))))) known (samples, saved, due, handed) =
+    goes_on mid r over (WriteBlock at len) (inl (inr (inr (inl (k, waiting, is, none))))) known
+        (samples, saved, due, handed) =
         let number : mid.number ≡ asked.number = ap (λ (x : Recorder). x.number) is in
         let (one, same) = as_handed mid saved k samples is due in
         handed_on mid r saved k at len waiting same (subst (λ n. HandsOut n saved r (WriteBlock at len)) one handed)
-        (laws.handed mid r at len (number ∙ is_asked.0) (subst (λ o. after o mid) none known) (samples, saved, due, handed))
+        (laws.handed mid r at len (number ∙ is_asked.0) (subst (λ o. after o mid) none known)
+        (samples, saved, due, handed))
     goes_on mid r over (Shorten at) (inl (inr (inr (inl (k, waiting, is, none))))) known goes =
-        absurd (false≢true (cut_phase mid r at (Writing k) false (phase_of mid _ is) (rest_of mid _ is ∙ is_asked.2) goes))
+        absurd (false≢true (cut_phase mid r at (Writing k) false (phase_of mid _ is) (rest_of mid _ is ∙ is_asked.2)
+        goes))
     goes_on mid r over (Shorten at) (inl (inr (inr (inr (k, waiting, is, lost))))) known (cuts, same, place) =
         rw same (over, (λ _. inr (inr (inr (k, waiting, is, lost)))), known, (cuts, refl, place))
     goes_on mid r over (Perform effect) (inl (inr (inr (inr (k, waiting, is, lost))))) known goes =
@@ -420,7 +451,13 @@ module _ (asked : Recorder) (n : ℕ) (is_asked : IsAsked asked n) where
     finished mid r over (inl (inl (saving, is, none))) known (inr (busy, rest, x, next, same)) = (
       same ∙ ap (λ (x : Recorder). record x { phase = Idle }) next.4
           ∙ (λ i. record (is i) { number = 0; health = Sound; phase = Idle })
-          ∙ (λ i. record asked { data_length = length_after (sym saving i) asked; number = 0; health = Sound; phase = Idle }),
+          ∙ (λ i. record asked {
+            data_length = length_after (sym saving i) asked;
+            number = 0;
+            health = Sound;
+            phase =
+                Idle;
+          }),
       laws.saved mid r saving busy (subst (λ o. after o mid) none known) (inr (busy, rest, x, next, same)),
     )
     finished mid r over (inl (inr (inl (k, waiting, _, is, none)))) known (inl (rests, same)) =
@@ -448,7 +485,8 @@ module _ (asked : Recorder) (n : ℕ) (is_asked : IsAsked asked n) where
     next_some r new over action within known has (mid, outcome, settles, on) =
         by outcome (settled r mid over outcome within known has settles) on
       where
-        by : (outcome : Result (Unit {0}) RecorderError) → After r outcome mid → ThenGoesOn outcome mid new (Ok (Some action))
+        by : (outcome : Result (Unit {0}) RecorderError) → After r outcome mid
+            → ThenGoesOn outcome mid new (Ok (Some action))
             → (over : Option Bool) × ((next : Report) → IsWithin asked next new over) × after over new
             × GoesOn new new (Ok (Some action))
         by (Ok x) k (inr (_, never, _)) = cc
@@ -511,10 +549,12 @@ module _ (s : WavSpecEx) (file : Begun) (known : List Known) (asked : Recorder) 
   long : (k : ℕ) → asked.phase ≡ Requested k → length block ≡ k - asked.data_length
   long k waiting = by is_asked.3
     where
-      by : (asked.phase ≡ Saving) ⊎ ((asked.phase ≡ Requested (asked.data_length + length block)) × (asked.health ≡ Sound))
+      by : (asked.phase ≡ Saving)
+          ⊎ ((asked.phase ≡ Requested (asked.data_length + length block)) × (asked.health ≡ Sound))
           → length block ≡ k - asked.data_length
       by (inl saving) = cc (saving, waiting)
-      by (inr (here, _)) = let same = same_waiting (asked.data_length + length block) k (sym here ∙ waiting) in omega (arith, same)
+      by (inr (here, _)) = let same = same_waiting (asked.data_length + length block) k (sym here ∙ waiting) in
+          omega (arith, same)
 
   -- the clauses of the law, for what was requested
   pub laws_of : ((old mid new : Recorder) (effect : Effect) (result : Result (Unit {0}) IoFault)
@@ -549,7 +589,8 @@ module _ (s : WavSpecEx) (file : Begun) (known : List Known) (asked : Recorder) 
         subst (λ (x : Asked × Bool). Directed s file (known ++ marked x.0 x.1 ∷ []) mid end.state)
         (λ i. (asks i, same i))
         (wrote r mid n result outcome d (phase_of r _ is) (rest_of r _ is ∙ is_asked.2)
-        (rw is (long n waiting)) (rw (handed before r r at len d goes).0 at did) (subst (λ b. HasEnded b r mid outcome) (sym same) ended));
+        (rw is (long n waiting)) (rw (handed before r r at len d goes).0 at did)
+        (subst (λ b. HasEnded b r mid outcome) (sym same) ended));
     cut = λ b r mid at outcome d rest same ended.
         subst (λ m. Directed s file (known ++ marked (asked_as s asked block) false ∷ []) mid m) (sym same)
         (cut (known ++ marked (asked_as s asked block) false ∷ []) r mid b outcome d rest ended);
@@ -580,7 +621,8 @@ module _ (s : WavSpecEx) (file : Begun) (known : List Known) (asked : Recorder) 
       only mid r none (inr (some, _)) = absurd (omega (arith, none, some))
 
   -- no error comes of what is to do
-  pub not_failed : ((known : List Known) (old new : Recorder) (error : RecorderError) → Directed s file known old end.state
+  pub not_failed : ((known : List Known) (old new : Recorder) (error : RecorderError)
+      → Directed s file known old end.state
       → IsAlive old → GoesOn old new (Err error) → ⊥)
       → (new : Recorder) (error : RecorderError) (over : Option Bool) (mid : Recorder) → Now over mid
       → IsAlive mid → GoesOn mid new (Err error) → ⊥

@@ -23,14 +23,17 @@ PerformedAt asked start m (Some ok) r = (r.phase ≡ Idle) × (log : Log) × (lo
     × ((result : Result (Unit {0}) IoFault) × (is_ok result ≡ ok) × Performed (effects_of asked) result start log)
 
 -- its end is an error exactly where the effect failed
-ended_as : (b : Bool) (r mid : Recorder) (effect : Effect) (outcome : Result (Unit {0}) RecorderError) → r.phase ≡ Saving
+ended_as : (b : Bool) (r mid : Recorder) (effect : Effect) (outcome : Result (Unit {0}) RecorderError)
+    → r.phase ≡ Saving
     → r.has_rest ≡ false → GoesOn r r (Ok (Some (Perform effect))) → HasEnded b r mid outcome
     → (is_ok outcome ≡ b) × (is_ok outcome ≡ false → mid.phase ≡ Idle)
 ended_as b r mid effect outcome saving rest goes (inl (none, _, _)) = cc (saving, none)
 ended_as b r mid effect outcome saving rest goes (inr (inl (cleaning, _, _))) = cc (saving, cleaning)
-ended_as b r mid effect outcome saving rest goes (inr (inr (inl (_, _, cuts, _, _)))) = absurd (false≢true (sym rest ∙ cuts))
+ended_as b r mid effect outcome saving rest goes (inr (inr (inl (_, _, cuts, _, _)))) =
+    absurd (false≢true (sym rest ∙ cuts))
 ended_as b r mid effect outcome saving rest goes (inr (inr (inr (inl (n, writing, _, _, _))))) = cc (saving, writing)
-ended_as b r mid effect outcome saving rest (_, _, after, next) (inr (inr (inr (inr (_, _, (a, step, stepped, ends)))))) =
+ended_as b r mid effect outcome saving rest (_, _, after, next) (inr (inr (inr (inr (_, _, (a, step, stepped, ends))))))
+    =
     let (is, same) = same_next r after a (Some effect) step next stepped in
     by b (subst (λ (x : Recorder × Result (Option Effect) RecorderError). EffectEnds b r x.0 x.1 mid outcome)
     (λ i. (same i, is i)) ends)
@@ -41,7 +44,8 @@ ended_as b r mid effect outcome saving rest (_, _, after, next) (inr (inr (inr (
     by false (last, error, failed, err, is) = (ap is_ok err, λ bad. ap (λ (x : Recorder). x.phase) is)
 
 -- a report of nothing changes nothing
-stays_idle : (b : Bool) (r mid : Recorder) (outcome : Result (Unit {0}) RecorderError) → r.phase ≡ Idle → HasEnded b r mid outcome
+stays_idle : (b : Bool) (r mid : Recorder) (outcome : Result (Unit {0}) RecorderError) → r.phase ≡ Idle
+    → HasEnded b r mid outcome
     → mid ≡ r
 stays_idle b r mid outcome idle (inl (_, same, _)) = same
 stays_idle b r mid outcome idle (inr (inl (cleaning, _, _))) = cc (idle, cleaning)
@@ -53,17 +57,21 @@ ok_is : (result : Result (Unit {0}) IoFault) → is_ok result ≡ true → resul
 ok_is (Ok x) is = refl
 ok_is (Err e) is = absurd (false≢true is)
 
-module _ (asked : Recorder) (start : Log) (one : asked.phase ≡ Saving) (block : List ℕ) (report : Report) (before : MediumState)
+module _ (asked : Recorder) (start : Log) (one : asked.phase ≡ Saving) (block : List ℕ) (report : Report)
+    (before : MediumState)
     (end : Log) where
   -- an effect more
-  more : (outcome : Result (Unit {0}) RecorderError) (r mid : Recorder) (effect : Effect) (result : Result (Unit {0}) IoFault)
-      → PerformedAt asked start before None r → GoesOn r r (Ok (Some (Perform effect))) → Performs effect result before end.state
+  more : (outcome : Result (Unit {0}) RecorderError) (r mid : Recorder) (effect : Effect)
+      (result : Result (Unit {0}) IoFault)
+      → PerformedAt asked start before None r → GoesOn r r (Ok (Some (Perform effect)))
+      → Performs effect result before end.state
       → HasEnded (is_ok result) r mid outcome → PerformedAt asked start end.state (reported_as outcome) mid
   more (Ok x) r mid effect result (task, has, same, (log, here, done)) (saving, is, after, next) did ended =
       let goes : GoesOn r r (Ok (Some (Perform effect))) = (saving, is, after, next) in
       let rest = saving.0 in
       let fine : is_ok result ≡ true = sym (ended_as (is_ok result) r mid effect (Ok x) task rest goes ended).0 in
-      let is_mid : mid ≡ record r { number = r.number + 1 } = shape (is_ok result) r mid effect (Ok x) task rest goes ended in
+      let is_mid : mid ≡ record r { number = r.number + 1 } = shape (is_ok result) r mid effect (Ok x) task rest goes
+      ended in
       let number : suc r.number ≡ mid.number = omega (arith, ap (λ (x : Recorder). x.number) is_mid) in
       let all = performed_more (effects_of asked) r.number effect result start log end
       (next.3 ∙ ap (λ l. nth l r.number) same) done (subst (λ m. Performs effect result m end.state) (sym here) did) in (
@@ -80,7 +88,8 @@ module _ (asked : Recorder) (start : Log) (one : asked.phase ≡ Saving) (block 
   more (Err error) r mid effect result (task, has, same, (log, here, done)) (saving, is, after, next) did ended =
       let goes : GoesOn r r (Ok (Some (Perform effect))) = (saving, is, after, next) in
       let rest = saving.0 in
-      let failed : is_ok result ≡ false = sym (ended_as (is_ok result) r mid effect (Err error) task rest goes ended).0 in
+      let failed : is_ok result ≡ false =
+      sym (ended_as (is_ok result) r mid effect (Err error) task rest goes ended).0 in
       let all = performed_more (effects_of asked) r.number effect result start log end
       (next.3 ∙ ap (λ l. nth l r.number) same) done (subst (λ m. Performs effect result m end.state) (sym here) did) in (
         (ended_as (is_ok result) r mid effect (Err error) task rest goes ended).1 refl,
@@ -95,7 +104,8 @@ module _ (asked : Recorder) (start : Log) (one : asked.phase ≡ Saving) (block 
       )
 
   -- the clauses for the loop
-  pub effect_laws : (report ≡ Pending → end.state ≡ before) → Laws asked report (λ o r. PerformedAt asked start before o r)
+  pub effect_laws : (report ≡ Pending → end.state ≡ before)
+      → Laws asked report (λ o r. PerformedAt asked start before o r)
       (λ o r. PerformedAt asked start end.state o r) (λ action. DoesAction action block report before end.state)
   effect_laws still = record {
     same = λ pending over r known. subst (λ m. PerformedAt asked start m over r) (sym (still pending)) known;
@@ -103,8 +113,7 @@ module _ (asked : Recorder) (start : Log) (one : asked.phase ≡ Saving) (block 
         more outcome r mid effect result known goes did
         (settles_as (is_ok result) r mid outcome (subst (λ x. Settles x r mid outcome) is settles));
     wrote = λ b r mid samples at len outcome waiting reported known is place did ended. cc (one, waiting);
-    cut = λ b r mid at outcome known rest same ended.
-        let (idle, log, here, done) = known in
+    cut = λ b r mid at outcome known rest same ended. let (idle, log, here, done) = known in
         (ap (λ (x : Recorder). x.phase) (stays_idle b r mid outcome idle ended) ∙ idle, log, here ∙ sym same, done);
     handed = λ mid r at len none known goes. absurd (block_phase mid r at len Saving known.0 goes);
     saved = λ mid r one task known goes. all_saved mid r known goes;
@@ -141,13 +150,16 @@ no_error r new NeedsOverwrite has low (is, _, never) = never
 pub effects_not_failed : (asked : Recorder) (start : Log) (m : MediumState) (new : Recorder) (error : RecorderError)
     (over : Option Bool) (mid : Recorder) → PerformedAt asked start m over mid → IsAlive mid
     → GoesOn mid new (Err error) → ⊥
-effects_not_failed asked start m new error (Some b) mid (idle, _, _, _) low ((rest, inl saving), _, _, _) = cc (idle, saving)
-effects_not_failed asked start m new error (Some b) mid (idle, _, _, _) low ((rest, inr (k, waiting, _)), _, _, _) = cc (idle, waiting)
+effects_not_failed asked start m new error (Some b) mid (idle, _, _, _) low ((rest, inl saving), _, _, _) =
+    cc (idle, saving)
+effects_not_failed asked start m new error (Some b) mid (idle, _, _, _) low ((rest, inr (k, waiting, _)), _, _, _) =
+    cc (idle, waiting)
 effects_not_failed asked start m new error None mid (one, has, _, _) low (saving, r, failed, _) =
     no_error mid r error has low failed
 
 -- where the loop begins
-pub begins_effects : (asked : Recorder) (start : Log) (block : List ℕ) (now : MediumState) → asked.phase ≡ Saving → asked.number ≡ 0
+pub begins_effects : (asked : Recorder) (start : Log) (block : List ℕ) (now : MediumState) → asked.phase ≡ Saving
+    → asked.number ≡ 0
     → HasData asked asked.data_length
     → IsWithin asked Pending asked None → Repeats start.state now
     → IsUnderWayBy (λ m over r. PerformedAt asked start m over r) asked block Pending asked now
@@ -181,7 +193,8 @@ is_cut_off f r m found resumes counted =
     record { sound = found.sound; head = found.head; counted = counted; held = omega (arith, held, found.all) }
 
 -- once its file is mended
-pub is_mended : (f : FoundFile) (r new : Recorder) (m : Log) (file : Begun) → Resumes f true false (Ok r) → new ≡ once_mended r
+pub is_mended : (f : FoundFile) (r new : Recorder) (m : Log) (file : Begun) → Resumes f true false (Ok r)
+    → new ≡ once_mended r
     → Directed f.spec_ex file [] (recorder_of f.spec_ex f.data_start r.data_length) m.state
     → Directed f.spec_ex file [] new m.state
 is_mended f r new m file resumes is directed =
@@ -212,7 +225,8 @@ last_synced : (effects : List Effect) (result : Result (Unit {0}) IoFault) (star
 last_synced [] result start end ok (mid, Ok x, flush, (is, last)) = rw last flush.flushed
 last_synced [] result start end ok (mid, Err e, flush, (is, last)) = absurd (false≢true (sym (ap is_ok is) ∙ ok))
 last_synced (effect ∷ effects) result start end ok (mid, Ok x, did, rest) = last_synced effects result mid end ok rest
-last_synced (effect ∷ effects) result start end ok (mid, Err e, did, (is, last)) = absurd (false≢true (sym (ap is_ok is) ∙ ok))
+last_synced (effect ∷ effects) result start end ok (mid, Err e, did, (is, last)) =
+    absurd (false≢true (sym (ap is_ok is) ∙ ok))
 
 abbrev sizes_of : Recorder → List Effect
 sizes_of r = Sync ∷ Size 4 (riff_size r.data_start r.data_length) ∷ Size (r.data_start - 4) r.data_length ∷ []

@@ -9,8 +9,7 @@ use Rattle.hound_callers.specs.Recording.{HaveContainers, published_calls}
 
 module _ {V : Type 0} (f : V → Result (List (List ℕ)) Rejection) where
   -- the two calls of a block more are known after those of the blocks before it
-  pub seen_more : (blocks : List V) (i : ℕ) (d : V) → i < length blocks
-      → seen (published_calls f (take (i + 1) blocks))
+  pub seen_more : (blocks : List V) (i : ℕ) (d : V) → i < length blocks → seen (published_calls f (take (i + 1) blocks))
       ≡ seen (published_calls f (take i blocks)) ++ seen (published_calls f (get_or blocks i d ∷ []))
   seen_more blocks i d inside = grind (arith, common_steps)
 
@@ -31,8 +30,8 @@ module _ {V : Type 0} (f : V → Result (List (List ℕ)) Rejection) where
       ap (published_calls f) split ∙ simp (flat_map-append, append_assoc) in
       (_, same, sym (ap accepted_as_seen same ∙ simp (flat_map-append, append-nil)))
 
-  -- The flush of the last of some blocks is among the calls, and those before it accepted the
-  -- containers of these blocks.
+  -- The flush of the last of some blocks is among the calls, and those before it accepted the containers of these
+  -- blocks.
   pub last_flush : (blocks : List V) (more end : List Known) (calls : List Call)
       → 0 < length blocks → All (λ block. IsOk (f block)) blocks
       → ((before : List (Asked × Bool)) (after : List Known) (calls : List Call)

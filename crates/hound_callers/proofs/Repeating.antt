@@ -39,7 +39,8 @@ pub record Again : Type 0 where
   pub again : (at : ℕ) (bytes : List ℕ) (m : Log) (n : ℕ) (old new : MediumState) (result : Result (Unit {0}) IoFault)
       → n ≤ length bytes → Repeats (written_first at bytes n m.state) old → PutsAt true at bytes result old new
       → (n : ℕ) × (n ≤ length bytes) × Repeats (written_first at bytes n m.state) new
-  pub written : (at : ℕ) (bytes : List ℕ) (m : Log) (n : ℕ) (old new : MediumState) (result said : Result (Unit {0}) IoFault)
+  pub written : (at : ℕ) (bytes : List ℕ) (m : Log) (n : ℕ) (old new : MediumState)
+      (result said : Result (Unit {0}) IoFault)
       → n ≤ length bytes → Repeats (written_first at bytes n m.state) old → PutsAt true at bytes result old new
       → IsSaid said result → AreBytes new.contents
       → (once : Log) × PutsAt true at bytes said m.state once.state × Repeats once.state new
@@ -57,13 +58,15 @@ module _ (laws : Again) (block : List ℕ) where
   begun (Read at len) m now repeats = repeats
 
   -- a write, by its report
-  writes : (at : ℕ) (bytes : List ℕ) (m : Log) (old new : MediumState) (report : Report) (result : Result (Unit {0}) IoFault)
+  writes : (at : ℕ) (bytes : List ℕ) (m : Log) (old new : MediumState) (report : Report)
+      (result : Result (Unit {0}) IoFault)
       → AreBytes new.contents → (n : ℕ) × (n ≤ length bytes) × Repeats (written_first at bytes n m.state) old
       → IsReportOf result report → PutsAt true at bytes result old new
       → (once : Log) × (((report ≡ Pending) × (once.state ≡ m.state)
       × ((n : ℕ) × (n ≤ length bytes) × Repeats (written_first at bytes n once.state) new))
       ⊎ ((b : Bool) × (report ≡ report_for b)
-      × ((result : Result (Unit {0}) IoFault) × (report ≡ report_for (is_ok result)) × PutsAt true at bytes result m.state once.state)
+      × ((result : Result (Unit {0}) IoFault) × (report ≡ report_for (is_ok result))
+      × PutsAt true at bytes result m.state once.state)
       × Repeats once.state new))
   writes at bytes m old new report result small (n, within, repeats) (inl pending) puts =
       (m, inl (pending, refl, laws.again at bytes m n old new result within repeats puts))
@@ -107,7 +110,8 @@ module _ (laws : Again) (block : List ℕ) where
       let (is, same) = same_next r after other (Some effect) (Ok None) next none in cc
 
   -- what is cut off, and what is done else, exclude each other
-  cuts_alone : (r x y : Recorder) (at : ℕ) (other : Action) → GoesOn r x (Ok (Some (Shorten at))) → GoesOn r y (Ok (Some other))
+  cuts_alone : (r x y : Recorder) (at : ℕ) (other : Action) → GoesOn r x (Ok (Some (Shorten at)))
+      → GoesOn r y (Ok (Some other))
       → ((to : ℕ) → other ≡ Shorten to → ⊥) → ⊥
   cuts_alone r x y at (Shorten to) goes again never = never to refl
   cuts_alone r x y at (Read to size) goes again never = again
@@ -139,11 +143,13 @@ module _ (laws : Again) (block : List ℕ) where
       by (inr (n, waiting, first)) (inl (writing, _)) = cc (waiting, writing)
       by (inr (n, waiting, inl doubtful)) (inr (inl (_, clear, _))) = doubtful clear.0
       by (inr (n, waiting, inr some)) (inr (inl (_, clear, _))) = omega (arith, some, clear.1)
-  goes_same r new (Perform e) (Shorten at) m now goes cuts was = absurd (cuts_alone r new r at (Perform e) cuts goes (λ to is. cc is))
+  goes_same r new (Perform e) (Shorten at) m now goes cuts was =
+      absurd (cuts_alone r new r at (Perform e) cuts goes (λ to is. cc is))
   goes_same r new (Perform e) (Read at len) m now goes never was = absurd never
   goes_same r new (WriteBlock at len) (Perform f) m now (k, saved, due, (there, long, is)) effect was =
       absurd (effect_phase r new f (Writing k) (ap (λ (x : Recorder). x.phase) is) effect)
-  goes_same r new (WriteBlock at len) (WriteBlock to size) m now (k, saved, due, (there, long, is)) (n, saved2, due2, (there2, _, _)) was =
+  goes_same r new (WriteBlock at len) (WriteBlock to size) m now (k, saved, due, (there, long, is))
+      (n, saved2, due2, (there2, _, _)) was =
       let writing : r.phase ≡ Writing k = ap (λ (x : Recorder). x.phase) is in
       let one = due_same k k r saved writing due in
       let two = due_same k n r saved2 writing due2 in
@@ -152,7 +158,8 @@ module _ (laws : Again) (block : List ℕ) where
   goes_same r new (WriteBlock at len) (Shorten to) m now goes cuts was =
       absurd (cuts_alone r new r to (WriteBlock at len) cuts goes (λ to is. cc is))
   goes_same r new (WriteBlock at len) (Read to size) m now goes never was = absurd never
-  goes_same r new (Shorten at) (Perform f) m now cuts goes was = absurd (cuts_alone r r new at (Perform f) cuts goes (λ to is. cc is))
+  goes_same r new (Shorten at) (Perform f) m now cuts goes was =
+      absurd (cuts_alone r r new at (Perform f) cuts goes (λ to is. cc is))
   goes_same r new (Shorten at) (WriteBlock to size) m now cuts goes was =
       absurd (cuts_alone r r new at (WriteBlock to size) cuts goes (λ to is. cc is))
   goes_same r new (Shorten at) (Shorten to) m now goes again was = was
@@ -165,7 +172,8 @@ module _ (laws : Again) (block : List ℕ) where
   goes_none r new (WriteBlock at len) goes (inl (idle, _)) = block_phase r r at len Idle idle goes
   goes_none r new (WriteBlock at len) goes (inr (saving, _, _, _, _)) = block_phase r r at len Saving saving goes
   goes_none r new (Shorten at) goes (inl (idle, _)) = false≢true (cut_phase r r at Idle r.has_rest idle refl goes)
-  goes_none r new (Shorten at) goes (inr (saving, rest, _, _, _)) = false≢true (cut_phase r r at Saving false saving rest goes)
+  goes_none r new (Shorten at) goes (inr (saving, rest, _, _, _)) =
+      false≢true (cut_phase r r at Saving false saving rest goes)
   goes_none r new (Read at len) never none = absurd never
 
   -- without a report it continues from where it was, unless a sync has failed
@@ -197,22 +205,26 @@ module _ (laws : Again) (block : List ℕ) where
   all_done report r new m now (inr (pending, a, goes, was)) next =
       by (unreported report r new (Ok None) pending next)
     where
-      by : GoesOn r new (Ok None) ⊎ ((r.health ≡ Dead) × (◌≡◌ {A = Result (Option Action) RecorderError} (Ok None) (Err SyncFailed))) → Repeats m now
+      by : GoesOn r new (Ok None)
+          ⊎ ((r.health ≡ Dead) × (◌≡◌ {A = Result (Option Action) RecorderError} (Ok None) (Err SyncFailed)))
+          → Repeats m now
       by (inl on) = absurd (goes_none r new a goes on)
       by (inr (_, never)) = cc
 
   pub has_failed : (report : Report) (r new : Recorder) (error : RecorderError) (m now : MediumState)
-      → (report ≡ Pending → IsAlive r × (GoesOn r new (Err error) → ⊥)) → IsOnTheWay report r block m now → Advances report r new (Err error) → Repeats m now
+      → (report ≡ Pending → IsAlive r × (GoesOn r new (Err error) → ⊥)) → IsOnTheWay report r block m now
+      → Advances report r new (Err error) → Repeats m now
   has_failed report r new error m now never (inl repeats) next = repeats
   has_failed report r new error m now never (inr (pending, a, goes, was)) next =
       by (unreported report r new (Err error) pending next)
     where
-      by : GoesOn r new (Err error) ⊎ ((r.health ≡ Dead) × (◌≡◌ {A = Result (Option Action) RecorderError} (Err error) (Err SyncFailed))) → Repeats m now
+      by : GoesOn r new (Err error)
+          ⊎ ((r.health ≡ Dead) × (◌≡◌ {A = Result (Option Action) RecorderError} (Err error) (Err SyncFailed)))
+          → Repeats m now
       by (inl on) = absurd ((never pending).1 on)
       by (inr (dead, _)) = absurd ((never pending).0 dead)
 
--- What is known while actions are performed: what came of the last one that is reported, and whether another was
--- begun.
+-- What is known while actions are performed: what came of the last one that is reported, and whether another was begun.
 abbrev pub IsUnderWayBy : (MediumState → Option Bool → Recorder → Type 0) → Recorder → List ℕ → Report → Recorder
     → MediumState → Type 0
 IsUnderWayBy known_at asked block report r now = (before : MediumState) × (end : Log) × (over : Option Bool)
@@ -238,11 +250,20 @@ pub come_again : (known_at : MediumState → Option Bool → Recorder → Type 0
     → Comes action block report before end.state now → IsUnderWayBy known_at asked block report r now
 come_again known_at asked block report r action over before end now within known goes (inl (pending, same, was)) =
     (before, end, over, within, known, inl pending, (λ _. same), inr (pending, action, goes, was))
-come_again known_at asked block report r action over before end now within known goes (inr (b, is, did, repeats)) =
-    (before, end, over, within, known, inr (b, is, action, goes, did), (λ pending. absurd (not_pending b (sym is ∙ pending))), inl repeats)
+come_again known_at asked block report r action over before end now within known goes (inr (b, is, did, repeats)) = (
+  before,
+  end,
+  over,
+  within,
+  known,
+  inr (b, is, action, goes, did),
+  (λ pending. absurd (not_pending b (sym is ∙ pending))),
+  inl repeats,
+)
 
 -- an action was returned, and may have been reported
-pub has_action : (report : Report) (r : Recorder) (action : Action) → GoesOn r r (Ok (Some action)) → HasAction report (λ _. ⊤) r
+pub has_action : (report : Report) (r : Recorder) (action : Action) → GoesOn r r (Ok (Some action))
+    → HasAction report (λ _. ⊤) r
 has_action report r action goes = by (pending_or_made report)
   where
     by : (report ≡ Pending) ⊎ ((b : Bool) × (report ≡ report_for b)) → HasAction report (λ _. ⊤) r

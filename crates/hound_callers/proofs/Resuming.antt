@@ -21,7 +21,8 @@ pub one_of : (f : FoundFile) (result : Result Recorder RecorderError) → f.stat
 one_of f result state resumes = by (nat_lt f.length (f.data_start + f.data_length)) (ends_whole f) refl refl resumes
   where
     by : (a b : Bool) → nat_lt f.length (f.data_start + f.data_length) ≡ a → ends_whole f ≡ b
-        → ResumesAfter f (if a then Err Truncated else if b then Ok f.data_length else kept_as f.state f false false) result
+        → ResumesAfter f (if a then Err Truncated else if b then Ok f.data_length else kept_as f.state f false false)
+        result
         → IsOneOf f result
     by true b lacks ends is = inl (grind (arith, common_steps), is)
     by false true lacks ends is = inr (inl (grind (arith, common_steps), is))
@@ -61,7 +62,13 @@ not_resumed f contents samples error e readable counted all frames state some wi
 
     because : (error : RecorderError) → AppendsRecorder f.spec_ex f.data_start f.data_length (Err error)
         → e ≡ Unsupported → IsNotResumed contents e
-    because error is named = inr (f.spec_ex, samples, f.data_start, readable, inl (error, subst (λ n. AppendsRecorder f.spec_ex f.data_start n (Err error)) counted is, named))
+    because error is named = inr (
+      f.spec_ex,
+      samples,
+      f.data_start,
+      readable,
+      inl (error, subst (λ n. AppendsRecorder f.spec_ex f.data_start n (Err error)) counted is, named),
+    )
 
     by : (error : RecorderError) → IsOneOf f (Err error) → IsErrorOf error e → IsNotResumed contents e
     by error (inl (less, is)) named =

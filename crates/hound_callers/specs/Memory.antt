@@ -9,8 +9,8 @@ pub record HasAllSamples {A : Type 0} (meaning : SampleFormat → ℕ → ℕ �
   pub readable : Readable bytes s (length values) start
   pub samples : AreFirstSamples meaning s (drop start bytes) values
 
--- the bytes have this error: they can't be read for its cause; or they can, and it is why fewer samples come of
--- them than the header counts
+-- the bytes have this error: they can't be read for its cause; or they can, and it is why fewer samples come of them
+-- than the header counts
 abbrev pub IsFaultOf : (SampleFormat → ℕ → ℕ → Option ReadRejection) → List ℕ → Error → Type 0
 IsFaultOf rejection bytes e = ((cause : Cause) × Unreadable bytes cause × Names e cause)
     ⊎ ((s : WavSpecEx) × (samples : ℕ) × (start : ℕ) × Readable bytes s samples start

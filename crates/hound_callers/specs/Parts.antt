@@ -11,8 +11,8 @@ run_within (block ∷ blocks) most =
     if nat_le (length block.now) most then suc (run_within blocks (most - length block.now)) else 0
 
 -- A part of a recording. Of the next blocks those that have so many bytes at most in all are for it, so the one after
--- them has no room. Either it couldn't be begun, and none was saved; or it is a new file in which so many of
--- them were saved: all, or those before one at which a recorder stopped, because it was rejected or a call failed.
+-- them has no room. Either it couldn't be begun, and none was saved; or it is a new file in which so many of them were
+-- saved: all, or those before one at which a recorder stopped, because it was rejected or a call failed.
 abbrev pub IsPart : {M : Type 0} → Ghosts M → WavSpecEx → ℕ → List (Bor (List ℕ)) → M → M → ℕ → Type 0
 IsPart kind s most blocks old new n = ((n ≡ 0) × ((e : Error) × IsNotBegunBy kind s old new e))
     ⊎ WhereKeeps kind.tells kind.keeps

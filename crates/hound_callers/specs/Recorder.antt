@@ -35,8 +35,8 @@ place_for _ = 0
 abbrev pub IsReportOf : {T E : Type 0} → Result T E → Report → Type 0
 IsReportOf result report = (report ≡ Pending) ⊎ (report ≡ report_for (is_ok result))
 
--- What a caller does for an action, and how it reports it. The report of a write may be lost; a sync is reported
--- as done only if it is. A medium is neither read nor cut off.
+-- What a caller does for an action, and how it reports it. The report of a write may be lost; a sync is reported as
+-- done only if it is. A medium is neither read nor cut off.
 abbrev pub TriesAction : Action → List ℕ → Report → MediumState → MediumState → Type 0
 TriesAction (Perform Sync) block report old new = (result said : Result (Unit {0}) IoFault)
     × IsSaid said result × (report ≡ report_for (is_ok said)) × Flushes result old new
@@ -113,8 +113,7 @@ IsRejected r block = (length block.now % r.bytes_per_sample ≡ 0 → ⊥)
 
 -- the calls of a block that wasn't saved, and their marks: none, a write that failed, or a checkpoint that did
 abbrev pub StopsIn : WavSpecEx → Recorder → Bor (List ℕ) → List (Asked × Bool) → Type 0
-StopsIn s r block calls = (IsRejected r block × (calls ≡ []))
-    ⊎ (calls ≡ (write (samples_of s block), false) ∷ [])
+StopsIn s r block calls = (IsRejected r block × (calls ≡ [])) ⊎ (calls ≡ (write (samples_of s block), false) ∷ [])
     ⊎ (calls ≡ (write (samples_of s block), true) ∷ (publish, false) ∷ [])
 
 -- those after which the first of these blocks wasn't saved
@@ -138,8 +137,8 @@ IsErrorOf Truncated e = SaysFormat (codes "the data are cut off") e
 IsErrorOf NeedsOverwrite e = SaysFormat (codes "more follows the data") e
 IsErrorOf _ e = e ≡ Unsupported
 
--- Why a file with these contents isn't recorded further: they can't be read, no recorder begins with
--- them, they lack data that the header counts, or more than a pad byte follows.
+-- Why a file with these contents isn't recorded further: they can't be read, no recorder begins with them, they lack
+-- data that the header counts, or more than a pad byte follows.
 abbrev pub IsNotResumed : List ℕ → Error → Type 0
 IsNotResumed contents e = IsRejection e (Unreadable contents)
     ⊎ ((s : WavSpecEx) × (samples start : ℕ) × Readable contents s samples start
@@ -155,10 +154,10 @@ ReadsBlocks s file blocks contents =
     let list = found_in file ++ flat_map (λ block. if_marked true (samples_of s block)) blocks in
     length list % s.spec.channels ≡ 0 → ReadsAs s (start_of s file) list contents
 
--- So many of these blocks were saved, each by a write and a checkpoint, and then a recorder stopped at
--- the next one. Whatever sectors keep what was written since the file was synced, what is left counts, and has lost
--- no sample of a checkpoint: so it is where each effect was performed once, and no other state was there.
--- Unless a checkpoint failed, the file is read as those blocks.
+-- So many of these blocks were saved, each by a write and a checkpoint, and then a recorder stopped at the next one.
+-- Whatever sectors keep what was written since the file was synced, what is left counts, and has lost no sample of a
+-- checkpoint: so it is where each effect was performed once, and no other state was there. Unless a checkpoint failed,
+-- the file is read as those blocks.
 abbrev pub Saves : WavSpecEx → Begun → List (Bor (List ℕ)) → ℕ → MediumState → Type 0
 Saves s file blocks n m = (more : List (Asked × Bool)) × (r : Recorder) × (log : Log) × Repeats log.state m
     × StopsAt s r (drop n blocks) more
@@ -191,8 +190,8 @@ CountsAfterLoss f r start end = (sector : ℕ) (left : List ℕ) → 1 ≤ secto
     → Counts f.spec_ex f.data_start (accepted_samples log_kind.state (writer_of f.spec_ex r start)) left
     × ((j : ℕ) × (j ≤ 4) × (field (f.data_start - 4) left ≡ mix j f.data_length r.data_length))
 
--- That checkpoint was performed, to its end or not: it has published the samples that the recorder keeps, as a
--- `flush` does, where all of it is done.
+-- That checkpoint was performed, to its end or not: it has published the samples that the recorder keeps, as a `flush`
+-- does, where all of it is done.
 abbrev pub Mends : FoundFile → Recorder → Bool → MediumState → Log → Type 0
 Mends f r done old end = (start : Log) × (answer : Result (Unit {0}) Error) × Resumes f true false (Ok r)
     × (start.state ≡ old) × (mark_of answer ≡ done)

@@ -11,8 +11,7 @@ block_asks containers false = made (write containers) ∷ []
 block_asks containers true = made (write containers) ∷ made publish ∷ []
 
 -- blocks are written in their order, with a flush after every fourth; so many were written before
-abbrev pub recorder_asks : {V : Type 0} → (V → Result (List (List ℕ)) Rejection) → ℕ → List V →
-    List Known
+abbrev pub recorder_asks : {V : Type 0} → (V → Result (List (List ℕ)) Rejection) → ℕ → List V → List Known
 recorder_asks containers i [] = []
 recorder_asks containers i (block ∷ blocks) =
     block_asks (containers block) (i % 4 == 3) ++ recorder_asks containers (suc i) blocks
@@ -28,34 +27,31 @@ abbrev pub all_asked : {V : Type 0} → (V → ℕ → ℕ → Result (List ℕ)
 all_asked container s blocks = recorder_asks (containers_by container s) 0 blocks ++ made publish ∷ []
 
 -- the marks of the calls of blocks that were published: a write and a flush of each
-abbrev pub published_calls : {V : Type 0} → (V → Result (List (List ℕ)) Rejection) → List V →
-    List (Asked × Bool)
+abbrev pub published_calls : {V : Type 0} → (V → Result (List (List ℕ)) Rejection) → List V → List (Asked × Bool)
 published_calls containers blocks =
     flat_map (λ block. (write (containers block), true) ∷ (publish, true) ∷ []) blocks
 
--- The calls of a block at which a recorder stops: a write that accepted nothing, or a write that
--- accepted the block and a flush that didn't publish it.
+-- The calls of a block at which a recorder stops: a write that accepted nothing, or a write that accepted the block and
+-- a flush that didn't publish it.
 abbrev pub IsStopped : Result (List (List ℕ)) Rejection → List Known → Type 0
 IsStopped containers calls = (calls ≡ marked (write containers) false ∷ [])
     ⊎ (calls ≡ marked (write containers) true ∷ marked publish false ∷ [])
 
--- the calls with which a recorder stops where these blocks are left: none if there are no blocks, or
--- else those of the next one
-abbrev pub StopsAt : {V : Type 0} → (V → Result (List (List ℕ)) Rejection) → List V → List Known →
-    Type 0
+-- the calls with which a recorder stops where these blocks are left: none if there are no blocks, or else those of the
+-- next one
+abbrev pub StopsAt : {V : Type 0} → (V → Result (List (List ℕ)) Rejection) → List V → List Known → Type 0
 StopsAt containers [] calls = calls ≡ []
 StopsAt containers (block ∷ blocks) calls = IsStopped (containers block) calls
 
 -- each of these blocks has containers, and these are all of them
-abbrev pub HaveContainers : {V : Type 0} → (V → Result (List (List ℕ)) Rejection) → List V →
-    List (List ℕ) → Type 0
+abbrev pub HaveContainers : {V : Type 0} → (V → Result (List (List ℕ)) Rejection) → List V → List (List ℕ) → Type 0
 HaveContainers containers blocks list =
     All (λ block. IsOk (containers block)) blocks
     × (list ≡ flat_map (λ block. if_marked true (containers block)) blocks)
 
--- So many of these blocks were published over a durable medium, each by a write and a flush; and then
--- the calls stopped at the next block, if there is one, and ended. A flush has published exactly the samples
--- of these blocks, if there are some; and all is kept that the calls promise, through a loss of power too.
+-- So many of these blocks were published over a durable medium, each by a write and a flush; and then the calls stopped
+-- at the next block, if there is one, and ended. A flush has published exactly the samples of these blocks, if there
+-- are some; and all is kept that the calls promise, through a loss of power too.
 abbrev pub PublishesBlocks : {V W : Type 0} → Ghosts W → (V → Result (List (List ℕ)) Rejection) →
     WavSpecEx → Begun → List V → ℕ → W → MediumState → Type 0
 PublishesBlocks kind containers s file blocks n durable medium = (more : List Known)
@@ -74,8 +70,7 @@ WritesAndFlushes {M} kind asked answer old new =
     ⊎ ((mid : WriterState M) × Accepts kind asked (Ok tt) old mid
     × Checkpoints kind answer mid new)
 
--- why a batch of so many samples isn't made: it has no room in the file, or needs more memory than
--- the writer has
+-- why a batch of so many samples isn't made: it has no room in the file, or needs more memory than the writer has
 abbrev pub IsNoBatch : {M : Type 0} → WriterState M → ℕ → Error → Type 0
 IsNoBatch w count e = ((e ≡ TooLong) × (HasRoom w (2 * count) → ⊥))
     ⊎ ((e ≡ OutOfMemory) × (length w.batch_memory < 2 * count))
@@ -93,8 +88,8 @@ abbrev pub as_item : {A : Type 0} → Option A → Option (Result A Error)
 as_item None = None
 as_item (Some value) = Some (Ok value)
 
--- in each state of this medium, once so many bytes were written, the file is read as these samples: its own
--- and those that calls accepted of which these are known
+-- in each state of this medium, once so many bytes were written, the file is read as these samples: its own and those
+-- that calls accepted of which these are known
 abbrev pub ReadsSince : WavSpecEx → Begun → List Known → List (List ℕ) → ℕ → MediumState → Type 0
 ReadsSince s file known samples from medium = (calls : List Call) × AreKnown known calls
     × (samples ≡ found_in file ++ accepted_by_all calls)

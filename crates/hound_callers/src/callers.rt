@@ -18,27 +18,24 @@ use hound::{
 use std::alloc::Global;
 use std::{io, result};
 
-/// Publishes what was accepted so far, and says how many samples these are (`published`): those of the
-/// calls so far, after those of the file, and exactly these are read (`counted`). An error is that of the
-/// flush.
+/// Publishes what was accepted so far, and says how many samples these are (`published`): those of the calls so far,
+/// after those of the file, and exactly these are read (`counted`). An error is that of the flush.
 pub fn publish<M: Medium>(writer: &mut WavWriter<M>) -> hound::Result<u32>
     ensures published { MatchResult result (λ count. (count ≡ sample_count writer.old)
         × Checkpoints M.Placed (Ok tt) writer.old writer.new)
         (λ e. Checkpoints M.Placed (Err e) writer.old writer.new) }
     ensures counted { WhereTells M.tells (IfOk result (λ count. (s : WavSpecEx) (file : Begun)
-        (known : List Known) → Recorded M.Placed s file known writer.old →
-        (calls : List Call) × AreKnown known calls
+        (known : List Known) → Recorded M.Placed s file known writer.old → (calls : List Call) × AreKnown known calls
         × (count ≡ length (found_in file ++ accepted_by_all calls))
-        × ReadsAs s (start_of s file) (found_in file ++ accepted_by_all calls)
-        (M.state writer.new.medium).contents)) }
+        × ReadsAs s (start_of s file) (found_in file ++ accepted_by_all calls) (M.state writer.new.medium).contents)) }
 {
     a_writer_holds_its_calls::<M>();
     writer.flush()?;
     Ok(writer.len())
 }
 
-/// Ends a recording, and returns its medium: the result is that of the end (`finishes`). At an Ok whoever
-/// reads the file finds exactly the samples that it had and those that the calls so far accepted (`reads`).
+/// Ends a recording, and returns its medium: the result is that of the end (`finishes`). At an Ok whoever reads the
+/// file finds exactly the samples that it had and those that the calls so far accepted (`reads`).
 pub fn finish<M: Medium>(writer: WavWriter<M>) -> (M, hound::Result<()>)
     ensures finishes { Finishes M.Placed writer result.1 result.0 }
     ensures reads { WhereTells M.tells (OnOk result.1 ((s : WavSpecEx) (file : Begun) (known : List Known)
@@ -51,19 +48,17 @@ pub fn finish<M: Medium>(writer: WavWriter<M>) -> (M, hound::Result<()>)
     (medium, result)
 }
 
-/// Repairs what a recorder has left, whoever made its calls, over whichever medium: it does what
-/// `repair_to_end` does (`repaired`), and no sample is missing that one of the recorder's flushes has
-/// published, whether calls failed or the power went (`none_lost`). Another repair then finds the file whole
-/// (`again`). One that failed has written nothing, or is done again: that finds the same frames (`stopped`). So it is
-/// where the power goes meanwhile (`lost`).
+/// Repairs what a recorder has left, whoever made its calls, over whichever medium: it does what `repair_to_end` does
+/// (`repaired`), and no sample is missing that one of the recorder's flushes has published, whether calls failed or the
+/// power went (`none_lost`). Another repair then finds the file whole (`again`). One that failed has written nothing,
+/// or is done again: that finds the same frames (`stopped`). So it is where the power goes meanwhile (`lost`).
 pub fn repair_recording<N: Source + Medium>(left: N) -> result::Result<(N, Repair), (N, Error)>
     requires place { WhereTells N.tells ((N.state left).place ≡ 0) }
     ensures repaired { WhereTells N.tells (RepairsMedium false N.state left result) }
     ensures none_lost { WhereTells N.tells ((s : WavSpecEx) (file : Begun) (calls : List Call)
         (recorded : MediumState) (kept : Keeps s file calls recorded) (before after : List Call)
         (flush : Call) → calls ≡ before ++ (flush ∷ after) → HasPublished flush
-        → IsLeftAfter (start_of s file) (begins_at after recorded.past) recorded
-        (N.state left).contents →
+        → IsLeftAfter (start_of s file) (begins_at after recorded.past) recorded (N.state left).contents →
         IfOk result (λ done. (done.1.spec_ex ≡ s) × ReadsFrames done.1 (start_of s file)
         (found_in file ++ accepted_by_all before) (N.state done.0).contents)) }
     ensures again { WhereTells N.tells (IfOk result (λ done. (looks : Bool) (next new : MediumState)
@@ -81,9 +76,9 @@ pub fn repair_recording<N: Source + Medium>(left: N) -> result::Result<(N, Repai
     repair_to_end(left)
 }
 
-/// Looks at a file before anything is written, then repairs it, and returns what the look found: it is what
-/// `repair` reports, which is all that happened to the file (`repaired`). Unless chunks follow the data, the
-/// samples that were stored are read first, whoever wrote them (`stored`).
+/// Looks at a file before anything is written, then repairs it, and returns what the look found: it is what `repair`
+/// reports, which is all that happened to the file (`repaired`). Unless chunks follow the data, the samples that were
+/// stored are read first, whoever wrote them (`stored`).
 pub fn look_and_repair<M: Source + Medium>(medium: M) -> result::Result<(M, Repair), (M, Error)>
     requires { WhereTells M.tells ((M.state medium).place ≡ 0) }
     ensures repaired { WhereTells M.tells (RepairsMedium true M.state medium result) }
@@ -105,9 +100,9 @@ pub fn look_and_repair<M: Source + Medium>(medium: M) -> result::Result<(M, Repa
     Ok((medium, found))
 }
 
-/// The first sample of a frame, by a reader that has read nothing yet: that of its container, or an
-/// `IoError`, for a type that reads the file (`sample`). An error is a fault of the seek, or else the result
-/// is the next item after it, none past the end (`item`).
+/// The first sample of a frame, by a reader that has read nothing yet: that of its container, or an `IoError`, for a
+/// type that reads the file (`sample`). An error is a fault of the seek, or else the result is the next item after it,
+/// none past the end (`item`).
 pub fn sample_at<S: Sample, R: Source>(
     reader: &mut WavReader<R>,
     time: u32,
@@ -129,8 +124,8 @@ pub fn sample_at<S: Sample, R: Source>(
     reader.samples().next().transpose()
 }
 
-/// All samples that a reader has left, for a type that reads the file: the meanings of its
-/// containers, or an `IoError` or `OutOfMemory`.
+/// All samples that a reader has left, for a type that reads the file: the meanings of its containers, or an `IoError`
+/// or `OutOfMemory`.
 pub fn samples_of<S: Sample, R: io::Read + Drop>(
     alloc: Global,
     reader: WavReader<R>,
@@ -153,8 +148,7 @@ pub fn samples_of<S: Sample, R: io::Read + Drop>(
 /// Opens a file that was written: what is left in the reader are the containers.
 pub fn open_written(bytes: &[u8]) -> hound::Result<WavReader<&[u8]>>
     ensures { (s : WavSpecEx) (list : List (List ℕ)) → IsWritable s → AreContainers s list → bytes.now
-        ≡ canonical s list →
-        OpensAs result (λ r. (r.spec_ex ≡ s) × (r.num_samples ≡ length list)
+        ≡ canonical s list → OpensAs result (λ r. (r.spec_ex ≡ s) × (r.num_samples ≡ length list)
         × (containers s.bytes_per_sample (length list) r.reader.now ≡ list)) }
 {
     written_is_read();

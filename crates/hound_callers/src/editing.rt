@@ -7,12 +7,12 @@ use crate::recording::record_blocks;
 use hound::{Error, Medium, Sample, Source, WavWriter, an_append_keeps_the_front, what_is_kept};
 use std::result;
 
-/// Appends blocks of samples to a file, with a flush after every fourth, and ends it, whatever the
-/// results of these calls are.
+/// Appends blocks of samples to a file, with a flush after every fourth, and ends it, whatever the results of these
+/// calls are.
 ///
-/// If the file had all its data, each byte before them stays except the two sizes, so metadata chunks
-/// do; and what is left holds what these calls promise, after the samples that were there. An error is
-/// that of `try_append`, and nothing was written.
+/// If the file had all its data, each byte before them stays except the two sizes, so metadata chunks do; and what is
+/// left holds what these calls promise, after the samples that were there. An error is that of `try_append`, and
+/// nothing was written.
 pub fn append_blocks<S: Sample + Copy, M: Source + Medium>(
     medium: M,
     blocks: &[&[S]],

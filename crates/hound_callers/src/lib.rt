@@ -1,5 +1,5 @@
-//! What a user builds over the public items of `hound` alone: a sample type, and functions that prove
-//! something of their own from its contracts.
+//! What a user builds over the public items of `hound` alone: a sample type, and functions that prove something of
+//! their own from its contracts.
 #![tactic(auto)]
 
 mod callers;

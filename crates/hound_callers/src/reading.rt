@@ -12,8 +12,8 @@ use hound::{
 use std::alloc::Global;
 use std::{io, result};
 
-/// What is read of an integer that was written with these bits and bytes: the same integer (`same`). An error
-/// is that of the type, which has no container for it, or a fault of the read (`err`).
+/// What is read of an integer that was written with these bits and bytes: the same integer (`same`). An error is that
+/// of the type, which has no container for it, or a fault of the read (`err`).
 pub fn written_and_read(value: i32, bits: u16, width: u16) -> hound::Result<i32>
     ensures same { IfOk result (λ read. read ≡ value) }
     ensures err { IfErr result (λ e. IsIoError e ⊎ IsEncoded (int_container value bits width) (Err e)) }
@@ -24,9 +24,9 @@ pub fn written_and_read(value: i32, bits: u16, width: u16) -> hound::Result<i32>
     i32::read(&mut bytes, SampleFormat::Int, width, bits)
 }
 
-/// Reads a block: at an Ok it has all samples that fit or are left (`all`), those that as many calls
-/// of `next` would have given, and the reader is left as these would have left it (`same`). An error is
-/// that of the item in whose place it came (`err`).
+/// Reads a block: at an Ok it has all samples that fit or are left (`all`), those that as many calls of `next` would
+/// have given, and the reader is left as these would have left it (`same`). An error is that of the item in whose place
+/// it came (`err`).
 pub fn read_block<S: Sample, R: io::Read + Drop>(
     reader: &mut WavReader<R>,
     block: &mut [S],
@@ -34,8 +34,7 @@ pub fn read_block<S: Sample, R: io::Read + Drop>(
     ensures all { IfOk result (λ count. count ≡ min (length block.old) (samples_left reader.old)) }
     ensures same { IsSome (R.remaining reader.old.reader) → IfOk result (λ count.
         (others : List S) (other : ReaderState R) → length others ≡ count →
-        GivesItems R.remaining S.rejection S.meaning (map Ok others) reader.old other →
-        (take count block.new ≡ others)
+        GivesItems R.remaining S.rejection S.meaning (map Ok others) reader.old other → (take count block.new ≡ others)
         × (over_bytes R.remaining reader.new ≡ over_bytes R.remaining other)) }
     ensures err { IfErr result (λ e. (count : ℕ) × ReadsBlock R.remaining S.rejection S.meaning count
         (Err e) block.old block.new reader.old reader.new) }
@@ -46,9 +45,9 @@ pub fn read_block<S: Sample, R: io::Read + Drop>(
     Ok(count)
 }
 
-/// Reads a block from a frame on, by a reader that has read nothing yet. Returns how many samples
-/// came, all that fit or are left (`all`), and what is left of the input: the bytes after their
-/// containers (`rest`). An error is a fault of the seek, or that of the item in whose place it came (`err`).
+/// Reads a block from a frame on, by a reader that has read nothing yet. Returns how many samples came, all that fit or
+/// are left (`all`), and what is left of the input: the bytes after their containers (`rest`). An error is a fault of
+/// the seek, or that of the item in whose place it came (`err`).
 pub fn read_from<S: Sample, R: Source>(
     reader: WavReader<R>,
     time: u32,
@@ -73,10 +72,9 @@ pub fn read_from<S: Sample, R: Source>(
     Ok((count, reader.into_inner()))
 }
 
-/// Opens a file to append to it. The samples accepted so far are those of a canonical file
-/// (`written`), or, of a recording that was cut off, those that its header counts (`begun`). If
-/// these are whole frames and leave room, it is Ok unless the medium fails. At an error nothing was written
-/// (`rejected`).
+/// Opens a file to append to it. The samples accepted so far are those of a canonical file (`written`), or, of a
+/// recording that was cut off, those that its header counts (`begun`). If these are whole frames and leave room, it is
+/// Ok unless the medium fails. At an error nothing was written (`rejected`).
 pub fn reopen<M: Source + Medium>(medium: M) -> result::Result<WavWriter<M>, (M, Error)>
     requires { WhereTells M.tells ((M.state medium).place ≡ 0) }
     ensures written { WhereTells M.tells ((s : WavSpecEx) (list : List (List ℕ)) → IsWritable s →
@@ -99,11 +97,11 @@ pub fn reopen<M: Source + Medium>(medium: M) -> result::Result<WavWriter<M>, (M,
     WavWriter::try_append(medium)
 }
 
-/// What a player finds that opens a recording after its first k bytes were written, by what the calls of
-/// its writer promise. While one writes samples, all before the data is as it was (`front`). While one makes a
-/// checkpoint, the data length has some bytes of the old one and the others of the new one (`mixed`), and is one of
-/// these two unless a write of it is cut (`whole`). From a checkpoint to where the next one begins, he finds exactly
-/// the samples accepted before it (`checkpoint`).
+/// What a player finds that opens a recording after its first k bytes were written, by what the calls of its writer
+/// promise. While one writes samples, all before the data is as it was (`front`). While one makes a checkpoint, the
+/// data length has some bytes of the old one and the others of the new one (`mixed`), and is one of these two unless a
+/// write of it is cut (`whole`). From a checkpoint to where the next one begins, he finds exactly the samples accepted
+/// before it (`checkpoint`).
 pub fn opened_meanwhile(alloc: Global, journal: &Journal, k: usize) -> hound::Result<Vec<u8>>
     requires { k ≤ length (⟦<Journal as Placed>⟧.state journal.now).past }
     ensures front { let m = ⟦<Journal as Placed>⟧.state journal.now in IfOk result (λ bytes.
@@ -114,8 +112,7 @@ pub fn opened_meanwhile(alloc: Global, journal: &Journal, k: usize) -> hound::Re
     ensures mixed { let m = ⟦<Journal as Placed>⟧.state journal.now in IfOk result (λ bytes.
         (s : WavSpecEx) (file : Begun) (calls : List Call) → Keeps s file calls m → (before after : List Call)
         (patch : Call) → calls ≡ before ++ (patch ∷ after) → patch.asked ≡ publish → patch.began ≤ k
-        → k ≤ begins_at after m.past →
-        let at = start_of s file - 4 in
+        → k ≤ begins_at after m.past → let at = start_of s file - 4 in
         (count : ℕ) × (count ≤ 4) × (field at bytes.items ≡ mix count (field at (moment m.start m.past patch.began))
         (length (concat (found_in file ++ accepted_by_all before))))) }
     ensures whole { let m = ⟦<Journal as Placed>⟧.state journal.now in IfOk result (λ bytes.
@@ -137,8 +134,8 @@ pub fn opened_meanwhile(alloc: Global, journal: &Journal, k: usize) -> hound::Re
     journal.bytes_after(alloc, k)
 }
 
-/// Reads a file in memory: its spec, and all of its samples (`read`). An error is one that these bytes have, or
-/// that of the type, or there is no memory for the samples (`err`). The vector has the given sample before they come.
+/// Reads a file in memory: its spec, and all of its samples (`read`). An error is one that these bytes have, or that of
+/// the type, or there is no memory for the samples (`err`). The vector has the given sample before they come.
 pub fn read_memory<S: Decode + Copy>(
     alloc: Global,
     bytes: &[u8],

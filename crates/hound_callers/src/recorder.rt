@@ -43,8 +43,8 @@ fn report_of(is_done: bool, is_lost: bool) -> Report
     }
 }
 
-// Performs an action, the write of a block with these bytes, and reports how it ended, unless the report is lost:
-// then a sync has failed. A medium isn't cut off.
+// Performs an action, the write of a block with these bytes, and reports how it ended, unless the report is lost: then
+// a sync has failed. A medium isn't cut off.
 fn perform<M: Medium>(medium: &mut M, action: Action, block: &[u8], is_lost: bool) -> Report
     ensures ended { is_lost ≡ false → result ≡ Pending → ⊥ }
     ensures tries { WhereKeeps M.tells M.keeps
@@ -79,8 +79,8 @@ fn is_next_lost(lost: &[bool], made: &mut usize) -> bool
     }
 }
 
-// Performs one action after the other of what was requested, up to its end or a failure. An action whose report is
-// lost is performed again.
+// Performs one action after the other of what was requested, up to its end or a failure. An action whose report is lost
+// is performed again.
 fn perform_all<M: Medium>(
     medium: &mut M,
     recorder: &mut Recorder,
@@ -221,11 +221,10 @@ pub fn begin_by_effects<M: Medium>(medium: &mut M, spec_ex: WavSpecEx) -> hound:
     Ok(())
 }
 
-/// Records blocks of containers into a new file, with a checkpoint after each, until a call fails or a
-/// block doesn't fit, and returns how many blocks were saved. It writes the bytes and performs the
-/// effects itself, as programs in other languages do: of the first effects those reports are lost that
-/// `lost` says, as of a program that was interrupted, and what has no report is performed again. It is an error if the
-/// file isn't begun (`rejected`).
+/// Records blocks of containers into a new file, with a checkpoint after each, until a call fails or a block doesn't
+/// fit, and returns how many blocks were saved. It writes the bytes and performs the effects itself, as programs in
+/// other languages do: of the first effects those reports are lost that `lost` says, as of a program that was
+/// interrupted, and what has no report is performed again. It is an error if the file isn't begun (`rejected`).
 pub fn record_by_effects<M: Medium>(
     medium: &mut M,
     spec_ex: WavSpecEx,
@@ -247,8 +246,8 @@ pub fn record_by_effects<M: Medium>(
     Ok(save_blocks(medium, &mut recorder, blocks, lost))
 }
 
-// Requests the checkpoint that comes first of a recorder that continues a recording which was cut off. Before it
-// what follows the data is cut off, which isn't done to a medium.
+// Requests the checkpoint that comes first of a recorder that continues a recording which was cut off. Before it what
+// follows the data is cut off, which isn't done to a medium.
 fn begin_mending(continued: &mut Recorder)
     requires { IsResumed continued.old }
     ensures { continued.new ≡ record continued.old { phase = Saving; has_rest = false } }
@@ -278,11 +277,11 @@ fn mend<M: Medium>(
     perform_all(medium, recorder, &[], lost, made)
 }
 
-/// Continues a recording that was cut off, of a file that was found so: by a checkpoint of all whole frames
-/// that it holds, and then as [`record_by_effects`] does. It is an error if a recorder doesn't continue it,
-/// or its header counts more than whole frames, and the file is as it was (`rejected`); or the checkpoint fails,
-/// which then has left what a `flush` of these samples leaves that fails. What a loss of power leaves within that
-/// checkpoint counts no more than these samples.
+/// Continues a recording that was cut off, of a file that was found so: by a checkpoint of all whole frames that it
+/// holds, and then as [`record_by_effects`] does. It is an error if a recorder doesn't continue it, or its header
+/// counts more than whole frames, and the file is as it was (`rejected`); or the checkpoint fails, which then has left
+/// what a `flush` of these samples leaves that fails. What a loss of power leaves within that checkpoint counts no more
+/// than these samples.
 ///
 /// What it promises holds if the file is as it was found ([`IsFound`](crate)).
 pub fn continue_by_effects<M: Medium>(
@@ -319,9 +318,9 @@ fn error_of(error: RecorderError) -> Error
     }
 }
 
-/// Appends blocks to a file with these contents, as [`record_by_effects`] records a new one. At an error
-/// the file is as it was (`rejected`): the contents can't be read, or aren't appended to, or don't end with
-/// the data that the header counts, or the medium failed (`why`).
+/// Appends blocks to a file with these contents, as [`record_by_effects`] records a new one. At an error the file is as
+/// it was (`rejected`): the contents can't be read, or aren't appended to, or don't end with the data that the header
+/// counts, or the medium failed (`why`).
 pub fn append_by_effects<M: Medium>(
     medium: &mut M,
     contents: &[u8],

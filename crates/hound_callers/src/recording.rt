@@ -24,10 +24,8 @@ fn record_block<S: Sample + Copy, M: Medium>(
     block: &[S],
     publishes: bool,
 )
-    ensures { (s : WavSpecEx) (file : Begun) (known : List Known)
-        → Recorded M.Placed s file known writer.old
-        → Recorded M.Placed s file
-        (known ++ block_asks (containers_in S.container s block.now) publishes) writer.new }
+    ensures { (s : WavSpecEx) (file : Begun) (known : List Known) → Recorded M.Placed s file known writer.old
+        → Recorded M.Placed s file (known ++ block_asks (containers_in S.container s block.now) publishes) writer.new }
 {
     let _ = writer.write_samples(block);
     if publishes {
@@ -37,19 +35,17 @@ fn record_block<S: Sample + Copy, M: Medium>(
 
 // Writes blocks, with a flush after every fourth, whatever the results are.
 pub(crate) fn record_blocks<S: Sample + Copy, M: Medium>(writer: &mut WavWriter<M>, blocks: &[&[S]])
-    ensures { (s : WavSpecEx) (file : Begun) (known : List Known)
-        → Recorded M.Placed s file known writer.old
-        → Recorded M.Placed s file
-        (known ++ recorder_asks (containers_by S.container s) 0 blocks.now) writer.new }
+    ensures { (s : WavSpecEx) (file : Begun) (known : List Known) → Recorded M.Placed s file known writer.old
+        → Recorded M.Placed s file (known ++ recorder_asks (containers_by S.container s) 0 blocks.now) writer.new }
 {
     for i in 0..blocks.len() {
         record_block(writer, blocks[i], i % 4 == 3);
     }
 }
 
-/// Records blocks of samples into a new file, with a flush after every fourth, and ends it, whatever the
-/// results of these calls are: they were made, one by one, and led to what is left (`left`), which holds all
-/// that they promise, in each of its states (`kept`).
+/// Records blocks of samples into a new file, with a flush after every fourth, and ends it, whatever the results of
+/// these calls are: they were made, one by one, and led to what is left (`left`), which holds all that they promise, in
+/// each of its states (`kept`).
 pub fn record<S: Sample + Copy, M: Source + Medium>(
     medium: M,
     spec_ex: WavSpecEx,
@@ -69,8 +65,8 @@ pub fn record<S: Sample + Copy, M: Source + Medium>(
     Ok(medium)
 }
 
-// Writes a block and publishes it, also where it ends within a frame, of which the next block has the
-// rest. Any other error stops it.
+// Writes a block and publishes it, also where it ends within a frame, of which the next block has the rest. Any other
+// error stops it.
 fn publish_block<S: Sample + Copy, M: Medium>(
     writer: &mut WavWriter<M>,
     block: &[S],
@@ -78,8 +74,7 @@ fn publish_block<S: Sample + Copy, M: Medium>(
     ensures spec { writer.new.spec_ex ≡ writer.old.spec_ex }
     ensures have { OnOk result (IsOk (containers_in S.container writer.old.spec_ex block.now)) }
     ensures published { OnOk result ((s : WavSpecEx) (file : Begun) (known : List Known)
-        → Recorded M.Placed s file known writer.old
-        → Recorded M.Placed s file
+        → Recorded M.Placed s file known writer.old → Recorded M.Placed s file
         (known ++ seen (published_calls (containers_in S.container s) (block.now ∷ []))) writer.new) }
     ensures stopped { OnErr result ((s : WavSpecEx) (file : Begun) (known : List Known)
         → Recorded M.Placed s file known writer.old → (more : List Known)
@@ -97,10 +92,8 @@ fn publish_block<S: Sample + Copy, M: Medium>(
 fn publish_blocks<S: Sample + Copy, M: Medium>(writer: &mut WavWriter<M>, blocks: &[&[S]]) -> usize
     ensures within { result ≤ length blocks.now }
     ensures have { All (λ block. IsOk (containers_by S.container writer.old.spec_ex block)) (take result blocks.now) }
-    ensures published { (s : WavSpecEx) (file : Begun)
-        → Recorded M.Placed s file [] writer.old → (more : List Known)
-        × StopsAt (containers_by S.container s) (drop result blocks.now) more
-        × Recorded M.Placed s file
+    ensures published { (s : WavSpecEx) (file : Begun) → Recorded M.Placed s file [] writer.old → (more : List Known)
+        × StopsAt (containers_by S.container s) (drop result blocks.now) more × Recorded M.Placed s file
         (seen (published_calls (containers_by S.container s) (take result blocks.now)) ++ more) writer.new }
 {
     for i in 0..blocks.len() {
@@ -111,15 +104,14 @@ fn publish_blocks<S: Sample + Copy, M: Medium>(writer: &mut WavWriter<M>, blocks
     blocks.len()
 }
 
-/// Records blocks of samples over a medium that may lose its power, with a checkpoint after each, until a
-/// call fails, and returns how many blocks were published.
+/// Records blocks of samples over a medium that may lose its power, with a checkpoint after each, until a call fails,
+/// and returns how many blocks were published.
 ///
-/// Its calls are the write and the flush of each of these blocks, all of which published it, then those
-/// of the next block, if there is one, which didn't, and the end. One of these flushes has published exactly the
-/// samples of the blocks, if there are some; and whatever sectors keep what was written since the medium was
-/// flushed, what is left counts, and has lost no sample that a flush has published (`published`). Once that is
-/// repaired, the samples of these blocks are read first, as many as whole frames have, unless a repair that looks
-/// for chunks finds some (`safe`).
+/// Its calls are the write and the flush of each of these blocks, all of which published it, then those of the next
+/// block, if there is one, which didn't, and the end. One of these flushes has published exactly the samples of the
+/// blocks, if there are some; and whatever sectors keep what was written since the medium was flushed, what is left
+/// counts, and has lost no sample that a flush has published (`published`). Once that is repaired, the samples of these
+/// blocks are read first, as many as whole frames have, unless a repair that looks for chunks finds some (`safe`).
 ///
 /// The medium must be new: its place is 0, and nothing has been written to it yet.
 pub fn record_checkpoints<S: Sample + Copy, M: Source + Medium>(
@@ -138,8 +130,7 @@ pub fn record_checkpoints<S: Sample + Copy, M: Source + Medium>(
     ensures safe { IfOk result (λ done. WhereKeeps M.tells M.keeps (0 < done.1 → (list : List (List ℕ))
         × HaveContainers (containers_by S.container spec_ex) (take done.1 blocks.now) list
         × ((looks : Bool) (sector : ℕ) (cut mended : MediumState) (found : Repair) → 1 ≤ sector
-        → (data_start spec_ex - 4) / sector ≡ (data_start spec_ex - 1) / sector
-        → (let s = M.state done.0 in
+        → (data_start spec_ex - 4) / sector ≡ (data_start spec_ex - 1) / sector → (let s = M.state done.0 in
         SurvivesLoss sector s.start s.past s.flushed (length s.past) cut.contents)
         → Repairs looks cut found mended → (IsTrue looks → found.state ≡ HasChunksAfterData → ⊥) →
         (found.spec_ex ≡ spec_ex) × ReadsFrames found (data_start spec_ex) list mended.contents))) }
@@ -158,8 +149,8 @@ pub fn record_checkpoints<S: Sample + Copy, M: Source + Medium>(
     Ok((durable.into_inner(), published))
 }
 
-/// Records steps into a new file, whatever the results are: if it was begun, this was a run with these
-/// marks (`run`), and what is left keeps all that the calls of these steps promise (`kept`).
+/// Records steps into a new file, whatever the results are: if it was begun, this was a run with these marks (`run`),
+/// and what is left keeps all that the calls of these steps promise (`kept`).
 pub fn record_steps<M: Source + Medium>(
     alloc: Global,
     medium: M,
@@ -169,12 +160,10 @@ pub fn record_steps<M: Source + Medium>(
 ) -> result::Result<M, (M, Error)>
     requires place { WhereTells M.tells ((M.state medium).place ≡ 0) }
     requires size { length steps.now ≡ length marks.old }
-    ensures run { MatchResult result
-        (Ran M.Placed (New spec_ex) steps.now marks.new Drop medium (Ok tt))
+    ensures run { MatchResult result (Ran M.Placed (New spec_ex) steps.now marks.new Drop medium (Ok tt))
         (λ rejected. IsNotBegun M.Placed spec_ex medium rejected.0 rejected.1
         × (marks.new ≡ replicate (length steps.now) false)) }
-    ensures kept { IfOk result (λ left. WhereKeeps M.tells M.keeps
-        (Kept M.Placed spec_ex (new_file (M.state medium))
+    ensures kept { IfOk result (λ left. WhereKeeps M.tells M.keeps (Kept M.Placed spec_ex (new_file (M.state medium))
         (map (λ step. made (asked_by spec_ex step)) steps.now ++ made publish ∷ []) left)) }
 {
     what_is_kept::<M>();
@@ -185,9 +174,9 @@ pub fn record_steps<M: Source + Medium>(
     }
 }
 
-/// Writes a file of one integer into an empty medium by calls of its own: at an Ok it is there, and
-/// nothing else (`exact`), and these calls are a run, with all that a run promises (`run`). An error
-/// is that of the constructor, of the sample, or of the end (`err`).
+/// Writes a file of one integer into an empty medium by calls of its own: at an Ok it is there, and nothing else
+/// (`exact`), and these calls are a run, with all that a run promises (`run`). An error is that of the constructor, of
+/// the sample, or of the end (`err`).
 pub fn pack_one<M: Source + Medium>(
     medium: M,
     spec_ex: WavSpecEx,
@@ -195,17 +184,14 @@ pub fn pack_one<M: Source + Medium>(
 ) -> result::Result<M, (M, Error)>
     requires place { WhereTells M.tells ((M.state medium).place ≡ 0) }
     requires empty { (M.state medium).contents ≡ [] }
-    ensures run { IfOk result (Ran M.Placed (New spec_ex) (Whole value ∷ [])
-        (true ∷ []) Finalize medium (Ok tt)) }
+    ensures run { IfOk result (Ran M.Placed (New spec_ex) (Whole value ∷ []) (true ∷ []) Finalize medium (Ok tt)) }
     ensures exact { IfOk result (λ left. WhereTells M.tells ((M.state left).contents
         ≡ canonical spec_ex (containers_of spec_ex (Whole value ∷ [])))) }
-    ensures err { IfErr result (λ rejected.
-        IsNotBegun M.Placed spec_ex medium rejected.0 rejected.1
+    ensures err { IfErr result (λ rejected. IsNotBegun M.Placed spec_ex medium rejected.0 rejected.1
         ⊎ ((first last : WriterState M) × Begins M.Placed spec_ex (M.state medium) first
         × ((Takes M.Placed (Whole value) (Err rejected.1) first last
         × (end : Result Unit Error) × Finishes M.Placed last end rejected.0)
-        ⊎ (Takes M.Placed (Whole value) (Ok tt) first last
-        × Finishes M.Placed last (Err rejected.1) rejected.0)))) }
+        ⊎ (Takes M.Placed (Whole value) (Ok tt) first last × Finishes M.Placed last (Err rejected.1) rejected.0)))) }
 {
     let steps = [Step::Whole(value)];
     calls_are_a_run::<M>(&steps);
@@ -220,9 +206,9 @@ pub fn pack_one<M: Source + Medium>(
     }
 }
 
-/// Writes a batch, which is accepted by one call; where there is no room for it, or no memory, the
-/// writer stays as it was (`recorded`), and else the result is that of this call (`calls`). At an Ok it
-/// accepted what its values would have been accepted as one by one (`same`).
+/// Writes a batch, which is accepted by one call; where there is no room for it, or no memory, the writer stays as it
+/// was (`recorded`), and else the result is that of this call (`calls`). At an Ok it accepted what its values would
+/// have been accepted as one by one (`same`).
 pub fn record_batch<M: Medium>(
     alloc: Global,
     writer: &mut WavWriter<M>,
@@ -233,10 +219,8 @@ pub fn record_batch<M: Medium>(
         (each : WriterState M) → AcceptsEach M.Placed int_container batch.now writer.old each →
         (accepted_samples M.state writer.new ≡ accepted_samples M.state each)
         × (data_length writer.new ≡ data_length each))) }
-    ensures recorded { (s : WavSpecEx) (file : Begun) (known : List Known)
-        → Recorded M.Placed s file known writer.old
-        → (IsErrAnd result (IsNoBatch writer.old (length batch.now))
-        × Recorded M.Placed s file known writer.new)
+    ensures recorded { (s : WavSpecEx) (file : Begun) (known : List Known) → Recorded M.Placed s file known writer.old
+        → (IsErrAnd result (IsNoBatch writer.old (length batch.now)) × Recorded M.Placed s file known writer.new)
         ⊎ Recorded M.Placed s file
         (known ++ marked (write (whole_containers s (i16_bytes batch.now))) (is_ok result) ∷ []) writer.new }
     ensures calls { IsErrAnd result (IsNoBatch writer.old (length batch.now))
@@ -255,9 +239,9 @@ pub fn record_batch<M: Medium>(
     values.flush()
 }
 
-/// Writes samples by one call and publishes them: the file is then read as the samples before and all
-/// of these (`published`), which are those that calls of their own would have written (`same`). An
-/// error is that of one of these calls, and there is no other (`calls`).
+/// Writes samples by one call and publishes them: the file is then read as the samples before and all of these
+/// (`published`), which are those that calls of their own would have written (`same`). An error is that of one of these
+/// calls, and there is no other (`calls`).
 pub fn record_at_once<S: Sample + Copy, M: Medium>(
     writer: &mut WavWriter<M>,
     samples: &[S],
@@ -275,11 +259,10 @@ pub fn record_at_once<S: Sample + Copy, M: Medium>(
     writer.flush()
 }
 
-/// Publishes what was accepted, and continues with samples, whatever becomes of them: until the next
-/// flush the file counts exactly the samples that were accepted before this one, over a medium without
-/// a past too (`lasts`), and whoever reads it finds exactly these (`reads`), also in each state since the
-/// flush returned, wherever the writing stops. An error is that of the flush, and then nothing is written
-/// after it (`calls`).
+/// Publishes what was accepted, and continues with samples, whatever becomes of them: until the next flush the file
+/// counts exactly the samples that were accepted before this one, over a medium without a past too (`lasts`), and
+/// whoever reads it finds exactly these (`reads`), also in each state since the flush returned, wherever the writing
+/// stops. An error is that of the flush, and then nothing is written after it (`calls`).
 pub fn publish_and_continue<S: Sample + Copy, M: Medium>(
     writer: &mut WavWriter<M>,
     samples: &[S],
@@ -291,16 +274,14 @@ pub fn publish_and_continue<S: Sample + Copy, M: Medium>(
     ensures reads { WhereTells M.tells (OnOk result ((s : WavSpecEx) (file : Begun) (known : List Known)
         → Recorded M.Placed s file known writer.old → (calls later : List Call) × AreKnown known calls
         × (accepted_samples M.state writer.new ≡ (found_in file ++ accepted_by_all calls) ++ accepted_by_all later)
-        × ReadsAs s (start_of s file) (found_in file ++ accepted_by_all calls)
-        (M.state writer.new.medium).contents)) }
+        × ReadsAs s (start_of s file) (found_in file ++ accepted_by_all calls) (M.state writer.new.medium).contents)) }
     ensures calls { MatchResult result (λ _. (mid : WriterState M) × (answer : Result Unit Error)
         × Checkpoints M.Placed (Ok tt) writer.old mid
         × Accepts M.Placed (containers_in S.container mid.spec_ex samples.now) answer mid writer.new
         × WhereKeeps M.tells M.keeps ((s : WavSpecEx) (file : Begun) (known : List Known)
         → Recorded M.Placed s file known writer.old
         → ReadsSince s file known (accepted_samples M.state mid) (length (M.state mid.medium).past)
-        (M.state writer.new.medium)))
-        (λ e. Checkpoints M.Placed (Err e) writer.old writer.new) }
+        (M.state writer.new.medium))) (λ e. Checkpoints M.Placed (Err e) writer.old writer.new) }
 {
     what_is_kept::<M>();
     what_is_known();
@@ -310,8 +291,8 @@ pub fn publish_and_continue<S: Sample + Copy, M: Medium>(
     Ok(())
 }
 
-/// Writes an integer to a batch as itself if it has sixteen bits, and returns whether it has; a batch
-/// alone drops the higher bits of any other.
+/// Writes an integer to a batch as itself if it has sixteen bits, and returns whether it has; a batch alone drops the
+/// higher bits of any other.
 pub fn write_if_short<M: Medium>(batch: &mut SampleWriter16<'_, M>, value: i32) -> bool
     requires { 1 ≤ remaining batch.old }
     ensures fits { result ≡ fits 16 value }
@@ -326,9 +307,9 @@ pub fn write_if_short<M: Medium>(batch: &mut SampleWriter16<'_, M>, value: i32) 
     true
 }
 
-/// Ends a recording over a durable medium, and takes the medium out: the result is that of the end
-/// (`finishes`). At an Ok all that was written to it is flushed, and in any case what was written since
-/// its last flush went to ascending places.
+/// Ends a recording over a durable medium, and takes the medium out: the result is that of the end (`finishes`). At an
+/// Ok all that was written to it is flushed, and in any case what was written since its last flush went to ascending
+/// places.
 pub fn finish_durable<M: Medium>(writer: WavWriter<Durable<M>>) -> (M, hound::Result<()>)
     ensures finishes { Around (within writer.medium) (M.state result.0) (λ _ last.
         Finishes (⟦<Durable<M> as Placed>⟧) writer result.1 last) }

@@ -26,7 +26,8 @@ pub each_width : (s : WavSpecEx) (ns : List ℤ) (cs : List (List ℕ)) → cont
     → AllByRecursion (λ c. length c ≡ s.bytes_per_sample) cs
 each_width s [] cs have = subst (AllByRecursion (λ c. length c ≡ s.bytes_per_sample)) (let e : [] ≡ cs = cc in e) tt
 each_width s (n ∷ ns) cs have =
-    let (c, rest, is, more, all) = parts (int_container n s.spec.bits_per_sample s.bytes_per_sample) (containers_of s ns) cs have in
+    let (c, rest, is, more, all) = parts (int_container n s.spec.bits_per_sample s.bytes_per_sample)
+    (containers_of s ns) cs have in
     subst (AllByRecursion (λ c. length c ≡ s.bytes_per_sample)) (sym all)
     ((int_container-in_width n _ _ c is).0, each_width s ns rest more)
 
@@ -36,8 +37,7 @@ pub have-bytes : (s : WavSpecEx) (ns : List ℤ) (cs : List (List ℕ)) → cont
 have-bytes s ns cs have = length-concat s.bytes_per_sample cs (each_width s ns cs have)
 
 -- integers of a spec that can be written are of bits and bytes that have containers
-never_unsupported : (v : ℤ) (bits width : ℕ) → IsPair Int bits width
-    → int_container v bits width ≡ Err unsupported → ⊥
+never_unsupported : (v : ℤ) (bits width : ℕ) → IsPair Int bits width → int_container v bits width ≡ Err unsupported → ⊥
 unfolding int_container
 never_unsupported v bits width pair is =
     by_fit (fits bits v) (ap (λ b. cond b (if_fits bits v (int_bytes v bits width)) (Err unsupported)) (sym pair) ∙ is)
@@ -72,12 +72,12 @@ module _ {W : Type 0} (s : WavSpecEx) (integers : s.spec.sample_format ≡ Int) 
   nothing = λ i. begun.none_out i + length (begun.none_buffered i)
 
   -- whether there is room for containers
-  room_is : (cs : List (List ℕ))
-      → riff_size first.data_start (data_length first + length (concat cs))
+  room_is : (cs : List (List ℕ)) → riff_size first.data_start (data_length first + length (concat cs))
       ≡ riff_size (data_start s) (length (concat cs))
   room_is cs =
       ap (λ d. riff_size d (data_length first + length (concat cs))) begun.start
-      ∙ ap (riff_size (data_start s)) (let e : data_length first + length (concat cs) ≡ length (concat cs) = omega (arith, nothing) in e)
+      ∙ ap (riff_size (data_start s))
+      (let e : data_length first + length (concat cs) ≡ length (concat cs) = omega (arith, nothing) in e)
 
   fit_error : (b : Bool) (e : Error) → FitAnswer {T = Unit {0}} b (Err e)
       → (b ≡ false → IsPackError s ns TooLong) → IsPackFailure s ns (failure_of e)
@@ -101,8 +101,7 @@ module _ {W : Type 0} (s : WavSpecEx) (integers : s.spec.sample_format ≡ Int) 
         record {
           containers = cs;
           have = is;
-          no_room = λ room.
-              let over = leb-false _ _ big in
+          no_room = λ room. let over = leb-false _ _ big in
               omega (arith, room, over, room_is cs);
         },
       ))

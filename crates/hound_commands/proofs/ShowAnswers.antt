@@ -38,14 +38,14 @@ lines-more s (suc k) xs =
     (drop-drop (k * w) w xs ∙ ap (λ n. drop n xs) on)
     ∙ sym (append_assoc first (sample_lines s k (drop w xs)) _)
 
--- So many samples of what was left were read, this is the text of them after `first`, and the others
--- are left.
+-- So many samples of what was left were read, this is the text of them after `first`, and the others are left.
 abbrev pub ReadAs : WavSpecEx → ℕ → Option (List ℕ) → Option (List ℕ) → List ℕ → List ℕ → Type 0
 ReadAs s k left now first text = WhereKnown left now (λ xs ys. (ys ≡ drop (k * s.bytes_per_sample) xs)
     × AreShowable s k xs × (text ≡ first ++ sample_lines s k xs))
 
 -- and the output and its buffer got it
-abbrev pub Shown : WavSpecEx → ℕ → Option (List ℕ) → Option (List ℕ) → Option (List ℕ) → Option (List ℕ) → List ℕ → List ℕ → Type 0
+abbrev pub Shown : WavSpecEx → ℕ → Option (List ℕ) → Option (List ℕ) → Option (List ℕ) → Option (List ℕ) → List ℕ
+    → List ℕ → Type 0
 Shown s k left now old new first lines =
     (text : List ℕ) × ReadAs s k left now first text × GetsBuffered old new lines text
 
@@ -58,7 +58,8 @@ none_read s (Some xs) first =
     let none : 0 ≡ 0 * s.bytes_per_sample = omega arith in
     (ap (λ n. drop n xs) none, none_showable s xs, sym (append-nil first))
 
-pub none_shown : (s : WavSpecEx) (k : ℕ) (left old : Option (List ℕ)) (first : List ℕ) → k ≡ 0 → Shown s k left left old old first first
+pub none_shown : (s : WavSpecEx) (k : ℕ) (left old : Option (List ℕ)) (first : List ℕ) → k ≡ 0
+    → Shown s k left left old old first first
 none_shown s k left old first none =
     subst (λ n. Shown s n left left old old first first) (sym none) (first, none_read s left first, gets-none old first)
 
@@ -73,7 +74,8 @@ one_read s k (Some rejection) meaning line value left now next first text same a
 one_read s k None meaning line value None now next first text same as_line so_far read = tt
 one_read s k None meaning line value (Some xs) None next first text same as_line so_far read = absurd so_far
 one_read s k None meaning line value (Some xs) (Some ys) None first text same as_line so_far read = absurd read
-one_read s k None meaning line value (Some xs) (Some ys) (Some zs) first text same as_line (left_is, showable, text_is) (whole, is, rest) =
+one_read s k None meaning line value (Some xs) (Some ys) (Some zs) first text same as_line (left_is, showable, text_is)
+    (whole, is, rest) =
     let w = s.bytes_per_sample in
     let there = showable.there in
     let size : length ys ≡ length (drop (k * w) xs) = ap length left_is in
@@ -82,9 +84,9 @@ one_read s k None meaning line value (Some xs) (Some ys) (Some zs) first text sa
     let next_count : suc k ≡ k + 1 = omega arith in (
       rest ∙ ap (drop w) left_is ∙ drop-drop w (k * w) xs ∙ ap (λ n. drop n xs) on,
       record { there = omega (arith, there, size, sized, whole, on); shown = λ some. sym same },
-      ap (λ l. l ++ line value) text_is
-          ∙ append_assoc first (sample_lines s k xs) (line value)
-          ∙ ap (λ l. first ++ (sample_lines s k xs ++ l)) (ap line is ∙ as_line (take w ys) ∙ ap (λ b. sample_line s (take w b)) left_is)
+      ap (λ l. l ++ line value) text_is ∙ append_assoc first (sample_lines s k xs) (line value)
+          ∙ ap (λ l. first ++ (sample_lines s k xs ++ l)) (ap line is ∙ as_line (take w ys)
+          ∙ ap (λ b. sample_line s (take w b)) left_is)
           ∙ ap (λ l. first ++ l) (sym (lines-more s k xs) ∙ ap (λ n. sample_lines s n xs) next_count),
     )
 
@@ -115,7 +117,8 @@ module _ {A : Type 0} (rejection : SampleFormat → ℕ → ℕ → Option ReadR
         old,
         subst (λ m. IsAt s n m old) none at,
         omega (arith, within),
-        subst (λ m. ReadAs s m left old.reader first (text ++ [])) none (subst (ReadAs s k left old.reader first) (sym (append-nil text)) read),
+        subst (λ m. ReadAs s m left old.reader first (text ++ [])) none
+            (subst (ReadAs s k left old.reader first) (sym (append-nil text)) read),
         gives,
       )
   values_read (value ∷ values) tail k text old new within at read (mid, item, gives) =
@@ -123,7 +126,8 @@ module _ {A : Type 0} (rejection : SampleFormat → ℕ → ℕ → Option ReadR
       let here : ReadAs s (k + 1) left mid.reader first (text ++ line value) =
       one_read s k (rejection_at rejection s) (meaning_at meaning s) line value left old.reader mid.reader
       first text same as_line read
-      (subst (λ u. Reads (rejection_at rejection u) (meaning_at meaning u) u.bytes_per_sample old.reader mid.reader (Ok value)) at.spec_is item.read) in
+      (subst (λ u. Reads (rejection_at rejection u) (meaning_at meaning u) u.bytes_per_sample old.reader mid.reader
+      (Ok value)) at.spec_is item.read) in
       let (last, is_at, inside, all, rest) = values_read values tail (k + 1) (text ++ line value) mid new
       (omega (arith, item.inside, at.samples_are, at.read_are))
       (record {
@@ -135,7 +139,8 @@ module _ {A : Type 0} (rejection : SampleFormat → ℕ → ℕ → Option ReadR
         subst (λ m. IsAt s n m last) more is_at,
         omega (arith, inside, more),
         subst (λ m. ReadAs s m left last.reader first (text ++ (line value ++ flat_map line values))) more
-            (subst (ReadAs s (k + 1 + length values) left last.reader first) (append_assoc text (line value) (flat_map line values)) all),
+            (subst (ReadAs s (k + 1 + length values) left last.reader first)
+            (append_assoc text (line value) (flat_map line values)) all),
         rest,
       )
 
@@ -184,7 +189,8 @@ faulted s n (Rejected e) bytes first text (some, rejected, text_is) =
     (0, omega arith, none_showable s bytes, starts_with_of_eq _ text (append-nil first ∙ sym text_is))
 
 -- a fault, whatever was returned before it
-pub stopped : (s : WavSpecEx) (n : ℕ) (result : Result (Unit {0}) CommandError) (left old new : Option (List ℕ)) (first last : List ℕ)
+pub stopped : (s : WavSpecEx) (n : ℕ) (result : Result (Unit {0}) CommandError) (left old new : Option (List ℕ))
+    (first last : List ℕ)
     → AnswersSamples s n result left old new first last → StopsSamples s n InputOrOutput left old new first last
 stopped s n (Ok x) left old new first last shown =
     IfSome_then left shown (λ bytes (showable, got). (
@@ -211,21 +217,27 @@ read_stops : {A : Type 0} (s : WavSpecEx) (k count : ℕ) (rejection : Option Re
     → Reads rejection meaning s.bytes_per_sample now next (Err error)
     → StopsSamples s count (failure_of error) left old new first lines
 read_stops s k count rejection meaning error None now next old new first text lines within same shown got read = tt
-read_stops s k count rejection meaning error (Some xs) None next old new first text lines within same shown got read = absurd shown
-read_stops s (suc k) count (Some rejection) meaning error (Some xs) (Some ys) next old new first text lines within same (left_is, showable, text_is) got read =
+read_stops s k count rejection meaning error (Some xs) None next old new first text lines within same shown got read =
+    absurd shown
+read_stops s (suc k) count (Some rejection) meaning error (Some xs) (Some ys) next old new first text lines within same
+    (left_is, showable, text_is) got read =
     let none = showable.shown (omega arith) in absurd (cc (same, none))
-read_stops {A} s zero count (Some rejection) meaning error (Some xs) (Some ys) next old new first text lines within same (left_is, showable, text_is) got read =
+read_stops {A} s zero count (Some rejection) meaning error (Some xs) (Some ys) next old new first text lines within same
+    (left_is, showable, text_is) got read =
     let is : error ≡ error_of_read rejection = let h = read.0 in cc h in
-    subst (λ e. (text : List ℕ) × StopsAt s count (failure_of e) xs first text × GetsBuffered old new lines text) (sym is)
+    subst (λ e. (text : List ℕ) × StopsAt s count (failure_of e) xs first text × GetsBuffered old new lines text)
+    (sym is)
     (first, of rejection (sym same), subst (GetsBuffered old new lines) (text_is ∙ append-nil first) got)
   where
     of : (r : ReadRejection) → show_rejection s ≡ Some r → StopsAt s count (failure_of (error_of_read r)) xs first first
     of other_format shows = (within, (other_format, shows, refl), refl)
     of (misfit too_wide) shows = (within, (misfit too_wide, shows, refl), refl)
     of (misfit unsupported) shows = (within, (misfit unsupported, shows, refl), refl)
-read_stops s k count None meaning (errors.IoError e) (Some xs) (Some ys) next old new first text lines within same shown got read =
+read_stops s k count None meaning (errors.IoError e) (Some xs) (Some ys) next old new first text lines within same shown
+    got read =
     read_part s k count (Some xs) (Some ys) old new first text lines (omega (arith, within)) shown got
-read_stops s k count None meaning _ (Some xs) (Some ys) next old new first text lines within same shown got read = absurd read
+read_stops s k count None meaning _ (Some xs) (Some ys) next old new first text lines within same shown got read =
+    absurd read
 
 -- ---- a block of samples: the lines of what was read are pushed, and then comes the error
 
@@ -279,12 +291,15 @@ module _ {A : Type 0} (rejection : SampleFormat → ℕ → ℕ → Option ReadR
       → StopsSamples s n (failure_of error) left out0 out2 first room
   block_fails out2 room error is pushed =
       let (mid, at, inside, read, tail) = after in
-      let (last, item, rest) = subst (λ r. GivesItems (λ (bytes : Option (List ℕ)). bytes) rejection meaning (tail_of r) mid new) is tail in
-      read_stops s (k + length values) n (rejection_at rejection s) (meaning_at meaning s) error left mid.reader last.reader
+      let (last, item, rest) =
+      subst (λ r. GivesItems (λ (bytes : Option (List ℕ)). bytes) rejection meaning (tail_of r) mid new) is tail in
+      read_stops s (k + length values) n (rejection_at rejection s) (meaning_at meaning s) error left mid.reader
+      last.reader
       out0 out2 first (shown.0 ++ flat_map line values) room
       (omega (arith, item.inside, at.samples_are, at.read_are)) same read
       (gets-then out0 out1 out2 (shown.0 ++ flat_map line values) (lines ++ flat_map line values) room buffered pushed)
-      (subst (λ u. Reads (rejection_at rejection u) (meaning_at meaning u) u.bytes_per_sample mid.reader last.reader (Err error)) at.spec_is item.read)
+      (subst (λ u. Reads (rejection_at rejection u) (meaning_at meaning u) u.bytes_per_sample mid.reader last.reader
+      (Err error)) at.spec_is item.read)
 
   -- they are, and that is the block
   pub block_shown : (x : Unit {0}) (out2 : Option (List ℕ)) (room : List ℕ) → result ≡ Ok x
@@ -293,11 +308,14 @@ module _ {A : Type 0} (rejection : SampleFormat → ℕ → ℕ → Option ReadR
       × (new.spec_ex ≡ s) × (new.num_samples ≡ n) × (new.samples_read ≡ k + length values) × (k + length values ≤ n)
   block_shown x out2 room is pushed =
       let (mid, at, inside, read, tail) = after in
-      let ends : new ≡ mid = subst (λ r. GivesItems (λ (bytes : Option (List ℕ)). bytes) rejection meaning (tail_of r) mid new) is tail in (
+      let ends : new ≡ mid =
+      subst (λ r. GivesItems (λ (bytes : Option (List ℕ)). bytes) rejection meaning (tail_of r) mid new) is tail in (
         (
           shown.0 ++ flat_map line values,
-          subst (λ (r : ReaderState (Option (List ℕ))). ReadAs s (k + length values) left r.reader first (shown.0 ++ flat_map line values)) (sym ends) read,
-          gets-then out0 out1 out2 (shown.0 ++ flat_map line values) (lines ++ flat_map line values) room buffered pushed,
+          subst (λ (r : ReaderState (Option (List ℕ))). ReadAs s (k + length values) left r.reader first
+              (shown.0 ++ flat_map line values)) (sym ends) read,
+          gets-then out0 out1 out2 (shown.0 ++ flat_map line values) (lines ++ flat_map line values) room buffered
+              pushed,
         ),
         ap (λ (r : ReaderState (Option (List ℕ))). r.spec_ex) ends ∙ at.spec_is,
         ap (λ (r : ReaderState (Option (List ℕ))). r.num_samples) ends ∙ at.samples_are,
@@ -314,7 +332,8 @@ head_stops None out error rejected = tt
 head_stops (Some xs) out (errors.IoError e) rejected = ([], inl (tt, refl), appends-none out)
 head_stops (Some xs) out (errors.FormatError e) (reason, unreadable, words) =
     ([], inl ((causes.Format reason, unreadable, (reason, refl, words)), refl), appends-none out)
-head_stops (Some xs) out errors.Unsupported rejected = ([], inl ((causes.Unsupported, rejected, refl), refl), appends-none out)
+head_stops (Some xs) out errors.Unsupported rejected =
+    ([], inl ((causes.Unsupported, rejected, refl), refl), appends-none out)
 head_stops (Some xs) out _ rejected = absurd rejected
 
 -- the head of a readable file was taken, and the samples are left
@@ -326,13 +345,26 @@ pub file_shown : (input left : Option (List ℕ)) (s : WavSpecEx) (n : ℕ) (spe
     (samples : ℕ) (out0 out1 out2 : Option (List ℕ)) (head first last : List ℕ)
     → spec ≡ s.spec → samples ≡ n → Opened input left s n → head ≡ [] → first ≡ head ++ spec_line spec samples
     → ShowsSamples s n left out0 out1 first last → Appends out1 out2 last → Shows input out0 out2
-file_shown None left s n spec samples out0 out1 out2 head first last spec_is samples_is found none line shown written = tt
-file_shown (Some xs) None s n spec samples out0 out1 out2 head first last spec_is samples_is found none line shown written = absurd found
-file_shown (Some xs) (Some ys) s n spec samples out0 out1 out2 head first last spec_is samples_is (h, readable, left_is) none line shown written =
-    let first_is : first ≡ spec_line s.spec n = line ∙ ap (λ l. l ++ spec_line spec samples) none ∙ ap (spec_line spec) samples_is ∙ ap (λ p. spec_line p n) spec_is in
-    let (showable, text) = subst (λ b. AreShowable s n b × GetsBuffered out0 out1 last (first ++ sample_lines s n b)) left_is shown in (
+file_shown None left s n spec samples out0 out1 out2 head first last spec_is samples_is found none line shown written =
+    tt
+file_shown (Some xs) None s n spec samples out0 out1 out2 head first last spec_is samples_is found none line shown
+    written = absurd found
+file_shown (Some xs) (Some ys) s n spec samples out0 out1 out2 head first last spec_is samples_is (h, readable, left_is)
+    none line shown written =
+    let first_is : first ≡ spec_line s.spec n = line ∙ ap (λ l. l ++ spec_line spec samples) none
+    ∙ ap (spec_line spec) samples_is ∙ ap (λ p. spec_line p n) spec_is in
+    let (showable, text) = subst (λ b. AreShowable s n b × GetsBuffered out0 out1 last (first ++ sample_lines s n b))
+    left_is shown in (
       first ++ sample_lines s n (drop h xs),
-      record { s = s; samples = n; start = h; readable = readable; showable = showable; text_is = ap (λ l. l ++ sample_lines s n (drop h xs)) first_is },
+      record {
+        s = s;
+        samples = n;
+        start = h;
+        readable = readable;
+        showable = showable;
+        text_is =
+            ap (λ l. l ++ sample_lines s n (drop h xs)) first_is;
+      },
       gets-written out0 out1 out2 (first ++ sample_lines s n (drop h xs)) last text written,
     )
 
@@ -341,17 +373,22 @@ pub file_stops : (input left : Option (List ℕ)) (s : WavSpecEx) (n : ℕ) (fai
     (samples : ℕ) (out0 out1 out2 : Option (List ℕ)) (head first last : List ℕ)
     → spec ≡ s.spec → samples ≡ n → Opened input left s n → head ≡ [] → first ≡ head ++ spec_line spec samples
     → StopsSamples s n failure left out0 out1 first last → Appends out1 out2 last → ShowsUntil input failure out0 out2
-file_stops None left s n failure spec samples out0 out1 out2 head first last spec_is samples_is found none line stops written = tt
-file_stops (Some xs) None s n failure spec samples out0 out1 out2 head first last spec_is samples_is found none line stops written = absurd found
-file_stops (Some xs) (Some ys) s n failure spec samples out0 out1 out2 head first last spec_is samples_is (h, readable, left_is) none line (text, stops, gets) written =
-    let first_is : first ≡ spec_line s.spec n = line ∙ ap (λ l. l ++ spec_line spec samples) none ∙ ap (spec_line spec) samples_is ∙ ap (λ p. spec_line p n) spec_is in (
+file_stops None left s n failure spec samples out0 out1 out2 head first last spec_is samples_is found none line stops
+    written = tt
+file_stops (Some xs) None s n failure spec samples out0 out1 out2 head first last spec_is samples_is found none line
+    stops written = absurd found
+file_stops (Some xs) (Some ys) s n failure spec samples out0 out1 out2 head first last spec_is samples_is
+    (h, readable, left_is) none line (text, stops, gets) written =
+    let first_is : first ≡ spec_line s.spec n = line ∙ ap (λ l. l ++ spec_line spec samples) none
+    ∙ ap (spec_line spec) samples_is ∙ ap (λ p. spec_line p n) spec_is in (
       text,
       inr (record {
         s = s;
         samples = n;
         start = h;
         readable = readable;
-        stops = subst (λ b. StopsAt s n failure b (spec_line s.spec n) text) left_is (subst (λ l. StopsAt s n failure ys l text) first_is stops);
+        stops = subst (λ b. StopsAt s n failure b (spec_line s.spec n) text) left_is
+            (subst (λ l. StopsAt s n failure ys l text) first_is stops);
       }),
       gets-written out0 out1 out2 text last gets written,
     )

@@ -1,5 +1,5 @@
--- What the commands do to their output: the file that `pack` makes of numbers, or the first cause for
--- which there is none, and which failure an error is.
+-- What the commands do to their output: the file that `pack` makes of numbers, or the first cause for which there is
+-- none, and which failure an error is.
 use Rattle.hound_spec.specs.declared.error.Error.{Error}
 use Rattle.hound_spec.specs.declared.error.Error.TheVariants.{IoError, OutOfMemory, TooLong, TooWide, UnfinishedSample, Unsupported}
 use Rattle.hound_text.specs.declared.TextError.{TextError}
@@ -62,8 +62,8 @@ pub record IsUnfinished (s : WavSpecEx) (numbers : List ℤ) : Type 0 where
   pub room : HasRoom s containers
   pub frames : length containers % s.spec.channels ≡ 0 → ⊥
 
--- why numbers can't be packed in a spec that can be written: one is too wide; all have containers,
--- but no room; or they are no whole frames
+-- why numbers can't be packed in a spec that can be written: one is too wide; all have containers, but no room; or they
+-- are no whole frames
 abbrev pub IsRejected : WavSpecEx → List ℤ → Error → Type 0
 IsRejected s numbers TooWide = containers_of s numbers ≡ Err too_wide
 IsRejected s numbers TooLong = IsTooLong s numbers
@@ -76,8 +76,7 @@ IsPackError s numbers Unsupported = IsWritable s → ⊥
 IsPackError s numbers OutOfMemory = ⊤
 IsPackError s numbers e = IsWritable s × IsRejected s numbers e
 
--- The same of a failure, where the numbers were read; a fault of the input or the output may come
--- at any time.
+-- The same of a failure, where the numbers were read; a fault of the input or the output may come at any time.
 abbrev pub IsPackFailure : WavSpecEx → List ℤ → CommandError → Type 0
 IsPackFailure s numbers BadNumber = ⊥
 IsPackFailure s numbers InputOrOutput = ⊤
@@ -101,8 +100,8 @@ IsNotPacked s input (Rejected e) =
     (e ≡ OutOfMemory) ⊎ ((numbers : List ℤ) × AreNumbersOf input numbers × IsPackFailure s numbers (Rejected e))
 
 module _ {O : Type 0} where
-  -- what `pack` leaves at a failure: the output as it was, and the cause; or, at a fault while the
-  -- file is written, a beginning of the file
+  -- what `pack` leaves at a failure: the output as it was, and the cause; or, at a fault while the file is written, a
+  -- beginning of the file
   abbrev pub PacksUntil : (O → Option (List ℕ)) → WavSpecEx → Option (List ℕ) → CommandError → O → O → Type 0
   PacksUntil contents s input InputOrOutput old new = (new ≡ old)
       ⊎ ((numbers : List ℤ) × (file : List ℕ) × AreNumbersOf input numbers × IsPacked s numbers file
@@ -114,8 +113,7 @@ pub record SaySpec (channels rate bits : List ℕ) (spec : WavSpec) : Type 0 whe
   pub channels_are : IsNumeral 10 channels × (digits_value 10 channels ≡ spec.channels)
   pub rate_is : IsNumeral 10 rate × (digits_value 10 rate ≡ spec.sample_rate)
   pub bits_are : IsNumeral 10 bits × (digits_value 10 bits ≡ spec.bits_per_sample)
-  pub within : (spec.channels ≤ 65535) × (spec.sample_rate ≤ 4294967295)
-      × (spec.bits_per_sample ≤ 65535)
+  pub within : (spec.channels ≤ 65535) × (spec.sample_rate ≤ 4294967295) × (spec.bits_per_sample ≤ 65535)
   pub format : spec.sample_format ≡ Int
 
 -- The words of `pack`, with the spec that they say.

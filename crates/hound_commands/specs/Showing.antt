@@ -1,5 +1,5 @@
--- What `show` writes of a file: the line of its spec, and then a line for each sample; and how much of a
--- text an output got.
+-- What `show` writes of a file: the line of its spec, and then a line for each sample; and how much of a text an output
+-- got.
 use Rattle.std.specs.Prelude.{◌≡◌, ℕ, List, ◌++◌, Option, ◌*◌, ◌<◌, ◌≤◌, ◌⊎◌, ⊤, IfSome, [], ◌∷◌, codes, decimal, drop, length, None, Some, Result, Ok, Err}
 use Rattle.std.specs.Io.{StartsWith}
 use Rattle.std.specs.Io.KnownBytes.{Appends}
@@ -25,8 +25,8 @@ abbrev pub GetsBuffered : Option (List ℕ) → Option (List ℕ) → List ℕ �
 GetsBuffered old new buffered text =
     (written : List ℕ) × (text ≡ written ++ buffered) × Appends old new written
 
--- What lines that were pushed or written leave: the output got a text but for its end, which is buffered; or
--- at an error a beginning of it, and nothing is buffered.
+-- What lines that were pushed or written leave: the output got a text but for its end, which is buffered; or at an
+-- error a beginning of it, and nothing is buffered.
 abbrev pub PushesOut : {T E : Type 0} → Result T E → Option (List ℕ) → Option (List ℕ) → List ℕ → List ℕ → Type 0
 PushesOut (Ok x) old new buffered text = GetsBuffered old new buffered text
 PushesOut (Err e) old new buffered text = GetsBeginning old new text × (buffered ≡ [])
@@ -72,8 +72,7 @@ pub record AreShowable (s : WavSpecEx) (count : ℕ) (bytes : List ℕ) : Type 0
   pub shown : 0 < count → show_rejection s ≡ None
 
 -- the output and the buffer, which held `first`, got the lines of so many samples of what is left
-abbrev pub ShowsSamples : WavSpecEx → ℕ → Option (List ℕ) → Option (List ℕ) → Option (List ℕ)
-    → List ℕ → List ℕ → Type 0
+abbrev pub ShowsSamples : WavSpecEx → ℕ → Option (List ℕ) → Option (List ℕ) → Option (List ℕ) → List ℕ → List ℕ → Type 0
 ShowsSamples s count left old new first buffered = IfSome left (λ bytes. AreShowable s count bytes
     × GetsBuffered old new buffered (first ++ sample_lines s count bytes))
 
@@ -82,8 +81,8 @@ abbrev pub RejectsSamples : WavSpecEx → Error → Type 0
 RejectsSamples s e =
     (rejection : ReadRejection) × (show_rejection s ≡ Some rejection) × (e ≡ error_of_read rejection)
 
--- What is written where the samples are not all shown, after the text `first`: at a fault, a
--- beginning of the lines of samples that are there; at any other error, no line of a sample.
+-- What is written where the samples are not all shown, after the text `first`: at a fault, a beginning of the lines of
+-- samples that are there; at any other error, no line of a sample.
 abbrev pub StopsAt : WavSpecEx → ℕ → CommandError → List ℕ → List ℕ → List ℕ → Type 0
 StopsAt s count BadNumber bytes first text = ⊥
 StopsAt s count InputOrOutput bytes first text = (shown : ℕ) × (shown ≤ count)

@@ -26,14 +26,12 @@ const LINE_LENGTH: usize = 256;
 
 const USAGE: &str = "usage: hound_tool pack CHANNELS RATE BITS | show | append FILE";
 
-/// Carries out the words, and returns the status: 0 for success, 1 where it failed, 2 for words
-/// that it doesn't know.
+/// Carries out the words, and returns the status: 0 for success, 1 where it failed, 2 for words that it doesn't know.
 ///
-/// `pack CHANNELS RATE BITS` reads numbers from the input and writes a WAV file of them to the
-/// output, which stays empty where it fails. `show` reads a WAV file from the input and writes its
-/// spec and its samples, a line each; what was written before it fails stays. A failure has one
-/// line on `errors`; a fault while that is written isn't reported. `append` gets the usage line
-/// here: [`run_append`] carries it out.
+/// `pack CHANNELS RATE BITS` reads numbers from the input and writes a WAV file of them to the output, which stays
+/// empty where it fails. `show` reads a WAV file from the input and writes its spec and its samples, a line each; what
+/// was written before it fails stays. A failure has one line on `errors`; a fault while that is written isn't reported.
+/// `append` gets the usage line here: [`run_append`] carries it out.
 pub fn run<R: io::Read, O: io::Write, E: io::Write>(
     alloc: Global,
     words: &[&str],
@@ -43,17 +41,14 @@ pub fn run<R: io::Read, O: io::Write, E: io::Write>(
 ) -> u8
     ensures status { result ≤ 2 }
     ensures usage { result ≡ 2 ↔ (IsCommand words.now → ⊥) }
-    ensures success { result ≡ 0 → IsShowCommand words.now
-        ⊎ ((spec : WavSpec) × IsPackCommand words.now spec
-        × Packs (with_default_width spec) (R.remaining input.old) (O.contents output.old)
-        (O.contents output.new)) }
+    ensures success { result ≡ 0 → IsShowCommand words.now ⊎ ((spec : WavSpec) × IsPackCommand words.now spec
+        × Packs (with_default_width spec) (R.remaining input.old) (O.contents output.old) (O.contents output.new)) }
     ensures shown { result ≡ 0 → IsShowCommand words.now → Shows (R.remaining input.old)
         (O.contents output.old) (O.contents output.new) }
     ensures failed { result ≡ 1 → (failure : CommandError) × ((IsShowCommand words.now
         × ShowsUntil (R.remaining input.old) failure (O.contents output.old)
         (O.contents output.new)) ⊎ ((spec : WavSpec) × IsPackCommand words.now spec
-        × PacksUntil O.contents (with_default_width spec) (R.remaining input.old) failure
-        output.old output.new)) }
+        × PacksUntil O.contents (with_default_width spec) (R.remaining input.old) failure output.old output.new)) }
     ensures kept { result ≡ 2 → output.new ≡ output.old }
 {
     let result = match words {
@@ -69,9 +64,9 @@ pub fn run<R: io::Read, O: io::Write, E: io::Write>(
 
 /// Carries out `append FILE`, and returns the status: 0 for success, 1 where it failed.
 ///
-/// Reads numbers from the input, all of them before the file is opened, and appends them as
-/// samples to a WAV file that is there. The first that can't be written ends it: those before it
-/// are kept. A failure has one line on `errors`; a fault while that is written isn't reported.
+/// Reads numbers from the input, all of them before the file is opened, and appends them as samples to a WAV file that
+/// is there. The first that can't be written ends it: those before it are kept. A failure has one line on `errors`; a
+/// fault while that is written isn't reported.
 pub fn run_append<R: io::Read, E: io::Write>(
     rt: &impl Files<File = fs::File>,
     alloc: Global,
@@ -117,8 +112,7 @@ fn usage<E: io::Write>(errors: &mut E) -> u8
 // The spec of three words, if they are digits within range.
 fn spec_of(channels: &str, rate: &str, bits: &str) -> Option<WavSpec>
     ensures said { IfSome result (SaySpec channels.now rate.now bits.now) }
-    ensures none { IsNone result → (spec : WavSpec) →
-        SaySpec channels.now rate.now bits.now spec → ⊥ }
+    ensures none { IsNone result → (spec : WavSpec) → SaySpec channels.now rate.now bits.now spec → ⊥ }
 {
     Some(WavSpec {
         channels: digits(channels, 65535)? as u16,

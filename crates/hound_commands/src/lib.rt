@@ -1,5 +1,4 @@
-//! The commands of the program `hound_tool`, over any reader and writers: `pack`, `show` and
-//! `append`.
+//! The commands of the program `hound_tool`, over any reader and writers: `pack`, `show` and `append`.
 #![tactic(auto)]
 
 mod commands;

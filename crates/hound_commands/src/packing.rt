@@ -10,8 +10,8 @@ use hound_spec::WavSpec;
 use hound_writer::WavWriter;
 use std::alloc::Global;
 
-/// The whole file of these samples, or the first cause for which there is none: the spec, a number
-/// that is too wide, the length, an unfinished frame.
+/// The whole file of these samples, or the first cause for which there is none: the spec, a number that is too wide,
+/// the length, an unfinished frame.
 pub fn file_of(alloc: Global, spec: WavSpec, numbers: &[i32]) -> Result<Tape, CommandError>
     requires integers { spec.sample_format ≡ Int }
     ensures made { IfOk result (λ file. IsPacked (with_default_width spec) numbers.now

@@ -18,8 +18,7 @@ const BLOCK_LENGTH: usize = 1024;
 
 /// Writes the lines of a file, that of its spec and those of its samples, as far as it can be read.
 pub fn show<R: io::Read, O: io::Write>(input: &mut R, output: &mut O) -> Result<(), CommandError>
-    ensures shown { OnOk result (Shows (R.remaining input.old) (O.contents output.old)
-        (O.contents output.new)) }
+    ensures shown { OnOk result (Shows (R.remaining input.old) (O.contents output.old) (O.contents output.new)) }
     ensures until { IfErr result (λ failure. ShowsUntil (R.remaining input.old) failure
         (O.contents output.old) (O.contents output.new)) }
 {
@@ -91,8 +90,7 @@ fn show_samples<R: io::Read, O: io::Write>(
 ) -> Result<(), CommandError>
     requires fresh { reader.old.samples_read ≡ 0 }
     ensures { AnswersSamples reader.old.spec_ex reader.old.num_samples result
-        (R.remaining reader.old.reader.now) (O.contents output.old) (O.contents output.new)
-        lines.old lines.new }
+        (R.remaining reader.old.reader.now) (O.contents output.old) (O.contents output.new) lines.old lines.new }
 {
     match reader.spec().sample_format {
         SampleFormat::Int => show_blocks(reader, &mut [0i32; BLOCK_LENGTH], lines, output),
@@ -115,8 +113,7 @@ fn show_blocks<S: Line, R: io::Read, O: io::Write>(
     requires line { (c : List ℕ) → S.line (meaning_at S.meaning reader.old.spec_ex c)
         ≡ sample_line reader.old.spec_ex c }
     ensures { AnswersSamples reader.old.spec_ex reader.old.num_samples result
-        (R.remaining reader.old.reader.now) (O.contents output.old) (O.contents output.new)
-        lines.old lines.new }
+        (R.remaining reader.old.reader.now) (O.contents output.old) (O.contents output.new) lines.old lines.new }
 {
     loop {
         let (count, result) = reader.read_samples(block);

@@ -1,5 +1,4 @@
--- What a loss of power may leave of a medium, and what contracts see of one that flushes another before
--- it goes back.
+-- What a loss of power may leave of a medium, and what contracts see of one that flushes another before it goes back.
 use Rattle.std.specs.Prelude.{◌≡◌, ℕ, ◌/◌, ◌<◌, ◌≤◌, List, length, slice_index_or, ◌⊎◌, ◌+◌, ◌-◌, [], drop, Option, Some, None, Bool, IsTrue, cond, Result}
 use Rattle.hound_medium.specs.{moment, overlay, MediumState, faults_after}
 use Rattle.std.proofs.Common.{ap, sym, ◌∙◌}
@@ -17,18 +16,14 @@ Ascends past f k = (i j : ℕ) → f ≤ i → i < j → j < k → place_of past
 abbrev pub byte_at : List ℕ → ℕ → ℕ
 byte_at contents i = slice_index_or contents i 0
 
--- What a loss of power may leave of a medium whose past was flushed up to f, when k bytes had been
--- written: its length is that of some state from f to k, and each sector has, independently, the
--- bytes of some state from f to k.
-pub record SurvivesLoss (sector : ℕ) (start : List ℕ) (past : List (ℕ × ℕ)) (f k : ℕ)
-    (contents : List ℕ) : Type 0 where
+-- What a loss of power may leave of a medium whose past was flushed up to f, when k bytes had been written: its length
+-- is that of some state from f to k, and each sector has, independently, the bytes of some state from f to k.
+pub record SurvivesLoss (sector : ℕ) (start : List ℕ) (past : List (ℕ × ℕ)) (f k : ℕ) (contents : List ℕ) : Type 0 where
   pub long : (j : ℕ) × (f ≤ j) × (j ≤ k) × (length contents ≡ length (moment start past j))
-  pub sectors : (n : ℕ) → (j : ℕ) × (f ≤ j) × (j ≤ k)
-      × ((i : ℕ) → i / sector ≡ n → i < length contents
+  pub sectors : (n : ℕ) → (j : ℕ) × (f ≤ j) × (j ≤ k) × ((i : ℕ) → i / sector ≡ n → i < length contents
       → byte_at contents i ≡ byte_at (moment start past j) i)
 
--- the state of the medium within, with these counts in place of its own; if it doesn't record its
--- past there is none
+-- the state of the medium within, with these counts in place of its own; if it doesn't record its past there is none
 abbrev pub own : Bool → MediumState → ℕ → ℕ → MediumState
 own keeps s faults flushed = record {
   contents = s.contents;
@@ -73,6 +68,5 @@ replays_own keeps s faults flushed is law =
     law ∙ ap (overlay s.start) (sym (cond-true keeps s.past _ is))
 
 -- a law of what is left to be read
-pub left_own : (tells : Bool) (s : MediumState) → IsTrue tells
-    → left_of tells s ≡ Some (drop s.place s.contents)
+pub left_own : (tells : Bool) (s : MediumState) → IsTrue tells → left_of tells s ≡ Some (drop s.place s.contents)
 left_own tells s is = cond-true tells (Some (drop s.place s.contents)) None is

@@ -10,16 +10,16 @@ use hound_medium::{Medium, Placed, Source, count_fault};
 use std::io;
 use std::io::ErrorKind;
 
-/// A medium around another one, which it flushes before each step to or before a byte that was
-/// written since the last flush.
+/// A medium around another one, which it flushes before each step to or before a byte that was written since the last
+/// flush.
 ///
-/// A `WavWriter` writes samples after all that the file has, and then the sizes before them. So
-/// over a `Durable` the samples are flushed before the sizes are written, and again after them, and
-/// a loss of power at any time leaves a length that counts no more samples than the file has.
+/// A `WavWriter` writes samples after all that the file has, and then the sizes before them. So over a `Durable` the
+/// samples are flushed before the sizes are written, and again after them, and a loss of power at any time leaves a
+/// length that counts no more samples than the file has.
 ///
-/// If the medium within `tells`, so does this one, with the same bytes. Its counts of faults and
-/// of flushed bytes are its own: a flush that comes before a step back counts as part of it. If that
-/// flush fails, the step is the one fault, and nothing has moved.
+/// If the medium within `tells`, so does this one, with the same bytes. Its counts of faults and of flushed bytes are
+/// its own: a flush that comes before a step back counts as part of it. If that flush fails, the step is the one fault,
+/// and nothing has moved.
 #[derive(Drop)]
 pub struct Durable<M: Medium> {
     inner: M,
@@ -85,11 +85,9 @@ impl<M: Medium> Durable<M> {
         ensures flushed { self.new.flushed ≡ self.old.flushed }
         ensures faults { self.new.faults ≡ faults_after result self.old.faults }
         ensures end { OnOk result (self.new.end ≡ 0) }
-        ensures syncs { WhereTells M.tells (MatchResult result
-            (λ _. synced self.new ≡ length (within self.new).past)
+        ensures syncs { WhereTells M.tells (MatchResult result (λ _. synced self.new ≡ length (within self.new).past)
             (λ _. synced self.new ≡ synced self.old)) }
-        ensures fault { WhereTells M.tells
-            ((within self.new).faults ≡ faults_after result (within self.old).faults) }
+        ensures fault { WhereTells M.tells ((within self.new).faults ≡ faults_after result (within self.old).faults) }
     {
         count_fault(Medium::flush(&mut self.inner), &mut self.faults)?;
         self.end = 0;
@@ -111,11 +109,9 @@ impl<M: Medium> Placed for Durable<M> {
     fn go(&mut self, to: u64) -> io::Result<()>
         ensures goes { let state = ⟦<Durable<M> as Placed>⟧.state in
             WhereTells M.tells (Goes to result (state self.old) (state self.new)) }
-        ensures barrier { WhereKeeps M.tells M.keeps
-            (LeadsBack to (within self.old).past (synced self.old)
+        ensures barrier { WhereKeeps M.tells M.keeps (LeadsBack to (within self.old).past (synced self.old)
             → OnOk result (synced self.new ≡ length (within self.new).past)) }
-        ensures needed { WhereKeeps M.tells M.keeps
-            ((LeadsBack to (within self.old).past (synced self.old) → ⊥)
+        ensures needed { WhereKeeps M.tells M.keeps ((LeadsBack to (within self.old).past (synced self.old) → ⊥)
             → synced self.new ≡ synced self.old) }
         ensures only_syncs { WhereKeeps M.tells M.keeps (OnlySyncs (within self.old) (within self.new)) }
         ensures fault { WhereTells M.tells (IsItsFault result (within self.old) (within self.new)) }
@@ -138,8 +134,7 @@ impl<M: Medium> Placed for Durable<M> {
             ((LeadsBack (within self.new).place (within self.old).past (synced self.old) → ⊥)
             → OnOk result (synced self.new ≡ synced self.old)) }
         ensures only_syncs { WhereKeeps M.tells M.keeps (OnlySyncs (within self.old) (within self.new)) }
-        ensures fault { WhereTells M.tells
-            (FitsUnsigned w64 (pos (within self.old).place +ℤ by)
+        ensures fault { WhereTells M.tells (FitsUnsigned w64 (pos (within self.old).place +ℤ by)
             → IsItsFault result (within self.old) (within self.new)) }
     {
         let to = self.place.checked_add_signed(by);
@@ -154,16 +149,15 @@ impl<M: Medium> Medium for Durable<M> {
     ghost replays = { λ d tells keeps.
         replays_own M.keeps (M.state d.inner) d.faults d.flushed keeps (M.replays d.inner tells keeps) };
 
-    /// As that of the medium within. It is also an `Err` of kind `OutOfMemory` if the end of the
-    /// bytes, or the count of all bytes written, would pass `u64::MAX`.
+    /// As that of the medium within. It is also an `Err` of kind `OutOfMemory` if the end of the bytes, or the count of
+    /// all bytes written, would pass `u64::MAX`.
     fn put(&mut self, bytes: &[u8]) -> io::Result<usize>
         requires { 0 < length bytes.now }
         ensures bound { IfOk result (λ n. (1 ≤ n) × (n ≤ length bytes.now)) }
         ensures puts { let state = ⟦<Durable<M> as Placed>⟧.state in
             WhereTells M.tells (Puts M.keeps bytes.now result (state self.old) (state self.new)) }
         ensures synced { WhereKeeps M.tells M.keeps (synced self.new ≡ synced self.old) }
-        ensures fault { WhereKeeps M.tells M.keeps
-            ((within self.old).place + length bytes.now < 2 ^ 64
+        ensures fault { WhereKeeps M.tells M.keeps ((within self.old).place + length bytes.now < 2 ^ 64
             → length (within self.old).past + length bytes.now < 2 ^ 64
             → IsItsFault result (within self.old) (within self.new)) }
     {
@@ -183,8 +177,7 @@ impl<M: Medium> Medium for Durable<M> {
         ensures flushes { let state = ⟦<Durable<M> as Placed>⟧.state in
             WhereTells M.tells (Flushes result (state self.old) (state self.new)) }
         ensures syncs { WhereKeeps M.tells M.keeps (MatchResult result
-            (λ _. synced self.new ≡ length (within self.new).past)
-            (λ _. synced self.new ≡ synced self.old)) }
+            (λ _. synced self.new ≡ length (within self.new).past) (λ _. synced self.new ≡ synced self.old)) }
         ensures fault { WhereTells M.tells (IsItsFault result (within self.old) (within self.new)) }
     {
         self.sync()?;

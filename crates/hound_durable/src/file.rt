@@ -13,15 +13,13 @@ const FILE_BUFFER_SIZE: usize = 65536;
 
 /// A file on disk whose `flush` returns when the disk has what was written.
 ///
-/// Bytes are buffered in memory until there are 64 KiB, or until a `go`, a `shift` or a `flush`.
-/// The first `flush` syncs the file with all its metadata, later ones with what is needed to
-/// read it.
+/// Bytes are buffered in memory until there are 64 KiB, or until a `go`, a `shift` or a `flush`. The first `flush`
+/// syncs the file with all its metadata, later ones with what is needed to read it.
 ///
-/// After a sync that failed each later `flush` fails too, with a fault of the kind `Other`: the
-/// system may have dropped the bytes that it couldn't store, and would report the next sync as done.
-/// Which of the bytes since the last Ok `flush` the disk has isn't known then, so a recorder
-/// continues in a new file. A write that failed is no such fault: the bytes that the system didn't
-/// take stay in the buffer, and the next `flush` writes them again before it syncs.
+/// After a sync that failed each later `flush` fails too, with a fault of the kind `Other`: the system may have dropped
+/// the bytes that it couldn't store, and would report the next sync as done. Which of the bytes since the last Ok
+/// `flush` the disk has isn't known then, so a recorder continues in a new file. A write that failed is no such fault:
+/// the bytes that the system didn't take stay in the buffer, and the next `flush` writes them again before it syncs.
 #[derive(Drop)]
 pub struct SyncedFile {
     writer: BufWriter<fs::File>,
@@ -30,8 +28,7 @@ pub struct SyncedFile {
 }
 
 impl SyncedFile {
-    /// A medium over this file, at the file's place. `OutOfMemory` if there is no memory for the
-    /// buffer.
+    /// A medium over this file, at the file's place. `OutOfMemory` if there is no memory for the buffer.
     pub fn new(alloc: Global, file: fs::File) -> Result<SyncedFile>
         ensures { IfErr result (λ e. e ≡ Error.OutOfMemory) }
     {

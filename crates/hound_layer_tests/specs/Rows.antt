@@ -75,8 +75,7 @@ junk_tag = codes "junk"
 
 -- the same with three bytes of junk and their pad byte
 abbrev pub odd_junk : List ℕ
-odd_junk = before_data (junk_tag ++ (0x03 ∷ 0x00 ∷ 0x00 ∷ 0x00 ∷ [])
-    ++ (0x61 ∷ 0x62 ∷ 0x63 ∷ 0x00 ∷ []))
+odd_junk = before_data (junk_tag ++ (0x03 ∷ 0x00 ∷ 0x00 ∷ 0x00 ∷ []) ++ (0x61 ∷ 0x62 ∷ 0x63 ∷ 0x00 ∷ []))
 
 -- the content of an extensible fmt chunk: mono, 44100 Hz, floats, and two bytes more
 abbrev pub float_fmt : List ℕ
@@ -105,8 +104,7 @@ long_fmt = front ++ fmt_tag ++ (0x2a ∷ 0x00 ∷ 0x00 ∷ 0x00 ∷ []) ++ float
 abbrev pub past_the_limit : List ℕ
 past_the_limit = front ++ junk_tag ++ (0xff ∷ 0xff ∷ 0xff ∷ 0xff ∷ 0x00 ∷ 0x00 ∷ [])
 
--- Junk after a fmt chunk: of an odd length whose pad byte passes the limit, and of the largest
--- length within it.
+-- Junk after a fmt chunk: of an odd length whose pad byte passes the limit, and of the largest length within it.
 abbrev pub odd_at_the_limit : List ℕ
 odd_at_the_limit = mono_front ++ junk_tag ++ (0xdf ∷ 0xff ∷ 0xff ∷ 0xff ∷ [])
 

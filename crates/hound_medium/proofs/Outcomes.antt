@@ -1,5 +1,4 @@
--- What holds for a call's outcome if it is Ok. That a weaker fact holds too is `on_ok_weaker` of
--- std.
+-- What holds for a call's outcome if it is Ok. That a weaker fact holds too is `on_ok_weaker` of std.
 use Rattle.std.proofs.Common.{rules}
 use Rattle.std.proofs.Common.{Result, OnOk, IsOk}
 

@@ -8,15 +8,13 @@ use Rattle.hound_medium.specs.State.{put_at, placed, overlay}
 use Rattle.hound_number.specs.{AreBytes}
 
 -- the places continue after the first list
-pub placed-append : (p : ℕ) (xs ys : List ℕ)
-    → placed p (xs ++ ys) ≡ placed p xs ++ placed (p + length xs) ys
+pub placed-append : (p : ℕ) (xs ys : List ℕ) → placed p (xs ++ ys) ≡ placed p xs ++ placed (p + length xs) ys
 placed-append p [] ys = ap (λ q. placed q ys) (omega arith)
 placed-append p (x ∷ xs) ys = ap (λ (l : List (ℕ × ℕ)). (p, x) ∷ l)
     (placed-append (suc p) xs ys ∙ ap (λ q. placed (suc p) xs ++ placed q ys) (omega arith))
 
 -- bytes that are written in two runs
-pub overlay-append : (c : List ℕ) (xs ys : List (ℕ × ℕ))
-    → overlay c (xs ++ ys) ≡ overlay (overlay c xs) ys
+pub overlay-append : (c : List ℕ) (xs ys : List (ℕ × ℕ)) → overlay c (xs ++ ys) ≡ overlay (overlay c xs) ys
 overlay-append c [] ys = refl
 overlay-append c (e ∷ xs) ys = overlay-append (put_at e.0 e.1 c) xs ys
 
@@ -35,8 +33,7 @@ length-put_at zero b (x ∷ c) = omega arith
 length-put_at (suc p) b [] = omega (arith, length-put_at p b [])
 length-put_at (suc p) b (x ∷ c) = omega (arith, length-put_at p b c)
 
-take-put_at : (p b : ℕ) (c : List ℕ) → p ≤ length c
-    → take (suc p) (put_at p b c) ≡ take p c ++ b ∷ []
+take-put_at : (p b : ℕ) (c : List ℕ) → p ≤ length c → take (suc p) (put_at p b c) ≡ take p c ++ b ∷ []
 take-put_at zero b [] h = refl
 take-put_at zero b (x ∷ c) h = refl
 take-put_at (suc p) b [] h = absurd (omega (arith, h))
@@ -49,8 +46,8 @@ drop-put_at zero b (suc m) (x ∷ c) h = refl
 drop-put_at (suc p) b (suc m) [] h = drop-put_at p b m [] (omega arith) ∙ drop-nil m
 drop-put_at (suc p) b (suc m) (x ∷ c) h = drop-put_at p b m c (omega arith)
 
--- bytes written at a place inside the contents or at their end: what was before the place, the
--- bytes, what was after them
+-- bytes written at a place inside the contents or at their end: what was before the place, the bytes, what was after
+-- them
 pub overlay_is : (c : List ℕ) (p : ℕ) (bs : List ℕ) → p ≤ length c
     → overlay c (placed p bs) ≡ take p c ++ (bs ++ drop (p + length bs) c)
 overlay_is c p [] h =
@@ -67,13 +64,11 @@ overlay_is c p (b ∷ bs) h =
     ∙ ap (λ q. drop q c) (let e : suc p + length bs ≡ p + suc (length bs) = omega arith in e))
 
 -- bytes written at the end
-pub overlay_at_end : (c : List ℕ) (p : ℕ) (bs : List ℕ) → p ≡ length c
-    → overlay c (placed p bs) ≡ c ++ bs
+pub overlay_at_end : (c : List ℕ) (p : ℕ) (bs : List ℕ) → p ≡ length c → overlay c (placed p bs) ≡ c ++ bs
 overlay_at_end c p bs end = grind (arith, common_steps, overlay_is)
 
 -- zeros that were already after the contents, where the byte or its gap comes
-put_at_padded : (p b : ℕ) (c : List ℕ) (m : ℕ)
-    → put_at p b (c ++ replicate m 0) ≡ put_at p b c ++ replicate
+put_at_padded : (p b : ℕ) (c : List ℕ) (m : ℕ) → put_at p b (c ++ replicate m 0) ≡ put_at p b c ++ replicate
     (length c + m - max (length c) (suc p)) 0
 put_at_padded zero b [] zero = refl
 put_at_padded zero b [] (suc m) = ap (λ n. b ∷ replicate n 0) (omega arith)
@@ -100,8 +95,7 @@ overlay_padded (b ∷ bs) p c m fits some =
     ∙ overlay_padded bs (suc p) (put_at p b c) n (omega (arith, fits, length-put_at p b c))
     (λ e. omega (arith, length-put_at p b c))
 
--- bytes written at any place, as code does it: zeros make the contents long enough, and the bytes
--- are copied over them
+-- bytes written at any place, as code does it: zeros make the contents long enough, and the bytes are copied over them
 pub overlay_resized : (c : List ℕ) (p : ℕ) (bs : List ℕ) (m : ℕ) → 0 < length bs
     → length c + m ≡ max (length c) (p + length bs)
     → overlay c (placed p bs) ≡ take p (c ++ replicate m 0) ++
@@ -122,8 +116,7 @@ small_put_at (suc p) b (x ∷ c) low small zero = small 0
 small_put_at (suc p) b (x ∷ c) low small (suc i) = small_put_at p b c low (λ k. small (suc k)) i
 
 -- bytes written among bytes are bytes
-pub small_overlay : (c : List ℕ) (p : ℕ) (bs : List ℕ) → AreBytes c → AreBytes bs
-    → AreBytes (overlay c (placed p bs))
+pub small_overlay : (c : List ℕ) (p : ℕ) (bs : List ℕ) → AreBytes c → AreBytes bs → AreBytes (overlay c (placed p bs))
 small_overlay c p [] small fits = small
 small_overlay c p (b ∷ bs) small fits =
     small_overlay (put_at p b c) (suc p) bs (small_put_at p b c (fits 0) small) (λ i. fits (suc i))
@@ -148,8 +141,7 @@ pub replays_more : (start : List ℕ) (past added : List (ℕ × ℕ)) (old : Li
     → old ≡ overlay start past → overlay old added ≡ overlay start (past ++ added)
 replays_more start past added old replays = grind (arith, common_steps, overlay-append)
 
-take_put_at_before : (n p b : ℕ) (c : List ℕ) → n ≤ p → n ≤ length c
-    → take n (put_at p b c) ≡ take n c
+take_put_at_before : (n p b : ℕ) (c : List ℕ) → n ≤ p → n ≤ length c → take n (put_at p b c) ≡ take n c
 take_put_at_before zero p b c before inside = refl
 take_put_at_before (suc n) zero b c before inside = absurd (omega (arith, before))
 take_put_at_before (suc n) (suc p) b [] before inside = absurd (omega (arith, inside))
@@ -166,15 +158,13 @@ take_overlay_before (b ∷ bs) n p c before inside =
     (omega (arith, inside, length-put_at p b c)) ∙ take_put_at_before n p b c before inside
 
 -- contents get no shorter
-pub length_overlay_le : (bs : List ℕ) (p : ℕ) (c : List ℕ)
-    → length c ≤ length (overlay c (placed p bs))
+pub length_overlay_le : (bs : List ℕ) (p : ℕ) (c : List ℕ) → length c ≤ length (overlay c (placed p bs))
 length_overlay_le [] p c = omega arith
 length_overlay_le (b ∷ bs) p c =
     omega (arith, length_overlay_le bs (suc p) (put_at p b c), length-put_at p b c)
 
 -- a part of two lists with the same front is the same
-pub front_part : (m a b : ℕ) (c d : List ℕ) → a + b ≤ m → take m c ≡ take m d
-    → take b (drop a c) ≡ take b (drop a d)
+pub front_part : (m a b : ℕ) (c d : List ℕ) → a + b ≤ m → take m c ≡ take m d → take b (drop a c) ≡ take b (drop a d)
 front_part m a b c d within same = part c ∙ ap (λ l. drop a (take (a + b) l)) same ∙ sym (part d)
   where
     part : (e : List ℕ) → take b (drop a e) ≡ drop a (take (a + b) (take m e))

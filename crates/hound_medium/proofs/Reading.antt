@@ -5,8 +5,7 @@ use Rattle.std.proofs.lemmas.List.{drop-drop}
 use Rattle.hound_medium.specs.State.{MediumState, Gets}
 
 -- what `get` does to the contents from the place on, as the contract of `read` says it
-pub get_consumes : {E : Type 0} (buf : List ℕ) (result : Result ℕ E) (old new : MediumState)
-    → Gets buf result old new
+pub get_consumes : {E : Type 0} (buf : List ℕ) (result : Result ℕ E) (old new : MediumState) → Gets buf result old new
     → ReadConsumes (Some (drop old.place old.contents))
     (Some (drop new.place new.contents)) result buf
 get_consumes buf (Ok n) old new gets =
@@ -14,8 +13,7 @@ get_consumes buf (Ok n) old new gets =
     drop-drop n old.place old.contents
     ∙ (λ i. drop (sym gets.place i) (sym gets.stays.contents i)) in (
       sym (take-append-drop n (drop old.place old.contents)) ∙ (λ i. sym gets.bytes i ++ rest i),
-      λ none room. sym rest ∙ ap (λ k. drop k (drop old.place old.contents)) none
-          ∙ gets.some none room,
+      λ none room. sym rest ∙ ap (λ k. drop k (drop old.place old.contents)) none ∙ gets.some none room,
     )
 get_consumes buf (Err e) old new gets =
     let stays : new.place ≡ old.place = omega (arith, gets.place) in

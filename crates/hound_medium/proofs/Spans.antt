@@ -23,13 +23,11 @@ pub moment_last : (s : MediumState) → s.contents ≡ overlay s.start s.past
 moment_last s replays = grind (arith, common_steps)
 
 -- what a call of flush leaves
-pub flushed_since : {T E : Type 0} (result : Result T E) (a b : MediumState) → Flushes result a b
-    → FlushedSince a b
+pub flushed_since : {T E : Type 0} (result : Result T E) (a b : MediumState) → Flushes result a b → FlushedSince a b
 flushed_since result a b flushes = search rules
 
 module _ (At : ℕ → List ℕ → Type 0) (split : ℕ) where
-  -- bytes are written at a place, by one call or several: at its level is what the first k of them
-  -- leave
+  -- bytes are written at a place, by one call or several: at its level is what the first k of them leave
   pub span_puts : (old new : MediumState) (at : ℕ) (bytes : List ℕ)
       → old.contents ≡ overlay old.start old.past → new.start ≡ old.start
       → new.past ≡ old.past ++ placed at bytes → FlushedSince old new
@@ -45,8 +43,7 @@ module _ (At : ℕ → List ℕ → Type 0) (split : ℕ) where
         added = placed at bytes;
         past = past;
         flushed = flushed;
-        each = λ k from to.
-            let n = k - length old.past in
+        each = λ k from to. let n = k - length old.past in
             let is_k : length old.past + n ≡ k = omega arith in
             let here : overlay old.contents
             (placed at (take n bytes)) ≡ moment new.start new.past k =

@@ -9,4 +9,5 @@ use Rattle.hound_medium.proofs.Overlays.{placed-append, overlay-append}
 pub takes_more : (keeps : Bool) (bytes : List ℕ) (a n : ℕ) (old mid new : MediumState)
     → a ≤ length bytes → PutsFirst keeps bytes a old mid → PutsFirst keeps (drop a bytes) n mid new
     → PutsFirst keeps bytes (a + n) old new
-takes_more keeps bytes a n old mid new within so_far more = grind (arith, common_steps, take-add, placed-append, overlay-append)
+takes_more keeps bytes a n old mid new within so_far more =
+    grind (arith, common_steps, take-add, placed-append, overlay-append)

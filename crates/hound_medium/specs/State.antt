@@ -22,9 +22,9 @@ overlay c (e ∷ es) = overlay (put_at e.0 e.1 c) es
 abbrev pub moment : List ℕ → List (ℕ × ℕ) → ℕ → List ℕ
 moment start past k = overlay start (take k past)
 
--- A medium as contracts see it: its bytes, the place of the next one to be read or written, and how
--- many calls failed. If it records its past, also the bytes that it began with, each byte written
--- since with its place, and how many of these were written before the last Ok `flush`.
+-- A medium as contracts see it: its bytes, the place of the next one to be read or written, and how many calls failed.
+-- If it records its past, also the bytes that it began with, each byte written since with its place, and how many of
+-- these were written before the last Ok `flush`.
 pub record MediumState : Type 0 where
   pub contents : List ℕ
   pub place : ℕ
@@ -93,14 +93,12 @@ pub record Goes {T E : Type 0} (to : ℕ) (result : Result T E) (old new : Mediu
 pub record Shifts {T E : Type 0} (by : ℤ) (result : Result T E) (old new : MediumState) : Type 0
   where
     pub stays : Stays old new
-    pub place : MatchResult result (λ _. IsMoved old.place by new.place)
-        (λ _. new.place ≡ old.place)
+    pub place : MatchResult result (λ _. IsMoved old.place by new.place) (λ _. new.place ≡ old.place)
     pub within : OnOk result (new.place < 2 ^ 64)
     pub flushed : new.flushed ≡ old.flushed
     pub faults : new.faults ≡ faults_after result old.faults
 
--- what `get` does, which writes its bytes to the front of the buffer: none only at the end or into
--- an empty buffer
+-- what `get` does, which writes its bytes to the front of the buffer: none only at the end or into an empty buffer
 pub record Gets {E : Type 0} (buf : List ℕ) (result : Result ℕ E) (old new : MediumState) : Type 0
   where
     pub stays : Stays old new
@@ -129,8 +127,7 @@ pub record Puts {E : Type 0} (keeps : Bool) (bytes : List ℕ) (result : Result 
 pub record Flushes {T E : Type 0} (result : Result T E) (old new : MediumState) : Type 0 where
   pub stays : Stays old new
   pub place : new.place ≡ old.place
-  pub flushed : MatchResult result (λ _. new.flushed ≡ length new.past)
-      (λ _. new.flushed ≡ old.flushed)
+  pub flushed : MatchResult result (λ _. new.flushed ≡ length new.past) (λ _. new.flushed ≡ old.flushed)
   pub faults : new.faults ≡ faults_after result old.faults
 
 -- what a loop over `put` does: it writes `count` bytes, all of them at an Ok and fewer at an Err
@@ -147,12 +144,11 @@ pub record PutsAll {T E : Type 0} (keeps : Bool) (bytes : List ℕ) (result : Re
 abbrev pub FlushedSince : MediumState → MediumState → Type 0
 FlushedSince old new = (new.flushed ≡ old.flushed) ⊎ (length old.past ≤ new.flushed)
 
--- From old to new, bytes were written, and after each number k of bytes, both ends included, the
--- contents are at a level. It is 0 up to `split` bytes, and one more after each later byte.
+-- From old to new, bytes were written, and after each number k of bytes, both ends included, the contents are at a
+-- level. It is 0 up to `split` bytes, and one more after each later byte.
 pub record Span (At : ℕ → List ℕ → Type 0) (split : ℕ) (old new : MediumState) : Type 0 where
   pub start : new.start ≡ old.start
   pub added : List (ℕ × ℕ)
   pub past : new.past ≡ old.past ++ added
   pub flushed : FlushedSince old new
-  pub each : (k : ℕ) → length old.past ≤ k → k ≤ length new.past
-      → At (k - split) (moment new.start new.past k)
+  pub each : (k : ℕ) → length old.past ≤ k → k ≤ length new.past → At (k - split) (moment new.start new.past k)

@@ -1,5 +1,5 @@
-// A `Cursor` over bytes in memory can be read from and sought in. Contracts of a `Source` don't know
-// its bytes, since a cursor counts no faults; of a `Tape` they do.
+// A `Cursor` over bytes in memory can be read from and sought in. Contracts of a `Source` don't know its bytes, since a
+// cursor counts no faults; of a `Tape` they do.
 ghost use Rattle.std.specs.Prelude.{◌≡◌, ◌≤◌, ◌+◌, ◌↔◌, ℤ, pos, ◌+ℤ◌, false, length, IsOk, IfOk, OnOk, IfErr, OnErr};
 ghost use Rattle.std.specs.Int.{FitsUnsigned, w64};
 ghost use Rattle.std.specs.Io.Cursor.{cursor_position, cursor_inner, cursor_remaining};
@@ -24,8 +24,7 @@ impl<T: AsBytes + Drop> Placed for Cursor<T> {
     }
 
     fn shift(&mut self, by: i64) -> io::Result<()>
-        ensures place { OnOk result
-            (pos (cursor_position self.new) ≡ pos (cursor_position self.old) +ℤ by) }
+        ensures place { OnOk result (pos (cursor_position self.new) ≡ pos (cursor_position self.old) +ℤ by) }
         ensures stays { OnErr result (cursor_position self.new ≡ cursor_position self.old) }
         ensures ok { IsOk result ↔ FitsUnsigned w64 (pos (cursor_position self.old) +ℤ by) }
         ensures kind { IfErr result (λ e. error_kind e ≡ ErrorKind.InvalidInput) }

@@ -15,17 +15,15 @@ use std::alloc::Global;
 use std::io;
 use std::io::ErrorKind;
 
-/// Bytes in memory with a place among them, to read and to write, that record each byte written
-/// with its place.
+/// Bytes in memory with a place among them, to read and to write, that record each byte written with its place.
 ///
-/// It shows what a medium has after every byte written, as after a loss of power: the tests of a
-/// recorder that makes checkpoints look at [`Journal::bytes_after`] for each count of
-/// bytes from [`Journal::flushed`] to [`Journal::taken`]. With [`Journal::fail`] and
-/// [`Journal::most`] it also fails, and takes few bytes at once.
+/// It shows what a medium has after every byte written, as after a loss of power: the tests of a recorder that makes
+/// checkpoints look at [`Journal::bytes_after`] for each count of bytes from [`Journal::flushed`] to
+/// [`Journal::taken`]. With [`Journal::fail`] and [`Journal::most`] it also fails, and takes few bytes at once.
 ///
-/// A `put` without memory, or whose end would be above `u64::MAX`, is an `Err` of kind
-/// `OutOfMemory`; it allocates all it needs before it changes anything. Every `Err` changes only
-/// the count of faults. Its memory grows with each byte written.
+/// A `put` without memory, or whose end would be above `u64::MAX`, is an `Err` of kind `OutOfMemory`; it allocates all
+/// it needs before it changes anything. Every `Err` changes only the count of faults. Its memory grows with each byte
+/// written.
 ///
 /// ```
 /// journal.fail(0, u64::MAX); // Every call fails from now on.
@@ -51,11 +49,10 @@ pub struct Journal {
 impl Journal {
     ghost use Rattle.hound_medium.specs.Journal.{FailsAt, calls, greatest_count};
 
-    /// A journal of these bytes, at place 0, with nothing taken yet. It records a copy of them, so
-    /// it is `OutOfMemory` if there is no memory for that.
+    /// A journal of these bytes, at place 0, with nothing taken yet. It records a copy of them, so it is `OutOfMemory`
+    /// if there is no memory for that.
     pub fn new(alloc: Global, bytes: Vec<u8>) -> Result<Journal>
-        ensures contents { IfOk result
-            (λ j. (⟦<Journal as Placed>⟧.state j).contents ≡ bytes.items) }
+        ensures contents { IfOk result (λ j. (⟦<Journal as Placed>⟧.state j).contents ≡ bytes.items) }
         ensures place { IfOk result (λ j. (⟦<Journal as Placed>⟧.state j).place ≡ 0) }
         ensures faults { IfOk result (λ j. (⟦<Journal as Placed>⟧.state j).faults ≡ 0) }
         ensures start { IfOk result (λ j. (⟦<Journal as Placed>⟧.state j).start ≡ bytes.items) }
@@ -80,8 +77,8 @@ impl Journal {
         })
     }
 
-    /// Limits the bytes that one `put` takes, and that one `get` or `read` gives, to this many, at
-    /// least 1. A new journal has no such limit; a later one replaces it.
+    /// Limits the bytes that one `put` takes, and that one `get` or `read` gives, to this many, at least 1. A new
+    /// journal has no such limit; a later one replaces it.
     pub fn most(&mut self, n: usize)
         requires { 1 ≤ n }
         ensures state { ⟦<Journal as Placed>⟧.state self.new ≡ ⟦<Journal as Placed>⟧.state self.old }
@@ -94,14 +91,13 @@ impl Journal {
 
     /// Makes calls fail, by their numbers, from the first to the last, both included.
     ///
-    /// Each call of `get` or `read`, `go`, `shift`, `put` and `flush` has a number, the first call
-    /// 1, whether it fails or not; the number stays at `u64::MAX` once there. A
-    /// call that fails is an `Err` of kind `Other`, takes and gives nothing and doesn't move, and
-    /// counts a fault. No call of a new journal fails so; a later `fail` replaces an earlier one.
+    /// Each call of `get` or `read`, `go`, `shift`, `put` and `flush` has a number, the first call 1, whether it fails
+    /// or not; the number stays at `u64::MAX` once there. A call that fails is an `Err` of kind `Other`, takes and
+    /// gives nothing and doesn't move, and counts a fault. No call of a new journal fails so; a later `fail` replaces
+    /// an earlier one.
     pub fn fail(&mut self, from: u64, to: u64)
         ensures state { ⟦<Journal as Placed>⟧.state self.new ≡ ⟦<Journal as Placed>⟧.state self.old }
-        ensures fails { (number : ℕ) → FailsAt self.new number
-            ↔ (from ≤ number) × (number ≤ to) }
+        ensures fails { (number : ℕ) → FailsAt self.new number ↔ (from ≤ number) × (number ≤ to) }
         ensures calls { calls self.new ≡ calls self.old }
         ensures most { greatest_count self.new ≡ greatest_count self.old }
     {
@@ -109,8 +105,8 @@ impl Journal {
         self.fail_to = to;
     }
 
-    /// How many bytes have been written in all since it was made. A byte written over another
-    /// counts too, and zeros that filled a gap don't.
+    /// How many bytes have been written in all since it was made. A byte written over another counts too, and zeros
+    /// that filled a gap don't.
     pub fn taken(&self) -> usize
         ensures { result ≡ length (⟦<Journal as Placed>⟧.state self.now).past }
     {
@@ -124,9 +120,9 @@ impl Journal {
         self.flushed
     }
 
-    /// All of the bytes as they were after the first k of those written: for 0 the bytes that
-    /// the journal began with, for [`Journal::taken`] those of now. `k` must be at most `taken()`.
-    /// `OutOfMemory` if there is no memory for them.
+    /// All of the bytes as they were after the first k of those written: for 0 the bytes that the journal began with,
+    /// for [`Journal::taken`] those of now. `k` must be at most `taken()`. `OutOfMemory` if there is no memory for
+    /// them.
     pub fn bytes_after(&self, alloc: Global, k: usize) -> Result<Vec<u8>>
         requires { k ≤ length (⟦<Journal as Placed>⟧.state self.now).past }
         ensures moment { let state = ⟦<Journal as Placed>⟧.state self.now in
@@ -144,8 +140,7 @@ impl Journal {
           calls = one_more self.old.calls;
           faults = faults_after result self.old.faults;
         } }
-        ensures fails { IsErr result ↔ (self.old.fail_from ≤ self.new.calls)
-            × (self.new.calls ≤ self.old.fail_to) }
+        ensures fails { IsErr result ↔ (self.old.fail_from ≤ self.new.calls) × (self.new.calls ≤ self.old.fail_to) }
     {
         self.calls = self.calls.saturating_add(1);
         if self.fail_from <= self.calls && self.calls <= self.fail_to {
@@ -174,8 +169,7 @@ impl Placed for Journal {
     ghost bytes = { λ j _. j.are_bytes };
 
     fn go(&mut self, to: u64) -> io::Result<()>
-        ensures goes { let state = ⟦<Journal as Placed>⟧.state in
-            Goes to result (state self.old) (state self.new) }
+        ensures goes { let state = ⟦<Journal as Placed>⟧.state in Goes to result (state self.old) (state self.new) }
         ensures fails { IsErr result ↔ FailsAt self.old (calls self.new) }
         ensures numbered { IsNumbered self.old self.new }
     {
@@ -185,8 +179,7 @@ impl Placed for Journal {
     }
 
     fn shift(&mut self, by: i64) -> io::Result<()>
-        ensures shifts { let state = ⟦<Journal as Placed>⟧.state in
-            Shifts by result (state self.old) (state self.new) }
+        ensures shifts { let state = ⟦<Journal as Placed>⟧.state in Shifts by result (state self.old) (state self.new) }
         ensures fails { FailsAt self.old (calls self.new) → IsErr result }
         ensures moves { (FailsAt self.old (calls self.new) → ⊥) → (IsErr result → ⊥)
             ↔ FitsUnsigned w64 (pos (⟦<Journal as Placed>⟧.state self.old).place +ℤ by) }
@@ -225,8 +218,7 @@ impl Medium for Journal {
     }
 
     fn flush(&mut self) -> io::Result<()>
-        ensures flushes { let state = ⟦<Journal as Placed>⟧.state in
-            Flushes result (state self.old) (state self.new) }
+        ensures flushes { let state = ⟦<Journal as Placed>⟧.state in Flushes result (state self.old) (state self.new) }
         ensures fails { IsErr result ↔ FailsAt self.old (calls self.new) }
         ensures numbered { IsNumbered self.old self.new }
     {

@@ -7,8 +7,7 @@ length-bytes_of zero n = refl
 length-bytes_of (suc k) n = ap suc (length-bytes_of k (n / 256))
 
 -- bytes are the bytes of their number
-pub bytes_of-number : (bytes : List ℕ) → AreBytes bytes
-    → bytes_of (length bytes) (number bytes) ≡ bytes
+pub bytes_of-number : (bytes : List ℕ) → AreBytes bytes → bytes_of (length bytes) (number bytes) ≡ bytes
 bytes_of-number [] small = refl
 bytes_of-number (b ∷ bytes) small =
     let low : b < 256 = small 0 in
@@ -31,8 +30,7 @@ number_le zero n = omega arith
 number_le (suc k) n = omega (arith, number_le k (n / 256))
 
 -- the low bytes of a number, and the other ones of a smaller number
-mix_le_of : (k m old new : ℕ) → old ≤ new
-    → number (take k (bytes_of m new) ++ drop k (bytes_of m old)) ≤ new
+mix_le_of : (k m old new : ℕ) → old ≤ new → number (take k (bytes_of m new) ++ drop k (bytes_of m old)) ≤ new
 mix_le_of zero m old new h = omega (arith, h, number_le m old)
 mix_le_of (suc k) zero old new h = omega arith
 mix_le_of (suc k) (suc m) old new h =

@@ -11,8 +11,7 @@ abbrev pub bytes_of : ℕ → ℕ → List ℕ
 bytes_of zero n = []
 bytes_of (suc k) n = n % 256 ∷ bytes_of k (n / 256)
 
--- a number of four bytes half overwritten by another: the k low bytes of new, and the other bytes
--- of old
+-- a number of four bytes half overwritten by another: the k low bytes of new, and the other bytes of old
 abbrev pub mix : ℕ → ℕ → ℕ → ℕ
 mix k old new = number (take k (bytes_of 4 new) ++ drop k (bytes_of 4 old))
 

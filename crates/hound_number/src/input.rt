@@ -11,8 +11,8 @@ use std::io::ErrorKind;
 
 /// What bytes are read from: any reader, or one whose failed reads contracts count.
 ///
-/// Implemented for every `io::Read`, whose failed reads contracts don't count, and for
-/// `SourceReader` of `hound_walk`, a source whose failed reads they count.
+/// Implemented for every `io::Read`, whose failed reads contracts don't count, and for `SourceReader` of `hound_walk`,
+/// a source whose failed reads they count.
 pub trait Input {
     /// The bytes that are left, if they are known.
     ghost left: { Self → Option (List ℕ) };
@@ -23,8 +23,8 @@ pub trait Input {
     /// How many reads failed, and what no read changes, if these are known.
     ghost account: { Self → Option (Account Kept) };
 
-    /// Reads bytes into the front of the buffer and returns their number. It is 0 only at the end
-    /// of the input or if the buffer is empty. At an `Err` no byte was taken.
+    /// Reads bytes into the front of the buffer and returns their number. It is 0 only at the end of the input or if
+    /// the buffer is empty. At an `Err` no byte was taken.
     fn read_some(&mut self, buf: &mut [u8]) -> io::Result<usize>
         ensures bound { ReadsAtMost result buf.new }
         ensures bytes { ReadConsumes (left self.old) (left self.new) result buf.new }
@@ -75,8 +75,7 @@ impl From<ReadError> for io::Error {
 
 /// Fills the whole buffer, however the reads are cut; an empty buffer needs no read.
 ///
-/// `Interrupted` is passed on like any other fault. At an `Err`, fewer bytes than the buffer holds
-/// were taken.
+/// `Interrupted` is passed on like any other fault. At an `Err`, fewer bytes than the buffer holds were taken.
 #[inline(always)]
 pub fn read_into<R: Input>(reader: &mut R, buf: &mut [u8]) -> Result<(), ReadError>
     ensures filled { OnOk result (Consumes (R.left reader.old) (R.left reader.new) buf.new) }

@@ -1,7 +1,7 @@
 //! Little-endian numbers, and the loops over `read` and `write`.
 //!
-//! The lowest layer: each call makes, reads or writes exactly the bytes of its number, or returns
-//! the fault. The root of `hound` exports none of it; a crate that needs it lists `hound_number`.
+//! The lowest layer: each call makes, reads or writes exactly the bytes of its number, or returns the fault. The root
+//! of `hound` exports none of it; a crate that needs it lists `hound_number`.
 #![tactic(auto)]
 
 mod input;
@@ -16,8 +16,8 @@ pub use laws::signed_bytes_come_back;
 use std::io;
 use std::io::{Error, ErrorKind};
 
-/// The signed number of an unsigned byte, which counts from -128, as samples of 8 bits do
-/// (WAVEFORMATEX, "wBitsPerSample").
+/// The signed number of an unsigned byte, which counts from -128, as samples of 8 bits do (WAVEFORMATEX,
+/// "wBitsPerSample").
 #[inline(always)]
 pub fn signed_from_u8(x: u8) -> i8
     ensures { result ≡ pos x -ℤ pos 128 }
@@ -25,8 +25,8 @@ pub fn signed_from_u8(x: u8) -> i8
     (x as i16 - 128) as i8
 }
 
-/// The unsigned byte of a signed number, which counts from -128: the inverse of [`signed_from_u8`],
-/// by [`signed_bytes_come_back`].
+/// The unsigned byte of a signed number, which counts from -128: the inverse of [`signed_from_u8`], by
+/// [`signed_bytes_come_back`].
 #[inline(always)]
 pub fn u8_from_signed(x: i8) -> u8
     ensures { pos result ≡ x +ℤ pos 128 }
@@ -66,8 +66,7 @@ pub fn le_i32(n: i32) -> [u8; 4]
     n.to_le_bytes()
 }
 
-/// The number in the two bytes from the index `at` on, which must exist: `at + 2` is at most
-/// `bytes.len()`.
+/// The number in the two bytes from the index `at` on, which must exist: `at + 2` is at most `bytes.len()`.
 #[inline(always)]
 pub fn u16_at(bytes: &[u8], at: usize) -> u16
     requires { at + 2 ≤ length bytes.now }
@@ -76,8 +75,7 @@ pub fn u16_at(bytes: &[u8], at: usize) -> u16
     bytes[at] as u16 + bytes[at + 1] as u16 * 0x100
 }
 
-/// The number in the four bytes from the index `at` on, which must exist: `at + 4` is at most
-/// `bytes.len()`.
+/// The number in the four bytes from the index `at` on, which must exist: `at + 4` is at most `bytes.len()`.
 #[inline(always)]
 pub fn u32_at(bytes: &[u8], at: usize) -> u32
     requires { at + 4 ≤ length bytes.now }
@@ -116,8 +114,8 @@ pub fn i32_from_le(bytes: [u8; 4]) -> i32
 
 /// Writes all of the bytes, in order; if there are none, the writer isn't called.
 ///
-/// `Interrupted` is passed on like any other fault, and a write that takes no byte is one of kind
-/// `WriteZero`. At an `Err` a beginning of the bytes may be written, and no more is tried.
+/// `Interrupted` is passed on like any other fault, and a write that takes no byte is one of kind `WriteZero`. At an
+/// `Err` a beginning of the bytes may be written, and no more is tried.
 pub fn write_bytes<W: io::Write>(writer: &mut W, bytes: &[u8]) -> io::Result<()>
     ensures { Writes bytes.now result (W.contents writer.old) (W.contents writer.new) }
 {

@@ -91,7 +91,8 @@ pub torn_takes : {A : Type 0} (rejection : Option ReadRejection) (meaning : List
     → Reads rejection meaning width mid new (Err (error_of_sample reason fault))
     → (old ≡ None → mid ≡ None)
     → WhereKnown mid new (AreTaken (taken_without reason (given - length values * width) width))
-torn_takes rejection meaning width values reason fault given old mid new few has before read same = grind (arith, common_steps, each_takes, length-drop)
+torn_takes rejection meaning width values reason fault given old mid new few has before read same =
+    grind (arith, common_steps, each_takes, length-drop)
 
 -- an item without a sample is given, whichever its fault is
 pub no_sample_is_given : {R A : Type 0} (left : R → Option (List ℕ))
@@ -132,8 +133,7 @@ module _ {A : Type 0} (rejection : SampleFormat → ℕ → ℕ → Option ReadR
         (let taken : CountsTaken (λ (bytes : Option (List ℕ)). bytes) old next =
             (width, refl, a_container_is_taken (rejection_at rejection old.spec_ex) _ _ _ _ value read) in
             grind (arith, common_steps, taken, read)),
-        subst (Gives (map Ok values) next)
-            (let e : further next (length values) (length values * width) new
+        subst (Gives (map Ok values) next) (let e : further next (length values) (length values * width) new
             ≡ further old (suc (length values)) (suc (length values) * width) new = grind (arith, common_steps) in e)
             (samples_are_items values next new (omega (arith, few)) rest),
       )
@@ -143,8 +143,11 @@ module _ {A : Type 0} (rejection : SampleFormat → ℕ → ℕ → Option ReadR
       (old mid new : ReaderState (Option (List ℕ))) → Gives items old mid
       → IsNext (λ (bytes : Option (List ℕ)). bytes) rejection meaning (Some item) mid new
       → Gives (items ++ (item ∷ [])) old new
-  items_more [] item old mid new before step =
-      (new, subst (λ s. IsNext (λ (bytes : Option (List ℕ)). bytes) rejection meaning (Some item) s new) before step, refl)
+  items_more [] item old mid new before step = (
+    new,
+    subst (λ s. IsNext (λ (bytes : Option (List ℕ)). bytes) rejection meaning (Some item) s new) before step,
+    refl,
+  )
   items_more (first ∷ items) item old mid new (next, given, before) step =
       (next, given, items_more items item next mid new before step)
 
@@ -211,7 +214,8 @@ module _ {R A : Type 0} (left : R → Option (List ℕ))
       ≡ further (over_bytes left old) (requested count answer)
       (block_bytes count old.spec_ex.bytes_per_sample given answer) (left new.reader)
       → ReadsBlock left rejection meaning count (answer_of answer fault) xs (ys ++ drop wanted xs) old new
-  is_block count wanted given modelled answer fault xs ys old new shown is size small narrow fills each has untouched after =
+  is_block count wanted given modelled answer fault xs ys old new shown is size small narrow fills each has untouched
+      after =
       let begin = over_bytes left old in
       let width = old.spec_ex.bytes_per_sample in
       let front = subst (λ a. FillsFront count a (take wanted xs) ys) shown fills in
@@ -260,12 +264,18 @@ module _ {A : Type 0} (rejection : SampleFormat → ℕ → ℕ → Option ReadR
   pub run_takes : (items : List (Result A Error)) (old new : ReaderState (Option (List ℕ)))
       → Gives rejection meaning items old new → CountsTaken (λ (bytes : Option (List ℕ)). bytes) old new
       × (new.spec_ex ≡ old.spec_ex) × (new.num_samples ≡ old.num_samples)
-  run_takes [] old new same =
-      ((0, grind (arith, common_steps), grind (arith, common_steps)), grind (arith, common_steps), grind (arith, common_steps))
+  run_takes [] old new same = (
+    (0, grind (arith, common_steps), grind (arith, common_steps)),
+    grind (arith, common_steps),
+    grind (arith, common_steps),
+  )
   run_takes (item ∷ items) old new (mid, step, rest) =
       let ((more, counted, known), _, _) = run_takes items mid new rest in
-      let (n, count, taken) = step.taken in
-      ((n + more, grind (arith, common_steps), grind (arith, common_steps, length-drop, drop-drop)), grind (arith, common_steps), grind (arith, common_steps))
+      let (n, count, taken) = step.taken in (
+        (n + more, grind (arith, common_steps), grind (arith, common_steps, length-drop, drop-drop)),
+        grind (arith, common_steps),
+        grind (arith, common_steps),
+      )
 
   -- a value that was read of known bytes
   value_read : (r : Option ReadRejection) (m : List ℕ → A) (width : ℕ) (xs : List ℕ)
@@ -279,7 +289,8 @@ module _ {A : Type 0} (rejection : SampleFormat → ℕ → ℕ → Option ReadR
       → Gives rejection meaning (map Ok samples) old block
       → Gives rejection meaning (map Ok others) old new → (samples ≡ others) × (block ≡ new)
   same_samples [] [] old block new xs known size first second = (refl, first ∙ sym second)
-  same_samples (sample ∷ samples) (other ∷ others) old block new xs known size (mid, step, first) (mid', step', second) =
+  same_samples (sample ∷ samples) (other ∷ others) old block new xs known size (mid, step, first) (mid', step', second)
+      =
       let width = old.spec_ex.bytes_per_sample in
       let r = rejection_at rejection old.spec_ex in
       let m = meaning_at meaning old.spec_ex in

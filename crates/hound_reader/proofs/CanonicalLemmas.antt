@@ -33,8 +33,7 @@ canonical_back s list w a =
         frames = grind (arith, common_steps, whole, div, a.frames);
         count = sym div;
       },
-      ap (containers s.bytes_per_sample (length list))
-          (drop_at (header s size (length bytes)) beyond (data_start s)
+      ap (containers s.bytes_per_sample (length list)) (drop_at (header s size (length bytes)) beyond (data_start s)
           (length-header s size (length bytes)))
           ∙ containers-concat s.bytes_per_sample list (padding (length bytes)) a.each,
     )

@@ -18,8 +18,7 @@ use borrow.Rule.Slice.PartMut.{put_mid}
 use lib.Seq.{take-add}
 
 -- what is left after bytes were passed
-pub unread_after : (n : ℕ) (old new : MediumState) → PassesBytes n old new
-    → unread new ≡ drop n (unread old)
+pub unread_after : (n : ℕ) (old new : MediumState) → PassesBytes n old new → unread new ≡ drop n (unread old)
 unread_after n old new passes = grind (arith, common_steps)
 
 -- bytes, and then more of them
@@ -74,8 +73,8 @@ samples_more meaning w few more k bytes part xs values within fits before whole 
       front_put,
     )
 
--- A piece came of a source, and samples were decoded of it: they are the next ones, and no more bytes than these
--- have were passed.
+-- A piece came of a source, and samples were decoded of it: they are the next ones, and no more bytes than these have
+-- were passed.
 pub piece_came : {A : Type 0} (meaning : SampleFormat → ℕ → ℕ → List ℕ → A) (s : WavSpecEx)
     (done count taken requested k : ℕ) (buf part : List ℕ) (fault : IoFault) (xs values : List A)
     (old mid new : MediumState) → done ≤ length xs → count ≤ length values → taken ≤ length buf
@@ -86,7 +85,8 @@ pub piece_came : {A : Type 0} (meaning : SampleFormat → ℕ → ℕ → List �
     ≡ map (meaning_at meaning s) (containers s.bytes_per_sample (done + count) (unread old)))
     × ((done + count) * s.bytes_per_sample ≤ done * s.bytes_per_sample + taken)
     × PassesBytes (done * s.bytes_per_sample + taken) old new
-piece_came meaning s done count taken requested k buf part fault xs values old mid new within fits room before passed all is given =
+piece_came meaning s done count taken requested k buf part fault xs values old mid new within fits room before passed
+    all is given =
     grind (arith, common_steps, length-take-le, unread_after, passes_more, samples_more)
 
 -- no more samples came, since the source ended or a read failed

@@ -28,7 +28,8 @@ pub a_sample_is_given : {R A : Type 0} (left : R → Option (List ℕ))
     (left new.reader) (answer_of answer fault)
     → (IsSome (rejection_at rejection old.spec_ex) → new.reader ≡ old.reader) → answer ≡ Ok value
     → IsNext left rejection meaning (Some (Ok value)) old new
-a_sample_is_given left rejection meaning old new answer fault value inside is read untouched ok = grind (arith, common_steps, a_container_is_taken)
+a_sample_is_given left rejection meaning old new answer fault value inside is read untouched ok =
+    grind (arith, common_steps, a_container_is_taken)
 
 -- an item before items
 item_more : {A : Type 0} (rejection : Option ReadRejection) (meaning : List ℕ → A) (width : ℕ)

@@ -59,8 +59,7 @@ module _ {A : Type 0} (meaning : List ℕ → A) (width count : ℕ) (bytes : Li
   module _ (values : List A) (is : values ≡ map meaning (containers width count bytes)) where
     -- they are as many as the containers
     pub are_long : length values ≡ count
-    are_long = ap length is ∙ length-map (containers width count bytes) meaning
-        ∙ length-containers width count bytes
+    are_long = ap length is ∙ length-map (containers width count bytes) meaning ∙ length-containers width count bytes
 
     -- they are the first samples
     pub are_first : (length values * width ≤ length bytes)
@@ -93,7 +92,8 @@ module _ {A : Type 0} (meaning : List ℕ → A) (width count : ℕ) (bytes : Li
           containers_front width count (take taken bytes) bytes (take-take (count * width) taken bytes enough) in
           subst (λ r. ReadsEach r meaning width (map Ok values ++ (Err (IoError fault) ∷ [])) (Some bytes) (Some rest))
           (sym (no_rejection rejection checked))
-          (subst (λ items. ReadsEach None meaning width (map Ok items ++ (Err (IoError fault) ∷ [])) (Some bytes) (Some rest))
+          (subst (λ items. ReadsEach None meaning width (map Ok items ++ (Err (IoError fault) ∷ [])) (Some bytes)
+          (Some rest))
           (ap (map meaning) same ∙ sym is)
           (part_read meaning width count (take taken bytes) (Some bytes) (Some rest) fault (omega (arith, enough, size))
           (omega (arith, cut, size))

@@ -37,8 +37,7 @@ moved : (place new : ℕ) (by : ℤ) → IsMoved place by new → pos new ≡ po
 moved place new by m = grind (arith, common_steps)
 
 -- the first sample of a frame that the file has is one of its samples
-pub frame_inside : (time channels samples : ℕ) → time < samples / channels
-    → time * channels < samples
+pub frame_inside : (time channels samples : ℕ) → time < samples / channels → time * channels < samples
 frame_inside time channels samples t = grind (arith, common_steps)
 
 module _ {R : Type 0} (state : R → MediumState) (start time : ℕ) (old new : ReaderState R)
@@ -144,8 +143,7 @@ module _ {R : Type 0} (left : R → Option (List ℕ)) (state : R → MediumStat
           p.0,
           p.1 ∙ step.source.stays.contents,
           p.2 ∙ step.counts.spec_ex,
-          p.3
-              ∙ step.counts.num_samples,
+          p.3 ∙ step.counts.num_samples,
         )
 
     -- the item after a seek, after any items and seeks since the data began

@@ -20,8 +20,8 @@ pub record PassesBytes (n : ℕ) (old new : MediumState) : Type 0 where
   pub within : n ≤ length (unread old)
   pub place : new.place ≡ old.place + n
 
--- fewer bytes came than were requested: the source ended, and the fault is of kind `Other`; or a read failed,
--- which the source has counted
+-- fewer bytes came than were requested: the source ended, and the fault is of kind `Other`; or a read failed, which the
+-- source has counted
 abbrev pub EndsEarly : ℕ → IoFault → MediumState → MediumState → Type 0
 EndsEarly n fault old new =
     ((n ≡ length (unread old)) × (error_kind fault ≡ Other) × (new.faults ≡ old.faults))
@@ -34,16 +34,16 @@ pub record GetsAll (bytes : List ℕ) (requested : ℕ) (fault : IoFault) (old n
   pub ends : ((length bytes ≡ requested) × (new.faults ≡ old.faults))
       ⊎ ((length bytes < requested) × EndsEarly (length bytes) fault old new)
 
--- why no more than this many samples came of a source: for a cause that its bytes have, or since a read failed,
--- which it has counted
+-- why no more than this many samples came of a source: for a cause that its bytes have, or since a read failed, which
+-- it has counted
 abbrev pub IsGetError : (SampleFormat → ℕ → ℕ → Option ReadRejection) → WavSpecEx → ℕ → MediumState → MediumState
     → Error → Type 0
 IsGetError rejection s count old new e =
     (IsCauseOf rejection s count (unread old) e × (new.faults ≡ old.faults))
     ⊎ ((fault : IoFault) × (e ≡ IoError fault) × (new.faults ≡ one_more old.faults))
 
--- A block of a source: its samples are the first ones of the bytes from the place on. Only the place has moved, by
--- what was taken, and a fault is counted where an error is that of a read.
+-- A block of a source: its samples are the first ones of the bytes from the place on. Only the place has moved, by what
+-- was taken, and a fault is counted where an error is that of a read.
 pub record GetsBlock {A T : Type 0} (rejection : SampleFormat → ℕ → ℕ → Option ReadRejection)
     (meaning : SampleFormat → ℕ → ℕ → List ℕ → A) (s : WavSpecEx) (values : List A) (result : Result T Error)
     (old new : MediumState) : Type 0 where

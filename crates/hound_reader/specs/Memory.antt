@@ -20,8 +20,8 @@ AreFirstSamples meaning s bytes values = (length values * s.bytes_per_sample ≤
 abbrev pub IsCutAfter : WavSpecEx → ℕ → List ℕ → Type 0
 IsCutAfter s count bytes = length bytes < (count + 1) * s.bytes_per_sample
 
--- why no more than this many samples came of bytes: an `IoError` of kind `Other` is that they end early, and
--- any other error is that of the type
+-- why no more than this many samples came of bytes: an `IoError` of kind `Other` is that they end early, and any other
+-- error is that of the type
 abbrev pub IsCauseOf : (SampleFormat → ℕ → ℕ → Option ReadRejection) → WavSpecEx → ℕ → List ℕ → Error → Type 0
 IsCauseOf rejection s count bytes (IoError e) = IsCutAfter s count bytes × (error_kind e ≡ Other)
 IsCauseOf rejection s count bytes e =

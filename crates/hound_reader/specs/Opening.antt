@@ -24,10 +24,9 @@ pub record FindsSamples (result : Result (FileHead × ℕ) HeadError) (old new :
     pub stays : Stays old new
     pub flushed : new.flushed ≡ old.flushed
 
--- A reader of a source: its bytes have a head with whole frames, exactly what is before the data was
--- taken, and nothing else has changed.
-pub record OpensSource {R : Type 0} (old : MediumState) (state : R → MediumState) (r : ReaderState R)
-    : Type 0 where
+-- A reader of a source: its bytes have a head with whole frames, exactly what is before the data was taken, and nothing
+-- else has changed.
+pub record OpensSource {R : Type 0} (old : MediumState) (state : R → MediumState) (r : ReaderState R) : Type 0 where
   pub start : ℕ
   pub readable : Readable (unread old) r.spec_ex r.num_samples start
   pub rest : unread (state r.reader) ≡ drop start (unread old)
@@ -35,8 +34,8 @@ pub record OpensSource {R : Type 0} (old : MediumState) (state : R → MediumSta
   pub flushed : (state r.reader).flushed ≡ old.flushed
   pub faults : (state r.reader).faults ≡ old.faults
 
--- A file that isn't opened: for a cause that its bytes have, for which exactly so many of them were
--- taken; or since a read failed, which the source has counted. Nothing else has changed.
+-- A file that isn't opened: for a cause that its bytes have, for which exactly so many of them were taken; or since a
+-- read failed, which the source has counted. Nothing else has changed.
 pub record IsNotOpened (old new : MediumState) (e : Error) : Type 0 where
   pub stays : Stays old new
   pub flushed : new.flushed ≡ old.flushed

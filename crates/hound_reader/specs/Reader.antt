@@ -15,9 +15,8 @@ use Rattle.hound_sample.specs.declared.item.SampleError.TheVariants.{Failed}
 use Rattle.std.proofs.Props.{props}
 use Rattle.std.specs.Coded.{Unit-prop}
 
--- A reader as contracts see it: what it reads from, the spec with the width of a sample, how many
--- samples the file has, how many of them were requested, and how many bytes these took since the
--- data began.
+-- A reader as contracts see it: what it reads from, the spec with the width of a sample, how many samples the file has,
+-- how many of them were requested, and how many bytes these took since the data began.
 pub record ReaderState (R : Type 0) : Type 0 where
   pub reader : R
   pub spec_ex : WavSpecEx
@@ -34,8 +33,7 @@ abbrev pub HasWholeFrames : {R : Type 0} → ReaderState R → Type 0
 HasWholeFrames reading =
     IsSoundSpec reading.spec_ex × (reading.num_samples % reading.spec_ex.spec.channels ≡ 0)
 
--- the counts of a reader, after any reads and seeks: whole frames, and no more bytes than the
--- requested samples have
+-- the counts of a reader, after any reads and seeks: whole frames, and no more bytes than the requested samples have
 pub record HasSoundCounts (spec_ex : WavSpecEx) (num_samples samples_read bytes_read : ℕ) : Type 0
   where
     pub sound : IsSoundSpec spec_ex
@@ -43,16 +41,15 @@ pub record HasSoundCounts (spec_ex : WavSpecEx) (num_samples samples_read bytes_
     pub samples : samples_read ≤ greatest_u32 * spec_ex.spec.channels
     pub bytes : bytes_read ≤ samples_read * spec_ex.bytes_per_sample
 
--- the bytes that an item took: the width of a container at an Ok, none at an error of the type, and
--- at most the width if a read failed or the input ended
+-- the bytes that an item took: the width of a container at an Ok, none at an error of the type, and at most the width
+-- if a read failed or the input ended
 abbrev pub TookBytes : {A : Type 0} → ℕ → Result A Error → ℕ → ℕ → Type 0
 TookBytes width (Ok value) old new = new ≡ old + width
 TookBytes width (Err (IoError e)) old new = (old ≤ new) × (new ≤ old + width)
 TookBytes width (Err _) old new = new ≡ old
 
 -- the count of bytes grew by exactly what was taken of those that were left, if these are known
-abbrev pub CountsTaken : {R : Type 0} → (R → Option (List ℕ)) → ReaderState R → ReaderState R
-    → Type 0
+abbrev pub CountsTaken : {R : Type 0} → (R → Option (List ℕ)) → ReaderState R → ReaderState R → Type 0
 CountsTaken left old new = (n : ℕ) × (new.bytes_read ≡ old.bytes_read + n)
     × WhereKnown (left old.reader) (left new.reader) (AreTaken n)
 
@@ -63,14 +60,12 @@ rejection_at rejection s = rejection s.spec.sample_format s.bytes_per_sample s.s
 abbrev pub meaning_at : {A : Type 0} → (SampleFormat → ℕ → ℕ → List ℕ → A) → WavSpecEx → List ℕ → A
 meaning_at meaning s = meaning s.spec.sample_format s.bytes_per_sample s.spec.bits_per_sample
 
--- An item of a type with these tables was given: it is what `read` of the type returns, and it
--- counts.
+-- An item of a type with these tables was given: it is what `read` of the type returns, and it counts.
 pub record GivesItem {R A : Type 0} (left : R → Option (List ℕ)) (rejection : Option ReadRejection)
     (meaning : List ℕ → A) (item : Result A Error) (old new : ReaderState R) : Type 0 where
   pub inside : old.samples_read < old.num_samples
   pub counted : new.samples_read ≡ old.samples_read + 1
-  pub read : Reads rejection meaning old.spec_ex.bytes_per_sample (left old.reader) (left new.reader)
-      item
+  pub read : Reads rejection meaning old.spec_ex.bytes_per_sample (left old.reader) (left new.reader) item
   pub untouched : IsSome rejection → new.reader ≡ old.reader
   pub bytes : TookBytes old.spec_ex.bytes_per_sample item old.bytes_read new.bytes_read
   pub taken : CountsTaken left old new
@@ -91,11 +86,9 @@ pub record AreContainers (s : WavSpecEx) (list : List (List ℕ)) : Type 0 where
   pub frames : length list % s.spec.channels ≡ 0
   pub fits : length list * s.bytes_per_sample ≤ greatest_u32
 
--- The first items of data with containers of this width: each is the error of the type, or each
--- is the meaning of its own container, which is complete. Nothing is claimed after the first
--- `IoError`.
-abbrev pub AreItems : {A : Type 0} → Option ReadRejection → (List ℕ → A) → ℕ → List ℕ
-    → List (Result A Error) → Type 0
+-- The first items of data with containers of this width: each is the error of the type, or each is the meaning of its
+-- own container, which is complete. Nothing is claimed after the first `IoError`.
+abbrev pub AreItems : {A : Type 0} → Option ReadRejection → (List ℕ → A) → ℕ → List ℕ → List (Result A Error) → Type 0
 AreItems rejection meaning width bytes [] = ⊤
 AreItems (Some rejection) meaning width bytes (item ∷ items) = (item ≡ Err (error_of_read rejection))
     × AreItems (Some rejection) meaning width bytes items
@@ -130,15 +123,14 @@ AnswersNext left rejection meaning (Some (Ok value)) old new =
 AnswersNext left rejection meaning (Some (Err no_sample)) old new = (fault : IoFault)
     → IsNext left rejection meaning (Some (Err (error_of_sample no_sample fault))) old new
 
--- how many bytes an item without a sample took, of those given for it: what was given of a
--- container of this width if a fault or the end cut it, and none at an error of the type
+-- how many bytes an item without a sample took, of those given for it: what was given of a container of this width if a
+-- fault or the end cut it, and none at an error of the type
 abbrev pub taken_without : SampleError → ℕ → ℕ → ℕ
 taken_without Failed given width = min given width
 taken_without _ given width = 0
 
 -- a reader with the bytes that are left in place of what it reads from
-abbrev pub over_bytes : {R : Type 0} → (R → Option (List ℕ)) → ReaderState R
-    → ReaderState (Option (List ℕ))
+abbrev pub over_bytes : {R : Type 0} → (R → Option (List ℕ)) → ReaderState R → ReaderState (Option (List ℕ))
 over_bytes left reading = record {
   reader = left reading.reader;
   spec_ex = reading.spec_ex;
@@ -173,8 +165,8 @@ further reading samples bytes reader = record reading {
   bytes_read = reading.bytes_read + bytes;
 }
 
--- `read_samples`: a block is items. The samples that came are the front of the slice, `count` of them:
--- all that fit or are left, or fewer if the next item is the error. The rest of the slice stays.
+-- `read_samples`: a block is items. The samples that came are the front of the slice, `count` of them: all that fit or
+-- are left, or fewer if the next item is the error. The rest of the slice stays.
 pub record ReadsBlock {R A : Type 0} (left : R → Option (List ℕ))
     (rejection : SampleFormat → ℕ → ℕ → Option ReadRejection)
     (meaning : SampleFormat → ℕ → ℕ → List ℕ → A) (count : ℕ) (result : Result (Unit {0}) Error)
@@ -195,17 +187,15 @@ AnswersReadMany rejection meaning s old new values answer = (fault : IoFault)
     → ReadsEach (rejection_at rejection s) (meaning_at meaning s) s.bytes_per_sample
     (items_of values (answer_of answer fault)) old new
 
--- If the bytes are known, those that were left at first and are not left now have been given, from
--- the front, and `given` counts them, up to the maximum of `u64`.
+-- If the bytes are known, those that were left at first and are not left now have been given, from the front, and
+-- `given` counts them, up to the maximum of `u64`.
 abbrev pub HasGiven : Option (List ℕ) → ℕ → Option (List ℕ) → Type 0
 HasGiven None given left = ⊤
 HasGiven (Some xs) given None = ⊥
-HasGiven (Some xs) given (Some ys) = (length ys ≤ length xs)
-    × (ys ≡ drop (length xs - length ys) xs)
+HasGiven (Some xs) given (Some ys) = (length ys ≤ length xs) × (ys ≡ drop (length xs - length ys) xs)
     × (given ≡ min (length xs - length ys) (2 ^ 64 - 1))
 
-pub HasGiven-prop : (first : Option (List ℕ)) (given : ℕ) (left : Option (List ℕ))
-    → IsProp (HasGiven first given left)
+pub HasGiven-prop : (first : Option (List ℕ)) (given : ℕ) (left : Option (List ℕ)) → IsProp (HasGiven first given left)
 HasGiven-prop None given left = Unit-prop
 HasGiven-prop (Some xs) given None = λ a b. absurd a
 HasGiven-prop (Some xs) given (Some ys) = hlevel props

@@ -26,28 +26,23 @@ count_after (Ok x) count old = count
 count_after (Err e) count old = old
 
 -- The counts after `seek`: all before the frame counts as read, and an Err leaves them.
-pub record Recounts {R T E : Type 0} (time : ℕ) (result : Result T E) (old new : ReaderState R)
-    : Type 0 where
-  pub samples : new.samples_read ≡ count_after result (samples_before time old.spec_ex)
-      old.samples_read
+pub record Recounts {R T E : Type 0} (time : ℕ) (result : Result T E) (old new : ReaderState R) : Type 0 where
+  pub samples : new.samples_read ≡ count_after result (samples_before time old.spec_ex) old.samples_read
   pub bytes : new.bytes_read ≡ count_after result (bytes_before time old.spec_ex) old.bytes_read
   pub spec_ex : new.spec_ex ≡ old.spec_ex
   pub num_samples : new.num_samples ≡ old.num_samples
 
 -- `seek` was Ok, over a source whose bytes are known
-pub record Seeks {R : Type 0} (state : R → MediumState) (time : ℕ) (old new : ReaderState R)
-    : Type 0 where
+pub record Seeks {R : Type 0} (state : R → MediumState) (time : ℕ) (old new : ReaderState R) : Type 0 where
   pub counts : Recounts {T = Unit {0}} {E = IoFault} time (Ok tt) old new
-  pub source : Shifts {T = Unit {0}} {E = IoFault} (way_to time old) (Ok tt)
-      (state old.reader) (state new.reader)
+  pub source : Shifts {T = Unit {0}} {E = IoFault} (way_to time old) (Ok tt) (state old.reader) (state new.reader)
 
 -- the source is as many bytes after the first data byte, at `start`, as the reader counts
 abbrev pub IsAtCount : {R : Type 0} → (R → MediumState) → ℕ → ReaderState R → Type 0
 IsAtCount state start reading = (state reading.reader).place ≡ start + reading.bytes_read
 
 -- `seek` was Ok, over a source whose bytes are known and whose place was the counted one
-pub record HasSought {R : Type 0} (state : R → MediumState) (start time : ℕ)
-    (old new : ReaderState R) : Type 0 where
+pub record HasSought {R : Type 0} (state : R → MediumState) (start time : ℕ) (old new : ReaderState R) : Type 0 where
   pub at_count : IsAtCount state start old
   pub seeks : Seeks state time old new
 
@@ -60,8 +55,7 @@ pub record ReadsInPlace (old new : MediumState) : Type 0 where
   pub contents : new.contents ≡ old.contents
   pub place : new.place ≡ old.place + (length (unread old) - length (unread new))
 
--- an item of any type was given, whole, rejected or torn, or a block of items, and it counts
--- what it took
+-- an item of any type was given, whole, rejected or torn, or a block of items, and it counts what it took
 pub record PassesItem {R : Type 0} (left : R → Option (List ℕ)) (state : R → MediumState)
     (old new : ReaderState R) : Type 0 where
   pub taken : CountsTaken left old new
@@ -69,8 +63,7 @@ pub record PassesItem {R : Type 0} (left : R → Option (List ℕ)) (state : R �
   pub spec_ex : new.spec_ex ≡ old.spec_ex
   pub num_samples : new.num_samples ≡ old.num_samples
 
--- items, blocks and Ok seeks, one after the other: None is an item or a block, and Some a seek to
--- that frame
+-- items, blocks and Ok seeks, one after the other: None is an item or a block, and Some a seek to that frame
 abbrev pub Follows : {R : Type 0} → (R → Option (List ℕ)) → (R → MediumState) → List (Option ℕ)
     → ReaderState R → ReaderState R → Type 0
 Follows left state [] old new = new ≡ old

@@ -12,11 +12,11 @@ use std::rt::Files;
 use std::{fs, io};
 
 impl WavReader<io::BufReader<fs::File>> {
-    /// Opens an existing file, which stays as it is, and takes what is before the data, by a
-    /// buffer of `alloc`. `rt` is what `main` and each test get; `alloc` is `rt.alloc()`.
+    /// Opens an existing file, which stays as it is, and takes what is before the data, by a buffer of `alloc`. `rt` is
+    /// what `main` and each test get; `alloc` is `rt.alloc()`.
     ///
-    /// The errors, in their order: `IoError`, if the file can't be opened; `OutOfMemory`, if there
-    /// is no memory for the buffer; those of [`WavReader::new`].
+    /// The errors, in their order: `IoError`, if the file can't be opened; `OutOfMemory`, if there is no memory for the
+    /// buffer; those of [`WavReader::new`].
     ///
     /// ```
     /// let mut reader = WavReader::open(rt, rt.alloc(), path)?;

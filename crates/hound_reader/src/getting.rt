@@ -17,8 +17,8 @@ use std::result;
 // The bytes of a piece: enough that a call of `get` costs little for each sample.
 const PIECE: usize = 1024;
 
-// Fills the front of a buffer, all of it unless a read fails or the source ends, and returns how many bytes. The
-// fault is saved, and so is the end.
+// Fills the front of a buffer, all of it unless a read fails or the source ends, and returns how many bytes. The fault
+// is saved, and so is the end.
 fn get_all<R: Source>(reader: &mut SavingReader<R>, buf: &mut [u8]) -> usize
     ensures within { result ≤ length buf.new }
     ensures gets { WhereTells R.tells (GetsAll (take result buf.new) (length buf.new) reader.new.fault
@@ -41,8 +41,8 @@ fn get_all<R: Source>(reader: &mut SavingReader<R>, buf: &mut [u8]) -> usize
     at
 }
 
-// Gets samples until the slice is full, a read fails or the source ends, which is saved. Returns how many came,
-// and how many bytes were taken.
+// Gets samples until the slice is full, a read fails or the source ends, which is saved. Returns how many came, and how
+// many bytes were taken.
 fn get_many<S: Decode, R: Source>(
     reader: &mut SavingReader<R>,
     spec_ex: WavSpecEx,
@@ -90,10 +90,9 @@ fn get_many<S: Decode, R: Source>(
 impl<R: Source> WavReader<R> {
     /// Reads the next samples into the front of a slice, as [`WavReader::read_samples`] does (own).
     ///
-    /// Where contracts know the bytes of the source, an `Err` is the error of the type, or an `IoError`:
-    /// of kind `Other`, where the bytes end before the next container does, or of a read that failed, which
-    /// the source has counted. It is for the types of this crate, since a type of your own may return an
-    /// `IoError` of its own.
+    /// Where contracts know the bytes of the source, an `Err` is the error of the type, or an `IoError`: of kind
+    /// `Other`, where the bytes end before the next container does, or of a read that failed, which the source has
+    /// counted. It is for the types of this crate, since a type of your own may return an `IoError` of its own.
     pub fn try_read_samples<S: Decode>(&mut self, samples: &mut [S]) -> (usize, Result<()>)
         ensures block { WhereTells R.tells (ReadsBlock R.remaining S.decode_rejection S.value result.0 result.1
             samples.old samples.new self.old self.new) }

@@ -51,8 +51,8 @@ pub(crate) fn keep_end(fault: &mut io::Error)
 
 /// A reader, and the last fault of its reads, or its end, if that came later.
 ///
-/// An `io::Error` is large, and a read that is not inlined passes it in memory. So the one call
-/// of `read` returns a number, and the fault goes straight from here to where it is reported.
+/// An `io::Error` is large, and a read that is not inlined passes it in memory. So the one call of `read` returns a
+/// number, and the fault goes straight from here to where it is reported.
 #[derive(Drop)]
 pub(crate) struct SavingReader<R> {
     pub(crate) reader: R,
@@ -86,8 +86,7 @@ impl<R: io::Read> SavingReader<R> {
     #[inline(never)]
     fn fill_rest(&mut self, buf: &mut [u8]) -> usize
         ensures within { result ≤ length buf.new }
-        ensures bytes { Consumes (R.remaining self.old.reader) (R.remaining self.new.reader)
-            (take result buf.new) }
+        ensures bytes { Consumes (R.remaining self.old.reader) (R.remaining self.new.reader) (take result buf.new) }
     {
         let mut at = 0;
         while at < buf.len() {
@@ -99,13 +98,12 @@ impl<R: io::Read> SavingReader<R> {
         at
     }
 
-    /// Fills the front of a buffer, all of it unless a read fails or the input ends, and returns
-    /// how many bytes. The first read mostly fills it, so the others are in a cold call.
+    /// Fills the front of a buffer, all of it unless a read fails or the input ends, and returns how many bytes. The
+    /// first read mostly fills it, so the others are in a cold call.
     #[inline(always)]
     fn fill(&mut self, buf: &mut [u8]) -> usize
         ensures within { result ≤ length buf.new }
-        ensures bytes { Consumes (R.remaining self.old.reader) (R.remaining self.new.reader)
-            (take result buf.new) }
+        ensures bytes { Consumes (R.remaining self.old.reader) (R.remaining self.new.reader) (take result buf.new) }
     {
         match self.read_or_save_error(buf) {
             None | Some(0) => 0,
@@ -115,8 +113,8 @@ impl<R: io::Read> SavingReader<R> {
     }
 }
 
-/// Where counting begins, as contracts see it: a generic call leaves of a reader only what is in its
-/// type. A `Brand` is one, whose members are chosen where it is passed.
+/// Where counting begins, as contracts see it: a generic call leaves of a reader only what is in its type. A `Brand` is
+/// one, whose members are chosen where it is passed.
 pub(crate) trait CountStart {
     /// The bytes that were left then, if they are known.
     ghost left: { Option (List ℕ) };
@@ -131,8 +129,8 @@ impl CountStart for Brand {
     ghost lender = { 0 };
 }
 
-/// A reader, and the number of bytes that it gave since counting began, at most `u64::MAX`. A type
-/// may read an item however it likes, and a later `seek` has to know what was really taken.
+/// A reader, and the number of bytes that it gave since counting began, at most `u64::MAX`. A type may read an item
+/// however it likes, and a later `seek` has to know what was really taken.
 #[derive(Drop)]
 pub(crate) struct CountingReader<'a, R: io::Read, B: CountStart> {
     pub(crate) reader: &'a mut SavingReader<R>,
@@ -197,8 +195,8 @@ impl<R: io::Read, B: CountStart> ContainerReader for CountingReader<'_, R, B> {
     }
 }
 
-/// Reads a sample of this spec into `answer`, and returns how many bytes the reader gave for it,
-/// where counting begins now. The reference comes back so that contracts know it for the same.
+/// Reads a sample of this spec into `answer`, and returns how many bytes the reader gave for it, where counting begins
+/// now. The reference comes back so that contracts know it for the same.
 #[inline(always)]
 pub(crate) fn read_item_since<'a, R: io::Read, S: Sample, B: CountStart>(
     reader: &'a mut SavingReader<R>,
@@ -210,8 +208,7 @@ pub(crate) fn read_item_since<'a, R: io::Read, S: Sample, B: CountStart>(
     ensures answers { AnswersRead S.rejection S.meaning spec_ex (R.remaining reader.entry.now.reader)
         (R.remaining result.0.now.reader) answer.new }
     ensures untouched { IsSome (rejection_at S.rejection spec_ex) → result.0.now ≡ reader.entry.now }
-    ensures given { HasGiven (R.remaining reader.entry.now.reader) result.1
-        (R.remaining result.0.now.reader) }
+    ensures given { HasGiven (R.remaining reader.entry.now.reader) result.1 (R.remaining result.0.now.reader) }
     ensures stays { result.0.ghost_name ≡ reader.entry.ghost_name }
 {
     let mut counting = CountingReader {
@@ -230,8 +227,8 @@ pub(crate) fn read_item_since<'a, R: io::Read, S: Sample, B: CountStart>(
     (counting.reader, counting.given)
 }
 
-// Reads samples as the type's `read_many`, and returns the reason of its error: the kit covers no
-// call with a `CountingReader` whose signature has an `Error`, which holds a reference itself.
+// Reads samples as the type's `read_many`, and returns the reason of its error: the kit covers no call with a
+// `CountingReader` whose signature has an `Error`, which holds a reference itself.
 #[inline(always)]
 fn read_many<R: io::Read, S: Sample>(
     reader: &mut R,
@@ -273,8 +270,7 @@ pub(crate) fn read_many_since<'a, R: io::Read, S: Sample, B: CountStart>(
         (take answer.new.0 samples.new) answer.new.1 }
     ensures front { FillsFront answer.new.0 answer.new.1 samples.old samples.new }
     ensures untouched { IsSome (rejection_at S.rejection spec_ex) → result.0.now ≡ reader.entry.now }
-    ensures given { HasGiven (R.remaining reader.entry.now.reader) result.1
-        (R.remaining result.0.now.reader) }
+    ensures given { HasGiven (R.remaining reader.entry.now.reader) result.1 (R.remaining result.0.now.reader) }
     ensures stays { result.0.ghost_name ≡ reader.entry.ghost_name }
 {
     let mut counting = CountingReader {

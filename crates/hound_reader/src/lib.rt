@@ -1,7 +1,7 @@
 //! Reading the samples of WAV files.
 //!
-//! A [`WavReader`] takes exactly what is before the data, by the walk of `hound_walk`, and then gives
-//! the samples, one container for each.
+//! A [`WavReader`] takes exactly what is before the data, by the walk of `hound_walk`, and then gives the samples, one
+//! container for each.
 #![tactic(auto)]
 
 mod file;

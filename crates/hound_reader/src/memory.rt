@@ -27,8 +27,8 @@ fn find_in_memory(bytes: &[u8]) -> result::Result<(FileHead, u32), Cause>
     Ok((head, num_samples))
 }
 
-/// Decodes containers from the front of bytes, which it takes, until the samples are full or the bytes end.
-/// Returns how many samples came, and how many bytes were taken.
+/// Decodes containers from the front of bytes, which it takes, until the samples are full or the bytes end. Returns how
+/// many samples came, and how many bytes were taken.
 ///
 /// All bytes are taken where they end within a container.
 pub(crate) fn decode_many<S: Decode>(
@@ -74,8 +74,8 @@ pub(crate) fn decode_many<S: Decode>(
 impl<'a> WavReader<&'a [u8]> {
     /// Reads a file in memory: takes exactly what is before the data, as [`WavReader::new`] does (own).
     ///
-    /// No read of bytes in memory fails. So an error is one of the causes that the bytes have, and an
-    /// `IoError` is that they end early, which no contract of `new` says.
+    /// No read of bytes in memory fails. So an error is one of the causes that the bytes have, and an `IoError` is that
+    /// they end early, which no contract of `new` says.
     ///
     /// ```
     /// let mut reader = WavReader::from_bytes(bytes)?;
@@ -99,9 +99,9 @@ impl<'a> WavReader<&'a [u8]> {
 
     /// Reads the next samples into the front of a slice, as [`WavReader::read_samples`] does (own).
     ///
-    /// No read of bytes in memory fails. So an `Err` is the error of the type, or an `IoError` of kind
-    /// `Other`, where the bytes end before the next container does. It is for the types of this crate,
-    /// since a type of your own may return an `IoError` of its own.
+    /// No read of bytes in memory fails. So an `Err` is the error of the type, or an `IoError` of kind `Other`, where
+    /// the bytes end before the next container does. It is for the types of this crate, since a type of your own may
+    /// return an `IoError` of its own.
     pub fn decode_samples<S: Decode>(&mut self, samples: &mut [S]) -> (usize, Result<()>)
         ensures block { ReadsBlock (λ bytes. Some bytes.now) S.decode_rejection S.value result.0 result.1
             samples.old samples.new self.old self.new }

@@ -22,10 +22,10 @@ use std::{io, result};
 
 /// A reader of a file's samples.
 ///
-/// It takes no byte that it doesn't need: its input is at the data when the reader is made, and
-/// after the sample that was read last. So it has no buffer, and a file needs one around it, as in
-/// [`WavReader::open`]. Any `io::Read` is read: a slice of bytes, a `Tape`, a
-/// `Journal`, a `BufReader<File>`, or a `&mut` to one, which is then still there at an error.
+/// It takes no byte that it doesn't need: its input is at the data when the reader is made, and after the sample that
+/// was read last. So it has no buffer, and a file needs one around it, as in [`WavReader::open`]. Any `io::Read` is
+/// read: a slice of bytes, a `Tape`, a `Journal`, a `BufReader<File>`, or a `&mut` to one, which is then still there at
+/// an error.
 ///
 /// ```
 /// let mut reader = WavReader::new(bytes)?;
@@ -61,30 +61,25 @@ impl<R> Model for WavReader<R> {
 impl<R: io::Read + Drop> WavReader<R> {
     /// Takes exactly what is before the data, from the reader's place on.
     ///
-    /// Files are RIFF and WAVE with a fmt chunk before the data, of a PCMWAVEFORMAT, a WAVEFORMATEX
-    /// or a WAVEFORMATEXTENSIBLE. Other chunks before the data are skipped, each with its whole
-    /// length and the pad byte after an odd one (RIFF, "Chunks"), and of several fmt chunks the
-    /// last counts. Whether the data are complete isn't checked.
+    /// Files are RIFF and WAVE with a fmt chunk before the data, of a PCMWAVEFORMAT, a WAVEFORMATEX or a
+    /// WAVEFORMATEXTENSIBLE. Other chunks before the data are skipped, each with its whole length and the pad byte
+    /// after an odd one (RIFF, "Chunks"), and of several fmt chunks the last counts. Whether the data are complete
+    /// isn't checked.
     ///
-    /// The errors come chunk by chunk, in a fmt chunk check by check: `FormatError`, or
-    /// `Unsupported` for another format tag or subformat whose fields pass the checks that all
-    /// share; then `FormatError` for data that are no whole samples, and for data that are no whole
-    /// frames. `IoError` is a fault of the reader, or an early end, of kind `Other`. Chunks that
-    /// would take more than 4294967295 bytes after the WAVE tag are a `FormatError`, so the call
-    /// returns for an endless reader too.
+    /// The errors come chunk by chunk, in a fmt chunk check by check: `FormatError`, or `Unsupported` for another
+    /// format tag or subformat whose fields pass the checks that all share; then `FormatError` for data that are no
+    /// whole samples, and for data that are no whole frames. `IoError` is a fault of the reader, or an early end, of
+    /// kind `Other`. Chunks that would take more than 4294967295 bytes after the WAVE tag are a `FormatError`, so the
+    /// call returns for an endless reader too.
     pub fn new(mut reader: R) -> Result<WavReader<R>>
-        ensures found { IfOk result (λ r. WhereKnown (R.remaining reader) (R.remaining r.reader)
-            (λ xs ys.
+        ensures found { IfOk result (λ r. WhereKnown (R.remaining reader) (R.remaining r.reader) (λ xs ys.
             (h : ℕ) × Readable xs r.spec_ex r.num_samples h × (ys ≡ drop h xs))) }
         ensures fresh { IfOk result (λ r. (r.samples_read ≡ 0) × (r.bytes_read ≡ 0)) }
         ensures sound { IfOk result (λ r. HasWholeFrames r) }
-        ensures rejected { IfErr result (λ e. IfSome (R.remaining reader)
-            (λ xs. IsRejection e (Unreadable xs))) }
+        ensures rejected { IfErr result (λ e. IfSome (R.remaining reader) (λ xs. IsRejection e (Unreadable xs))) }
         ensures reported { IfErr result (λ e. IsRejection e (λ _. ⊤)) }
-        ensures readable { IfSome (R.remaining reader)
-            (λ xs. (spec_ex : WavSpecEx) (samples h : ℕ) →
-            Readable xs spec_ex samples h → OpensAs result (λ r. (r.spec_ex ≡ spec_ex)
-            × (r.num_samples ≡ samples))) }
+        ensures readable { IfSome (R.remaining reader) (λ xs. (spec_ex : WavSpecEx) (samples h : ℕ) →
+            Readable xs spec_ex samples h → OpensAs result (λ r. (r.spec_ex ≡ spec_ex) × (r.num_samples ≡ samples))) }
         ensures unreadable { IfSome (R.remaining reader) (λ xs. (c : Cause) → Unreadable xs c →
             MatchResult result (λ _. ⊥) (λ e. FailsAs e c)) }
     {
@@ -120,16 +115,16 @@ impl<R: io::Read + Drop> WavReader<R> {
         }
     }
 
-    /// The properties of the audio data, with the bytes that a sample takes: a file that is begun
-    /// with this spec has containers of the same width.
+    /// The properties of the audio data, with the bytes that a sample takes: a file that is begun with this spec has
+    /// containers of the same width.
     pub fn spec_ex(&self) -> WavSpecEx
         ensures { result ≡ self.now.spec_ex }
     {
         self.spec_ex
     }
 
-    /// The properties of the audio data; its bits are the used ones. The bytes of a sample are those
-    /// of [`WavReader::spec_ex`].
+    /// The properties of the audio data; its bits are the used ones. The bytes of a sample are those of
+    /// [`WavReader::spec_ex`].
     pub fn spec(&self) -> WavSpec
         ensures { result ≡ self.now.spec_ex.spec }
     {
@@ -144,27 +139,26 @@ impl<R: io::Read + Drop> WavReader<R> {
         self.len() / self.spec_ex.spec.channels as u32
     }
 
-    /// The number of samples in the file, of all channels together, whatever was read: the data
-    /// length divided by the bytes of a sample. [`WavReader::samples_left`] counts those left.
+    /// The number of samples in the file, of all channels together, whatever was read: the data length divided by the
+    /// bytes of a sample. [`WavReader::samples_left`] counts those left.
     pub fn len(&self) -> u32
         ensures { result ≡ self.now.num_samples }
     {
         self.num_samples
     }
 
-    /// The number of samples that are left to be read, of all channels together; 0 past the end
-    /// (own). Each item and each sample of a block is one less, also one that is an error.
+    /// The number of samples that are left to be read, of all channels together; 0 past the end (own). Each item and
+    /// each sample of a block is one less, also one that is an error.
     pub fn samples_left(&self) -> u32
         ensures { result ≡ samples_left self.now }
     {
         (self.num_samples as u64).saturating_sub(self.samples_read) as u32
     }
 
-    /// An iterator over the samples that are left, one item for each, the channels of a frame one
-    /// after the other.
+    /// An iterator over the samples that are left, one item for each, the channels of a frame one after the other.
     ///
-    /// If the type doesn't fit the file, each item is the error of the type, and takes no byte. A
-    /// new iterator continues where the last stopped, also one of another type.
+    /// If the type doesn't fit the file, each item is the error of the type, and takes no byte. A new iterator
+    /// continues where the last stopped, also one of another type.
     pub fn samples<'wr, S: Sample>(&'wr mut self) -> WavSamples<'wr, R, S>
         ensures reader { lent_reader result ≡ self.old }
         ensures lender { lender result ≡ self.entry.ghost_name }
@@ -176,8 +170,8 @@ impl<R: io::Read + Drop> WavReader<R> {
         }
     }
 
-    /// The same iterator, which owns the reader. To use the reader afterwards, call
-    /// [`WavReader::samples`] in place of this.
+    /// The same iterator, which owns the reader. To use the reader afterwards, call [`WavReader::samples`] in place of
+    /// this.
     pub fn into_samples<S: Sample>(self) -> WavIntoSamples<R, S>
         ensures { taken_reader result ≡ self }
     {
@@ -188,14 +182,13 @@ impl<R: io::Read + Drop> WavReader<R> {
         }
     }
 
-    /// Reads the next samples into the front of a slice, channels in turn. Returns how many came, and
-    /// why no more if the slice isn't full (own).
+    /// Reads the next samples into the front of a slice, channels in turn. Returns how many came, and why no more if
+    /// the slice isn't full (own).
     ///
-    /// The samples are those that the iterator of [`WavReader::samples`] would give, and exactly
-    /// their containers are taken; the rest of the slice stays as it was. With an Ok as many came as
-    /// fit or are left, so 0 only at the end or for an empty slice. An `Err` is the item that the
-    /// iterator would give next, and [`WavReader::samples_left`] counts it as one: an error of the
-    /// type, which comes before any byte is taken, a fault, or an early end.
+    /// The samples are those that the iterator of [`WavReader::samples`] would give, and exactly their containers are
+    /// taken; the rest of the slice stays as it was. With an Ok as many came as fit or are left, so 0 only at the end
+    /// or for an empty slice. An `Err` is the item that the iterator would give next, and [`WavReader::samples_left`]
+    /// counts it as one: an error of the type, which comes before any byte is taken, a fault, or an early end.
     ///
     /// ```
     /// let (count, result) = reader.read_samples(&mut block);
@@ -222,8 +215,8 @@ impl<R: io::Read + Drop> WavReader<R> {
         (count, result)
     }
 
-    /// Counts a block: its samples, the one in whose place an error came, and what they took of the
-    /// bytes that were given.
+    /// Counts a block: its samples, the one in whose place an error came, and what they took of the bytes that were
+    /// given.
     #[inline(always)]
     pub(crate) fn count_block(
         &mut self,
@@ -247,13 +240,13 @@ impl<R: io::Read + Drop> WavReader<R> {
 
     /// Moves the source to the first container of a frame; `time` counts frames from 0.
     ///
-    /// A frame is a sample of each channel, and the source moves by the frame's place in bytes less
-    /// the bytes that samples really took so far. So the place is right after samples that were
-    /// rejected, which took none, and after one that was torn, which took a part.
+    /// A frame is a sample of each channel, and the source moves by the frame's place in bytes less the bytes that
+    /// samples really took so far. So the place is right after samples that were rejected, which took none, and after
+    /// one that was torn, which took a part.
     ///
-    /// A `time` at or after [`WavReader::duration`] is allowed; then no samples are left. A time
-    /// in seconds is that many times the sample rate. The one error is the source's own: then the
-    /// reader counts as before, and a source whose bytes are known is where it was.
+    /// A `time` at or after [`WavReader::duration`] is allowed; then no samples are left. A time in seconds is that
+    /// many times the sample rate. The one error is the source's own: then the reader counts as before, and a source
+    /// whose bytes are known is where it was.
     ///
     /// ```
     /// let mut reader = WavReader::new(Cursor::new(bytes))?;
@@ -276,16 +269,15 @@ impl<R: io::Read + Drop> WavReader<R> {
         Ok(())
     }
 
-    /// What the samples were read from, as it was left: after the last byte that was taken, or
-    /// where a seek led.
+    /// What the samples were read from, as it was left: after the last byte that was taken, or where a seek led.
     pub fn into_inner(self) -> R
         ensures { result ≡ self.reader }
     {
         self.reader.reader
     }
 
-    /// The next item, while a sample is left, by the iterator's copy of the spec. An `Error` is
-    /// large, so the iterator makes that of an item without a sample, where it returns it.
+    /// The next item, while a sample is left, by the iterator's copy of the spec. An `Error` is large, so the iterator
+    /// makes that of an item without a sample, where it returns it.
     #[inline(always)]
     pub(crate) fn next_item<S: Sample>(
         &mut self,
@@ -335,12 +327,11 @@ fn find_samples<S: Source>(source: S) -> (S, result::Result<(FileHead, u32), Hea
 }
 
 impl<R: Source> WavReader<R> {
-    /// Takes exactly what is before the data, as [`WavReader::new`] does, and returns the source at an
-    /// error (own).
+    /// Takes exactly what is before the data, as [`WavReader::new`] does, and returns the source at an error (own).
     ///
-    /// The errors are those of `new`, in the same order. Where contracts know the bytes of the source, an
-    /// error is one of the causes that the bytes have, and takes as many of them as its cause does, or it
-    /// is an `IoError` of a read that the source has counted as failed.
+    /// The errors are those of `new`, in the same order. Where contracts know the bytes of the source, an error is one
+    /// of the causes that the bytes have, and takes as many of them as its cause does, or it is an `IoError` of a read
+    /// that the source has counted as failed.
     pub fn try_new(source: R) -> result::Result<WavReader<R>, (R, Error)>
         ensures fresh { IfOk result (λ r. (r.samples_read ≡ 0) × (r.bytes_read ≡ 0)) }
         ensures sound { IfOk result (λ r. HasWholeFrames r) }

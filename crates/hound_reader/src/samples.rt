@@ -12,10 +12,9 @@ use std::marker::PhantomData;
 
 /// An iterator over the samples that a reader has left; `size_hint` and `len` say how many.
 ///
-/// An `Ok` takes exactly one container. An error of the type takes no byte, and counts as an item.
-/// So does a sample that a fault or the end of the input cut, an `IoError`, which leaves the reader
-/// after the bytes that were taken: items after it mean nothing until an Ok seek. After the last
-/// item comes None, on every call.
+/// An `Ok` takes exactly one container. An error of the type takes no byte, and counts as an item. So does a sample
+/// that a fault or the end of the input cut, an `IoError`, which leaves the reader after the bytes that were taken:
+/// items after it mean nothing until an Ok seek. After the last item comes None, on every call.
 #[derive(Drop)]
 pub struct WavSamples<'wr, R, S> {
     pub(crate) reader: &'wr mut WavReader<R>,

@@ -19,8 +19,7 @@ use Rattle.hound_writer.specs.declared.resuming.RepairState.TheVariants.{Whole, 
 use Rattle.hound_repair.proofs.RightSizes.{frames_are, length_of, not_followed, same_sizes, sizes_of}
 
 -- the bytes held are all data, or all but the last, which is the pad byte
-pub held_cases : (f len n : ℕ)
-    → (data_held f len n ≡ n)
+pub held_cases : (f len n : ℕ) → (data_held f len n ≡ n)
     ⊎ ((data_held f len n ≡ len) × (n ≡ len + 1) × (len % 2 ≡ 1) × (len % f ≡ 0))
 unfolding data_held ends_with_pad
 held_cases f len n = grind (arith, common_steps)
@@ -36,8 +35,7 @@ unfolding uncounted
 counted_pad x bytes = grind (arith, common_steps, length-drop, length-append)
 
 -- whatever the data length is, its last byte may be a pad byte, or all that is held is data
-pub by_last : (start : ℕ) (c : List ℕ)
-    → ((x : ℕ) → shown_length start x c ≡ x)
+pub by_last : (start : ℕ) (c : List ℕ) → ((x : ℕ) → shown_length start x c ≡ x)
     ⊎ ((f x : ℕ) → data_held f (shown_length start x c) (held start c) ≡ held start c)
 by_last start c =
     let rest = drop start c in
@@ -48,8 +46,7 @@ by_last start c =
     ]
 
 -- of mended contents the same frames are held
-pub frames_again : (f len n : ℕ) → 1 ≤ f
-    → data_held f (data_held f len n / f * f)
+pub frames_again : (f len n : ℕ) → 1 ≤ f → data_held f (data_held f len n / f * f)
     (n + length (missing_pad (data_held f len n / f * f) n)) / f
     ≡ data_held f len n / f
 unfolding data_held ends_with_pad
@@ -111,7 +108,8 @@ frames_mended looks contents found len start at apart some =
     let s = found.spec_ex in
     let all = found_length found in
     frames_padded looks contents (mended start all contents) found len start at apart some
-    (rest_mended start all contents (head_beyond contents s len start at.head) (head_inside contents s len start at.head))
+    (rest_mended start all contents (head_beyond contents s len start at.head)
+    (head_inside contents s len start at.head))
 
 -- of a file that is mended, or whose data length was right, the same frames are held
 module _ (looks : Bool) (old mid : MediumState) (found : Repair) (first : Repairs looks old found mid)

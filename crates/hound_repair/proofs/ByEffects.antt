@@ -80,8 +80,7 @@ module _ (looks keeps : Bool) (old mid new : MediumState) (d : Damage) (sound : 
       (subst (PutsNothing old) (sym same) finds.puts)
       (ap (λ (m : MediumState). m.faults) same ∙ finds.faults)
 
-  done_as : (put : Bool) → is_mended (not looks) d.state ≡ put
-      → PerformedOn keeps (effects_where put d) (Ok tt) mid new
+  done_as : (put : Bool) → is_mended (not looks) d.state ≡ put → PerformedOn keeps (effects_where put d) (Ok tt) mid new
       → Repairs looks old (repair_of d) new
   done_as true is all =
       let did = (mends_mid (Ok tt) is all).1 refl in
@@ -114,8 +113,7 @@ module _ (looks keeps : Bool) (old mid new : MediumState) (d : Damage) (sound : 
       }
   stopped_as false e is (ok, same) = absurd (cc ok)
 
-  pub stopped_by : (e : IoFault)
-      → PerformedOn keeps (effects_where (is_mended (not looks) d.state) d) (Err e) mid new
+  pub stopped_by : (e : IoFault) → PerformedOn keeps (effects_where (is_mended (not looks) d.state) d) (Err e) mid new
       → IsNotRepaired looks old new (IoError e)
   stopped_by e all = stopped_as (is_mended (not looks) d.state) e refl all
 
@@ -126,7 +124,8 @@ module _ (looks keeps : Bool) (old mid new : MediumState) (d : Damage) (sound : 
       → MendsAtEach looks old new
   moments_as true result is replays left =
       let same = finds.puts.stays.contents in
-      let span = spans (PartlyMended start n mid.contents) (mending_effects start n (held start mid.contents)) result mid new
+      let span = spans (PartlyMended start n mid.contents) (mending_effects start n (held start mid.contents)) result
+      mid new
       (allowed true start n mid.contents
       (head_beyond old.contents d.head.spec_ex d.head.data_length start finds.found.head)
       (omega (arith, ap length same, head_inside old.contents d.head.spec_ex d.head.data_length start finds.found.head))
@@ -139,16 +138,15 @@ module _ (looks keeps : Bool) (old mid new : MediumState) (d : Damage) (sound : 
         start,
         finds.found,
         is,
-        λ k from to.
-            subst (λ i. PartlyMended start i old.contents (moment new.start new.past k)) (length_is d sound (apart_by is))
+        λ k from to. subst (λ i. PartlyMended start i old.contents (moment new.start new.past k))
+            (length_is d sound (apart_by is))
             (subst (λ c. PartlyMended start n c (moment new.start new.past k)) same
             (span.each k (omega (arith, from, ap length finds.puts.stays.past)) to)),
       )
   moments_as false result is replays (ok, same) =
       inl (ap (λ (m : MediumState). m.past) same ∙ finds.puts.stays.past)
 
-  pub moments_by : (result : Result (Unit {0}) IoFault) → IsTrue keeps
-      → mid.contents ≡ overlay mid.start mid.past
+  pub moments_by : (result : Result (Unit {0}) IoFault) → IsTrue keeps → mid.contents ≡ overlay mid.start mid.past
       → PerformedOn keeps (effects_where (is_mended (not looks) d.state) d) result mid new
       → MendsAtEach looks old new
   moments_by result kept replays performed = grind (arith, common_steps, not, truth, moments_as)
@@ -161,20 +159,25 @@ module _ (looks keeps : Bool) (old mid new : MediumState) (d : Damage) (sound : 
       let same = finds.puts.stays.contents in
       let beyond = head_beyond old.contents d.head.spec_ex d.head.data_length start finds.found.head in
       let inside : start ≤ length mid.contents =
-      omega (arith, ap length same, head_inside old.contents d.head.spec_ex d.head.data_length start finds.found.head) in
+      omega (
+        arith,
+        ap length same,
+        head_inside old.contents d.head.spec_ex d.head.data_length start finds.found.head,
+      ) in
       inr (
         repair_of d,
         d.head.data_length,
         start,
         finds.found,
         is,
-        λ one.
-            subst (λ i. PartlyMended start i old.contents contents) (length_is d sound (apart_by is))
+        λ one. subst (λ i. PartlyMended start i old.contents contents) (length_is d sound (apart_by is))
             (subst (λ c. PartlyMended start n c contents) same
-            (survives sector contents (PartlyMended start n mid.contents) (mending_effects start n (held start mid.contents))
+            (survives sector contents (PartlyMended start n mid.contents)
+            (mending_effects start n (held start mid.contents))
             result mid new (allowed true start n mid.contents beyond inside small (fits is))
             (mending_is_safe sector contents start n mid.contents beyond inside
-            (λ i few. same_sector (start - 4) (start - 1) i sector (omega (arith, wide)) (omega (arith, beyond, few)) one)
+            (λ i few. same_sector (start - 4) (start - 1) i sector (omega (arith, wide)) (omega (arith, beyond, few))
+            one)
             (λ i few. first_sector i sector few wide))
             replays (finds.puts.flushed ∙ settled ∙ sym (ap length finds.puts.stays.past))
             (subst (λ h. PerformedOn true (mending_effects start n h) result mid new)
@@ -182,14 +185,15 @@ module _ (looks keeps : Bool) (old mid new : MediumState) (d : Damage) (sound : 
       )
   lost_as false result is replays (ok, same) sector contents settled wide lost =
       inl (kept_loss sector contents mid new
-      (subst (PutsNothing mid) (sym same) (record { stays = record { contents = refl; start = refl; past = refl }; flushed = refl }))
+      (subst (PutsNothing mid) (sym same)
+      (record { stays = record { contents = refl; start = refl; past = refl }; flushed = refl }))
       replays (finds.puts.flushed ∙ settled ∙ sym (ap length finds.puts.stays.past)) lost
       ∙ finds.puts.stays.contents)
 
-  pub lost_by : (result : Result (Unit {0}) IoFault) → IsTrue keeps
-      → mid.contents ≡ overlay mid.start mid.past
+  pub lost_by : (result : Result (Unit {0}) IoFault) → IsTrue keeps → mid.contents ≡ overlay mid.start mid.past
       → PerformedOn keeps (effects_where (is_mended (not looks) d.state) d) result mid new
       → MendsThroughLoss looks old new
   lost_by result kept replays performed =
       lost_as (is_mended (not looks) d.state) result refl replays
-      (subst (λ k. PerformedOn k (effects_where (is_mended (not looks) d.state) d) result mid new) (truth kept) performed)
+      (subst (λ k. PerformedOn k (effects_where (is_mended (not looks) d.state) d) result mid new) (truth kept)
+      performed)

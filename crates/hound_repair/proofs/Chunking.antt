@@ -12,13 +12,11 @@ unfolding are_chunks are_at_most
 none_left bytes e = grind (arith, common_steps)
 
 -- what follows a chunk is the same, whatever the limit
-by_content : (o : Option ℕ) (f g : ℕ → Bool) → ((content : ℕ) → f content ≡ g content)
-    → if_some o f ≡ if_some o g
+by_content : (o : Option ℕ) (f g : ℕ → Bool) → ((content : ℕ) → f content ≡ g content) → if_some o f ≡ if_some o g
 by_content o f g same = grind (arith, common_steps)
 
 -- how many chunks they are at most is no matter
-enough : (n m : ℕ) (bytes : List ℕ) → length bytes ≤ n → length bytes ≤ m
-    → are_at_most n bytes ≡ are_at_most m bytes
+enough : (n m : ℕ) (bytes : List ℕ) → length bytes ≤ n → length bytes ≤ m → are_at_most n bytes ≡ are_at_most m bytes
 unfolding are_at_most
 enough (suc n) (suc m) (x ∷ bytes) a b =
     ap (λ rest. has_known_tag (x ∷ bytes) || rest)
@@ -31,8 +29,7 @@ enough (suc n) (suc m) (x ∷ bytes) a b =
 enough _ _ _ a b = grind (arith, common_steps)
 
 -- bytes that begin with a known tag
-pub known_chunk : (bytes : List ℕ) → 0 < length bytes → has_known_tag bytes ≡ true
-    → are_chunks bytes ≡ true
+pub known_chunk : (bytes : List ℕ) → 0 < length bytes → has_known_tag bytes ≡ true → are_chunks bytes ≡ true
 unfolding are_chunks are_at_most
 known_chunk bytes some known = grind (arith, common_steps)
 
@@ -52,8 +49,7 @@ chunk_then bytes content some other is = grind (arith, common_steps, length-drop
 unequal : (xs ys : List ℕ) → (length xs ≡ length ys → ⊥) → bytes_eq xs ys ≡ false
 unequal xs ys not = grind (arith, common_steps)
 
-none_equal : (tags : List (List ℕ)) (bytes : List ℕ)
-    → list_all (λ tag. length tag == 4) tags ≡ true → length bytes < 4
+none_equal : (tags : List (List ℕ)) (bytes : List ℕ) → list_all (λ tag. length tag == 4) tags ≡ true → length bytes < 4
     → list_any (λ tag. bytes_eq tag bytes) tags ≡ false
 none_equal [] bytes all few = refl
 none_equal (tag ∷ tags) bytes all few =

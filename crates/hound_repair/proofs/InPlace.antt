@@ -53,6 +53,7 @@ repairs_in_place looks used n old pad new d found looked sound finds put missing
       repairs = subst (λ f. Repairs looks (as_medium file) f (as_medium (take n new))) (sym found_is)
           (repairs_mended looks (as_medium file) (as_medium (take n new)) (repair_of d) _ _ finds.found sound.spec put
           (mended_by d sound file pad (take n new) finds.held_is missing is
-          ∙ ap (λ k. mended d.head.data_start k file) (length_is d sound (mended_apart (not looks) d.state put))) refl refl);
+          ∙ ap (λ k. mended d.head.data_start k file) (length_is d sound (mended_apart (not looks) d.state put))) refl
+          refl);
       rest = rest;
     }

@@ -16,7 +16,6 @@ pub wide_take : (w n : ℕ) (list : List (List ℕ)) → AreWide w list → AreW
 wide_take w n list all = grind (arith, common_steps)
 
 -- the first of a list, joined, are the front of all joined
-pub concat_front : (n : ℕ) (list : List (List ℕ))
-    → concat list ≡ concat (take n list) ++ concat (drop n list)
+pub concat_front : (n : ℕ) (list : List (List ℕ)) → concat list ≡ concat (take n list) ++ concat (drop n list)
 concat_front n list =
     ap concat (sym (take-append-drop n list)) ∙ concat-append (take n list) (drop n list)

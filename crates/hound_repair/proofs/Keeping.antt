@@ -25,17 +25,15 @@ use Rattle.hound_repair.proofs.Joining.{AreWide, concat_front, wide_take}
 use Rattle.hound_repair.proofs.RightSizes.{held_frames, not_followed, same_sizes, sizes_of}
 
 -- the first of more containers are those of fewer
-pub containers_fewer : (w n m : ℕ) (bytes : List ℕ) → n ≤ m
-    → take n (containers w m bytes) ≡ containers w n bytes
+pub containers_fewer : (w n m : ℕ) (bytes : List ℕ) → n ≤ m → take n (containers w m bytes) ≡ containers w n bytes
 containers_fewer w zero m bytes le = refl
 containers_fewer w (suc n) zero bytes le = absurd (omega (arith, le))
 containers_fewer w (suc n) (suc m) bytes le =
     ap (λ l. take w bytes ∷ l) (containers_fewer w n m (drop w bytes) (omega (arith, le)))
 
--- of bytes that hold at least this many whole frames, so many are found, unless the last byte is
--- taken for a pad byte and is one of them
-pub frames_kept : (f len n q : ℕ) → 1 ≤ f → q * f ≤ n → (f ≡ 1 → n ≡ len + 1 → q * f ≤ len)
-    → q ≤ data_held f len n / f
+-- of bytes that hold at least this many whole frames, so many are found, unless the last byte is taken for a pad byte
+-- and is one of them
+pub frames_kept : (f len n q : ℕ) → 1 ≤ f → q * f ≤ n → (f ≡ 1 → n ≡ len + 1 → q * f ≤ len) → q ≤ data_held f len n / f
 unfolding data_held ends_with_pad
 frames_kept f len n q some few no_pad = grind (arith, common_steps)
 
@@ -50,7 +48,8 @@ data_stay : (put : Bool) (found : Repair) (start m : ℕ) (old new : MediumState
     → LeavesFor put found start old new → 20 ≤ start
     → start ≤ length old.contents → m ≤ held start old.contents
     → take m (drop start new.contents) ≡ take m (drop start old.contents)
-data_stay put found start m old new leaves beyond inside few = grind (arith, common_steps, same_sizes, drop-append-le, take-append-le)
+data_stay put found start m old new leaves beyond inside few =
+    grind (arith, common_steps, same_sizes, drop-append-le, take-append-le)
 
 module _ (looks : Bool) (old new : MediumState) (found : Repair)
     (r : Repairs looks old found new) (alone : found.state ≡ HasChunksAfterData → ⊥)
@@ -106,7 +105,8 @@ module _ (looks : Bool) (old new : MediumState) (found : Repair)
   frames : q ≤ found.frames
   frames =
       let shown = shown_length r.start r.len old.contents in
-      let kept = frames_kept (frame_length s) shown (length rest) q frame (omega (arith, bytes, inside, size, long)) not_pad in
+      let kept = frames_kept (frame_length s) shown (length rest) q frame (omega (arith, bytes, inside, size, long))
+      not_pad in
       subst (λ k. q ≤ k) (sym (r.is.frames ∙ held_frames found.state s r.len shown (length rest) alone)) kept
 
   same : take (n * w) (drop r.start new.contents) ≡ take (n * w) (concat list)
@@ -143,12 +143,12 @@ stays_stored looks old new found s len start list r alone head sound wide stored
     let agree = heads_agree old.contents found.spec_ex s r.len len r.start start r.is.head head in
     let bytes = concat list in (
       agree.0,
-      subst (λ h. ReadsFrames found h list new.contents) agree.2
-          (reads_frames looks old new found r
+      subst (λ h. ReadsFrames found h list new.contents) agree.2 (reads_frames looks old new found r
           (not_followed looks _ _ _ found.state r.is.state alone) list (subst IsSoundSpec (sym agree.0) sound)
           (subst (λ (x : WavSpecEx). AreWide x.bytes_per_sample list) (sym agree.0) wide)
           (subst (λ h. IsStored h bytes 0 (length bytes) old.contents) (sym agree.2) stored)
-          (subst (λ (x : WavSpecEx × ℕ × ℕ). IsNoPad x.0 (shown_length x.2 x.1 old.contents) (held x.2 old.contents) list)
+          (subst (λ (x : WavSpecEx × ℕ × ℕ). IsNoPad x.0 (shown_length x.2 x.1 old.contents) (held x.2 old.contents)
+          list)
           (λ i. (sym agree.0 i, sym agree.1 i, sym agree.2 i)) no_pad)),
     )
 

@@ -23,8 +23,7 @@ overlay_outside : (p q : ℕ) (bs c : List ℕ) → p + length bs ≤ length c �
     → get_or (overlay c (placed p bs)) q 0 ≡ get_or c q 0
 overlay_outside p q bs c inside out = grind (arith, common_steps, overlay_is)
 
-overlay_long : (p : ℕ) (bs c : List ℕ) → p + length bs ≤ length c
-    → length (overlay c (placed p bs)) ≡ length c
+overlay_long : (p : ℕ) (bs c : List ℕ) → p + length bs ≤ length c → length (overlay c (placed p bs)) ≡ length c
 overlay_long p bs c inside = grind (arith, common_steps, overlay_is)
 
 -- after the contents there are zeros, also where a zero is the last byte
@@ -77,11 +76,13 @@ module _ (sector : ℕ) (contents : List ℕ) where
 
     part_at : (j : ℕ) → new.flushed ≤ j → j ≤ length new.past → Part (moment new.start new.past j)
     part_at j from to =
-        let span = span_puts (λ _. Part) 0 old new p (take puts.count bs) replays puts.start (puts.past refl) (inl puts.flushed)
+        let span = span_puts (λ _. Part) 0 old new p (take puts.count bs) replays puts.start (puts.past refl)
+        (inl puts.flushed)
         (λ k within. (
           k,
           omega (arith, within, length-take puts.count bs),
-          ap (λ l. overlay old.contents (placed p l)) (take-take k puts.count bs (omega (arith, within, length-take puts.count bs))),
+          ap (λ l. overlay old.contents (placed p l))
+              (take-take k puts.count bs (omega (arith, within, length-take puts.count bs))),
         )) in
         span.each j (omega (arith, from, puts.flushed, settled)) to
 
@@ -115,8 +116,7 @@ module _ (sector : ℕ) (contents : List ℕ) where
               elim (cases_lt q p) [
                 | inl low ↦ elsewhere (inl low)
                 | inr beyond ↦ elim (cases_lt q (p + length bs)) [
-                  | inl in_it ↦
-                      let at : p + (q - p) ≡ q = omega (arith, beyond) in
+                  | inl in_it ↦ let at : p + (q - p) ≡ q = omega (arith, beyond) in
                       s.3 q (ap (λ k. k / sector) (sym at) ∙ one (q - p) (omega (arith, in_it, beyond))) few
                       ∙ ap (λ c. get_or c q 0) e.2
                   | inr high ↦ elsewhere (inr high)
@@ -138,17 +138,13 @@ module _ (sector : ℕ) (contents : List ℕ) where
       λ j. overlay_at_end old.contents p (take j (0 ∷ [])) end in (
         el.0,
         el.1,
-        ext_get_or 0 contents chosen (l.3 ∙ ap length el.2)
-            (λ q few.
-            let t = lost.sectors (q / sector) in
+        ext_get_or 0 contents chosen (l.3 ∙ ap length el.2) (λ q few. let t = lost.sectors (q / sector) in
             let et = part t.0 t.1 t.2 in
             t.3 q refl few ∙ ap (λ c. get_or c q 0) (et.2 ∙ ends et.0)
             ∙ elim (cases_lt q (length old.contents)) [
-              | inl before ↦
-                  same_before old.contents (take et.0 (0 ∷ [])) q before
+              | inl before ↦ same_before old.contents (take et.0 (0 ∷ [])) q before
                   ∙ sym (same_before old.contents (take el.0 (0 ∷ [])) q before)
-              | inr after ↦
-                  zero_after old.contents et.0 q et.1 (omega (arith, after))
+              | inr after ↦ zero_after old.contents et.0 q et.1 (omega (arith, after))
                   ∙ sym (zero_after old.contents el.0 q el.1 (omega (arith, after)))
             ]
             ∙ ap (λ c. get_or c q 0) (sym (ends el.0))),
@@ -159,8 +155,7 @@ module _ (sector : ℕ) (contents : List ℕ) where
   IsSafe [] c = Unit {0}
   IsSafe (Sync ∷ effects) c = IsSafe effects c
   IsSafe (Pad at ∷ Sync ∷ effects) c = (at ≡ length c) × IsSafe effects (overlay c (placed at (0 ∷ [])))
-  IsSafe (Size at size ∷ Sync ∷ effects) c = (at + 4 ≤ length c)
-      × ((i : ℕ) → i < 4 → (at + i) / sector ≡ at / sector)
+  IsSafe (Size at size ∷ Sync ∷ effects) c = (at + 4 ≤ length c) × ((i : ℕ) → i < 4 → (at + i) / sector ≡ at / sector)
       × IsSafe effects (overlay c (placed at (bytes_of 4 size)))
   IsSafe _ c = ⊥
 
@@ -179,39 +174,53 @@ module _ (sector : ℕ) (contents : List ℕ) where
   survives P (Sync ∷ effects) result old new (here, rest) safe replays settled (mid, Err e, flushes, (is, same)) lost =
       subst P (sym (settled_loss old replays settled
       (lost_before old mid flushes.stays.start flushes.stays.past flushes.flushed (subst LostFrom same lost)))) here
-  survives P (Size at size ∷ Sync ∷ effects) result old new (each, rest) safe replays settled (mid, Err e, puts, (is, same)) lost =
-      let part = write_loss at (bytes_of 4 size) (Err e) old mid puts replays settled (subst LostFrom same lost) safe.0 safe.1 in
+  survives P (Size at size ∷ Sync ∷ effects) result old new (each, rest) safe replays settled
+      (mid, Err e, puts, (is, same)) lost =
+      let part = write_loss at (bytes_of 4 size) (Err e) old mid puts replays settled (subst LostFrom same lost) safe.0
+      safe.1 in
       subst P (sym part.2) (each part.0 part.1)
-  survives P (Size at size ∷ Sync ∷ effects) result old new (each, rest) safe replays settled (mid, Ok u, puts, (last, Err e, flushes, (is, same))) lost =
+  survives P (Size at size ∷ Sync ∷ effects) result old new (each, rest) safe replays settled
+      (mid, Ok u, puts, (last, Err e, flushes, (is, same))) lost =
       let part = write_loss at (bytes_of 4 size) (Ok u) old mid puts replays settled
-      (lost_before mid last flushes.stays.start flushes.stays.past flushes.flushed (subst LostFrom same lost)) safe.0 safe.1 in
+      (lost_before mid last flushes.stays.start flushes.stays.past flushes.flushed (subst LostFrom same lost)) safe.0
+      safe.1 in
       subst P (sym part.2) (each part.0 part.1)
-  survives P (Size at size ∷ Sync ∷ effects) result old new (each, rest) safe replays settled (mid, Ok u, puts, (last, Ok v, flushes, then)) lost =
+  survives P (Size at size ∷ Sync ∷ effects) result old new (each, rest) safe replays settled
+      (mid, Ok u, puts, (last, Ok v, flushes, then)) lost =
       let here : last.contents ≡ overlay old.contents (placed at (bytes_of 4 size)) =
-      flushes.stays.contents ∙ puts.contents ∙ ap (λ k. overlay old.contents (placed at (take k (bytes_of 4 size)))) puts.whole in
-      survives P effects result last new (subst (Allowed P effects) (sym here) rest.1) (subst (IsSafe effects) (sym here) safe.2)
+      flushes.stays.contents ∙ puts.contents ∙ ap (λ k. overlay old.contents (placed at (take k (bytes_of 4 size))))
+      puts.whole in
+      survives P effects result last new (subst (Allowed P effects) (sym here) rest.1)
+      (subst (IsSafe effects) (sym here) safe.2)
       (flushes.stays.contents ∙ replays_on at (bytes_of 4 size) (Ok u) old mid puts replays
       ∙ (λ i. overlay (sym flushes.stays.start i) (sym flushes.stays.past i)))
       flushes.flushed then lost
-  survives P (Pad at ∷ Sync ∷ effects) result old new (each, rest) safe replays settled (mid, Err e, puts, (is, same)) lost =
+  survives P (Pad at ∷ Sync ∷ effects) result old new (each, rest) safe replays settled (mid, Err e, puts, (is, same))
+      lost =
       let part = pad_loss at (Err e) old mid puts replays settled (subst LostFrom same lost) safe.0 in
       subst P (sym part.2) (each part.0 part.1)
-  survives P (Pad at ∷ Sync ∷ effects) result old new (each, rest) safe replays settled (mid, Ok u, puts, (last, Err e, flushes, (is, same))) lost =
+  survives P (Pad at ∷ Sync ∷ effects) result old new (each, rest) safe replays settled
+      (mid, Ok u, puts, (last, Err e, flushes, (is, same))) lost =
       let part = pad_loss at (Ok u) old mid puts replays settled
       (lost_before mid last flushes.stays.start flushes.stays.past flushes.flushed (subst LostFrom same lost)) safe.0 in
       subst P (sym part.2) (each part.0 part.1)
-  survives P (Pad at ∷ Sync ∷ effects) result old new (each, rest) safe replays settled (mid, Ok u, puts, (last, Ok v, flushes, then)) lost =
+  survives P (Pad at ∷ Sync ∷ effects) result old new (each, rest) safe replays settled
+      (mid, Ok u, puts, (last, Ok v, flushes, then)) lost =
       let here : last.contents ≡ overlay old.contents (placed at (0 ∷ [])) =
-      flushes.stays.contents ∙ puts.contents ∙ ap (λ k. overlay old.contents (placed at (take k (0 ∷ [])))) puts.whole in
-      survives P effects result last new (subst (Allowed P effects) (sym here) rest.1) (subst (IsSafe effects) (sym here) safe.1)
+      flushes.stays.contents ∙ puts.contents ∙ ap (λ k. overlay old.contents (placed at (take k (0 ∷ []))))
+      puts.whole in
+      survives P effects result last new (subst (Allowed P effects) (sym here) rest.1)
+      (subst (IsSafe effects) (sym here) safe.1)
       (flushes.stays.contents ∙ replays_on at (0 ∷ []) (Ok u) old mid puts replays
       ∙ (λ i. overlay (sym flushes.stays.start i) (sym flushes.stays.past i)))
       flushes.flushed then lost
   survives P (Size at size ∷ []) result old new allowed safe replays settled performed lost = absurd safe
-  survives P (Size at size ∷ Size at' size' ∷ effects) result old new allowed safe replays settled performed lost = absurd safe
+  survives P (Size at size ∷ Size at' size' ∷ effects) result old new allowed safe replays settled performed lost =
+      absurd safe
   survives P (Size at size ∷ Pad at' ∷ effects) result old new allowed safe replays settled performed lost = absurd safe
   survives P (Pad at ∷ []) result old new allowed safe replays settled performed lost = absurd safe
-  survives P (Pad at ∷ Size at' size' ∷ effects) result old new allowed safe replays settled performed lost = absurd safe
+  survives P (Pad at ∷ Size at' size' ∷ effects) result old new allowed safe replays settled performed lost =
+      absurd safe
   survives P (Pad at ∷ Pad at' ∷ effects) result old new allowed safe replays settled performed lost = absurd safe
 
   -- the effects that mend a file are such
@@ -225,13 +234,15 @@ module _ (sector : ℕ) (contents : List ℕ) where
     y = overlay c (placed 4 (bytes_of 4 (riff_size start n)))
 
     y_long : length y ≡ length c
-    y_long = (same_riff p c (omega (arith, beyond)) (omega (arith, beyond, inside)) (bytes_of 4 (riff_size start n)) (omega arith)).long
+    y_long = (same_riff p c (omega (arith, beyond)) (omega (arith, beyond, inside)) (bytes_of 4 (riff_size start n))
+        (omega arith)).long
 
     abbrev x : List ℕ
     x = overlay y (placed p (bytes_of 4 n))
 
     x_long : length x ≡ length y
-    x_long = (same_length p y (omega (arith, beyond)) (omega (arith, beyond, inside, y_long)) (bytes_of 4 n) (omega arith)).long
+    x_long = (same_length p y (omega (arith, beyond)) (omega (arith, beyond, inside, y_long)) (bytes_of 4 n)
+        (omega arith)).long
 
     safe_pads : (pad : List ℕ) → IsSafe (pads (start + held start c) pad) x
     safe_pads [] = tt

@@ -34,7 +34,8 @@ Allowed P (Size at size ∷ effects) c = ((j : ℕ) → j ≤ 4 → P (overlay c
     × Allowed P effects (overlay c (placed at (bytes_of 4 size)))
 
 -- one write
-write_span : (P : List ℕ → Type 0) (at count : ℕ) (bytes : List ℕ) (result : Result (Unit {0}) IoFault) (old new : MediumState)
+write_span : (P : List ℕ → Type 0) (at count : ℕ) (bytes : List ℕ) (result : Result (Unit {0}) IoFault)
+    (old new : MediumState)
     → (puts : PutsAt true at bytes result old new) → old.contents ≡ overlay old.start old.past
     → ((j : ℕ) → j ≤ length bytes → P (overlay old.contents (placed at (take j bytes))))
     → Span (λ _. P) 0 old new
@@ -54,23 +55,27 @@ spans P [] result old new allowed replays (is, same) =
     subst (Span (λ _. P) 0 old) (sym same) (span_still (λ _. P) 0 old old replays refl refl (inl refl) allowed)
 spans P (Sync ∷ effects) result old new (here, rest) replays (mid, Ok u, flushes, then) =
     join (λ _. P) 0 old mid new
-    (span_still (λ _. P) 0 old mid replays flushes.stays.start flushes.stays.past (flushed_since (Ok u) old mid flushes) here)
+    (span_still (λ _. P) 0 old mid replays flushes.stays.start flushes.stays.past (flushed_since (Ok u) old mid flushes)
+    here)
     (spans P effects result mid new (subst (Allowed P effects) (sym flushes.stays.contents) rest)
     (flushes.stays.contents ∙ replays ∙ (λ i. overlay (sym flushes.stays.start i) (sym flushes.stays.past i))) then)
 spans P (Sync ∷ effects) result old new (here, rest) replays (mid, Err e, flushes, (is, same)) =
     subst (Span (λ _. P) 0 old) (sym same)
-    (span_still (λ _. P) 0 old mid replays flushes.stays.start flushes.stays.past (flushed_since (Err e) old mid flushes) here)
+    (span_still (λ _. P) 0 old mid replays flushes.stays.start flushes.stays.past
+    (flushed_since (Err e) old mid flushes) here)
 spans P (Pad at ∷ effects) result old new (each, rest) replays (mid, Ok u, puts, then) =
     join (λ _. P) 0 old mid new (write_span P at 0 (0 ∷ []) (Ok u) old mid puts replays each)
     (spans P effects result mid new
-    (subst (Allowed P effects) (sym (puts.contents ∙ ap (λ k. overlay old.contents (placed at (take k (0 ∷ [])))) puts.whole)) rest)
+    (subst (Allowed P effects)
+    (sym (puts.contents ∙ ap (λ k. overlay old.contents (placed at (take k (0 ∷ [])))) puts.whole)) rest)
     (replays_on at (0 ∷ []) (Ok u) old mid puts replays) then)
 spans P (Pad at ∷ effects) result old new (each, rest) replays (mid, Err e, puts, (is, same)) =
     subst (Span (λ _. P) 0 old) (sym same) (write_span P at 0 (0 ∷ []) (Err e) old mid puts replays each)
 spans P (Size at size ∷ effects) result old new (each, rest) replays (mid, Ok u, puts, then) =
     join (λ _. P) 0 old mid new (write_span P at 0 (bytes_of 4 size) (Ok u) old mid puts replays each)
     (spans P effects result mid new
-    (subst (Allowed P effects) (sym (puts.contents ∙ ap (λ k. overlay old.contents (placed at (take k (bytes_of 4 size)))) puts.whole)) rest)
+    (subst (Allowed P effects)
+    (sym (puts.contents ∙ ap (λ k. overlay old.contents (placed at (take k (bytes_of 4 size)))) puts.whole)) rest)
     (replays_on at (bytes_of 4 size) (Ok u) old mid puts replays) then)
 spans P (Size at size ∷ effects) result old new (each, rest) replays (mid, Err e, puts, (is, same)) =
     subst (Span (λ _. P) 0 old) (sym same) (write_span P at 0 (bytes_of 4 size) (Err e) old mid puts replays each)
@@ -148,8 +153,7 @@ module _ (keeps : Bool) (start n : ℕ) (c : List ℕ) (beyond : 20 ≤ start) (
       }
 
   -- and a beginning of the data length
-  partly_length : (j : ℕ) → j ≤ 4
-      → PartlyMended start n c (overlay y (placed p (take j (bytes_of 4 n))))
+  partly_length : (j : ℕ) → j ≤ 4 → PartlyMended start n c (overlay y (placed p (take j (bytes_of 4 n))))
   partly_length j within =
       let bytes = take j (bytes_of 4 n) in
       record {
@@ -181,8 +185,7 @@ module _ (keeps : Bool) (start n : ℕ) (c : List ℕ) (beyond : 20 ≤ start) (
   partly_sizes = partly_whole [] x (sym (append-nil x)) (λ some. absurd (omega (arith, some)))
 
   -- and a beginning of the pad byte
-  partly_pad : (j : ℕ) → j ≤ 1 → m ≡ 0 ∷ []
-      → PartlyMended start n c (overlay x (placed (start + h) (take j (0 ∷ []))))
+  partly_pad : (j : ℕ) → j ≤ 1 → m ≡ 0 ∷ [] → PartlyMended start n c (overlay x (placed (start + h) (take j (0 ∷ []))))
   partly_pad j within is = grind (arith, common_steps, length-take, overlay_at_end, x_long, partly_whole)
 
   m_zero : 1 ≤ length m → m ≡ 0 ∷ []
@@ -206,7 +209,8 @@ module _ (keeps : Bool) (start n : ℕ) (c : List ℕ) (beyond : 20 ≤ start) (
   at_pad (b ∷ more) result old new is here (mid, Ok u, flushes, (then, Ok v, puts, rest)) =
       let zero_is : m ≡ 0 ∷ [] = m_zero (subst (λ l. 1 ≤ length l) (sym is) (omega arith)) in
       let put : then.contents ≡ overlay x (placed (start + h) (take puts.count (0 ∷ []))) =
-      puts.contents ∙ ap (λ l. overlay l (placed (start + h) (take puts.count (0 ∷ [])))) (flushes.stays.contents ∙ here) in
+      puts.contents ∙ ap (λ l. overlay l (placed (start + h) (take puts.count (0 ∷ []))))
+      (flushes.stays.contents ∙ here) in
       let all : then.contents ≡ x ++ m = grind (arith, common_steps, overlay_at_end, x_long) in
       ends result then new (all ∙ ap (λ l. l ++ m) x_is)
       (subst (PartlyMended start n c) (sym put) (partly_pad puts.count puts.within zero_is)) rest

@@ -24,16 +24,15 @@ frames_of_two f len n two = grind (arith, common_steps, div-add-mod', div-mul-ad
 -- nor do they change while the right length is written over a data length
 frames_half : (f len n k : ℕ) → 1 ≤ f → len ≤ greatest_u32
     → data_held f (mix k len (data_held f len n / f * f)) n / f ≡ data_held f len n / f
-frames_half f len n k some small = grind (arith, common_steps, held_cases, frames_of_two, mix_low, same_mix, number-bytes_of, div-add-mod')
+frames_half f len n k some small =
+    grind (arith, common_steps, held_cases, frames_of_two, mix_low, same_mix, number-bytes_of, div-add-mod')
 
 -- nor does a byte after them that is no pad byte
-pub frames_shown : (f start len k : ℕ) (c : List ℕ) → 1 ≤ f → len ≤ greatest_u32
-    → data_held f (shown_length start
+pub frames_shown : (f start len k : ℕ) (c : List ℕ) → 1 ≤ f → len ≤ greatest_u32 → data_held f (shown_length start
     (mix k len (data_held f (shown_length start len c) (held start c) / f * f)) c) (held start c) / f
     ≡ data_held f (shown_length start len c) (held start c) / f
 frames_shown f start len k c some small = elim (by_last start c) [
-  | inl shown ↦
-      let half = frames_half f len (held start c) k some small in
+  | inl shown ↦ let half = frames_half f len (held start c) k some small in
       let now = shown (mix k len (data_held f len (held start c) / f * f)) in
       let before = shown len in
       cc (half, now, before)

@@ -19,8 +19,7 @@ use Rattle.hound_writer.specs.declared.resuming.RepairState.{RepairState}
 use Rattle.hound_writer.specs.declared.resuming.RepairState.TheVariants.{HasChunksAfterData}
 
 -- two sizes that were put change nothing else
-pub same_sizes : (p riff n : ℕ) (c : List ℕ) → 8 ≤ p → p + 4 ≤ length c
-    → SameButSizes p c (with_sizes p riff n c)
+pub same_sizes : (p riff n : ℕ) (c : List ℕ) → 8 ≤ p → p + 4 ≤ length c → SameButSizes p c (with_sizes p riff n c)
 same_sizes p riff n c beyond inside =
     let first = same_riff p c beyond inside (bytes_of 4 riff) (omega arith) in
     let d = overlay c (placed 4 (bytes_of 4 riff)) in
@@ -57,7 +56,19 @@ module _ (s : WavSpecEx) (len start : ℕ) (c : List ℕ) (head : Head c s len s
   riff_put = grind (arith, common_steps, field_before, beyond, inside, long, riff_size_of_sizes)
 
   pub head_put : Head (sizes ++ pad) s n start
-  head_put = grind (arith, common_steps, same_sizes, beyond, inside, length_put, head_with, long, head_inside, length-append, take-append-le)
+  head_put = grind (
+    arith,
+    common_steps,
+    same_sizes,
+    beyond,
+    inside,
+    length_put,
+    head_with,
+    long,
+    head_inside,
+    length-append,
+    take-append-le,
+  )
 
 -- whole frames have no fault
 no_fault : (s : WavSpecEx) (n : ℕ) → n % s.bytes_per_sample ≡ 0
@@ -93,8 +104,7 @@ pub not_followed : (looks right followed counted : Bool) (state : RepairState)
 not_followed looks right followed counted state is alone here = grind (arith, common_steps)
 
 -- nor is a file mended that is followed
-pub mended_apart : (all : Bool) (state : RepairState) → is_mended all state ≡ true
-    → state ≡ HasChunksAfterData → ⊥
+pub mended_apart : (all : Bool) (state : RepairState) → is_mended all state ≡ true → state ≡ HasChunksAfterData → ⊥
 mended_apart all state is here = grind (arith, common_steps)
 
 -- the data length of a file that isn't mended and isn't followed is right
@@ -149,8 +159,7 @@ module _ (looks : Bool) (contents : List ℕ) (found : Repair) (len start : ℕ)
     readable = frames_read found.spec_ex all start found.frames new sound.0 sound.1 refl head;
   }
 
-  pub right_length_put : IsSoundSpec found.spec_ex
-      → HasRightLength found start (mended start all contents)
+  pub right_length_put : IsSoundSpec found.spec_ex → HasRightLength found start (mended start all contents)
   right_length_put sound =
       let s = found.spec_ex in
       let pad = missing_pad all (held start contents) in
@@ -162,8 +171,7 @@ module _ (looks : Bool) (contents : List ℕ) (found : Repair) (len start : ℕ)
       let pad = missing_pad all (held start contents) in
       riff_put found.spec_ex len start contents at.head (riff_size start all) all length_fits riff_fits pad
 
-  pub right_length_there : IsSoundSpec found.spec_ex
-      → len ≡ right_length found.spec_ex shown (held start contents)
+  pub right_length_there : IsSoundSpec found.spec_ex → len ≡ right_length found.spec_ex shown (held start contents)
       → HasRightLength found start contents
   right_length_there sound same =
       right_length_of sound contents

@@ -102,8 +102,7 @@ pub begins_there : (k start : ℕ) (file : List ℕ) → k < held start file
 begins_there k start file before = grind (arith, common_steps, nat_lt, length-drop, drop-drop)
 
 -- after the data with their pad byte
-pub after_padded : (file : List ℕ) (head : SeenHead)
-    → followed file head
+pub after_padded : (file : List ℕ) (head : SeenHead) → followed file head
     ≡ (begins_chunk (drop (padded head.data_length) (drop head.data_start file)) || else_followed true file head)
 unfolding is_followed
 after_padded file head = refl
@@ -113,8 +112,7 @@ pub begin_padded : (looks : Bool) (file : List ℕ) (head : SeenHead) → IsNotW
     → IsAtChunk looks file head (head.data_start + padded head.data_length) true
 begin_padded looks file head not before = grind (arith, common_steps, begins_there, after_padded)
 
-pub pass_padded : (file : List ℕ) (head : SeenHead)
-    → held head.data_start file ≤ padded head.data_length
+pub pass_padded : (file : List ℕ) (head : SeenHead) → held head.data_start file ≤ padded head.data_length
     → followed file head ≡ else_followed true file head
 pass_padded file head few = grind (arith, common_steps, none_begins, after_padded)
 
@@ -124,8 +122,7 @@ pass_last file head few =
     ap (λ b. b || tagged file head) (none_begins head.data_length (drop head.data_start file) few)
 
 -- the header shows a known tag
-pub known_by_eight : (bytes all : List ℕ) → bytes ≡ take 8 all
-    → has_known_tag bytes ≡ has_known_tag all
+pub known_by_eight : (bytes all : List ℕ) → bytes ≡ take 8 all → has_known_tag bytes ≡ has_known_tag all
 unfolding has_known_tag
 known_by_eight bytes all is =
     ap has_known_tag is ∙ tag_is all (take 4 (take 8 all)) (take-take 4 8 all (omega arith))
@@ -142,16 +139,14 @@ module _ (looks : Bool) (file bytes : List ℕ) (head : SeenHead) (place : ℕ) 
   chunks_here are =
       found_followed looks file head at.0 (at.1 ∙ ap (λ b. b || else_followed wide file head) are)
 
-  pub no_chunks_here : are_chunks (drop place file) ≡ false
-      → followed file head ≡ else_followed wide file head
+  pub no_chunks_here : are_chunks (drop place file) ≡ false → followed file head ≡ else_followed wide file head
   no_chunks_here are = at.1 ∙ ap (λ b. b || else_followed wide file head) are
 
   pub ends_here : length file ≤ place → IsFoundAs looks file head HasChunksAfterData
   ends_here beyond =
       chunks_here (none_left (drop place file) (omega (arith, beyond, length-drop place file)))
 
-  pub known_here : place < length file → has_known_tag bytes ≡ true
-      → IsFoundAs looks file head HasChunksAfterData
+  pub known_here : place < length file → has_known_tag bytes ≡ true → IsFoundAs looks file head HasChunksAfterData
   known_here before known = grind (arith, common_steps, length-drop, known_chunk, known_by_eight, chunks_here)
 
   pub none_here : place < length file → has_known_tag bytes ≡ false
@@ -182,14 +177,12 @@ pass_both true file head few = pass_last file head (few refl)
 pass_both false file head few = refl
 
 -- at a chunk there are two parts to come and more
-pub two_left : (n place : ℕ) (head : SeenHead) (wide : Bool)
-    → 2 ≤ steps_left n (stages.Chunk head place wide)
+pub two_left : (n place : ℕ) (head : SeenHead) (wide : Bool) → 2 ≤ steps_left n (stages.Chunk head place wide)
 two_left n place head true = omega arith
 two_left n place head false = omega arith
 
 -- sizes that are rejected by what is counted of a file are rejected by what it holds
-pub sizes_rejected : (s : WavSpecEx) (counted len start n m : ℕ)
-    → size_fault s counted start m ≡ Some too_long
+pub sizes_rejected : (s : WavSpecEx) (counted len start n m : ℕ) → size_fault s counted start m ≡ Some too_long
     → size_fault s counted start m ≡ size_fault s len start n
     → is_pair s.spec.sample_format s.spec.bits_per_sample s.bytes_per_sample ≡ true
     → repair_fault s len start n ≡ Some too_long
@@ -209,8 +202,7 @@ pub found_wrong : (file : List ℕ) (d : Damage) → IsSoundDamage d → IsMeasu
 found_wrong file d sound m wrong = found_to_end file d m (wrong_sizes file d sound m wrong)
 
 -- sizes that aren't right, where chunks are looked for
-pub not_whole : (looks : Bool) (file : List ℕ) (d : Damage) → IsSoundDamage d → IsMeasured file d
-    → looks ≡ true
+pub not_whole : (looks : Bool) (file : List ℕ) (d : Damage) → IsSoundDamage d → IsMeasured file d → looks ≡ true
     → ((field 4 file ≡ d.sizes.riff_size) → (d.head.data_length ≡ d.sizes.data_length) → ⊥)
     → IsNotWhole looks file d.head
 not_whole looks file d sound m looking wrong = record {
@@ -221,8 +213,7 @@ not_whole looks file d sound m looking wrong = record {
 }
 
 -- the file ends where what is held ends
-pub end_is : (file : List ℕ) (d : Damage) → IsMeasured file d
-    → d.head.data_start + d.held ≡ length file
+pub end_is : (file : List ℕ) (d : Damage) → IsMeasured file d → d.head.data_start + d.held ≡ length file
 end_is file d m =
     omega (
       arith,
@@ -257,7 +248,8 @@ tag_length size file d same m inside sound =
     grind (arith, common_steps, cases_lt, check_fits, end_is, too_long_file, shown_small)
 
 -- the check fails by the data length that a look saw as it does by the one that the file shows
-pub shown_serves : (s : WavSpecEx) (start : ℕ) (head : SeenHead) (file : List ℕ) → IsSoundSpec s → head.data_length < 2 ^ 32
+pub shown_serves : (s : WavSpecEx) (start : ℕ) (head : SeenHead) (file : List ℕ) → IsSoundSpec s
+    → head.data_length < 2 ^ 32
     → 20 ≤ start → start ≤ length file → head.data_start ≡ start → IsShown file head → shown_of head ≤ 2 ^ 32
     → (size_fault s (shown_of head) start (held start file)
     ≡ size_fault s (shown_length start head.data_length file) start (held start file))
@@ -293,8 +285,7 @@ unfolding uncounted
 last_read start len file bytes one is = grind (arith, common_steps, drop-drop, length-drop, length-take, take_all)
 
 -- where other than one byte follows the data none is counted
-pub none_counted : (start len : ℕ) (file : List ℕ) → (held start file ≡ len + 1 → ⊥)
-    → shown_length start len file ≡ len
+pub none_counted : (start len : ℕ) (file : List ℕ) → (held start file ≡ len + 1 → ⊥) → shown_length start len file ≡ len
 none_counted start len file not = grind (arith, common_steps, length-drop, uncounted_cases)
 
 -- the bytes of a part that were read into the front of a buffer

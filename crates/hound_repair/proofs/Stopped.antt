@@ -78,8 +78,7 @@ module _ (looks : Bool) (old : List ℕ) (mid : MediumState) (found : Repair) (l
       ∙ frames_padded looks old mid.contents found len start at apart some
       (rest_now ∙ ap (λ pad. drop start old ++ pad) (half.last put).1)
 
-  frames_now : frames_held s (shown_length start says mid.contents) (held start mid.contents)
-      ≡ found.frames
+  frames_now : frames_held s (shown_length start says mid.contents) (held start mid.contents) ≡ found.frames
   frames_now = grind (arith, common_steps, cases_lt, frames_before, frames_after)
 
   -- a repair of what is left fails no check
@@ -88,8 +87,7 @@ module _ (looks : Bool) (old : List ℕ) (mid : MediumState) (found : Repair) (l
   still_repairable = grind (arith, common_steps, frames_are, fault_by_frames, head_now, frames_now)
 
   -- so a repair that was stopped can be done again
-  pub resumed_by_effects : (again : Bool) (new : MediumState) (other : Repair)
-      → (second : Repairs again mid other new)
+  pub resumed_by_effects : (again : Bool) (new : MediumState) (other : Repair) → (second : Repairs again mid other new)
       → (IsTrue again → other.state ≡ HasChunksAfterData → ⊥)
       → (other.spec_ex ≡ s) × (other.frames ≡ found.frames)
   resumed_by_effects again new other second alone =

@@ -15,8 +15,7 @@ use Rattle.hound_repair.specs.declared.sizes.Sizes.{Sizes}
 abbrev pub shown_of : SeenHead → ℕ
 shown_of head = head.data_length + (if head.has_more then 1 else 0)
 
--- the sizes are those of a file with this head that shows this data length, and holds so many bytes
--- from the data on
+-- the sizes are those of a file with this head that shows this data length, and holds so many bytes from the data on
 pub record AreRightSizes (head : SeenHead) (shown n : ℕ) (sizes : Sizes) : Type 0 where
   pub riff : sizes.riff_size ≡ riff_size head.data_start sizes.data_length
   pub length_is : sizes.data_length ≡ right_length head.spec_ex shown n

@@ -1,5 +1,5 @@
--- What a file holds after the header of its data, whatever its sizes say, the sizes that it should have,
--- and what follows the data.
+-- What a file holds after the header of its data, whatever its sizes say, the sizes that it should have, and what
+-- follows the data.
 use Rattle.std.specs.Prelude.{ℕ, ◌+◌, ◌-◌, ◌*◌, ◌/◌, ◌%◌, Bool, ◌==◌, ◌&&◌, List, [], ◌++◌, length, drop, if◌then◌else◌, zero, suc, true, false, ◌||◌, ◌∷◌, Option, None, Some, take, slice_index, slice_range, nat_le, nat_lt, bytes_eq, codes}
 use Rattle.hound_spec.specs.declared.spec.WavSpecEx.{WavSpecEx}
 use Rattle.hound_spec.specs.{riff_size, padding, padded}
@@ -15,8 +15,8 @@ frame_length s = s.spec.channels * s.bytes_per_sample
 abbrev pub held : ℕ → List ℕ → ℕ
 held start contents = length (drop start contents)
 
--- how many bytes of samples the bytes after the data are that the header counts: a single one that
--- isn't 0 is no pad byte (RIFF, "Chunks")
+-- how many bytes of samples the bytes after the data are that the header counts: a single one that isn't 0 is no pad
+-- byte (RIFF, "Chunks")
 unfoldable pub uncounted : List ℕ → ℕ
 uncounted bytes = if (length bytes == 1) && nat_lt 0 (slice_index bytes 0) then 1 else 0
 
@@ -24,8 +24,8 @@ uncounted bytes = if (length bytes == 1) && nat_lt 0 (slice_index bytes 0) then 
 abbrev pub shown_length : ℕ → ℕ → List ℕ → ℕ
 shown_length start len contents = len + uncounted (drop len (drop start contents))
 
--- Whether the last byte held is the pad byte of the data: these are whole frames of an odd length,
--- as the data length shows, and one byte follows them (RIFF, "Chunks").
+-- Whether the last byte held is the pad byte of the data: these are whole frames of an odd length, as the data length
+-- shows, and one byte follows them (RIFF, "Chunks").
 unfoldable pub ends_with_pad : ℕ → ℕ → ℕ → Bool
 ends_with_pad frame len n = (n == len + 1) && ((len % 2 == 1) && (len % frame == 0))
 
@@ -110,8 +110,8 @@ has_tag bytes =
 abbrev pub said_length : List ℕ → ℕ
 said_length bytes = number (slice_range bytes 4 8)
 
--- how many bytes the content of the chunk takes that begins here, if one with a printable tag does
--- and its content is whole; the pad byte may lack
+-- how many bytes the content of the chunk takes that begins here, if one with a printable tag does and its content is
+-- whole; the pad byte may lack
 unfoldable pub chunk_content : List ℕ → Option ℕ
 chunk_content bytes =
     if nat_lt (length bytes) 8 then None
@@ -123,8 +123,7 @@ abbrev pub if_some : Option ℕ → (ℕ → Bool) → Bool
 if_some None f = false
 if_some (Some n) f = f n
 
--- the bytes are at most so many chunks with printable tags, one after the other, up to their end or
--- to a known tag
+-- the bytes are at most so many chunks with printable tags, one after the other, up to their end or to a known tag
 unfoldable pub are_at_most : ℕ → List ℕ → Bool
 are_at_most n [] = true
 are_at_most zero (b ∷ bytes) = false
@@ -146,8 +145,8 @@ ends_with_id3 len bytes =
     nat_le (len + 128) (length bytes)
     && bytes_eq (take 3 (drop (length bytes - 128) bytes)) (codes "TAG")
 
--- Data of this length weren't cut off, by the bytes that a file holds from the data on: a chunk
--- begins after them, with or without a pad byte, or an ID3v1 tag is at the end.
+-- Data of this length weren't cut off, by the bytes that a file holds from the data on: a chunk begins after them, with
+-- or without a pad byte, or an ID3v1 tag is at the end.
 unfoldable pub is_followed : ℕ → List ℕ → Bool
 is_followed len bytes =
     begins_chunk (drop (padded len) bytes)

@@ -14,14 +14,13 @@ use Rattle.hound_repair.specs.declared.sizes.Repair.{Repair}
 use Rattle.hound_writer.specs.declared.resuming.RepairState.{RepairState}
 use Rattle.hound_writer.specs.declared.resuming.RepairState.TheVariants.{Whole, CutOff, HasChunksAfterData, AllCounted}
 
--- the fault of a head that holds so many bytes, of samples that are written: the RIFF size of its
--- whole frames doesn't fit
+-- the fault of a head that holds so many bytes, of samples that are written: the RIFF size of its whole frames doesn't
+-- fit
 unfoldable pub size_fault : WavSpecEx → ℕ → ℕ → ℕ → Option AppendFault
 size_fault s len start n =
     if nat_lt greatest_u32 (riff_size start (right_length s len n)) then Some too_long else None
 
--- The first check that a head fails which holds so many bytes: samples that are written, a RIFF
--- size that fits.
+-- The first check that a head fails which holds so many bytes: samples that are written, a RIFF size that fits.
 unfoldable pub repair_fault : WavSpecEx → ℕ → ℕ → ℕ → Option AppendFault
 repair_fault s len start n =
     if not (is_pair s.spec.sample_format s.spec.bits_per_sample s.bytes_per_sample)
@@ -43,22 +42,22 @@ abbrev pub unfollowed_state : Bool → RepairState
 unfollowed_state true = AllCounted
 unfollowed_state false = CutOff
 
--- how a file is found, by whether both sizes are right, whether chunks follow the data, and whether the
--- data length is right
+-- how a file is found, by whether both sizes are right, whether chunks follow the data, and whether the data length is
+-- right
 abbrev pub state_of : Bool → Bool → Bool → RepairState
 state_of true followed counted = Whole
 state_of false true counted = HasChunksAfterData
 state_of false false counted = unfollowed_state counted
 
--- Whether a file that was found so is mended: one that was cut off, and one whose samples are all counted
--- only on request.
+-- Whether a file that was found so is mended: one that was cut off, and one whose samples are all counted only on
+-- request.
 abbrev pub is_mended : Bool → RepairState → Bool
 is_mended all CutOff = true
 is_mended all AllCounted = all
 is_mended all _ = false
 
--- the frames, and the bytes of a torn one, that are reported: those that are held, or where chunks
--- follow the data those that the data length says
+-- the frames, and the bytes of a torn one, that are reported: those that are held, or where chunks follow the data
+-- those that the data length says
 abbrev pub frames_found : RepairState → WavSpecEx → ℕ → ℕ → ℕ → ℕ
 frames_found HasChunksAfterData s len shown n = len / frame_length s
 frames_found _ s len shown n = frames_held s shown n
@@ -67,24 +66,20 @@ abbrev pub torn_found : RepairState → WavSpecEx → ℕ → ℕ → ℕ → �
 torn_found HasChunksAfterData s len shown n = len % frame_length s
 torn_found _ s len shown n = torn_bytes s shown n
 
--- What is found of contents with this head: a spec that is written, sizes that fit, how they were,
--- and so many frames. Chunks after the data are looked for, or all that is held is taken for data.
+-- What is found of contents with this head: a spec that is written, sizes that fit, how they were, and so many frames.
+-- Chunks after the data are looked for, or all that is held is taken for data.
 pub record IsFoundAt (looks : Bool) (contents : List ℕ) (found : Repair) (len start : ℕ) : Type 0
   where
     pub head : Head contents found.spec_ex len start
     pub small : len ≤ greatest_u32
-    pub check : repair_fault found.spec_ex (shown_length start len contents) start (held start contents)
-        ≡ None
-    pub state : found.state
-        ≡ state_of (are_right found.spec_ex start len (field 4 contents)
+    pub check : repair_fault found.spec_ex (shown_length start len contents) start (held start contents) ≡ None
+    pub state : found.state ≡ state_of (are_right found.spec_ex start len (field 4 contents)
         (shown_length start len contents) (held start contents))
         (looks && is_followed len (drop start contents))
         (counts_all found.spec_ex len (shown_length start len contents) (held start contents))
-    pub frames : found.frames
-        ≡ frames_found found.state found.spec_ex len (shown_length start len contents)
+    pub frames : found.frames ≡ frames_found found.state found.spec_ex len (shown_length start len contents)
         (held start contents)
-    pub left_over : found.left_over
-        ≡ torn_found found.state found.spec_ex len (shown_length start len contents)
+    pub left_over : found.left_over ≡ torn_found found.state found.spec_ex len (shown_length start len contents)
         (held start contents)
 
 -- something looked at a medium: nothing was written, and a call that failed counts one fault
@@ -101,12 +96,10 @@ pub record Finds (looks : Bool) (old : MediumState) (found : Repair) (new : Medi
     pub puts : PutsNothing old new
     pub faults : new.faults ≡ old.faults
 
--- A file that is looked at and not found, for a fault that its bytes have, or since the medium
--- failed.
+-- A file that is looked at and not found, for a fault that its bytes have, or since the medium failed.
 pub record IsNotFound (old new : MediumState) (e : Error) : Type 0 where
   pub puts : PutsNothing old new
-  pub why : ((fault : AppendFault) × IsRepairFault old.contents fault × NamesFault e fault
-      × (new.faults ≡ old.faults))
+  pub why : ((fault : AppendFault) × IsRepairFault old.contents fault × NamesFault e fault × (new.faults ≡ old.faults))
       ⊎ (IsIoError e × (new.faults ≡ one_more old.faults))
 
 -- the data length of the frames that were found
@@ -120,8 +113,7 @@ LeavesFor true found start old new =
     × (new.flushed ≡ length new.past)
 LeavesFor false found start old new = PutsNothing old new
 
--- Contents with the right data length for these frames: they are read with this spec, with exactly these
--- frames.
+-- Contents with the right data length for these frames: they are read with this spec, with exactly these frames.
 pub record HasRightLength (found : Repair) (start : ℕ) (contents : List ℕ) : Type 0 where
   pub length_says : field (start - 4) contents ≡ found_length found
   pub readable : Readable contents found.spec_ex (found.frames * found.spec_ex.spec.channels) start
@@ -131,10 +123,10 @@ abbrev pub UnlessFollowed : RepairState → Type 0 → Type 0
 UnlessFollowed HasChunksAfterData P = ⊤
 UnlessFollowed _ P = P
 
--- What an Ok `repair` leaves: what was found, and where the file is mended the right sizes, and nothing else
--- but a pad byte after all that the file held. A file whose samples are all counted is mended only where no
--- chunks are looked for. Unless chunks follow the data the file is read with exactly the frames that were
--- found, and the RIFF size is right, too, of a file that was whole or is mended.
+-- What an Ok `repair` leaves: what was found, and where the file is mended the right sizes, and nothing else but a pad
+-- byte after all that the file held. A file whose samples are all counted is mended only where no chunks are looked
+-- for. Unless chunks follow the data the file is read with exactly the frames that were found, and the RIFF size is
+-- right, too, of a file that was whole or is mended.
 pub record Repairs (looks : Bool) (old : MediumState) (found : Repair) (new : MediumState) : Type 0
   where
     pub len : ℕ
@@ -150,19 +142,17 @@ pub record Repairs (looks : Bool) (old : MediumState) (found : Repair) (new : Me
 abbrev pub whole_frames : WavSpecEx → List (List ℕ) → List (List ℕ)
 whole_frames s list = take (length list / s.spec.channels * s.spec.channels) list
 
--- A file that was repaired is read with exactly the frames that were found, and of these samples as
--- many as whole frames have are read first.
-pub record ReadsFrames (found : Repair) (start : ℕ) (list : List (List ℕ)) (contents : List ℕ) :
-    Type 0 where
+-- A file that was repaired is read with exactly the frames that were found, and of these samples as many as whole
+-- frames have are read first.
+pub record ReadsFrames (found : Repair) (start : ℕ) (list : List (List ℕ)) (contents : List ℕ) : Type 0 where
   pub readable : Readable contents found.spec_ex (found.frames * found.spec_ex.spec.channels) start
   pub among : length (whole_frames found.spec_ex list) ≤ found.frames * found.spec_ex.spec.channels
-  pub first :
-      take (length (whole_frames found.spec_ex list))
+  pub first : take (length (whole_frames found.spec_ex list))
       (containers found.spec_ex.bytes_per_sample (found.frames * found.spec_ex.spec.channels)
       (drop start contents))
       ≡ whole_frames found.spec_ex list
 
--- No byte of these samples is taken for a pad byte: where a frame has one byte, and the data length
--- that is shown is one less than what is held, the last byte held isn't theirs.
+-- No byte of these samples is taken for a pad byte: where a frame has one byte, and the data length that is shown is
+-- one less than what is held, the last byte held isn't theirs.
 abbrev pub IsNoPad : WavSpecEx → ℕ → ℕ → List (List ℕ) → Type 0
 IsNoPad s shown n list = frame_length s ≡ 1 → n ≡ shown + 1 → length list ≤ shown

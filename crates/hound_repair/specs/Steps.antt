@@ -90,8 +90,7 @@ has_all file head =
 
 -- the data length that the file shows, unless it has more bytes than any RIFF size says
 abbrev pub IsShown : List ℕ → SeenHead → Type 0
-IsShown file head = length file < 2 ^ 33
-    → shown_of head ≡ shown_length head.data_start head.data_length file
+IsShown file head = length file < 2 ^ 33 → shown_of head ≡ shown_length head.data_start head.data_length file
 
 -- a file with this head whose sizes aren't right, and after whose data chunks are looked for
 pub record IsNotWhole (looks : Bool) (file : List ℕ) (head : SeenHead) : Type 0 where
@@ -123,11 +122,9 @@ abbrev pub IsAtStage : Bool → List ℕ → Stage → Type 0
 IsAtStage looks file (stages.Head walk) = IsAt file walk
 IsAtStage looks file (stages.Last head) = Head file head.spec_ex head.data_length head.data_start
     × (length file < 2 ^ 33 → held head.data_start file ≡ head.data_length + 1)
-IsAtStage looks file (stages.Size head) = Head file head.spec_ex head.data_length head.data_start
-    × IsShown file head
+IsAtStage looks file (stages.Size head) = Head file head.spec_ex head.data_length head.data_start × IsShown file head
 IsAtStage looks file (stages.Chunk head place padded) = IsAtChunk looks file head place padded
-IsAtStage looks file (stages.Tag head) = IsAtEnd looks file head
-    × (head.data_length + 128 ≤ held head.data_start file)
+IsAtStage looks file (stages.Tag head) = IsAtEnd looks file head × (head.data_length + 128 ≤ held head.data_start file)
 
 -- so many bytes are in the file, or both are more than any RIFF size says
 abbrev pub IsLengthOf : ℕ → List ℕ → Type 0
@@ -206,9 +203,9 @@ abbrev pub pads : ℕ → List ℕ → List Effect
 pads end [] = []
 pads end (b ∷ bytes) = Pad end ∷ Sync ∷ []
 
--- The effects that mend a file whose data begin at `start`, hold n bytes and are to count so many: all
--- that it counts is synced first. The RIFF size comes first, so that a file whose data length is right is mended;
--- then the data length alone, and last a missing pad byte, which no data length takes for a sample then.
+-- The effects that mend a file whose data begin at `start`, hold n bytes and are to count so many: all that it counts
+-- is synced first. The RIFF size comes first, so that a file whose data length is right is mended; then the data length
+-- alone, and last a missing pad byte, which no data length takes for a sample then.
 abbrev pub mending_effects : ℕ → ℕ → ℕ → List Effect
 mending_effects start count n =
     Sync ∷ Size 4 (riff_size start count) ∷ Sync ∷ Size (start - 4) count ∷ Sync
@@ -223,8 +220,8 @@ abbrev pub effects_where : Bool → Damage → List Effect
 effects_where true d = mending d
 effects_where false d = []
 
--- The contents wherever the effects stop: j low bytes of the data length are new, and any of the RIFF
--- size. A pad byte is there only after the whole data length, and only where it was missing.
+-- The contents wherever the effects stop: j low bytes of the data length are new, and any of the RIFF size. A pad byte
+-- is there only after the whole data length, and only where it was missing.
 pub record PartlyMended (start n : ℕ) (old new : List ℕ) : Type 0 where
   pub sizes : List ℕ
   pub j : ℕ
@@ -233,8 +230,7 @@ pub record PartlyMended (start n : ℕ) (old new : List ℕ) : Type 0 where
   pub length_says : field (start - 4) sizes ≡ mix j (field (start - 4) old) n
   pub pad : List ℕ
   pub is : new ≡ sizes ++ pad
-  pub last : 1 ≤ length pad
-      → (field (start - 4) sizes ≡ n) × (pad ≡ missing_pad n (held start old))
+  pub last : 1 ≤ length pad → (field (start - 4) sizes ≡ n) × (pad ≡ missing_pad n (held start old))
 
 -- what one effect did to a medium: at an Err a write may have written a beginning
 abbrev pub PerformsOn : Bool → Effect → Result (Unit {0}) IoFault → MediumState → MediumState → Type 0
@@ -268,22 +264,21 @@ LeavesPartly looks old new = PutsNothing old new
     ⊎ ((found : Repair) × (len : ℕ) × (start : ℕ) × IsFoundAt looks old.contents found len start
     × (is_mended (not looks) found.state ≡ true) × PartlyMended start (found_length found) old.contents new.contents)
 
--- A file that isn't repaired, for a fault that its bytes have, and then nothing was written; or since
--- the medium failed.
+-- A file that isn't repaired, for a fault that its bytes have, and then nothing was written; or since the medium
+-- failed.
 pub record IsNotRepaired (looks : Bool) (old new : MediumState) (e : Error) : Type 0 where
   pub why : ((fault : AppendFault) × IsRepairFault old.contents fault × NamesFault e fault
       × PutsNothing old new × (new.faults ≡ old.faults))
       ⊎ (IsIoError e × LeavesPartly looks old new × (new.faults ≡ one_more old.faults))
 
 -- what a repair of a medium leaves, by its result
-abbrev pub RepairsMedium : {M : Type 0} → Bool → (M → MediumState) → M
-    → Result (M × Repair) (M × Error) → Type 0
+abbrev pub RepairsMedium : {M : Type 0} → Bool → (M → MediumState) → M → Result (M × Repair) (M × Error) → Type 0
 RepairsMedium looks state old result =
     MatchResult result (λ done. Repairs looks (state old) done.1 (state done.0))
     (λ rejected. IsNotRepaired looks (state old) (state rejected.0) rejected.1)
 
--- A repair of a medium is a look that writes nothing, and then its effects, one after the other, up to the first
--- that fails: those that mend the file, or none.
+-- A repair of a medium is a look that writes nothing, and then its effects, one after the other, up to the first that
+-- fails: those that mend the file, or none.
 abbrev pub PerformsRepair : {M : Type 0} → Bool → Bool → (M → MediumState) → M
     → Result (M × Repair) (M × Error) → Type 0
 PerformsRepair keeps looks state old result =
@@ -296,8 +291,7 @@ PerformsRepair keeps looks state old result =
     × FindsDamage looks (state old) d mid
     × PerformedOn keeps (effects_where (is_mended (not looks) d.state) d) (Err fault) mid (state rejected.0)))
 
--- In each intermediate state nothing was written, or the file is partly mended, for the frames that were
--- found in it.
+-- In each intermediate state nothing was written, or the file is partly mended, for the frames that were found in it.
 abbrev pub MendsAtEach : Bool → MediumState → MediumState → Type 0
 MendsAtEach looks old new = (new.past ≡ old.past)
     ⊎ ((found : Repair) × (len : ℕ) × (start : ℕ) × IsFoundAt looks old.contents found len start
@@ -305,14 +299,13 @@ MendsAtEach looks old new = (new.past ≡ old.past)
     × ((k : ℕ) → length old.past ≤ k → k ≤ length new.past
     → PartlyMended start (found_length found) old.contents (moment new.start new.past k)))
 
-abbrev pub MendsMedium : {M : Type 0} → Bool → (M → MediumState) → M
-    → Result (M × Repair) (M × Error) → Type 0
+abbrev pub MendsMedium : {M : Type 0} → Bool → (M → MediumState) → M → Result (M × Repair) (M × Error) → Type 0
 MendsMedium looks state old result =
     MatchResult result (λ done. MendsAtEach looks (state old) (state done.0))
     (λ rejected. MendsAtEach looks (state old) (state rejected.0))
 
--- What a loss of power leaves of a file that was flushed at first is what there was, or the file partly mended, if
--- each size is within one sector.
+-- What a loss of power leaves of a file that was flushed at first is what there was, or the file partly mended, if each
+-- size is within one sector.
 abbrev pub MendsThroughLoss : Bool → MediumState → MediumState → Type 0
 MendsThroughLoss looks old new = (sector : ℕ) (left : List ℕ) → old.flushed ≡ length old.past → 8 ≤ sector
     → SurvivesLoss sector new.start new.past new.flushed (length new.past) left →
@@ -321,8 +314,7 @@ MendsThroughLoss looks old new = (sector : ℕ) (left : List ℕ) → old.flushe
     × (is_mended (not looks) found.state ≡ true)
     × ((start - 4) / sector ≡ (start - 1) / sector → PartlyMended start (found_length found) old.contents left))
 
-abbrev pub SurvivesMending : {M : Type 0} → Bool → (M → MediumState) → M
-    → Result (M × Repair) (M × Error) → Type 0
+abbrev pub SurvivesMending : {M : Type 0} → Bool → (M → MediumState) → M → Result (M × Repair) (M × Error) → Type 0
 SurvivesMending looks state old result =
     MatchResult result (λ done. MendsThroughLoss looks (state old) (state done.0))
     (λ rejected. MendsThroughLoss looks (state old) (state rejected.0))
@@ -349,8 +341,8 @@ abbrev pub looks_for_chunks : Task → Bool
 looks_for_chunks RepairToEnd = false
 looks_for_chunks _ = true
 
--- whether a file that was found so is mended: one whose samples are all counted only to its end, or into the
--- canonical form
+-- whether a file that was found so is mended: one whose samples are all counted only to its end, or into the canonical
+-- form
 abbrev pub mends_for : Task → RepairState → Bool
 mends_for FindDamage state = false
 mends_for tasks.Repair state = is_mended false state
@@ -382,8 +374,7 @@ AsksEffect task d number (steps.Found found) new = (nth (effects_of_task task d)
 -- | Mends | done | the next effect; after the last one what was found, and Found |
 -- | Mends | none | the same effect again |
 -- | Mends | failed | Failed, with the error that the effect has |
-abbrev pub AsksAfter : Task → Damage → ℕ → Report → Option Effect → Repairing → Result RepairStep RepairError
-    → Type 0
+abbrev pub AsksAfter : Task → Damage → ℕ → Report → Option Effect → Repairing → Result RepairStep RepairError → Type 0
 AsksAfter task d number Pending effect new result =
     MatchResult result (λ ask. AsksEffect task d number ask new) (λ _. ⊥)
 AsksAfter task d number Done (Some effect) new result =
@@ -447,8 +438,7 @@ Remeasures n head old new result P =
 -- | Looks | none | the same part again |
 -- | Looks | failed | Failed, with the error of a call that wasn't performed |
 abbrev pub AsksOfLook : Task → ℕ → List ℕ → Stage → Repairing → Result RepairStep RepairError → Report → Type 0
-AsksOfLook task n bytes stage new result Pending = (new ≡ states.Looks stage)
-    × (result ≡ Ok (Asks (asks_for stage n)))
+AsksOfLook task n bytes stage new result Pending = (new ≡ states.Looks stage) × (result ≡ Ok (Asks (asks_for stage n)))
 AsksOfLook task n bytes stage new result Done = AsksPart task n bytes stage new result
 AsksOfLook task n bytes stage new result reports.Failed =
     (result ≡ Err (errors.Failed failures.Call)) × (new ≡ states.Failed failures.Call)

@@ -6,7 +6,7 @@ ghost use Rattle.hound_repair.specs.Damages.{FindsDamage, IsSoundDamage, LacksRo
 ghost use Rattle.hound_repair.specs.Steps.{IsRejectedFor, IsRepair, looks_for_chunks};
 
 use crate::look::Damage;
-use crate::stages::{LookStep, Unrepairable, Stage, Task, take_asked};
+use crate::stages::{LookStep, Stage, Task, Unrepairable, take_asked};
 use hound_number::le_u32;
 use hound_walk::bytes_at;
 
@@ -20,8 +20,8 @@ pub fn set_sizes(bytes: &mut [u8], place: usize, riff_size: u32, data_length: u3
     bytes[place..place + 4].copy_from_slice(&le_u32(data_length));
 }
 
-/// Looks at the file that takes all of these bytes, as [`find_damage`](crate::find_damage) does at one
-/// in a source; no chunks are looked for where the task is to repair it to its end.
+/// Looks at the file that takes all of these bytes, as [`find_damage`](crate::find_damage) does at one in a source; no
+/// chunks are looked for where the task is to repair it to its end.
 pub fn find_damage_in_bytes(bytes: &[u8], task: Task) -> Result<Damage, Unrepairable>
     ensures sound { IfOk result IsSoundDamage }
     ensures inside { IfOk result (λ damage. damage.head.data_start + damage.held ≡ length bytes.now) }
@@ -40,21 +40,19 @@ pub fn find_damage_in_bytes(bytes: &[u8], task: Task) -> Result<Damage, Unrepair
     }
 }
 
-/// Repairs the file in the first `used` bytes, in which the task found this, as [`repair`](crate::repair)
-/// does one in a medium, and returns its new length: one more where a pad byte was missing. If there
-/// is no room for that, nothing is written.
+/// Repairs the file in the first `used` bytes, in which the task found this, as [`repair`](crate::repair) does one in a
+/// medium, and returns its new length: one more where a pad byte was missing. If there is no room for that, nothing is
+/// written.
 pub fn repair_bytes(bytes: &mut [u8], used: usize, task: Task, damage: Damage) -> Option<usize>
     requires task { IsRepair task }
     requires used { used ≤ length bytes.old }
     requires sound { IsSoundDamage damage }
     requires inside { damage.head.data_start + damage.held ≡ used }
-    ensures repairs { let file = as_medium (take used bytes.old) in
-        FindsDamage (looks_for_chunks task) file damage file
+    ensures repairs { let file = as_medium (take used bytes.old) in FindsDamage (looks_for_chunks task) file damage file
         → IfSome result (λ n. RepairsBytes (looks_for_chunks task) used n (repair_of damage) bytes.old bytes.new) }
     ensures within { IfSome result (λ n. n ≤ length bytes.old) }
     ensures kept { IfNone result (bytes.new ≡ bytes.old) }
-    ensures lacks { let file = as_medium (take used bytes.old) in
-        FindsDamage (looks_for_chunks task) file damage file
+    ensures lacks { let file = as_medium (take used bytes.old) in FindsDamage (looks_for_chunks task) file damage file
         → IfNone result (LacksRoom (looks_for_chunks task) used bytes.old) }
 {
     if !task.mends(damage.state) {

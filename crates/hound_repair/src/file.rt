@@ -91,9 +91,9 @@ fn open_in_place(
 
 /// Repairs a file on disk as [`repair`] does, and syncs it where it wrote.
 ///
-/// `rt` is what `main` and each test are given, `alloc` is `rt.alloc()`. The errors, in their order:
-/// `IoError` if the file can't be opened for reading and writing or has no place, as a pipe;
-/// `OutOfMemory` if there is none for the buffer; those of [`repair`].
+/// `rt` is what `main` and each test are given, `alloc` is `rt.alloc()`. The errors, in their order: `IoError` if the
+/// file can't be opened for reading and writing or has no place, as a pipe; `OutOfMemory` if there is none for the
+/// buffer; those of [`repair`].
 pub fn repair_file(
     rt: &impl Files<File = fs::File>,
     alloc: Global,
@@ -106,8 +106,7 @@ pub fn repair_file(
     Ok(found)
 }
 
-/// Repairs a file on disk as [`repair_to_end`] does: for a recording whose samples look like chunks
-/// or a tag.
+/// Repairs a file on disk as [`repair_to_end`] does: for a recording whose samples look like chunks or a tag.
 ///
 /// It syncs the file as [`repair_file`] does, and its errors are the same.
 pub fn repair_file_to_end(

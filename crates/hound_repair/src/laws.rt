@@ -21,13 +21,13 @@ ghost use Rattle.hound_repair.specs.Repairing.{Finds, IsFoundAt, IsNoPad, ReadsF
 ghost use Rattle.hound_repair.specs.declared.sizes.Repair.{Repair};
 ghost use Rattle.hound_writer.specs.declared.resuming.RepairState.TheVariants.{AllCounted, HasChunksAfterData, Whole};
 
-/// A repair loses no sample that is stored: samples whose containers are stored from the data on are
-/// read first, as many as whole frames have, with the spec of the head, whatever the sizes said.
+/// A repair loses no sample that is stored: samples whose containers are stored from the data on are read first, as
+/// many as whole frames have, with the spec of the head, whatever the sizes said.
 ///
 /// Where this head has samples that are written and sizes that fit, the only error is `IoError`.
 ///
-/// Where a frame has one byte (8 bits, mono) and the odd data length is one less than what is held,
-/// a last byte of 0 is taken for a pad byte. Where chunks follow the data, `repair` writes nothing.
+/// Where a frame has one byte (8 bits, mono) and the odd data length is one less than what is held, a last byte of 0 is
+/// taken for a pad byte. Where chunks follow the data, `repair` writes nothing.
 pub fn a_repair_keeps_stored_samples()
     ensures read { (looks : Bool) (old new : MediumState) (found : Repair) (s : WavSpecEx)
         (len start : ℕ) (list : List (List ℕ)) → Repairs looks old found new
@@ -49,28 +49,24 @@ pub fn a_repair_keeps_stored_samples()
 pub fn a_second_repair_writes_nothing()
     ensures { (looks again : Bool) (old mid next new : MediumState) (found other : Repair)
         → Repairs looks old found mid → (IsTrue looks → found.state ≡ HasChunksAfterData → ⊥)
-        → (IsTrue looks → found.state ≡ AllCounted → ⊥)
-        → 1 ≤ frame_length found.spec_ex → next.contents ≡ mid.contents
+        → (IsTrue looks → found.state ≡ AllCounted → ⊥) → 1 ≤ frame_length found.spec_ex → next.contents ≡ mid.contents
         → Repairs again next other new →
         (other.state ≡ Whole) × (other.spec_ex ≡ found.spec_ex) × (other.frames ≡ found.frames)
         × (new.contents ≡ next.contents) }
 {}
 
-/// A look reports what a repair of the same bytes would (`found`), and once it has found something, a repair
-/// fails only where its medium does (`error`).
+/// A look reports what a repair of the same bytes would (`found`), and once it has found something, a repair fails only
+/// where its medium does (`error`).
 pub fn a_look_finds_what_a_repair_does()
     ensures found { (looks : Bool) (old seen next new : MediumState) (found other : Repair)
-        → Finds looks old found seen → next.contents ≡ old.contents → Repairs looks next other new →
-        other ≡ found }
+        → Finds looks old found seen → next.contents ≡ old.contents → Repairs looks next other new → other ≡ found }
     ensures error { (looks : Bool) (old seen next new : MediumState) (found : Repair) (e : Error)
-        → Finds looks old found seen → next.contents ≡ old.contents → IsNotRepaired looks next new e →
-        IsIoError e }
+        → Finds looks old found seen → next.contents ≡ old.contents → IsNotRepaired looks next new e → IsIoError e }
 {}
 
-/// The effects of a repair, done one after the other up to the first that fails, leave what
-/// [`repair`](crate::repair) leaves, or a file that is partly mended (`leaves`), as in each intermediate
-/// state (`moments`), and after a loss of power (`lost`) where the file was flushed at first and each size
-/// is within one sector.
+/// The effects of a repair, done one after the other up to the first that fails, leave what [`repair`](crate::repair)
+/// leaves, or a file that is partly mended (`leaves`), as in each intermediate state (`moments`), and after a loss of
+/// power (`lost`) where the file was flushed at first and each size is within one sector.
 pub fn effects_mend()
     ensures leaves { (looks : Bool) (d : Damage) (old new : Log) (result : Result (Unit {0}) IoFault)
         → IsLookedAt looks old.state.contents d → Performed (mending d) result old new
@@ -81,27 +77,24 @@ pub fn effects_mend()
     ensures lost { (looks : Bool) (d : Damage) (old new : Log) (result : Result (Unit {0}) IoFault)
         (sector : ℕ) (left : List ℕ) → IsLookedAt looks old.state.contents d
         → old.state.flushed ≡ length old.state.past → 8 ≤ sector
-        → (d.head.data_start - 4) / sector ≡ (d.head.data_start - 1) / sector
-        → Performed (mending d) result old new
+        → (d.head.data_start - 4) / sector ≡ (d.head.data_start - 1) / sector → Performed (mending d) result old new
         → SurvivesLoss sector new.state.start new.state.past new.state.flushed (length new.state.past) left →
         PartlyMended d.head.data_start d.sizes.data_length old.state.contents left }
 {}
 
-/// Wherever the effects of a repair stop, another repair finds the same frames, by either call (`same`),
-/// and fails no check (`fault`).
+/// Wherever the effects of a repair stop, another repair finds the same frames, by either call (`same`), and fails no
+/// check (`fault`).
 ///
-/// A data length that is half written may lead to bytes that look like chunks, and then
-/// [`repair`](crate::repair) reports these; [`repair_to_end`](crate::repair_to_end) doesn't look for them.
+/// A data length that is half written may lead to bytes that look like chunks, and then [`repair`](crate::repair)
+/// reports these; [`repair_to_end`](crate::repair_to_end) doesn't look for them.
 pub fn a_stopped_repair_is_done_again()
     ensures same { (looks again : Bool) (old : List ℕ) (mid new : MediumState) (found other : Repair) (len start : ℕ)
-        → IsFoundAt looks old found len start
-        → (found.state ≡ HasChunksAfterData → ⊥) → 1 ≤ frame_length found.spec_ex
+        → IsFoundAt looks old found len start → (found.state ≡ HasChunksAfterData → ⊥) → 1 ≤ frame_length found.spec_ex
         → PartlyMended start (found_length found) old mid.contents
         → Repairs again mid other new → (IsTrue again → other.state ≡ HasChunksAfterData → ⊥) →
         (other.spec_ex ≡ found.spec_ex) × (other.frames ≡ found.frames) }
     ensures fault { (looks : Bool) (old : List ℕ) (mid : MediumState) (found : Repair) (len start : ℕ)
-        → IsFoundAt looks old found len start
-        → (found.state ≡ HasChunksAfterData → ⊥) → 1 ≤ frame_length found.spec_ex
+        → IsFoundAt looks old found len start → (found.state ≡ HasChunksAfterData → ⊥) → 1 ≤ frame_length found.spec_ex
         → PartlyMended start (found_length found) old mid.contents →
         Head mid.contents found.spec_ex (field (start - 4) mid.contents) start
         × (repair_fault found.spec_ex (shown_length start (field (start - 4) mid.contents) mid.contents)
@@ -112,6 +105,5 @@ pub fn a_stopped_repair_is_done_again()
 /// bytes at most some 2 n (`effects_left`). A report of `Failed` ends it at once.
 pub fn a_repair_ends()
     ensures { (task : Task) (n : ℕ) (bytes : List ℕ) (old new : Repairing) (action : Action)
-        → AsksNext task n bytes Done old new (Ok (Asks action)) →
-        effects_left n new < effects_left n old }
+        → AsksNext task n bytes Done old new (Ok (Asks action)) → effects_left n new < effects_left n old }
 {}

@@ -1,8 +1,8 @@
 //! Repair of WAV files whose recording was cut off.
 //!
-//! The two sizes of such a file say less than it holds, nothing, or are torn, and half a frame may
-//! be at its end, so no reader takes it. [`repair`] gives back every whole frame that the file
-//! holds; [`find_damage`] says what it would do and writes nothing.
+//! The two sizes of such a file say less than it holds, nothing, or are torn, and half a frame may be at its end, so no
+//! reader takes it. [`repair`] gives back every whole frame that the file holds; [`find_damage`] says what it would do
+//! and writes nothing.
 #![tactic(auto)]
 
 mod bytes;
@@ -27,4 +27,4 @@ pub use look::{Damage, SeenHead, find_damage};
 pub use machine::{FailedAction, RepairError, RepairStep, Repairing, repair_next};
 pub use mend::{repair, repair_to_end};
 pub use sizes::Repair;
-pub use stages::{Unrepairable, Stage, Task};
+pub use stages::{Stage, Task, Unrepairable};

@@ -17,8 +17,8 @@ use hound_spec::{Error, WavSpecEx};
 use hound_writer::RepairState;
 use std::result;
 
-// The tags that show that a chunk begins, whatever follows them: those of RIFF and of its update,
-// of broadcasts, of metadata, and of programs.
+// The tags that show that a chunk begins, whatever follows them: those of RIFF and of its update, of broadcasts, of
+// metadata, and of programs.
 const KNOWN_TAGS: [[u8; 4]; 24] = [
     *b"LIST", *b"INFO", *b"fact", *b"cue ", *b"plst", *b"JUNK", *b"PAD ", *b"DISP", *b"inst",
     *b"smpl", *b"bext", *b"levl", *b"cart", *b"axml", *b"chna", *b"iXML", *b"_PMX", *b"id3 ",
@@ -87,8 +87,8 @@ pub(crate) fn has_known_tag(bytes: &[u8]) -> bool
     KNOWN_TAGS.contains(&tag)
 }
 
-// How many bytes the content of the chunk takes that begins with these of so many bytes, if its tag
-// is printable and there is room for it.
+// How many bytes the content of the chunk takes that begins with these of so many bytes, if its tag is printable and
+// there is room for it.
 pub(crate) fn chunk_content(header: &[u8], left: u64) -> Option<u64>
     requires { min left 8 ≤ length header.now }
     ensures content { result ≡ (if nat_lt left 8 then None
@@ -149,12 +149,12 @@ impl Damage {
     }
 }
 
-/// Looks at a file in a medium that is at its beginning, writes nothing, and reports what
-/// [`repair`](crate::repair) would find: the frames that the file holds, and how it was found.
+/// Looks at a file in a medium that is at its beginning, writes nothing, and reports what [`repair`](crate::repair)
+/// would find: the frames that the file holds, and how it was found.
 ///
-/// The errors, in their order: those of a reader's walk to the data, by the bytes; `Unsupported`,
-/// for samples that are not written with these bits, bytes and format; `TooLong`, where the RIFF
-/// size of the frames would pass 4294967295; `IoError`, where the medium failed.
+/// The errors, in their order: those of a reader's walk to the data, by the bytes; `Unsupported`, for samples that are
+/// not written with these bits, bytes and format; `TooLong`, where the RIFF size of the frames would pass 4294967295;
+/// `IoError`, where the medium failed.
 pub fn find_damage<S: Source>(medium: S) -> result::Result<(S, Repair), (S, Error)>
     requires { WhereTells S.tells ((S.state medium).place ≡ 0) }
     ensures sound { IfOk result (λ found. IsSoundSpec found.1.spec_ex) }

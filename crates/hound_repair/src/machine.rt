@@ -1,5 +1,5 @@
-// A repair whose caller reads and writes the file: it asks for one part after the other, and then says
-// what is to be done.
+// A repair whose caller reads and writes the file: it asks for one part after the other, and then says what is to be
+// done.
 ghost use Rattle.std.specs.Prelude.{◌≡◌, ◌+◌, ◌-◌, ◌≤◌, Ok, true, IfOk, IfSome, length};
 ghost use Rattle.hound_writer.specs.{nth};
 ghost use Rattle.hound_repair.specs.Damages.{IsSoundDamage};
@@ -7,7 +7,7 @@ ghost use Rattle.hound_repair.specs.Steps.{IsSoundStage, AsksEffect, AsksMore, A
 ghost use Rattle.hound_repair.specs.declared.machine.Repairing.TheVariants as states;
 
 use crate::look::{Damage, SeenHead};
-use crate::stages::{LookStep, Unrepairable, Stage, Task, measured, take_asked};
+use crate::stages::{LookStep, Stage, Task, Unrepairable, measured, take_asked};
 use hound_writer::{Action, Effect, RepairState, Report};
 
 impl Damage {
@@ -155,11 +155,11 @@ fn after_part(
     }
 }
 
-/// What the caller of a repair of a file of so many bytes does next, by how it reports what was
-/// requested last. `bytes` are those of the part that was read.
+/// What the caller of a repair of a file of so many bytes does next, by how it reports what was requested last. `bytes`
+/// are those of the part that was read.
 ///
-/// What is pending is requested again. Where something failed, each later call returns that error. After each report
-/// of `Done` fewer effects are left ([`a_repair_ends`](crate::a_repair_ends)).
+/// What is pending is requested again. Where something failed, each later call returns that error. After each report of
+/// `Done` fewer effects are left ([`a_repair_ends`](crate::a_repair_ends)).
 pub fn repair_next(
     state: &mut Repairing,
     length: u64,

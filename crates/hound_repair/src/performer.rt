@@ -10,7 +10,7 @@ ghost use Rattle.hound_repair.specs.Steps.{IsRepair, PerformedOn, PerformsOn, Me
 use crate::look::Damage;
 use crate::read_at::{length_of, part_at};
 use crate::sizes::Repair;
-use crate::stages::{LookStep, Unrepairable, Stage, Task, take_asked};
+use crate::stages::{LookStep, Stage, Task, Unrepairable, take_asked};
 use hound_medium::{Medium, Source};
 use hound_number::le_u32;
 use hound_spec::Error;
@@ -54,8 +54,7 @@ pub(crate) fn look_by_parts<S: Source>(source: &mut S, task: Task) -> Result<Dam
 
 // Performs an effect.
 fn perform<M: Medium>(medium: &mut M, effect: Effect) -> io::Result<()>
-    ensures { WhereTells M.tells
-        (PerformsOn M.keeps effect result (M.state medium.old) (M.state medium.new)) }
+    ensures { WhereTells M.tells (PerformsOn M.keeps effect result (M.state medium.old) (M.state medium.new)) }
 {
     match effect {
         Effect::Sync => medium.flush(),
@@ -89,8 +88,7 @@ pub(crate) fn repair_by_effects<M: Source + Medium>(
     ensures repaired { WhereTells M.tells (RepairsMedium (looks_for_chunks task) M.state medium result) }
     ensures moments { WhereKeeps M.tells M.keeps (MendsMedium (looks_for_chunks task) M.state medium result) }
     ensures lost { WhereKeeps M.tells M.keeps (SurvivesMending (looks_for_chunks task) M.state medium result) }
-    ensures performed { WhereTells M.tells
-        (PerformsRepair M.keeps (looks_for_chunks task) M.state medium result) }
+    ensures performed { WhereTells M.tells (PerformsRepair M.keeps (looks_for_chunks task) M.state medium result) }
 {
     let mut medium = medium;
     let damage = match look_by_parts(&mut medium, task) {

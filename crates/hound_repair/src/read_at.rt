@@ -28,12 +28,11 @@ pub(crate) fn part_at<S: Source>(source: &mut S, place: u64, buf: &mut [u8]) -> 
     Ok(at)
 }
 
-/// How many bytes there are, up to `LIMIT`. It halves the range that the end is in, so it reads a byte
-/// some thirty times.
+/// How many bytes there are, up to `LIMIT`. It halves the range that the end is in, so it reads a byte some thirty
+/// times.
 pub(crate) fn length_of<S: Source>(source: &mut S) -> io::Result<u64>
     ensures looks { WhereTells S.tells (Looks result (S.state source.old) (S.state source.new)) }
-    ensures length { WhereTells S.tells (IfOk result (λ n.
-        n ≡ min (length (S.state source.old).contents) (2 ^ 33))) }
+    ensures length { WhereTells S.tells (IfOk result (λ n. n ≡ min (length (S.state source.old).contents) (2 ^ 33))) }
     ensures few { IfOk result (λ n. n ≤ 2 ^ 33) }
 {
     let mut low = 0;

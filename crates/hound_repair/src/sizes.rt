@@ -36,8 +36,8 @@ pub(crate) struct Sizes {
     pub(crate) left_over: u32,
 }
 
-/// The right sizes of a file with this head that shows this data length, and holds so many bytes from
-/// the data on, if the RIFF size fits.
+/// The right sizes of a file with this head that shows this data length, and holds so many bytes from the data on, if
+/// the RIFF size fits.
 #[tactic(auto, using(crate::proofs::Dividing::whole_le, crate::proofs::Dividing::times_le), unfolding(crate::specs::Repairing::size_fault, crate::specs::Held::data_held, crate::specs::Held::ends_with_pad))]
 pub(crate) fn right_sizes(head: SeenHead, shown: u64, held: u64) -> Option<Sizes>
     requires sound { IsSoundSpec head.spec_ex }

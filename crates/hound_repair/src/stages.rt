@@ -26,8 +26,8 @@ pub enum Task {
     /// What [`repair_to_end`](crate::repair_to_end) does.
     RepairToEnd,
 
-    /// What [`repair`](crate::repair) does, and the same to a file whose samples are all counted: its RIFF size
-    /// and its pad byte become those of the canonical form.
+    /// What [`repair`](crate::repair) does, and the same to a file whose samples are all counted: its RIFF size and its
+    /// pad byte become those of the canonical form.
     MakeCanonical,
 }
 
@@ -151,8 +151,7 @@ fn unfollowed_state(counts_all: bool) -> RepairState
 pub(crate) fn measured(size: u64, head: SeenHead) -> Result<Damage, Unrepairable>
     requires sound { IsSoundHead head }
     ensures measures { (file : List ℕ) → IsLengthOf size file
-        → Head file head.spec_ex head.data_length head.data_start → IsShown file head
-        → MeasuresTo file result }
+        → Head file head.spec_ex head.data_length head.data_start → IsShown file head → MeasuresTo file result }
     ensures sound { IfOk result IsSoundDamage }
     ensures head { IfOk result (λ d. d.head ≡ head) }
     ensures unfollowed { IfOk result IsUnfollowed }
@@ -207,10 +206,8 @@ fn at_end(damage: Damage) -> LookStep
 // On, where no chunk begins at a place, which was that after the pad byte.
 fn at_no_chunk(damage: Damage, padded: bool) -> LookStep
     requires sound { IsSoundDamage damage }
-    ensures leads { (looks : Bool) (file : List ℕ) → IsMeasured file damage
-        → IsNotWhole looks file damage.head
-        → (followed file damage.head ≡ else_followed padded file damage.head)
-        → LooksTo looks file (Ok result) }
+    ensures leads { (looks : Bool) (file : List ℕ) → IsMeasured file damage → IsNotWhole looks file damage.head
+        → (followed file damage.head ≡ else_followed padded file damage.head) → LooksTo looks file (Ok result) }
     ensures sound { IsSoundLook result }
     ensures nearer { (n place : ℕ) → damage.head.data_start + damage.held ≤ n
         → StageNearer n (steps_left n (stages.Chunk damage.head place padded)) result }
@@ -302,8 +299,7 @@ fn take_tag(damage: Damage, bytes: &[u8]) -> LookStep
     LookStep::Found(damage)
 }
 
-// What is requested once the head is found: the byte after the data, if it is the only one, or the RIFF
-// size.
+// What is requested once the head is found: the byte after the data, if it is the only one, or the RIFF size.
 fn after_head(length: u64, head: FileHead) -> Stage
     requires place { IsDataPlace head.data_start }
     requires sound { IsSoundSpec head.spec_ex }
@@ -335,8 +331,7 @@ fn is_sample(bytes: &[u8]) -> bool
 fn take_last(head: SeenHead, bytes: &[u8]) -> LookStep
     requires sound { IsSoundHead head }
     ensures leads { (looks : Bool) (file : List ℕ) → IsAtStage looks file (stages.Last head)
-        → (bytes.now ≡ take 1 (drop (head.data_start + head.data_length) file))
-        → LooksTo looks file (Ok result) }
+        → (bytes.now ≡ take 1 (drop (head.data_start + head.data_length) file)) → LooksTo looks file (Ok result) }
     ensures sound { IsSoundLook result }
     ensures nearer { (n : ℕ) → StageNearer n (steps_left n (stages.Last head)) result }
 {
@@ -361,8 +356,8 @@ fn take_header(length: u64, walk: HeadWalk, bytes: &[u8]) -> Result<LookStep, Un
     }
 }
 
-// Takes the bytes that a look asks for, fewer only at the end of the file, and returns where they
-// lead: to another part, or to what `repair` finds. At an error the look has ended.
+// Takes the bytes that a look asks for, fewer only at the end of the file, and returns where they lead: to another
+// part, or to what `repair` finds. At an error the look has ended.
 pub(crate) fn take_asked(
     length: u64,
     task: Task,

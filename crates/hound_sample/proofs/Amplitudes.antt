@@ -33,16 +33,21 @@ with_noise-length float bits state (x ∷ values) = ap suc (with_noise-length fl
 
 -- where those that are left begin with a state, the next one has the noise of the state after it, and the others begin
 -- with that
-pub next_with_noise : {A : Type 0} (float : A → Float) (bits seed state i : ℕ) (values : List A) (x : A) → i < length values
+pub next_with_noise : {A : Type 0} (float : A → Float) (bits seed state i : ℕ) (values : List A) (x : A)
+    → i < length values
     → x ≡ get_or values i x
     → drop i (with_noise float bits seed values) ≡ with_noise float bits state (drop i values)
-    → (slice_index_or (with_noise float bits seed values) i nan ≡ add binary64 (float x) (noise bits (next_state state)))
-    × (drop (i + 1) (with_noise float bits seed values) ≡ with_noise float bits (next_state state) (drop (i + 1) values))
+    → (slice_index_or (with_noise float bits seed values) i nan ≡ add binary64 (float x)
+    (noise bits (next_state state)))
+    × (drop (i + 1) (with_noise float bits seed values) ≡ with_noise float bits (next_state state)
+    (drop (i + 1) values))
 unfolding with_noise
 next_with_noise float bits seed state i values x less is left =
-    let some : i < length (with_noise float bits seed values) = omega (arith, less, with_noise-length float bits seed values) in
+    let some : i < length (with_noise float bits seed values) =
+    omega (arith, less, with_noise-length float bits seed values) in
     let first = drop_more values i x less ∙ ap (λ y. y ∷ drop (i + 1) values) (sym is) in
-    let both = sym (drop_more (with_noise float bits seed values) i nan some) ∙ left ∙ ap (with_noise float bits state) first in
+    let both = sym (drop_more (with_noise float bits seed values) i nan some) ∙ left
+    ∙ ap (with_noise float bits state) first in
     (heads both, tails both)
   where
     heads : {x y : Float} {xs ys : List Float} → x ∷ xs ≡ y ∷ ys → x ≡ y
@@ -56,7 +61,8 @@ pub one_more : (i state : ℕ) → next_state (state_after i state) ≡ state_af
 unfolding state_after
 one_more zero state = refl
 one_more (suc i) state =
-    one_more i (next_state state) ∙ ap (λ n. state_after n state) (let same : suc (i + 1) ≡ suc i + 1 = omega arith in same)
+    one_more i (next_state state)
+    ∙ ap (λ n. state_after n state) (let same : suc (i + 1) ≡ suc i + 1 = omega arith in same)
 
 -- a state after no other is itself
 pub none_more : (state : ℕ) → state ≡ state_after 0 state
@@ -72,6 +78,7 @@ joined_next bits width floats i c less is =
     let container = λ (v : ℤ). bytes_in (int_container v bits width) in
     ap (λ xs. flat_map container (map (scaled_to bits) xs)) (take_more floats i nan less)
     ∙ ap (flat_map container) (map-append (scaled_to bits) (take i floats) (slice_index_or floats i nan ∷ []))
-    ∙ flat_map-append container (map (scaled_to bits) (take i floats)) (scaled_to bits (slice_index_or floats i nan) ∷ [])
+    ∙ flat_map-append container (map (scaled_to bits) (take i floats))
+    (scaled_to bits (slice_index_or floats i nan) ∷ [])
     ∙ ap (λ xs. flat_map container (map (scaled_to bits) (take i floats)) ++ xs)
     (append-nil (container (scaled_to bits (slice_index_or floats i nan))) ∙ ap bytes_in is)

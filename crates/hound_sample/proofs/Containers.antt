@@ -4,8 +4,7 @@ use Rattle.std.proofs.lemmas.List.{take-take, drop-take, drop-drop}
 use Rattle.hound_sample.specs.Container.{containers}
 
 -- the same front has the same containers
-pub containers_front : (width count : ℕ) (a b : List ℕ)
-    → take (count * width) a ≡ take (count * width) b
+pub containers_front : (width count : ℕ) (a b : List ℕ) → take (count * width) a ≡ take (count * width) b
     → containers width count a ≡ containers width count b
 containers_front width zero a b same = refl
 containers_front width (suc count) a b same =
@@ -35,8 +34,7 @@ containers_append w (suc few) more bytes =
     (drop-drop (few * w) w bytes
     ∙ ap (λ n. drop n bytes) (let e : w + few * w ≡ suc few * w = omega arith in e)))
 
-pub length-containers : (width count : ℕ) (bytes : List ℕ)
-    → length (containers width count bytes) ≡ count
+pub length-containers : (width count : ℕ) (bytes : List ℕ) → length (containers width count bytes) ≡ count
 length-containers width zero bytes = refl
 length-containers width (suc count) bytes =
     ap suc (length-containers width count (drop width bytes))

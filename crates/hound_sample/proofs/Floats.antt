@@ -88,7 +88,8 @@ whole_of (fin t m e) s n v h =
     let is : m * up e ≡ n * down e = sym (mul-one (m * up e)) ∙ v.1 in
     let quotient : m * up e / down e ≡ n = ap (λ k. k / down e) is ∙ mul-div_cancel n (down_pos e) in
     let rest : m * up e % down e ≡ 0 = ap (λ k. k % down e) is ∙ mul-mod_left n (down e) in (
-      λ positive. rw (v.0 ∙ positive, rest, quotient, le-leb n (2 ^ 53) (omega arith), lt-ltb n (2 ^ 63) (omega arith)) tt,
+      λ positive. rw (v.0 ∙ positive, rest, quotient, le-leb n (2 ^ 53) (omega arith), lt-ltb n (2 ^ 63) (omega arith))
+          tt,
       rw (v.0, quotient) (by s),
     )
   where
@@ -101,7 +102,8 @@ exact : (s : Bool) (n : ℕ) → n ≤ 2 ^ 52 → HasValue (round binary64 s n 1
 exact s n h =
     let small : n < 2 ^ 53 = omega arith in
     let fine : n * 2 ^ low binary64 < 2 ^ (low binary64 + suc (emax binary64)) =
-    lt_of_lt_of_le (shl_lt 53 (low binary64) small) (pow_mono {i = 53 + low binary64} {j = low binary64 + suc (emax binary64)} (lit≤ (tt {0}))) in
+    lt_of_lt_of_le (shl_lt 53 (low binary64) small)
+    (pow_mono {i = 53 + low binary64} {j = low binary64 + suc (emax binary64)} (lit≤ (tt {0}))) in
     round_exact binary64 s n 1 n (low binary64) (lit≤ tt) small fine (sym (mul-one (n * 2 ^ low binary64)))
 
 rounded : (s : Bool) (n : ℕ) → n ≤ 2 ^ 52 → Whole (round binary64 s n 1) s n
@@ -119,11 +121,19 @@ spaced a d c some lo hi is most =
     let L = 2 ^ 1074 in
     let lo' : 2 ^ (52 + 1074) * d ≤ a * L = omega (arith, mul-le-mul_right L lo) in
     let hi' : a * L < 2 ^ (53 + 1074) * d = omega (arith, mul-lt-mul_of_pos_right hi (pow_pos 1074)) in
-    let k : size (a * L / d) - 53 ≡ 1074 = omega (arith, size-gt (a * L / d) (52 + 1074) ((le-div_iff_mul-le some).1 lo'), size-le (a * L / d) (53 + 1074) ((div-lt_iff_lt-mul some).1 hi')) in
-    let kept : closest (a * L) (d * L) ≡ c = closest_same (a * L) (d * L) a d (mul-pos some (pow_pos 1074)) some (omega arith) ∙ is in
-    let y : round binary64 false a d ≡ units binary64 false c 1074 = round_is binary64 false a d ∙ ap (core binary64 false (a * L) d) k ∙ ap (λ (q : ℕ). units binary64 false q 1074) kept in
+    let k : size (a * L / d) - 53 ≡ 1074 =
+    omega (
+      arith,
+      size-gt (a * L / d) (52 + 1074) ((le-div_iff_mul-le some).1 lo'),
+      size-le (a * L / d) (53 + 1074) ((div-lt_iff_lt-mul some).1 hi'),
+    ) in
+    let kept : closest (a * L) (d * L) ≡ c = closest_same (a * L) (d * L) a d (mul-pos some (pow_pos 1074)) some
+    (omega arith) ∙ is in
+    let y : round binary64 false a d ≡ units binary64 false c 1074 = round_is binary64 false a d
+    ∙ ap (core binary64 false (a * L) d) k ∙ ap (λ (q : ℕ). units binary64 false q 1074) kept in
     scaled_down (round binary64 false a d) c L (pow_pos 1074)
-    (subst (λ (z : Float). HasValue z false (c * L) L) (sym y) (units_val binary64 false c 1074 (lt_of_le_of_lt (mul-le-mul_right L most) (ltb→lt _ _ tt))))
+    (subst (λ (z : Float). HasValue z false (c * L) L) (sym y)
+    (units_val binary64 false c 1074 (lt_of_le_of_lt (mul-le-mul_right L most) (ltb→lt _ _ tt))))
   where
     scaled_down : (z : Float) (n l : ℕ) → 0 < l → HasValue z false (n * l) l → HasValue z false n 1
     scaled_down nan n l p v = absurd v
@@ -189,16 +199,20 @@ parts_of : (a d : ℕ) → 0 < d → (a ≡ a / d * d + a % d) × (a % d < d)
 parts_of a d some = (sym (div-add-mod' a d), mod-lt a some)
 
 mirrored : (h a d : ℕ) → 0 < d → a < 2 * h * d → closest (2 * h * d - a) d ≡ 2 * h - closest a d
-mirrored h a d some less = by (a / d) (a % d) (parts_of a d some).0 (parts_of a d some).1 ((div-lt_iff_lt-mul some).1 less)
+mirrored h a d some less = by (a / d) (a % d) (parts_of a d some).0 (parts_of a d some).1
+    ((div-lt_iff_lt-mul some).1 less)
   where
-    by : (q r : ℕ) → a ≡ q * d + r → r < d → q < 2 * h → closest (2 * h * d - a) d ≡ 2 * h - nearest q (compare (r * 2) d)
+    by : (q r : ℕ) → a ≡ q * d + r → r < d → q < 2 * h
+        → closest (2 * h * d - a) d ≡ 2 * h - nearest q (compare (r * 2) d)
     by q zero is low most =
-        let all : (2 * h - q) * d + q * d ≡ 2 * h * d = sym (add-mul (2 * h - q) q d) ∙ ap (λ k. k * d) (omega (arith, most)) in
+        let all : (2 * h - q) * d + q * d ≡ 2 * h * d = sym (add-mul (2 * h - q) q d)
+        ∙ ap (λ k. k * d) (omega (arith, most)) in
         by_parts (2 * h * d - a) d (2 * h - q) 0 (omega (arith, all, is)) some
         ∙ (λ i. nearest (2 * h - q) (compare-lt 0 d some i))
         ∙ (λ i. 2 * h - nearest q (sym (compare-lt 0 d some) i))
     by q (suc r) is low most =
-        let all : (2 * h - q - 1) * d + (q + 1) * d ≡ 2 * h * d = sym (add-mul (2 * h - q - 1) (q + 1) d) ∙ ap (λ k. k * d) (omega (arith, most)) in
+        let all : (2 * h - q - 1) * d + (q + 1) * d ≡ 2 * h * d = sym (add-mul (2 * h - q - 1) (q + 1) d)
+        ∙ ap (λ k. k * d) (omega (arith, most)) in
         by_parts (2 * h * d - a) d (2 * h - q - 1) (d - suc r) (omega (arith, all, is, low)) (omega arith)
         ∙ turned h q (suc r) d (omega arith) low most
 
@@ -220,7 +234,8 @@ moved s n = cond s (3 * 2 ^ 51 - n) (n + 3 * 2 ^ 51)
 
 -- a float within a limit is rounded to n with the sign s, and so is its sum, and n is within it
 abbrev Nearest : Float → ℕ → Type 0
-Nearest x limit = (s : Bool) × (n : ℕ) × (n ≤ limit) × HasValue (add binary64 x (fin false 3 (pos 51))) false (moved s n) 1
+Nearest x limit = (s : Bool) × (n : ℕ) × (n ≤ limit) × HasValue (add binary64 x (fin false 3 (pos 51))) false
+    (moved s n) 1
     × (to_signed 63 (round_ties_even binary64 x) ≡ cond s (neg_ℤ (pos n)) (pos n))
 
 by_value : (x y : Float) (limit : ℕ) → limit < 2 ^ 31 → HasValue y false limit 1 → lt (neg y) x ≡ true → lt x y ≡ true
@@ -253,18 +268,26 @@ by_value (fin s m e) (fin t a b) limit few v g h = (s, closest (m * up e) (down 
         let next = nearest-le (m * up e / down e) (compare (m * up e % down e * 2) (down e)) in
         omega arith
 
-    by : (s : Bool) → HasValue (add binary64 (fin s m e) (fin false 3 (pos 51))) false (moved s (closest (m * up e) (down e))) 1
-        × (to_signed 63 (round_ties_even binary64 (fin s m e)) ≡ cond s (neg_ℤ (pos (closest (m * up e) (down e)))) (pos (closest (m * up e) (down e))))
+    by : (s : Bool) → HasValue (add binary64 (fin s m e) (fin false 3 (pos 51))) false
+        (moved s (closest (m * up e) (down e))) 1
+        × (to_signed 63 (round_ties_even binary64 (fin s m e)) ≡ cond s (neg_ℤ (pos (closest (m * up e) (down e))))
+        (pos (closest (m * up e) (down e))))
     by false = (
-      spaced (m * up e * 1 + 3 * 2 ^ 51 * down e) (down e * 1) (closest (m * up e) (down e) + 3 * 2 ^ 51) (omega (arith, down_pos e)) (omega (arith, small)) (omega (arith, small))
-          (ap (λ d. closest (m * up e * 1 + 3 * 2 ^ 51 * down e) d) (mul-one (down e)) ∙ ap (λ a. closest (a + 3 * 2 ^ 51 * down e) (down e)) (mul-one (m * up e)) ∙ added (3 * 2 ^ 50) (m * up e) (down e) (down_pos e))
+      spaced (m * up e * 1 + 3 * 2 ^ 51 * down e) (down e * 1) (closest (m * up e) (down e) + 3 * 2 ^ 51)
+          (omega (arith, down_pos e)) (omega (arith, small)) (omega (arith, small))
+          (ap (λ d. closest (m * up e * 1 + 3 * 2 ^ 51 * down e) d) (mul-one (down e))
+          ∙ ap (λ a. closest (a + 3 * 2 ^ 51 * down e) (down e)) (mul-one (m * up e))
+          ∙ added (3 * 2 ^ 50) (m * up e) (down e) (down_pos e))
           (omega (arith, most, few)),
       (rounded false (closest (m * up e) (down e)) (omega (arith, most, few))).1,
     )
     by true = (
       rw (lt-ltb (m * up e * 1) (3 * 2 ^ 51 * down e) (omega (arith, small)))
-          (spaced (3 * 2 ^ 51 * down e - m * up e * 1) (down e * 1) (3 * 2 ^ 51 - closest (m * up e) (down e)) (omega (arith, down_pos e)) (omega (arith, small)) (omega (arith, small))
-          (ap (λ d. closest (3 * 2 ^ 51 * down e - m * up e * 1) d) (mul-one (down e)) ∙ ap (λ a. closest (3 * 2 ^ 51 * down e - a) (down e)) (mul-one (m * up e)) ∙ mirrored (3 * 2 ^ 50) (m * up e) (down e) (down_pos e) (omega (arith, small)))
+          (spaced (3 * 2 ^ 51 * down e - m * up e * 1) (down e * 1) (3 * 2 ^ 51 - closest (m * up e) (down e))
+          (omega (arith, down_pos e)) (omega (arith, small)) (omega (arith, small))
+          (ap (λ d. closest (3 * 2 ^ 51 * down e - m * up e * 1) d) (mul-one (down e))
+          ∙ ap (λ a. closest (3 * 2 ^ 51 * down e - a) (down e)) (mul-one (m * up e))
+          ∙ mirrored (3 * 2 ^ 50) (m * up e) (down e) (down_pos e) (omega (arith, small)))
           (omega (arith, most, few))),
       (rounded true (closest (m * up e) (down e)) (omega (arith, most, few))).1,
     )
@@ -275,8 +298,8 @@ unfolding of_bits
 middle_is = refl
 
 -- what a sum has over 3 * 2^51
-difference : (s : Bool) (n : ℕ) → n < 2 ^ 31
-    → FitsSigned w64 (pos (moved s n) -ℤ pos (3 * 2 ^ 51)) × (pos (moved s n) -ℤ pos (3 * 2 ^ 51) ≡ cond s (neg_ℤ (pos n)) (pos n))
+difference : (s : Bool) (n : ℕ) → n < 2 ^ 31 → FitsSigned w64 (pos (moved s n) -ℤ pos (3 * 2 ^ 51))
+    × (pos (moved s n) -ℤ pos (3 * 2 ^ 51) ≡ cond s (neg_ℤ (pos n)) (pos n))
 difference s n few = (subst (FitsSigned w64) (sym (is s)) (held s n few), is s)
   where
     held : (s : Bool) (n : ℕ) → n < 2 ^ 31 → FitsSigned w64 (cond s (neg_ℤ (pos n)) (pos n))
@@ -285,8 +308,10 @@ difference s n few = (subst (FitsSigned w64) (sym (is s)) (held s n few), is s)
     held true (suc n) h = record { sfits = omega (arith, h) }
 
     is : (s : Bool) → pos (moved s n) -ℤ pos (3 * 2 ^ 51) ≡ cond s (neg_ℤ (pos n)) (pos n)
-    is false = same_in (pos (n + 3 * 2 ^ 51) +ℤ neg_ℤ (pos (3 * 2 ^ 51))) (pos n) (omega (arith, ints, sum_is_lem, neg_is))
-    is true = same_in (pos (3 * 2 ^ 51 - n) +ℤ neg_ℤ (pos (3 * 2 ^ 51))) (neg_ℤ (pos n)) (omega (arith, ints, sum_is_lem, neg_is, few))
+    is false = same_in (pos (n + 3 * 2 ^ 51) +ℤ neg_ℤ (pos (3 * 2 ^ 51))) (pos n)
+        (omega (arith, ints, sum_is_lem, neg_is))
+    is true = same_in (pos (3 * 2 ^ 51 - n) +ℤ neg_ℤ (pos (3 * 2 ^ 51))) (neg_ℤ (pos n))
+        (omega (arith, ints, sum_is_lem, neg_is, few))
 
 -- a float within a limit: the sum loses nothing as an integer, and what it has over 3 * 2^51 is nearest to the float
 module _ (x : Float) (limit : ℕ) (few : limit < 2 ^ 31) (above : lt (neg (of_int binary64 (pos limit))) x ≡ true)
@@ -306,7 +331,8 @@ module _ (x : Float) (limit : ℕ) (few : limit < 2 ^ 31) (above : lt (neg (of_i
 
   total_is : Whole total false (moved near.0 near.1)
   total_is = whole_of total false (moved near.0 near.1)
-      (subst (λ y. HasValue (add binary64 x y) false (moved near.0 near.1) 1) (sym middle_is) near.3) (held near.0 near.1 low_near)
+      (subst (λ y. HasValue (add binary64 x y) false (moved near.0 near.1) 1) (sym middle_is) near.3)
+      (held near.0 near.1 low_near)
     where
       held : (s : Bool) (n : ℕ) → n < 2 ^ 31 → moved s n ≤ 2 ^ 53
       held true n h = omega (arith, h)
@@ -316,8 +342,8 @@ module _ (x : Float) (limit : ℕ) (few : limit < 2 ^ 31) (above : lt (neg (of_i
   can_cast = total_is.0 refl
 
   rest_is : rest ≡ cond near.0 (neg_ℤ (pos near.1)) (pos near.1)
-  rest_is = ap (λ z. to_z w64 (of_z w64 z) -ℤ pos (3 * 2 ^ 51)) total_is.1
-      ∙ ap (λ z. z -ℤ pos (3 * 2 ^ 51)) (to_z-of_z {w = w64} {z = pos (moved near.0 near.1)} (held near.0 near.1 low_near))
+  rest_is = ap (λ z. to_z w64 (of_z w64 z) -ℤ pos (3 * 2 ^ 51)) total_is.1 ∙ ap (λ z. z -ℤ pos (3 * 2 ^ 51))
+      (to_z-of_z {w = w64} {z = pos (moved near.0 near.1)} (held near.0 near.1 low_near))
       ∙ (difference near.0 near.1 low_near).1
     where
       held : (s : Bool) (n : ℕ) → n < 2 ^ 31 → FitsSigned w64 (pos (moved s n))
@@ -325,7 +351,8 @@ module _ (x : Float) (limit : ℕ) (few : limit < 2 ^ 31) (above : lt (neg (of_i
       held false n h = record { sfits = omega (arith, h) }
 
   pub rest_fits : FitsSigned w64 rest
-  rest_fits = subst (FitsSigned w64) ((difference near.0 near.1 low_near).1 ∙ sym rest_is) (difference near.0 near.1 low_near).0
+  rest_fits = subst (FitsSigned w64) ((difference near.0 near.1 low_near).1 ∙ sym rest_is)
+      (difference near.0 near.1 low_near).0
 
   rest_within : nat_abs rest ≤ limit
   rest_within = subst (λ z. nat_abs z ≤ limit) (sym rest_is) (held near.0 near.1 near.2)
@@ -401,19 +428,23 @@ are_powers : Format → ℕ → ℕ → Bool
 unfolding of_int of_bits div round units odd size
 are_powers f one zero = true
 are_powers f one (suc n) =
-    is_power n (of_int f (pos (2 ^ n))) && (is_step n (div f (of_bits f one) (fin false 1 (pos n))) && are_powers f one n)
+    is_power n (of_int f (pos (2 ^ n))) &&
+    (is_step n (div f (of_bits f one) (fin false 1 (pos n))) && are_powers f one n)
 
 both : (a b : Bool) → (a && b) ≡ true → (a ≡ true) × (b ≡ true)
 both true b h = (refl, h)
 both false b h = absurd (true≢false (sym h))
 
 abbrev IsPower : Format → ℕ → ℕ → Type 0
-IsPower f one k = (is_power k (of_int f (pos (2 ^ k))) ≡ true) × (is_step k (div f (of_bits f one) (fin false 1 (pos k))) ≡ true)
+IsPower f one k = (is_power k (of_int f (pos (2 ^ k))) ≡ true)
+    × (is_step k (div f (of_bits f one) (fin false 1 (pos k))) ≡ true)
 
-last_and_others : (f : Format) (one n : ℕ) → are_powers f one (suc n) ≡ true → IsPower f one n × (are_powers f one n ≡ true)
+last_and_others : (f : Format) (one n : ℕ) → are_powers f one (suc n) ≡ true → IsPower f one n
+    × (are_powers f one n ≡ true)
 unfolding are_powers
 last_and_others f one n all =
-    let (power, more) = both (is_power n (of_int f (pos (2 ^ n)))) (is_step n (div f (of_bits f one) (fin false 1 (pos n))) && are_powers f one n) all in
+    let (power, more) = both (is_power n (of_int f (pos (2 ^ n))))
+    (is_step n (div f (of_bits f one) (fin false 1 (pos n))) && are_powers f one n) all in
     let (step, others) = both (is_step n (div f (of_bits f one) (fin false 1 (pos n)))) (are_powers f one n) more in
     ((power, step), others)
 
@@ -425,7 +456,8 @@ one_below f one (suc n) k all less =
   where
     by : (b : Bool) → ltb k n ≡ b → IsPower f one n → (k < n → IsPower f one k) → IsPower f one k
     by true h last before = before (ltb-true _ _ h)
-    by false h last before = subst (λ j. IsPower f one j) (let same : n ≡ k = omega (arith, less, ltb-false _ _ h) in same) last
+    by false h last before =
+        subst (λ j. IsPower f one j) (let same : n ≡ k = omega (arith, less, ltb-false _ _ h) in same) last
 
 -- a float times 1 over 2^k, by what the code has of both
 times_step : (f : Format) (one n : ℕ) → are_powers f one n ≡ true → (k : ℕ) → k < n → (x : Float)
@@ -461,5 +493,6 @@ pub times_one_over : (k : ℕ) → k < 48 → (x : Float)
 times_one_over k less x =
     ap (λ y. mul binary64 x (div binary64 y (of_int binary64 (pos (2 ^ k))))) one_is ∙ times_step64 k less x
 
-pub one_over : (y : Float) → div binary64 (of_bits binary64 0x3ff0_0000_0000_0000) y ≡ div binary64 (of_int binary64 (pos 1)) y
+pub one_over : (y : Float) → div binary64 (of_bits binary64 0x3ff0_0000_0000_0000) y ≡ div binary64
+    (of_int binary64 (pos 1)) y
 one_over y = ap (λ x. div binary64 x y) (sym one_is)

@@ -38,8 +38,7 @@ both_ok (Ok container) (Ok list) one rest = refl
 
 module _ {V : Type 0} (container : V → Result (List ℕ) Rejection) where
   -- whether values have containers, and one after them
-  pub ok_append : (values : List V) (value : V)
-      → is_ok (all_containers container (values ++ value ∷ []))
+  pub ok_append : (values : List V) (value : V) → is_ok (all_containers container (values ++ value ∷ []))
       ≡ (is_ok (all_containers container values) && is_ok (container value))
   ok_append [] value = and_more-ok (container value) (Ok []) ∙ and-true (is_ok (container value))
   ok_append (first ∷ values) value =
@@ -50,8 +49,7 @@ module _ {V : Type 0} (container : V → Result (List ℕ) Rejection) where
       ∙ ap (λ b. b && is_ok (container value))
       (sym (and_more-ok (container first) (all_containers container values)))
 
-  pub ok_more : (values : List V) (i : ℕ) (value : V) → i < length values
-      → value ≡ get_or values i value
+  pub ok_more : (values : List V) (i : ℕ) (value : V) → i < length values → value ≡ get_or values i value
       → is_ok (all_containers container (take (i + 1) values))
       ≡ (is_ok (all_containers container (take i values)) && is_ok (container value))
   ok_more values i value inside is = grind (arith, common_steps, ok_append)
@@ -132,15 +130,13 @@ module _ {V : Type 0} (container : V → Result (List ℕ) Rejection) where
   joined_more values i value c inside is has = grind (arith, common_steps)
 
   -- values that all have containers, each of one width
-  module _ (width : ℕ)
-      (sized : (value : V) (c : List ℕ) → container value ≡ Ok c → length c ≡ width) where
+  module _ (width : ℕ) (sized : (value : V) (c : List ℕ) → container value ≡ Ok c → length c ≡ width) where
     -- the list of containers, its bytes and their number
     pub record Joined (values : List V) (list : List (List ℕ)) : Type 0 where
       pub bytes : joined_containers container values ≡ concat list
       pub size : length (joined_containers container values) ≡ width * length values
       pub count : length list ≡ length values
-      pub back : (rest : List ℕ)
-          → containers width (length list) (concat list ++ rest) ≡ list
+      pub back : (rest : List ℕ) → containers width (length list) (concat list ++ rest) ≡ list
 
     pub joined : (values : List V) (list : List (List ℕ))
         → all_containers container values ≡ Ok list → Joined values list
@@ -154,8 +150,7 @@ module _ {V : Type 0} (container : V → Result (List ℕ) Rejection) where
         go (container first) refl (all_containers container values)
         (λ others others_are. joined values others others_are) is
       where
-        go : (one : Result (List ℕ) Rejection) → container first ≡ one
-            → (more : Result (List (List ℕ)) Rejection)
+        go : (one : Result (List ℕ) Rejection) → container first ≡ one → (more : Result (List (List ℕ)) Rejection)
             → ((others : List (List ℕ)) → more ≡ Ok others → Joined values others)
             → and_more one more ≡ Ok list → Joined (first ∷ values) list
         go (Err rejection) first_is more others_are is = cc
@@ -172,8 +167,7 @@ module _ {V : Type 0} (container : V → Result (List ℕ) Rejection) where
                   (arith, length-append c (joined_containers container values), wide, rest.size)
                   in e);
               count = ap suc rest.count;
-              back = λ after. ap (λ l. containers width (suc (length others)) l)
-                  (append_assoc c (concat others) after)
+              back = λ after. ap (λ l. containers width (suc (length others)) l) (append_assoc c (concat others) after)
                   ∙ (λ i. take_at c (concat others ++ after) width wide i
                   ∷ (containers width (length others)
                   (drop_at c (concat others ++ after) width wide i)))
@@ -191,8 +185,7 @@ module _ {V : Type 0} (container : V → Result (List ℕ) Rejection) where
         go (Err rejection) is have = cc
 
     -- the bytes of the values from one on
-    pub joined_rest : (values : List V) (i : ℕ) → i ≤ length values
-        → IsOk (all_containers container values)
+    pub joined_rest : (values : List V) (i : ℕ) → i ≤ length values → IsOk (all_containers container values)
         → drop (width * i) (joined_containers container values)
         ≡ joined_containers container (drop i values)
     joined_rest values i inside have =
@@ -213,8 +206,7 @@ length-concat w (c ∷ list) (one, each) = let more = length-concat w list each 
     omega (arith, one, more, length-append c (concat list))
 
 -- are these containers
-pub containers-concat : (w : ℕ) (list : List (List ℕ)) (rest : List ℕ)
-    → AllByRecursion (λ c. length c ≡ w) list
+pub containers-concat : (w : ℕ) (list : List (List ℕ)) (rest : List ℕ) → AllByRecursion (λ c. length c ≡ w) list
     → containers w (length list) (concat list ++ rest) ≡ list
 containers-concat w [] rest each = refl
 containers-concat w (c ∷ list) rest (one, each) =

@@ -44,8 +44,7 @@ split_taken n bytes None new taken = (None, tt, tt)
 split_taken n bytes (Some xs) None taken = absurd taken
 split_taken n bytes (Some xs) (Some ys) taken = (
   Some (drop n bytes ++ ys),
-  taken ∙ ap (λ l. l ++ ys) (sym (take-append-drop n bytes))
-      ∙ append_assoc (take n bytes) (drop n bytes) ys,
+  taken ∙ ap (λ l. l ++ ys) (sym (take-append-drop n bytes)) ∙ append_assoc (take n bytes) (drop n bytes) ys,
   refl,
 )
 
@@ -62,8 +61,7 @@ module _ {A : Type 0} (meaning : List ℕ → A) (width : ℕ) where
   one_read bytes old new enough taken =
       let (mid, first, rest) = split_taken width bytes old new taken in (
         mid,
-        takes_container (take width bytes) old mid width meaning _ first
-            (length-take-le width bytes enough) refl,
+        takes_container (take width bytes) old mid width meaning _ first (length-take-le width bytes enough) refl,
         rest,
       )
 
@@ -98,8 +96,7 @@ module _ {A : Type 0} (meaning : List ℕ → A) (width : ℕ) where
       let (mid, first, rest) = one_read bytes old new (omega (arith, enough)) taken in (
         mid,
         first,
-        part_read count (drop width bytes) mid new e
-            (omega (arith, enough, length-drop width bytes))
+        part_read count (drop width bytes) mid new e (omega (arith, enough, length-drop width bytes))
             (omega (arith, enough, few, length-drop width bytes)) rest,
       )
 

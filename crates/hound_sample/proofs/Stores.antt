@@ -20,8 +20,7 @@ store : (l : List ℕ) (at k byte : ℕ) → at + k < length l
     → take (at + (k + 1)) (slice_set l (at + k) byte) ≡ take (at + k) l ++ byte ∷ []
 store l at k byte inside = grind (arith, common_steps)
 
-pub four_stored : (l : List ℕ) (at width : ℕ) (bytes : List ℕ) → length bytes ≡ 4
-    → at + 4 ≤ length l → width ≤ 4
+pub four_stored : (l : List ℕ) (at width : ℕ) (bytes : List ℕ) → length bytes ≡ 4 → at + 4 ≤ length l → width ≤ 4
     → take (at + width)
     (slice_set
     (slice_set

@@ -1,5 +1,5 @@
--- The container of a sample: its bytes in the file (WAVEFORMATEX, "wBitsPerSample", "nBlockAlign");
--- what the calls that make it return; and those of many samples.
+-- The container of a sample: its bytes in the file (WAVEFORMATEX, "wBitsPerSample", "nBlockAlign"); what the calls that
+-- make it return; and those of many samples.
 use Rattle.std.specs.Prelude.{ℕ, zero, suc, ℤ, pos, negsuc, ◌+◌, ◌-◌, ◌/◌, ◌^◌, Bool, ◌==◌, nat_lt, if◌then◌else◌, List, [], ◌∷◌, ◌++◌, take, drop, replicate, Result, Ok, Err, ◌≡◌, ◌<◌, length, Option}
 use Rattle.hound_number.specs.{bytes_of, signed_bytes_of}
 use Rattle.hound_spec.specs.{is_pair}
@@ -11,8 +11,7 @@ use Rattle.hound_spec.specs.declared.error.Error.{Error}
 use Rattle.hound_spec.specs.declared.error.Error.TheVariants.{IoError, TooWide, Unsupported}
 use Rattle.std.specs.List.{flat_map}
 
--- why a value has no container: it needs more bits, or its type is not written with these bits and
--- bytes
+-- why a value has no container: it needs more bits, or its type is not written with these bits and bytes
 pub data Rejection : Type 0 where
   too_wide : Rejection
   unsupported : Rejection
@@ -38,8 +37,8 @@ offset_byte (negsuc n) = bytes_of 1 (127 - n)
 abbrev pub if_fits : ℕ → ℤ → List ℕ → Result (List ℕ) Rejection
 if_fits bits v container = if fits bits v then Ok container else Err too_wide
 
--- an integer in this many used bits and bytes: one byte counts from -128; more are signed, with
--- zeros after the used bits
+-- an integer in this many used bits and bytes: one byte counts from -128; more are signed, with zeros after the used
+-- bits
 abbrev pub int_bytes : ℤ → ℕ → ℕ → List ℕ
 int_bytes v bits width =
     if width == 1 then offset_byte v
@@ -70,8 +69,8 @@ abbrev pub IsEncoded : Result (List ℕ) Rejection → Result (List ℕ) Error �
 IsEncoded (Ok container) result = result ≡ Ok (container ++ replicate (4 - length container) 0)
 IsEncoded (Err rejection) result = result ≡ Err (error_of rejection)
 
--- `write_padded`: exactly the container was written, or a shorter beginning of it if the writer
--- failed; nothing if there is no container
+-- `write_padded`: exactly the container was written, or a shorter beginning of it if the writer failed; nothing if
+-- there is no container
 abbrev pub WritesContainer : {T : Type 0} → Result (List ℕ) Rejection → Option (List ℕ)
     → Option (List ℕ) → Result T Error → Type 0
 WritesContainer (Ok container) old new (Ok x) = Appends old new container
@@ -81,15 +80,13 @@ WritesContainer (Ok container) old new (Err _) = ⊥
 WritesContainer (Err rejection) old new result = (result ≡ Err (error_of rejection)) × (new ≡ old)
 
 -- a container and those after it, or the first error among them
-abbrev pub and_more : Result (List ℕ) Rejection → Result (List (List ℕ)) Rejection →
-    Result (List (List ℕ)) Rejection
+abbrev pub and_more : Result (List ℕ) Rejection → Result (List (List ℕ)) Rejection → Result (List (List ℕ)) Rejection
 and_more (Err rejection) more = Err rejection
 and_more (Ok container) (Err rejection) = Err rejection
 and_more (Ok container) (Ok list) = Ok (container ∷ list)
 
 -- the containers of values, in their order, or the error of the first value that has none
-abbrev pub all_containers : {V : Type 0} → (V → Result (List ℕ) Rejection) → List V →
-    Result (List (List ℕ)) Rejection
+abbrev pub all_containers : {V : Type 0} → (V → Result (List ℕ) Rejection) → List V → Result (List (List ℕ)) Rejection
 all_containers container [] = Ok []
 all_containers container (value ∷ values) =
     and_more (container value) (all_containers container values)

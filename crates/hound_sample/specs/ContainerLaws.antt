@@ -27,8 +27,7 @@ contained v bits width c is =
     (pair, fit, cc)
 
 -- a container of an integer has the requested number of bytes, one to four
-pub int_container-in_width : (v : ℤ) (bits width : ℕ) (c : List ℕ)
-    → int_container v bits width ≡ Ok c
+pub int_container-in_width : (v : ℤ) (bits width : ℕ) (c : List ℕ) → int_container v bits width ≡ Ok c
     → (length c ≡ width) × (1 ≤ width) × (width ≤ 4)
 int_container-in_width v bits width c is =
     let (pair, _, same) = contained v bits width c is in

@@ -17,8 +17,8 @@ state_after (suc count) state = state_after count (next_state state)
 abbrev pub difference : ℕ → ℤ
 difference state = pos (state / 2 ^ 48) -ℤ pos (state / 2 ^ 32 % 2 ^ 16)
 
--- the noise of a state for integers of so many bits: the difference over 2^16, in steps of these, which is exact; so
--- it is less than a step, and triangular
+-- the noise of a state for integers of so many bits: the difference over 2^16, in steps of these, which is exact; so it
+-- is less than a step, and triangular
 abbrev pub noise : ℕ → ℕ → Float
 noise bits state = double_of_int (bits + 16) (difference state)
 

@@ -1,5 +1,5 @@
--- What a container means, which types read it (WAVEFORMATEX, "wBitsPerSample": 8 bits are unsigned),
--- and what `read`, `read_item` and `read_many` return.
+-- What a container means, which types read it (WAVEFORMATEX, "wBitsPerSample": 8 bits are unsigned), and what `read`,
+-- `read_item` and `read_many` return.
 use Rattle.std.specs.Prelude.{ℕ, ℤ, pos, ◌/◌, ◌-ℤ◌, ◌==◌, nat_lt, if◌then◌else◌, List, take, Option, None, Some, ◌≡◌, ◌<◌, ◌≤◌, length, drop, Result, Ok, Err, [], ◌∷◌, ◌++◌, map, OnOk, OnErr}
 use Rattle.hound_number.specs.{number, signed_number, signed_bytes_of, WhereKnown}
 use Rattle.hound_spec.specs.{is_pair}
@@ -12,14 +12,13 @@ use Rattle.hound_sample.specs.Container.{Rejection, too_wide, unsupported, error
 use Rattle.hound_sample.specs.declared.item.SampleError.{SampleError}
 use Rattle.hound_sample.specs.declared.item.SampleError.TheVariants as items
 
--- why a type doesn't read samples: they are of another format, too wide for it, or have bits and bytes
--- that it doesn't read
+-- why a type doesn't read samples: they are of another format, too wide for it, or have bits and bytes that it doesn't
+-- read
 pub data ReadRejection : Type 0 where
   other_format : ReadRejection
   misfit : Rejection → ReadRejection
 
--- why an integer type of so many bytes doesn't read samples of a format, a width and used bits, if
--- it doesn't
+-- why an integer type of so many bytes doesn't read samples of a format, a width and used bits, if it doesn't
 abbrev pub int_rejection : ℕ → SampleFormat → ℕ → ℕ → Option ReadRejection
 int_rejection most Float width bits = Some other_format
 int_rejection most Int width bits =
@@ -27,8 +26,7 @@ int_rejection most Int width bits =
     else if is_pair Int bits width then None
     else Some (misfit unsupported)
 
--- the integer of a container: one byte counts from -128; more are signed, and those after the used
--- bits mean nothing
+-- the integer of a container: one byte counts from -128; more are signed, and those after the used bits mean nothing
 abbrev pub int_meaning : ℕ → ℕ → List ℕ → ℤ
 int_meaning width bits container =
     if width == 1 then (pos (number container) -ℤ pos 128)
@@ -69,20 +67,17 @@ TakesContainer meaning width value old new = (width ≤ length old)
 abbrev pub TakesPart : ℕ → List ℕ → List ℕ → Type 0
 TakesPart width old new = (n : ℕ) × (n < width) × (n ≤ length old) × (new ≡ drop n old)
 
--- what a type that reads the samples returns: the value of a container, or an `IoError` with less
--- than one taken
+-- what a type that reads the samples returns: the value of a container, or an `IoError` with less than one taken
 abbrev pub ReadsContainer : {A : Type 0} → (List ℕ → A) → ℕ → Option (List ℕ) → Option (List ℕ)
     → Result A Error → Type 0
 ReadsContainer meaning width old new (Ok value) = WhereKnown old new (TakesContainer meaning width value)
 ReadsContainer meaning width old new (Err (IoError e)) = WhereKnown old new (TakesPart width)
 ReadsContainer meaning width old new (Err _) = ⊥
 
--- `read`: the error if the type doesn't read the samples, with the bytes as they were; else the
--- container is read
+-- `read`: the error if the type doesn't read the samples, with the bytes as they were; else the container is read
 abbrev pub Reads : {A : Type 0} → Option ReadRejection → (List ℕ → A) → ℕ → Option (List ℕ)
     → Option (List ℕ) → Result A Error → Type 0
-Reads (Some rejection) meaning width old new result = (result ≡ Err (error_of_read rejection))
-    × (new ≡ old)
+Reads (Some rejection) meaning width old new result = (result ≡ Err (error_of_read rejection)) × (new ≡ old)
 Reads None meaning width old new result = ReadsContainer meaning width old new result
 
 -- the reason that an error of a sample gives
@@ -128,10 +123,9 @@ ReadsEach rejection meaning width [] old new = new ≡ old
 ReadsEach rejection meaning width (item ∷ items) old new = (mid : Option (List ℕ))
     × Reads rejection meaning width old mid item × ReadsEach rejection meaning width items mid new
 
--- This many samples were read into the front of a slice: all that it has, unless an error came. The
--- rest of the slice is as it was.
-pub record FillsFront {A T E : Type 0} (count : ℕ) (result : Result T E) (old new : List A)
-    : Type 0 where
+-- This many samples were read into the front of a slice: all that it has, unless an error came. The rest of the slice
+-- is as it was.
+pub record FillsFront {A T E : Type 0} (count : ℕ) (result : Result T E) (old new : List A) : Type 0 where
   pub within : count ≤ length new
   pub full : OnOk result (count ≡ length new)
   pub part : OnErr result (count < length new)

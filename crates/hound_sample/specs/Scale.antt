@@ -20,18 +20,17 @@ float_of_int bits v = div binary32 (of_int binary32 v) (of_int binary32 (full_sc
 abbrev pub double_of_int : ℕ → ℤ → Float
 double_of_int bits v = div binary64 (of_int binary64 v) (of_int binary64 (full_scale bits))
 
--- a float in full scale 1 in that of so many bits, not clipped: times full scale, which is exact in
--- `f64`, as the nearest integer, a half as the even one; a NaN is 0
+-- a float in full scale 1 in that of so many bits, not clipped: times full scale, which is exact in `f64`, as the
+-- nearest integer, a half as the even one; a NaN is 0
 abbrev pub scaled : ℕ → Float → ℤ
-scaled bits x = float_to_signed w64
-    (round_ties_even binary64 (mul binary64 x (of_int binary64 (full_scale bits))))
+scaled bits x = float_to_signed w64 (round_ties_even binary64 (mul binary64 x (of_int binary64 (full_scale bits))))
 
 -- the same, clipped
 abbrev pub scaled_to : ℕ → Float → ℤ
 scaled_to bits x = clipped bits (scaled bits x)
 
--- an integer of so many bits with others, not clipped: more bits are zeros below; of fewer it is the
--- nearest, a half upwards
+-- an integer of so many bits with others, not clipped: more bits are zeros below; of fewer it is the nearest, a half
+-- upwards
 abbrev pub with_bits : ℕ → ℕ → ℤ → ℤ
 with_bits old new v =
     if nat_lt new old then int_shr (v +ℤ pos (2 ^ (old - new - 1))) (old - new)

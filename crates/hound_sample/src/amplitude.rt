@@ -212,8 +212,8 @@ fn noise_step(bits: u16) -> f64
     1.0 / noise_divisor(bits)
 }
 
-// Stores floats with noise as integers in containers, and returns how many were clipped. The state becomes that for
-// the next ones.
+// Stores floats with noise as integers in containers, and returns how many were clipped. The state becomes that for the
+// next ones.
 #[inline(always)]
 fn scale_each_with_noise<S: Amplitude>(
     bytes: &mut [u8],

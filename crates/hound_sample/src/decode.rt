@@ -1,5 +1,4 @@
-// Containers that are read and decoded: one, or many in few reads, which fill pieces of whole
-// containers.
+// Containers that are read and decoded: one, or many in few reads, which fill pieces of whole containers.
 ghost use Rattle.std.specs.Prelude.{◌≡◌, ◌≤◌, ◌<◌, ◌*◌, ℕ, List, length, map, take, Option, None, IsOk, IsSome, OnErr, OnOk};
 ghost use Rattle.std.specs.Io.KnownBytes.{Consumes};
 ghost use Rattle.hound_sample.specs.Container.{containers};
@@ -21,8 +20,8 @@ const SMALL_PIECE: usize = 64;
 
 /// A type that has a value for every container of the pairs that it reads.
 ///
-/// It is no part of [`Sample`](crate::Sample), whose `read_many` is made of it: the checker
-/// allows no cycle between the methods of an `impl`.
+/// It is no part of [`Sample`](crate::Sample), whose `read_many` is made of it: the checker allows no cycle between the
+/// methods of an `impl`.
 pub trait Decode: Sized + Drop {
     /// Why containers of a format, with these bytes and used bits, aren't decoded, if they aren't.
     ghost decode_rejection: { SampleFormat → ℕ → ℕ → Option ReadRejection };
@@ -30,8 +29,8 @@ pub trait Decode: Sized + Drop {
     /// The value of a container, in a file of this format, with these bytes and used bits.
     ghost value: { SampleFormat → ℕ → ℕ → List ℕ → Self };
 
-    /// Whether containers of a format, with these bytes and used bits, are decoded, or why not: the
-    /// errors of [`Sample::read`](crate::Sample::read).
+    /// Whether containers of a format, with these bytes and used bits, are decoded, or why not: the errors of
+    /// [`Sample::read`](crate::Sample::read).
     fn check(fmt: SampleFormat, width: u16, bits: u16) -> Result<()>
         ensures check { result ≡ read_error (decode_rejection fmt width bits) }
         ensures pair { IsOk result → IsPair fmt bits width };
@@ -108,8 +107,8 @@ fn decode_container<S: Decode, R: ContainerReader>(
     }
 }
 
-/// Takes the next container and decodes it, as [`Sample::read_item`](crate::Sample::read_item) does,
-/// with constant widths for each pair.
+/// Takes the next container and decodes it, as [`Sample::read_item`](crate::Sample::read_item) does, with constant
+/// widths for each pair.
 #[inline(always)]
 pub(crate) fn decode_next<S: Decode, R: ContainerReader>(
     reader: &mut R,
@@ -137,8 +136,7 @@ pub(crate) fn decode_next<S: Decode, R: ContainerReader>(
 #[inline(always)]
 fn read_piece<R: io::Read>(reader: &mut R, piece: &mut [u8]) -> (usize, io::Result<()>)
     ensures within { result.0 ≤ length piece.new }
-    ensures taken { Consumes (R.remaining reader.old) (R.remaining reader.new)
-        (take result.0 piece.new) }
+    ensures taken { Consumes (R.remaining reader.old) (R.remaining reader.new) (take result.0 piece.new) }
     ensures full { OnOk result.1 (result.0 ≡ length piece.new) }
     ensures part { OnErr result.1 (result.0 < length piece.new) }
 {
@@ -164,8 +162,7 @@ pub(crate) fn decode_each<S: Decode>(
 )
     requires decodes { S.decode_rejection fmt width bits ≡ None }
     requires whole { length from.now ≡ length samples.old * width }
-    ensures { samples.new ≡ map (S.value fmt width bits)
-        (containers width (length samples.old) from.now) }
+    ensures { samples.new ≡ map (S.value fmt width bits) (containers width (length samples.old) from.now) }
 {
     let size = width as usize;
     for i in 0..samples.len() {
@@ -187,8 +184,7 @@ fn read_through<S: Decode, R: io::Read>(
     requires some { 1 ≤ width }
     requires few { width ≤ 4 }
     requires room { 4 ≤ length piece.old }
-    ensures each { ReadsEach None (S.value fmt width bits) width
-        (items_of (take result.0 samples.new) result.1)
+    ensures each { ReadsEach None (S.value fmt width bits) width (items_of (take result.0 samples.new) result.1)
         (R.remaining reader.old) (R.remaining reader.new) }
     ensures front { FillsFront result.0 result.1 samples.old samples.new }
 {
@@ -225,8 +221,7 @@ fn read_pieces<S: Decode, R: io::Read>(
     requires decodes { S.decode_rejection fmt width bits ≡ None }
     requires some { 1 ≤ width }
     requires few { width ≤ 4 }
-    ensures each { ReadsEach None (S.value fmt width bits) width
-        (items_of (take result.0 samples.new) result.1)
+    ensures each { ReadsEach None (S.value fmt width bits) width (items_of (take result.0 samples.new) result.1)
         (R.remaining reader.old) (R.remaining reader.new) }
     ensures front { FillsFront result.0 result.1 samples.old samples.new }
 {
@@ -236,8 +231,7 @@ fn read_pieces<S: Decode, R: io::Read>(
     read_through(reader, samples, &mut [0; PIECE], fmt, width, bits)
 }
 
-/// Reads samples as [`Sample::read_many`](crate::Sample::read_many) does, with constant widths for
-/// each pair.
+/// Reads samples as [`Sample::read_many`](crate::Sample::read_many) does, with constant widths for each pair.
 #[inline(always)]
 pub(crate) fn read_containers<S: Decode, R: io::Read>(
     reader: &mut R,
@@ -247,8 +241,7 @@ pub(crate) fn read_containers<S: Decode, R: io::Read>(
     bits: u16,
 ) -> (usize, Result<()>)
     ensures each { ReadsEach (S.decode_rejection fmt width bits) (S.value fmt width bits) width
-        (items_of (take result.0 samples.new) result.1)
-        (R.remaining reader.old) (R.remaining reader.new) }
+        (items_of (take result.0 samples.new) result.1) (R.remaining reader.old) (R.remaining reader.new) }
     ensures front { FillsFront result.0 result.1 samples.old samples.new }
     ensures untouched { IsSome (S.decode_rejection fmt width bits) → reader.new ≡ reader.old }
 {

@@ -18,11 +18,10 @@ use std::{io, result};
 
 /// A floating-point sample of 32 bits, by its bit pattern.
 ///
-/// It is written with 32 bits in four bytes, and read so from samples of format `Float`. Every
-/// pattern stays as it is. `FloatBits::from(number)` is the sample of a number, and
-/// `sample.to_f32()` the number of a sample; every NaN has one pattern there. `==` compares
-/// patterns, so 0.0 and -0.0 differ. It can't be cast to sixteen bits: generic code can't do it,
-/// and `as_i16` of the type itself returns 0.
+/// It is written with 32 bits in four bytes, and read so from samples of format `Float`. Every pattern stays as it is.
+/// `FloatBits::from(number)` is the sample of a number, and `sample.to_f32()` the number of a sample; every NaN has one
+/// pattern there. `==` compares patterns, so 0.0 and -0.0 differ. It can't be cast to sixteen bits: generic code can't
+/// do it, and `as_i16` of the type itself returns 0.
 ///
 /// ```
 /// writer.write_sample(FloatBits::from(0.5))?;

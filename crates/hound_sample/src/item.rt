@@ -6,8 +6,8 @@ ghost use Rattle.hound_sample.specs.Reading.{error_of_sample, reason_of};
 use hound_spec::Error;
 use std::io;
 
-/// Why a sample isn't read or written: an [`Error`] in one byte, whose fault is saved elsewhere. An
-/// `Error` holds its fault, and so it is large, and would be copied on the path of each sample.
+/// Why a sample isn't read or written: an [`Error`] in one byte, whose fault is saved elsewhere. An `Error` holds its
+/// fault, and so it is large, and would be copied on the path of each sample.
 #[derive(Clone, Copy)]
 pub enum SampleError {
     /// A call failed or the input ended, by a fault that was saved.
@@ -41,8 +41,8 @@ pub fn reason_of(error: Error) -> SampleError
 
 /// The error for a reason, with this saved fault.
 ///
-/// It begins as the fault and is changed in its place: so the one copy that is made of the fault
-/// goes to where the caller needs the error.
+/// It begins as the fault and is changed in its place: so the one copy that is made of the fault goes to where the
+/// caller needs the error.
 #[inline(always)]
 pub fn error_of_sample(no_sample: SampleError, fault: &io::Error) -> Error
     ensures { result ≡ error_of_sample no_sample fault.now }
@@ -67,8 +67,8 @@ pub fn error_of_sample(no_sample: SampleError, fault: &io::Error) -> Error
 pub trait ContainerReader: io::Read {
     /// The next container, in the first `width` bytes, at most four.
     ///
-    /// There is none if a read failed or the input ended before it was whole: then the fault is
-    /// saved, and fewer bytes were taken.
+    /// There is none if a read failed or the input ended before it was whole: then the fault is saved, and fewer bytes
+    /// were taken.
     fn next_container(&mut self, width: u16) -> Option<[u8; 4]>
         requires some { 1 ≤ width }
         requires few { width ≤ 4 }

@@ -10,8 +10,8 @@ use std::num::{f32_to_f64_with_nan, nearest_u32_to_f32, saturating_f64_to_i64};
 
 /// An integer of so many bits as a float whose full scale is 1: over `2^(bits - 1)`.
 ///
-/// It is the `f32` that is nearest to the quotient, of two the even one. Integers of up to 24 bits
-/// come back from `float_to_int` unchanged, as tests show.
+/// It is the `f32` that is nearest to the quotient, of two the even one. Integers of up to 24 bits come back from
+/// `float_to_int` unchanged, as tests show.
 ///
 /// ```
 /// let half = int_to_float(16384, 16); // 0.5
@@ -52,8 +52,8 @@ pub(crate) fn int_to_double(sample: i32, bits: u16) -> f64
 
 /// A float whose full scale is 1 as an integer of so many bits, and whether it was clipped.
 ///
-/// It is times `2^(bits - 1)`, rounded to the nearest integer, of two to the even one. What is then past
-/// the largest one, or the lowest, is clipped to it; a NaN gives 0.
+/// It is times `2^(bits - 1)`, rounded to the nearest integer, of two to the even one. What is then past the largest
+/// one, or the lowest, is clipped to it; a NaN gives 0.
 ///
 /// ```
 /// let (sample, is_clipped) = float_to_int(1.0, 16); // 32767, true
@@ -97,8 +97,8 @@ fn nearest_within(number: f64, limit: u32) -> i32
     ((number + 6755399441055744.0) as i64 - 6755399441055744) as i32
 }
 
-// The integer of so many bits that is nearest to any number, and whether another integer is nearer.
-// It is a call of its own, so that the loops over it stay short.
+// The integer of so many bits that is nearest to any number, and whether another integer is nearer. It is a call of its
+// own, so that the loops over it stay short.
 #[inline(never)]
 fn clip_distant(number: f64, bits: u16) -> (i32, bool)
     requires some { 0 < bits }
@@ -111,8 +111,8 @@ fn clip_distant(number: f64, bits: u16) -> (i32, bool)
 
 /// An integer of so many bits as one of others, and whether it was clipped.
 ///
-/// More bits are zeros below. Fewer are the nearest integer, a half upwards; the largest ones may then
-/// need a bit more, and are clipped.
+/// More bits are zeros below. Fewer are the nearest integer, a half upwards; the largest ones may then need a bit more,
+/// and are clipped.
 ///
 /// ```
 /// let (sample, is_clipped) = change_bits(0x123480, 24, 16); // 0x1235, false

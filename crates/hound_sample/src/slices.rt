@@ -1,7 +1,7 @@
 // The containers of many samples, one after the other: checked, stored and decoded at once.
 //
-// Each loop is written once and called for each pair of bits and bytes, whose numbers are constants
-// there, so that LLVM makes vectors of it.
+// Each loop is written once and called for each pair of bits and bytes, whose numbers are constants there, so that LLVM
+// makes vectors of it.
 ghost use Rattle.std.specs.Prelude.{◌≡◌, ◌+◌, ◌*◌, ◌≤◌, ◌++◌, IfSome, None, IsOk, false, is_ok, length, map, take};
 ghost use Rattle.hound_sample.specs.Reading.{first_reason};
 ghost use Rattle.hound_sample.specs.Container.{IsOfPair, containers, all_containers, joined_containers};
@@ -158,8 +158,7 @@ pub fn decode_containers<S: Decode>(
 )
     requires decodes { S.decode_rejection fmt width bits ≡ None }
     requires whole { length from.now ≡ length samples.old * width }
-    ensures { samples.new ≡ map (S.value fmt width bits)
-        (containers width (length samples.old) from.now) }
+    ensures { samples.new ≡ map (S.value fmt width bits) (containers width (length samples.old) from.now) }
 {
     match pair_of(bits, width) {
         Some(Pair::Of8) => decode_each(from, samples, fmt, 1, 8),

@@ -105,8 +105,7 @@ module _ (s : WavSpecEx) (samples h used n k riff : ℕ) (list : List (List ℕ)
       ∙ (λ i. containers_front w samples (old ++ z) (drop h file) (take_at old z (samples * w) size) i
       ++ (ap (containers w (length list)) (drop_at old z (samples * w) size) ∙ back pad) i)
 
-  pub reads : (len : ℕ) → Head (take used file) s len h → 0 < w
-      → (samples + length list) % s.spec.channels ≡ 0
+  pub reads : (len : ℕ) → Head (take used file) s len h → 0 < w → (samples + length list) % s.spec.channels ≡ 0
       → ((rest : List ℕ) → containers w (length list) (concat list ++ rest) ≡ list)
       → ReadsAs s h (containers w samples (drop h file) ++ list) (take n two)
   reads len head some frames back =

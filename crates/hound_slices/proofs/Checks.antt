@@ -32,8 +32,7 @@ module _ {V : Type 0} (format : SampleFormat) (container : V → ℕ → ℕ →
   not_written room TooWide why = why
   not_written room _ why = absurd why
 
-  pub not_appended : (samples start used room : ℕ) (error : CallError)
-      → IsUnencoded format container s values error
+  pub not_appended : (samples start used room : ℕ) (error : CallError) → IsUnencoded format container s values error
       → IsRejectedBy format container s samples start values used room error
   not_appended samples start used room OtherFormat why = why
   not_appended samples start used room NotWritable why = why

@@ -17,8 +17,10 @@ use Rattle.hound_slices.proofs.Checks.{passed}
 
 -- a number that is clipped fits
 pub clipped_fits : (bits : ℕ) (v : ℤ) → fits bits (clipped bits v) ≡ true
-clipped_fits bits (pos n) = lt-ltb _ _ (let less : min n (2 ^ (bits - 1) - 1) < 2 ^ (bits - 1) = omega (arith, pow_pos (bits - 1)) in less)
-clipped_fits bits (negsuc n) = lt-ltb _ _ (let less : min n (2 ^ (bits - 1) - 1) < 2 ^ (bits - 1) = omega (arith, pow_pos (bits - 1)) in less)
+clipped_fits bits (pos n) =
+    lt-ltb _ _ (let less : min n (2 ^ (bits - 1) - 1) < 2 ^ (bits - 1) = omega (arith, pow_pos (bits - 1)) in less)
+clipped_fits bits (negsuc n) =
+    lt-ltb _ _ (let less : min n (2 ^ (bits - 1) - 1) < 2 ^ (bits - 1) = omega (arith, pow_pos (bits - 1)) in less)
 
 -- integers that all fit have containers
 all_have : {A : Type 0} (bits width : ℕ) (f : A → ℤ) (values : List A) → IsPair Int bits width

@@ -22,8 +22,8 @@ read_check (Some rejection) = Err (rejection_error rejection)
 abbrev pub stored : List ℕ → WavSpecEx → ℕ → ℕ → ℕ
 stored bytes s samples start = min samples ((length bytes - start) / s.bytes_per_sample)
 
--- Reading from a sample on gave n samples: as many as there are and fit. They are what the
--- containers in the bytes mean, and the rest of the caller's memory stays.
+-- Reading from a sample on gave n samples: as many as there are and fit. They are what the containers in the bytes
+-- mean, and the rest of the caller's memory stays.
 pub record ReadsSamples {A : Type 0} (rejection : SampleFormat → ℕ → ℕ → Option ReadRejection)
     (meaning : SampleFormat → ℕ → ℕ → List ℕ → A) (bytes : List ℕ) (first n : ℕ)
     (old new : List A) : Type 0 where

@@ -91,8 +91,8 @@ error_of (Rejected why) = error_of_rejection why
 error_of (Failed Sync) = Recorder SyncFailed
 error_of (Failed Call) = NotPerformed
 
--- What C gets of a step: the effect that is requested, or what was found with the place of the data, their
--- length as in the header and the length of the file, or an error. At an error of the bytes all stays.
+-- What C gets of a step: the effect that is requested, or what was found with the place of the data, their length as in
+-- the header and the length of the file, or an error. At an error of the bytes all stays.
 abbrev pub GivesStep : HoundRepairer → HoundRepairer → HoundRepair → HoundRepair
     → Result RepairStep RepairError → Result ℕ CallError → Type 0
 GivesStep old new was now (Ok (Asks action)) outcome =
@@ -107,8 +107,7 @@ GivesStep old new was now (Err (Rejected why)) outcome =
     (outcome ≡ Err (error_of (Rejected why))) × (new ≡ old) × (now ≡ was)
 
 -- What a step of a repairer does, by its outcome: what the repair that it is does.
-pub record StepsRepairer (old new : HoundRepairer) (was now : HoundRepair) (outcome : Result ℕ CallError) :
-    Type 0 where
+pub record StepsRepairer (old new : HoundRepairer) (was now : HoundRepair) (outcome : Result ℕ CallError) : Type 0 where
   pub step : Result RepairStep RepairError
   pub next : AsksNext (task_of old.mode) old.length (bytes_read old) (report_of old.effect)
       (repairing_of old) (repairing_of new) step

@@ -45,8 +45,8 @@ abbrev pub FindsInFile : List ℕ → HoundRepair → Type 0
 FindsInFile bytes c = (found : Repair) × IsReported found c × HasHeadOf bytes c
     × ((len : ℕ) × (start : ℕ) × IsFoundAt true bytes found len start)
 
--- why a file isn't looked at: it has no head for this cause, or it has one of samples that aren't
--- written, or whose sizes don't fit
+-- why a file isn't looked at: it has no head for this cause, or it has one of samples that aren't written, or whose
+-- sizes don't fit
 abbrev pub IsDamageError : List ℕ → CallError → Type 0
 IsDamageError bytes (errors.Head cause) = Rejected bytes cause
 IsDamageError bytes NotWritable = HasUnfitHead bytes (by_bytes Unsupported)
@@ -58,12 +58,10 @@ abbrev pub IsFileError : Bool → ℕ → List ℕ → CallError → Type 0
 IsFileError looks used old NoRoom = (length old < used) ⊎ LacksRoom looks used old
 IsFileError looks used old error = IsDamageError (take used old) error
 
--- what repairing does, by its outcome: the first n bytes are what `repair` leaves of the file, or
--- `repair_to_end` where no chunks are looked for, all of them in the caller's memory, and what it
--- found is reported; or all stays
+-- what repairing does, by its outcome: the first n bytes are what `repair` leaves of the file, or `repair_to_end` where
+-- no chunks are looked for, all of them in the caller's memory, and what it found is reported; or all stays
 abbrev pub RepairsFile : Bool → ℕ → List ℕ → List ℕ → HoundRepair → HoundRepair → Result ℕ CallError → Type 0
 RepairsFile looks used old new was now (Ok n) = (used ≤ length old) × (n ≤ length new)
     × (found : Repair) × RepairsBytes looks used n found old new × IsReported found now
     × HasHeadOf (take used old) now
-RepairsFile looks used old new was now (Err error) = (new ≡ old) × (now ≡ was)
-    × IsFileError looks used old error
+RepairsFile looks used old new was now (Err error) = (new ≡ old) × (now ≡ was) × IsFileError looks used old error

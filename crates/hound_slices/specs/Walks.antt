@@ -67,12 +67,11 @@ pub record FindsHead (old : HoundWalk) (info : HoundInfo) : Type 0 where
   pub explicit : IsExplicit info.spec
   pub start : info.data_start ≡ part_end (walk_of old)
 
--- What is before the data, with the number of samples that the header counts, which are whole frames; or of a
--- stream, whose header may count anything, and the number is 0.
+-- What is before the data, with the number of samples that the header counts, which are whole frames; or of a stream,
+-- whose header may count anything, and the number is 0.
 abbrev pub IsHeadOf : Bool → List ℕ → HoundInfo → Type 0
 IsHeadOf true file info = Readable file (spec_from_c info.spec) info.samples info.data_start
-IsHeadOf false file info = (info.samples ≡ 0)
-    × (length : ℕ) × Head file (spec_from_c info.spec) length info.data_start
+IsHeadOf false file info = (info.samples ≡ 0) × (length : ℕ) × Head file (spec_from_c info.spec) length info.data_start
 
 -- why there is none
 abbrev pub HasNoHead : Bool → List ℕ → Cause → Type 0
@@ -80,10 +79,9 @@ HasNoHead true = Unreadable
 HasNoHead false = Rejected
 
 -- | done, and the file isn't read | the cause | as it was |
--- A step of a walk over a file, of which its part was handed in, leads on, to the data, or to the
--- cause why there are none.
-pub record Steps (is_counted : Bool) (file : List ℕ) (number : ℤ) (new : HoundWalk) (info : HoundInfo) :
-    Type 0 where
+-- A step of a walk over a file, of which its part was handed in, leads on, to the data, or to the cause why there are
+-- none.
+pub record Steps (is_counted : Bool) (file : List ℕ) (number : ℤ) (new : HoundWalk) (info : HoundInfo) : Type 0 where
   pub on : number ≡ pos 1 → IsAt file (walk_of new)
   pub found : number ≡ pos 0 → IsHeadOf is_counted file info
   pub rejected : (number ≡ pos 1 → ⊥) → (number ≡ pos 0 → ⊥)
@@ -113,14 +111,14 @@ AnswersPart is_counted Failed number old new info = number ≡ error_code errors
 AnswersPart is_counted Done number old new info = (number ≡ pos 1 → AsksOn old new)
     × ((file : List ℕ) → IsAt file (walk_of old) → AreAsked old file → Steps is_counted file number new info)
 
--- what a walk returns of a part that was read, also of a file that has changed since: 1, 0, or a cause that a file
--- may have
+-- what a walk returns of a part that was read, also of a file that has changed since: 1, 0, or a cause that a file may
+-- have
 abbrev pub IsStepNumber : ℤ → Type 0
 IsStepNumber number = (number ≡ pos 1) ⊎ (number ≡ pos 0)
     ⊎ ((cause : Cause) × (number ≡ error_code (errors.Head cause)))
 
--- What a call does that takes a part. Unless it asks for another one, the walk stays as it is, and unless the
--- data begin, so does what the caller has of them.
+-- What a call does that takes a part. Unless it asks for another one, the walk stays as it is, and unless the data
+-- begin, so does what the caller has of them.
 pub record TakesPart (is_counted : Bool) (number : ℤ) (old new : HoundWalk) (was info : HoundInfo) : Type 0 where
   pub answers : AnswersPart is_counted (report_of old.effect) number old new info
   pub named : report_of old.effect ≡ Done → IsStepNumber number

@@ -52,8 +52,7 @@ IsSizeError s start count _ = ⊥
 
 -- so many samples after a header of this length are a file: whole frames, and sizes of 32 bits
 abbrev pub IsFile : WavSpecEx → ℕ → ℕ → Type 0
-IsFile s start count = (count % s.spec.channels ≡ 0)
-    × (riff_size start (count * s.bytes_per_sample) ≤ greatest_u32)
+IsFile s start count = (count % s.spec.channels ≡ 0) × (riff_size start (count * s.bytes_per_sample) ≤ greatest_u32)
 
 -- why a file isn't written
 abbrev pub IsWriteError : {V : Type 0} → SampleFormat → (V → ℕ → ℕ → Result (List ℕ) Rejection)
@@ -66,8 +65,8 @@ IsWriteError format container s values room TooWide =
 IsWriteError format container s values room NoRoom = room < file_size s (length values)
 IsWriteError format container s values room error = IsSizeError s (data_start s) (length values) error
 
--- what writing does, by its outcome: the canonical file of the values is the front of the caller's
--- memory, and the rest stays; or all stays
+-- what writing does, by its outcome: the canonical file of the values is the front of the caller's memory, and the rest
+-- stays; or all stays
 abbrev pub WritesFile : {V : Type 0} → SampleFormat → (V → ℕ → ℕ → Result (List ℕ) Rejection) → WavSpecEx
     → List V → List ℕ → List ℕ → Result ℕ CallError → Type 0
 WritesFile format container s values old new (Ok n) = IsWritable s × (s.spec.sample_format ≡ format)
@@ -97,8 +96,8 @@ abbrev pub HasPlace : WavSpecEx → ℕ → Type 0
 HasPlace s start = IsPair s.spec.sample_format s.spec.bits_per_sample s.bytes_per_sample
     × (1 ≤ s.spec.channels) × (20 ≤ start)
 
--- what the call for the two sizes does: they are the RIFF size and the data length of the file of so
--- many samples whose data begin at a place, and n is how many bytes that file has
+-- what the call for the two sizes does: they are the RIFF size and the data length of the file of so many samples whose
+-- data begin at a place, and n is how many bytes that file has
 abbrev pub GivesSizes : WavSpecEx → ℕ → ℕ → List ℕ → List ℕ → Result ℕ CallError → Type 0
 GivesSizes s start count old new (Ok n) = HasPlace s start × IsFile s start count
     × (n ≡ start + padded (count * s.bytes_per_sample))
@@ -108,11 +107,10 @@ GivesSizes s start count old new (Err NotWritable) = (new ≡ old) × (HasPlace 
 GivesSizes s start count old new (Err NoRoom) = (new ≡ old) × (length old < 8)
 GivesSizes s start count old new (Err error) = (new ≡ old) × IsSizeError s start count error
 
--- What appending does. The header counts samples that are all among the first bytes; the new
--- containers follow them, then their pad byte, and the two sizes are those of all. So the first n
--- bytes are read as the samples of before and then the new ones, and no other byte changes.
-pub record AppendsSamples {V : Type 0} (format : SampleFormat)
-    (container : V → ℕ → ℕ → Result (List ℕ) Rejection)
+-- What appending does. The header counts samples that are all among the first bytes; the new containers follow them,
+-- then their pad byte, and the two sizes are those of all. So the first n bytes are read as the samples of before and
+-- then the new ones, and no other byte changes.
+pub record AppendsSamples {V : Type 0} (format : SampleFormat) (container : V → ℕ → ℕ → Result (List ℕ) Rejection)
     (values : List V) (used n : ℕ) (old new : List ℕ) : Type 0 where
   pub spec_ex : WavSpecEx
   pub samples : ℕ
@@ -167,8 +165,7 @@ abbrev pub IsEncodeError : {V : Type 0} → SampleFormat → (V → ℕ → ℕ 
 IsEncodeError format container s values room NoRoom = room < length values * s.bytes_per_sample
 IsEncodeError format container s values room error = IsUnencoded format container s values error
 
--- what encoding does, by its outcome: the containers of the values are the front of the caller's
--- memory
+-- what encoding does, by its outcome: the containers of the values are the front of the caller's memory
 abbrev pub Encodes : {V : Type 0} → SampleFormat → (V → ℕ → ℕ → Result (List ℕ) Rejection) → WavSpecEx
     → List V → List ℕ → List ℕ → Result ℕ CallError → Type 0
 Encodes format container s values old new (Ok n) = (s.spec.sample_format ≡ format)

@@ -1,5 +1,5 @@
-//! WAV files in slices of memory, as the calls for C need them: what each call does to the caller's
-//! slices, the structs that C has, and the numbers that it gets.
+//! WAV files in slices of memory, as the calls for C need them: what each call does to the caller's slices, the structs
+//! that C has, and the numbers that it gets.
 //!
 //! There is no state, no allocation and no call back. `hound_c` exports these calls to C.
 #![tactic(auto)]

@@ -63,8 +63,8 @@ pub fn find_file_damage(file: &[u8]) -> Result<HoundRepair, CallError>
     Ok(repair_for_c(damage, file.len() as u64))
 }
 
-/// Repairs the file in the first bytes, reports what was found, and returns its length. Chunks after the data
-/// are looked for unless the task is to repair it to its end.
+/// Repairs the file in the first bytes, reports what was found, and returns its length. Chunks after the data are
+/// looked for unless the task is to repair it to its end.
 pub fn repair_file(
     file: &mut [u8],
     used: usize,

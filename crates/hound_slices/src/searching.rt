@@ -25,8 +25,8 @@ pub fn whole_frames(spec: HoundSpec, length: u64) -> Result<usize, CallError>
     Ok((length - length % frame) as usize)
 }
 
-// The place of the first chunk's header with this tag after the WAVE tag that so many bytes follow, its own among
-// them, whatever the chunks before it are.
+// The place of the first chunk's header with this tag after the WAVE tag that so many bytes follow, its own among them,
+// whatever the chunks before it are.
 fn find_tag(file: &[u8], tag: [u8; 4], least: usize) -> Option<usize>
     requires { (4 ≤ least) × (least < 64) }
     ensures found { IfSome result (IsFirstTag tag least file.now) }
@@ -107,8 +107,8 @@ fn kind_of_fmt(fmt: &[u8]) -> u32
     format as u32
 }
 
-/// What a file is, by its first bytes: the number of the format of its samples, from 0 to 65535, or of another kind
-/// of file.
+/// What a file is, by its first bytes: the number of the format of its samples, from 0 to 65535, or of another kind of
+/// file.
 #[tactic(auto, unfolding(crate::specs::Searching::kind_of_tag))]
 pub fn file_kind(file: &[u8]) -> u32
     ensures is { IsKind file.now result }

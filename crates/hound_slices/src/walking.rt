@@ -109,8 +109,8 @@ fn walk_for_c(walk: HeadWalk) -> HoundWalk
     }
 }
 
-/// Takes the part of a file that C's walk asked for: 1 if it asks for a part, 0 if the data begin there, or
-/// why there are none. The samples are counted as the header counts them, or are those of a stream.
+/// Takes the part of a file that C's walk asked for: 1 if it asks for a part, 0 if the data begin there, or why there
+/// are none. The samples are counted as the header counts them, or are those of a stream.
 #[inline(always)]
 pub fn step_walk(walk: &mut HoundWalk, info: &mut HoundInfo, is_counted: bool) -> i32
     ensures answers { AnswersPart is_counted (report_of walk.old.effect) result walk.old walk.new info.new }

@@ -80,8 +80,7 @@ fn put_header(spec_ex: WavSpecEx, riff_size: u32, data_length: u32, out: &mut [u
     out[..header_length(spec_ex)].copy_from_slice(header.as_slice());
 }
 
-/// How many bytes so many samples take, and how many the file that has them after a header of
-/// this many.
+/// How many bytes so many samples take, and how many the file that has them after a header of this many.
 pub(crate) fn sizes_of(
     spec_ex: WavSpecEx,
     data_start: usize,
@@ -142,8 +141,8 @@ pub fn write_header(spec: HoundSpec, samples: u64, out: &mut [u8]) -> Result<usi
     Ok(data_start)
 }
 
-/// Writes the two sizes of a file of so many samples, whose data begin at a place, to the first eight
-/// bytes of `out`, and returns how many bytes that file has.
+/// Writes the two sizes of a file of so many samples, whose data begin at a place, to the first eight bytes of `out`,
+/// and returns how many bytes that file has.
 pub fn write_sizes(
     spec: HoundSpec,
     data_start: u64,

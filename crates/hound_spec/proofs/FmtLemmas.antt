@@ -20,6 +20,5 @@ pub record FieldsFit (f : FmtFields) : Type 0 where
   pub bits : f.bits < 256 ^ 2
 
 -- what is written is read back, whatever comes after it
-pub fields_written : (f : FmtFields) (rest : List ℕ) → FieldsFit f
-    → fmt_fields (fmt_bytes f ++ rest) ≡ f
+pub fields_written : (f : FmtFields) (rest : List ℕ) → FieldsFit f → fmt_fields (fmt_bytes f ++ rest) ≡ f
 fields_written f rest fit = grind (arith, common_steps)

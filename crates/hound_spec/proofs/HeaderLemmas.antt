@@ -17,13 +17,11 @@ pub length-long_fmt : (s : WavSpecEx) → length (long_fmt s) ≡ 40
 length-long_fmt s = simp length-append (omega (arith, length-subformat s.spec.sample_format))
 
 -- the fmt chunk after its tag, in both forms
-pub sized_fmt-short : (s : WavSpecEx) → is_short s ≡ true
-    → sized_fmt s ≡ bytes_of 4 16 ++ short_fmt s
+pub sized_fmt-short : (s : WavSpecEx) → is_short s ≡ true → sized_fmt s ≡ bytes_of 4 16 ++ short_fmt s
 unfolding sized_fmt
 sized_fmt-short s short = rw short refl
 
-pub sized_fmt-long : (s : WavSpecEx) → is_short s ≡ false
-    → sized_fmt s ≡ bytes_of 4 40 ++ long_fmt s
+pub sized_fmt-long : (s : WavSpecEx) → is_short s ≡ false → sized_fmt s ≡ bytes_of 4 40 ++ long_fmt s
 unfolding sized_fmt
 sized_fmt-long s long = rw long refl
 
@@ -33,8 +31,7 @@ length-sized_fmt-short s short = ap length (sized_fmt-short s short)
 length-sized_fmt-long : (s : WavSpecEx) → is_short s ≡ false → length (sized_fmt s) ≡ 44
 length-sized_fmt-long s long = grind (arith, common_steps, length-append, length-long_fmt, sized_fmt-long)
 
-pub length-header : (s : WavSpecEx) (size data_length : ℕ)
-    → length (header s size data_length) ≡ data_start s
+pub length-header : (s : WavSpecEx) (size data_length : ℕ) → length (header s size data_length) ≡ data_start s
 unfolding header
 length-header s size data_length = grind (arith, common_steps, length-sized_fmt-short, length-sized_fmt-long)
 
@@ -50,8 +47,7 @@ abbrev pub described : WavSpecEx → List ℕ
 described s = wave_tag ++ (fmt_tag ++ (sized_fmt s ++ data_tag))
 
 -- a header, part by part
-pub header-parts : (s : WavSpecEx) (size data_length : ℕ)
-    → header s size data_length ≡ riff_tag ++
+pub header-parts : (s : WavSpecEx) (size data_length : ℕ) → header s size data_length ≡ riff_tag ++
     (bytes_of 4 size ++ (described s ++ bytes_of 4 data_length))
 unfolding header
 header-parts s size data_length = grind (arith, common_steps)

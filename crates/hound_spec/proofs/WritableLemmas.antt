@@ -7,8 +7,7 @@ use Rattle.hound_spec.specs.declared.spec.SampleFormat.{SampleFormat}
 use Rattle.hound_spec.specs.Header.{pairs, IsPair}
 
 -- what holds for each row of a list of pairs holds for the pairs that are in it
-of_row : (P : ℕ → ℕ → Type 0) (rows : List (ℕ × ℕ)) (bits width : ℕ)
-    → AllByRecursion (λ (b, w). P b w) rows
+of_row : (P : ℕ → ℕ → Type 0) (rows : List (ℕ × ℕ)) (bits width : ℕ) → AllByRecursion (λ (b, w). P b w) rows
     → list_any (λ (b, w). bits == b && width == w) rows ≡ true → P bits width
 of_row P [] bits width each is = cc
 of_row P ((b, w) ∷ rows) bits width (here, each) is =

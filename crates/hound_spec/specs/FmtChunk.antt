@@ -49,8 +49,7 @@ fmt_fields bytes = record {
 abbrev pub extension_size : ℕ
 extension_size = 22
 
--- What follows that size (WAVEFORMATEXTENSIBLE: the valid bits, the mask of speakers, the
--- subformat).
+-- What follows that size (WAVEFORMATEXTENSIBLE: the valid bits, the mask of speakers, the subformat).
 pub record Extension : Type 0 where
   pub valid_bits : ℕ
   pub mask : ℕ
@@ -67,8 +66,8 @@ extension bytes = record {
   subformat = slice_range bytes 6 22;
 }
 
--- The GUID of a sample format (KSDATAFORMAT_SUBTYPE_PCM, KSDATAFORMAT_SUBTYPE_IEEE_FLOAT): its
--- format tag, and fourteen bytes that all such GUIDs have.
+-- The GUID of a sample format (KSDATAFORMAT_SUBTYPE_PCM, KSDATAFORMAT_SUBTYPE_IEEE_FLOAT): its format tag, and fourteen
+-- bytes that all such GUIDs have.
 abbrev pub guid : ℕ → List ℕ
 guid tag = bytes_of 2 tag ++ 0x00 ∷ 0x00 ∷ 0x00 ∷ 0x00 ∷ 0x10 ∷ 0x00
     ∷ 0x80 ∷ 0x00 ∷ 0x00 ∷ 0xaa ∷ 0x00 ∷ 0x38 ∷ 0x9b ∷ 0x71 ∷ []

@@ -8,8 +8,8 @@ use Rattle.hound_spec.specs.declared.spec.WavSpec.{WavSpec}
 use Rattle.hound_spec.specs.declared.spec.WavSpecEx.{WavSpecEx}
 use Rattle.hound_number.specs.{bytes_of}
 
--- The used bits of a sample and the bytes of its container, by format (WAVEFORMATEXTENSIBLE,
--- "wValidBitsPerSample"): one list for reading, writing and appending.
+-- The used bits of a sample and the bytes of its container, by format (WAVEFORMATEXTENSIBLE, "wValidBitsPerSample"):
+-- one list for reading, writing and appending.
 abbrev pub pairs : SampleFormat → List (ℕ × ℕ)
 pairs Int = (8, 1) ∷ (16, 2) ∷ (24, 3) ∷ (24, 4) ∷ (32, 4) ∷ []
 pairs Float = (32, 4) ∷ []
@@ -21,8 +21,8 @@ is_pair format bits width = list_any (λ (b, w). bits == b && width == w) (pairs
 abbrev pub IsPair : SampleFormat → ℕ → ℕ → Type 0
 IsPair format bits width = IsTrue (is_pair format bits width)
 
--- A spec that can be written: bits and bytes of that list, and numbers that fit in the fmt chunk's
--- fields (WAVEFORMATEX, "nBlockAlign", "nAvgBytesPerSec").
+-- A spec that can be written: bits and bytes of that list, and numbers that fit in the fmt chunk's fields
+-- (WAVEFORMATEX, "nBlockAlign", "nAvgBytesPerSec").
 pub record IsWritable (s : WavSpecEx) : Type 0 where
   pub pair : IsPair s.spec.sample_format s.spec.bits_per_sample s.bytes_per_sample
   pub channels : 1 ≤ s.spec.channels
@@ -51,8 +51,7 @@ data_tag = codes "data"
 abbrev pub is_short : WavSpecEx → Bool
 is_short s = nat_le s.spec.channels 2 && nat_le s.spec.bits_per_sample 16
 
--- The mask of the speakers: one low bit for each channel, of 18 (WAVEFORMATEXTENSIBLE,
--- "dwChannelMask").
+-- The mask of the speakers: one low bit for each channel, of 18 (WAVEFORMATEXTENSIBLE, "dwChannelMask").
 abbrev pub mask : ℕ → ℕ
 mask channels = 2 ^ min channels 18 - 1
 
@@ -75,8 +74,7 @@ extended s = record {
   subformat = subformat s.spec.sample_format;
 }
 
--- The content of a PCMWAVEFORMAT, and of a WAVEFORMATEXTENSIBLE, whose bits are those of the
--- container.
+-- The content of a PCMWAVEFORMAT, and of a WAVEFORMATEXTENSIBLE, whose bits are those of the container.
 abbrev pub short_fmt : WavSpecEx → List ℕ
 short_fmt s = fmt_bytes (fields pcm s.spec.bits_per_sample s)
 
@@ -89,8 +87,8 @@ long_fmt s =
 unfoldable pub sized_fmt : WavSpecEx → List ℕ
 sized_fmt s = if is_short s then bytes_of 4 16 ++ short_fmt s else bytes_of 4 40 ++ long_fmt s
 
--- All before the data: RIFF with its size, WAVE, the fmt chunk, and the data chunk's tag
--- and length (RIFF, "Waveform Audio File Format").
+-- All before the data: RIFF with its size, WAVE, the fmt chunk, and the data chunk's tag and length (RIFF, "Waveform
+-- Audio File Format").
 unfoldable pub header : WavSpecEx → ℕ → ℕ → List ℕ
 header s size data_length = riff_tag ++ bytes_of 4 size ++ wave_tag
     ++ fmt_tag ++ sized_fmt s ++ data_tag ++ bytes_of 4 data_length
@@ -99,13 +97,12 @@ header s size data_length = riff_tag ++ bytes_of 4 size ++ wave_tag
 abbrev pub data_start : WavSpecEx → ℕ
 data_start s = if is_short s then 44 else 68
 
--- How many bytes the content of a chunk of this length takes: one of an odd length is followed by a
--- pad byte (RIFF, "Chunks").
+-- How many bytes the content of a chunk of this length takes: one of an odd length is followed by a pad byte (RIFF,
+-- "Chunks").
 abbrev pub padded : ℕ → ℕ
 padded len = len + len % 2
 
--- The RIFF size of a file whose data begin at this place and have this length: all that comes
--- after the size field.
+-- The RIFF size of a file whose data begin at this place and have this length: all that comes after the size field.
 abbrev pub riff_size : ℕ → ℕ → ℕ
 riff_size start data_length = start - 8 + padded data_length
 
@@ -113,8 +110,8 @@ riff_size start data_length = start - 8 + padded data_length
 abbrev pub padding : ℕ → List ℕ
 padding data_length = replicate (data_length % 2) 0
 
--- The canonical file of a spec and a list of containers: the header with the two sizes, then the
--- containers joined, then the pad byte.
+-- The canonical file of a spec and a list of containers: the header with the two sizes, then the containers joined,
+-- then the pad byte.
 abbrev pub canonical : WavSpecEx → List (List ℕ) → List ℕ
 canonical s containers =
     let data_length = length (concat containers) in

@@ -30,8 +30,8 @@ pub const EXTENSION_LENGTH: u16 = 22;
 /// The bytes of a PCMWAVEFORMAT.
 pub const PCMWAVEFORMAT_LENGTH: u32 = 16;
 
-/// The subformat of integers in a WAVEFORMATEXTENSIBLE: a GUID of mmreg.h, whose first three groups
-/// are little-endian numbers.
+/// The subformat of integers in a WAVEFORMATEXTENSIBLE: a GUID of mmreg.h, whose first three groups are little-endian
+/// numbers.
 pub const KSDATAFORMAT_SUBTYPE_PCM: [u8; 16] = [
     0x01, 0x00, 0x00, 0x00, 0x00, 0x00, 0x10, 0x00, 0x80, 0x00, 0x00, 0xaa, 0x00, 0x38, 0x9b, 0x71,
 ];
@@ -106,8 +106,7 @@ fn channel_mask(channels: u16) -> u32
     (1 << channels.min(18)) - 1
 }
 
-// Whether the older fmt chunk is enough: the extensible one is required above two channels or 16
-// bits.
+// Whether the older fmt chunk is enough: the extensible one is required above two channels or 16 bits.
 fn is_short(spec_ex: WavSpecEx) -> bool
     ensures { result ≡ is_short spec_ex }
 {
@@ -212,12 +211,12 @@ fn write_fmt(header: &mut Header, spec_ex: WavSpecEx)
     }
 }
 
-/// The header of a file of this spec, up to the first data byte (RIFF, "Waveform Audio File
-/// Format"). The spec must be writable: see [`WavSpecEx::is_writable`].
+/// The header of a file of this spec, up to the first data byte (RIFF, "Waveform Audio File Format"). The spec must be
+/// writable: see [`WavSpecEx::is_writable`].
 ///
-/// Both sizes are in bytes. The RIFF size counts all after its own field, the data length the
-/// content of the data chunk. One or two channels of 8 or 16 bits have the header of 44 bytes
-/// with a PCMWAVEFORMAT, every other spec that of 68 with a WAVEFORMATEXTENSIBLE.
+/// Both sizes are in bytes. The RIFF size counts all after its own field, the data length the content of the data
+/// chunk. One or two channels of 8 or 16 bits have the header of 44 bytes with a PCMWAVEFORMAT, every other spec that
+/// of 68 with a WAVEFORMATEXTENSIBLE.
 pub fn header_of(spec_ex: WavSpecEx, riff_size: u32, data_length: u32) -> Header
     requires { IsWritable spec_ex }
     ensures { result ≡ header spec_ex riff_size data_length }
@@ -239,23 +238,19 @@ impl WavSpec {
     ghost use Rattle.hound_spec.specs.FmtChunk.{greatest_u32};
     ghost use Rattle.hound_spec.specs.Header.{header, IsWritable, with_default_width};
 
-    /// The header of a stream whose length isn't known when it begins: both sizes are 4294967295.
-    /// It is for outputs without a way back; the containers follow, each by
-    /// `Sample::write_padded`.
+    /// The header of a stream whose length isn't known when it begins: both sizes are 4294967295. It is for outputs
+    /// without a way back; the containers follow, each by `Sample::write_padded`.
     ///
-    /// A sample takes the bytes that its bits need: `(bits_per_sample + 7) / 8`, rounded down.
-    /// `WavReader` rejects such a header of 16 or 32 bits, since 4294967295 bytes are no whole
-    /// samples of them.
+    /// A sample takes the bytes that its bits need: `(bits_per_sample + 7) / 8`, rounded down. `WavReader` rejects such
+    /// a header of 16 or 32 bits, since 4294967295 bytes are no whole samples of them.
     ///
     /// The errors, in their order: `Unsupported`, for a spec that can't be written; `OutOfMemory`.
     pub fn into_header_for_infinite_file(self, alloc: Global) -> Result<Vec<u8>>
-        ensures unsupported { (IsWritable (with_default_width self) → ⊥) →
-            result ≡ Err Unsupported }
+        ensures unsupported { (IsWritable (with_default_width self) → ⊥) → result ≡ Err Unsupported }
         ensures only_writable { OnOk result (IsWritable (with_default_width self)) }
         ensures header { IfOk result (λ bytes.
             bytes.items ≡ header (with_default_width self) greatest_u32 greatest_u32) }
-        ensures writable { IsWritable (with_default_width self) →
-            IfErr result (λ e. e ≡ OutOfMemory) }
+        ensures writable { IsWritable (with_default_width self) → IfErr result (λ e. e ≡ OutOfMemory) }
     {
         let spec_ex = WavSpecEx::from(self);
         if !spec_ex.is_writable() {

@@ -1,20 +1,19 @@
 // What a file says of its samples.
-/// Whether a sample is stored as an integer or as an IEEE float (WAVEFORMATEX, "wFormatTag", and
-/// the subformat of a WAVEFORMATEXTENSIBLE).
+/// Whether a sample is stored as an integer or as an IEEE float (WAVEFORMATEX, "wFormatTag", and the subformat of a
+/// WAVEFORMATEXTENSIBLE).
 #[derive(Clone, Copy, Debug, PartialEq, Eq)]
 pub enum SampleFormat {
-    /// The bits of an IEEE float, as in files with the format tag `WAVE_FORMAT_IEEE_FLOAT`.
-    /// They are read and written as `FloatBits`; full scale is from -1.0 to 1.0.
+    /// The bits of an IEEE float, as in files with the format tag `WAVE_FORMAT_IEEE_FLOAT`. They are read and written
+    /// as `FloatBits`; full scale is from -1.0 to 1.0.
     Float,
-    /// An integer, as in files with the format tag `WAVE_FORMAT_PCM`. Its values are signed here
-    /// at all widths, though a byte of 8 bits isn't.
+    /// An integer, as in files with the format tag `WAVE_FORMAT_PCM`. Its values are signed here at all widths, though
+    /// a byte of 8 bits isn't.
     Int,
 }
 
 /// The properties of the audio data.
 ///
-/// The fields can be any numbers; [`WavSpecEx::is_writable`] says which of them a file can be
-/// written with.
+/// The fields can be any numbers; [`WavSpecEx::is_writable`] says which of them a file can be written with.
 ///
 /// ```
 /// let spec = WavSpec {
@@ -32,9 +31,8 @@ pub struct WavSpec {
     /// The number of frames a second, in hertz; 44100 on a CD. It may be 0 in a file that is read.
     pub sample_rate: u32,
 
-    /// The number of bits of a sample that are used; 16 on a CD. In a file that is read it can be
-    /// any but 0, since the valid bits of a WAVEFORMATEXTENSIBLE aren't checked; types read only
-    /// the pairs of [`WavSpecEx::is_writable`].
+    /// The number of bits of a sample that are used; 16 on a CD. In a file that is read it can be any but 0, since the
+    /// valid bits of a WAVEFORMATEXTENSIBLE aren't checked; types read only the pairs of [`WavSpecEx::is_writable`].
     pub bits_per_sample: u16,
 
     /// Whether samples are integers or floats.
@@ -59,8 +57,8 @@ pub struct WavSpecEx {
     /// The properties of the audio data; its bits are the used ones.
     pub spec: WavSpec,
 
-    /// The number of bytes that a sample takes in the file, its container. In a file that is read:
-    /// the block align divided by the channels, rounded down (WAVEFORMATEX, "nBlockAlign").
+    /// The number of bytes that a sample takes in the file, its container. In a file that is read: the block align
+    /// divided by the channels, rounded down (WAVEFORMATEX, "nBlockAlign").
     pub bytes_per_sample: u16,
 }
 
@@ -70,10 +68,9 @@ impl WavSpecEx {
 
     /// Whether a file of this spec can be written.
     ///
-    /// The pairs of bits and bytes are (8, 1), (16, 2), (24, 3), (24, 4) and (32, 4) for integers,
-    /// and (32, 4) for floats. There is at least one channel and one frame a second, a frame has at
-    /// most 65535 bytes, and a second at most 4294967295. A writer's constructors reject exactly
-    /// the other specs, as `Unsupported`.
+    /// The pairs of bits and bytes are (8, 1), (16, 2), (24, 3), (24, 4) and (32, 4) for integers, and (32, 4) for
+    /// floats. There is at least one channel and one frame a second, a frame has at most 65535 bytes, and a second at
+    /// most 4294967295. A writer's constructors reject exactly the other specs, as `Unsupported`.
     pub fn is_writable(&self) -> bool
         ensures { IsTrue result ↔ IsWritable self.now }
     {
@@ -103,8 +100,8 @@ impl From<WavSpec> for WavSpecEx {
     }
 }
 
-/// Whether samples of this format are written with this many used bits and bytes: (8, 1),
-/// (16, 2), (24, 3), (24, 4) and (32, 4) for integers, and (32, 4) for floats.
+/// Whether samples of this format are written with this many used bits and bytes: (8, 1), (16, 2), (24, 3), (24, 4) and
+/// (32, 4) for integers, and (32, 4) for floats.
 #[inline(always)]
 pub fn is_pair(format: SampleFormat, bits: u16, width: u16) -> bool
     ensures { result ≡ is_pair format bits width }

@@ -43,7 +43,8 @@ silent_where_broken (Some text) (Some us) (Some vs) p ns bytes xs ys follows rea
     (read ∙ (ap (λ t. t ++ vs) split ∙ append_assoc xs ys vs)) ∙ ap (before ns) (breaks (ys ++ vs))))
 
 -- why a text says no numbers: what breaks it
-pub rejected : {T : Type 0} (result : Result T TextError) (rejection : TextError) (breaks : Type 0) (old : Option (List ℕ))
+pub rejected : {T : Type 0} (result : Result T TextError) (rejection : TextError) (breaks : Type 0)
+    (old : Option (List ℕ))
     → IsErrAnd result (λ e. e ≡ rejection) → IsTextRejection rejection breaks → (breaks → IfSome old SaysNoNumbers)
     → IfErr result (λ e. IfSome old (IsRejected e))
 rejected (Ok x) rejection breaks old is text silent = tt
@@ -54,7 +55,8 @@ rejected (Err e) rejection breaks old is text silent =
     always None P h = tt
     always (Some text) P h = h text
 
-    by_cause : (rejection : TextError) (old : Option (List ℕ)) → IsTextRejection rejection breaks → (breaks → IfSome old SaysNoNumbers) → IfSome old (IsRejected rejection)
+    by_cause : (rejection : TextError) (old : Option (List ℕ)) → IsTextRejection rejection breaks
+        → (breaks → IfSome old SaysNoNumbers) → IfSome old (IsRejected rejection)
     by_cause BadNumber old text silent = silent text
     by_cause OutOfMemory old text silent = always old (IsRejected OutOfMemory) (λ _. tt)
     by_cause InputOrOutput old text silent = absurd text

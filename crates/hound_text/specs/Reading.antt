@@ -1,5 +1,4 @@
--- How a text of numbers is read from its front: what is left to be said at each place, and why a text
--- isn't read.
+-- How a text of numbers is read from its front: what is left to be said at each place, and why a text isn't read.
 use Rattle.std.specs.Prelude.{◌≡◌, ℕ, ℤ, ◌+◌, ◌-◌, ◌*◌, Bool, true, false, cond, ◌==◌, ⊤, nat_le, List, [], ◌∷◌, ◌++◌, length, Option, Some, None, ◌<◌}
 use Rattle.std.specs.Option.{option_and_then, option_map}
 use Rattle.std.specs.Int.{is_in_range}
@@ -58,8 +57,7 @@ numbers_from place (b ∷ bytes) =
     cond (is_separator b) (option_and_then (λ numbers. before numbers (numbers_from Between bytes)) (ended place))
     (option_and_then (λ next. numbers_from next bytes) (next_place place b))
 
--- Reading leads from one place, with these numbers so far, to another: whatever text follows, the
--- numbers are the same.
+-- Reading leads from one place, with these numbers so far, to another: whatever text follows, the numbers are the same.
 abbrev pub Leads : Place → List ℕ → List ℤ → Place → List ℕ → List ℤ → Type 0
 Leads place bytes numbers later rest more =
     (tail : List ℕ) → before numbers (numbers_from place (bytes ++ tail))
@@ -81,8 +79,7 @@ IsTextRejection BadNumber breaks = breaks
 IsTextRejection OutOfMemory breaks = ⊤
 IsTextRejection _ breaks = ⊥
 
--- the error for an input with this text; a fault of the input or too little memory may come at any
--- time
+-- the error for an input with this text; a fault of the input or too little memory may come at any time
 abbrev pub IsRejected : TextError → List ℕ → Type 0
 IsRejected BadNumber text = SaysNoNumbers text
 IsRejected TooLong text = 4294967295 < length text

@@ -1,5 +1,4 @@
-//! Numbers as text: how the program `hound_tool` reads them from its input, and makes lines of them
-//! for its output.
+//! Numbers as text: how the program `hound_tool` reads them from its input, and makes lines of them for its output.
 #![tactic(auto)]
 
 mod lines;

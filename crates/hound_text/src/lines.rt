@@ -120,8 +120,8 @@ impl Lines {
         self.length = start + text.len();
     }
 
-    /// Writes the lines, in order. There are none after it, whatever it returns; at an `Err` a
-    /// shorter beginning of them is written.
+    /// Writes the lines, in order. There are none after it, whatever it returns; at an `Err` a shorter beginning of
+    /// them is written.
     pub fn write_to<O: io::Write>(&mut self, output: &mut O) -> io::Result<()>
         ensures emptied { self.new ≡ [] }
         ensures written { Writes self.old result (O.contents output.old) (O.contents output.new) }

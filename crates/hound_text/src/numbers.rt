@@ -13,8 +13,8 @@ use std::io;
 // How many bytes of the input are read at once.
 const INPUT_LENGTH: usize = 16384;
 
-/// Why a text isn't read. It has one byte, where an error that holds an `io::Error` has a hundred,
-/// and it is part of the result for each number.
+/// Why a text isn't read. It has one byte, where an error that holds an `io::Error` has a hundred, and it is part of
+/// the result for each number.
 #[derive(Clone, Copy)]
 pub enum TextError {
     /// A byte that no number has at its place, or a number beyond `i32`.
@@ -65,8 +65,7 @@ fn take_digits(place: Place, mut bytes: &[u8]) -> Option<(Place, &[u8])>
 #[inline(always)]
 fn take_byte(place: Place, byte: u8, numbers: &mut Vec<i32>) -> Result<Place, TextError>
     requires { is_digit byte ≡ false }
-    ensures taken { IfOk result (λ later.
-        Leads place (byte ∷ []) numbers.old.items later [] numbers.new.items) }
+    ensures taken { IfOk result (λ later. Leads place (byte ∷ []) numbers.old.items later [] numbers.new.items) }
     ensures rejected { IfErr result (λ rejection. IsTextRejection rejection (Breaks place (byte ∷ []))) }
 {
     match (place, byte) {
@@ -97,8 +96,7 @@ fn take_bytes(
     mut bytes: &[u8],
     numbers: &mut Vec<i32>,
 ) -> Result<Place, TextError>
-    ensures taken { IfOk result (λ later.
-        Leads place bytes.now numbers.old.items later [] numbers.new.items) }
+    ensures taken { IfOk result (λ later. Leads place bytes.now numbers.old.items later [] numbers.new.items) }
     ensures rejected { IfErr result (λ rejection. IsTextRejection rejection (Breaks place bytes.now)) }
 {
     while let Some((byte, rest)) = bytes.split_first() {
@@ -114,15 +112,13 @@ fn take_bytes(
 
 /// Reads numbers to the end of the input.
 ///
-/// They are separated by spaces, tabs, carriage returns and line feeds: an optional `-`, and then
-/// digits, within `i32`. The first byte that breaks this is `BadNumber`. A fault of the input is
-/// `InputOrOutput`, and more than 4294967295 bytes of it are `TooLong`.
+/// They are separated by spaces, tabs, carriage returns and line feeds: an optional `-`, and then digits, within `i32`.
+/// The first byte that breaks this is `BadNumber`. A fault of the input is `InputOrOutput`, and more than 4294967295
+/// bytes of it are `TooLong`.
 pub fn read_numbers<R: io::Read>(alloc: Global, input: &mut R) -> Result<Vec<i32>, TextError>
     ensures end { OnOk result (IsAtEnd (R.remaining input.new)) }
-    ensures numbers { IfOk result (λ numbers.
-        IfSome (R.remaining input.old) (λ text. SaysNumbers text numbers.items)) }
-    ensures rejected { IfErr result (λ rejection.
-        IfSome (R.remaining input.old) (IsRejected rejection)) }
+    ensures numbers { IfOk result (λ numbers. IfSome (R.remaining input.old) (λ text. SaysNumbers text numbers.items)) }
+    ensures rejected { IfErr result (λ rejection. IfSome (R.remaining input.old) (IsRejected rejection)) }
 {
     let mut numbers = Vec::new(alloc);
     let mut place = Place::Between;
@@ -147,8 +143,7 @@ pub fn read_numbers<R: io::Read>(alloc: Global, input: &mut R) -> Result<Vec<i32
 
 /// A number without a sign, in digits alone, of at most this size.
 pub fn digits(word: &str, most: u32) -> Option<u32>
-    ensures { SomeIff result (IsNumeral 10 word.now × (digits_value 10 word.now ≤ most))
-        (digits_value 10 word.now) }
+    ensures { SomeIff result (IsNumeral 10 word.now × (digits_value 10 word.now ≤ most)) (digits_value 10 word.now) }
 {
     if word.starts_with('+') {
         return None;

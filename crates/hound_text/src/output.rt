@@ -3,9 +3,9 @@ ghost use Rattle.hound_number.specs.{Writes};
 
 use std::io::{self, ErrorKind};
 
-/// Writes all of the bytes, in order, and tries again where a write is interrupted, as std's
-/// `write_all` does, whose contract doesn't say what an `Err` has written: here it is a beginning of
-/// the bytes. A write that takes no byte is a fault of the kind `WriteZero`.
+/// Writes all of the bytes, in order, and tries again where a write is interrupted, as std's `write_all` does, whose
+/// contract doesn't say what an `Err` has written: here it is a beginning of the bytes. A write that takes no byte is a
+/// fault of the kind `WriteZero`.
 pub fn write_text<O: io::Write>(output: &mut O, bytes: &[u8]) -> io::Result<()>
     ensures { Writes bytes.now result (O.contents output.old) (O.contents output.new) }
 {

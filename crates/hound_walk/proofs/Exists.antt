@@ -23,8 +23,7 @@ abbrev OneChunk : ℕ → List ℕ → Type 0
 OneChunk c bytes = (p : Chunk) × (rest : List ℕ) × IsChunk p
     × (c + 8 + padded (number p.size) ≤ greatest_u32) × (bytes ≡ chunk_bytes p ++ rest)
 
-parts : (bytes : List ℕ) → 8 ≤ length bytes
-    → bytes ≡ take 4 bytes ++ (slice_range bytes 4 8 ++ drop 8 bytes)
+parts : (bytes : List ℕ) → 8 ≤ length bytes → bytes ≡ take 4 bytes ++ (slice_range bytes 4 8 ++ drop 8 bytes)
 parts bytes l = grind (arith, common_steps)
 
 no_fault_there : (c : ℕ) (found : Option WavSpecEx) (bytes : List ℕ)
@@ -58,8 +57,7 @@ no_fault_there c found bytes h =
               sound = sound;
             },
             limit,
-            whole ∙ ap (λ t. tag ++ (size ++ t)) (sym (take-append-drop n rest))
-                ∙ sym (spread p (drop n rest)),
+            whole ∙ ap (λ t. tag ++ (size ++ t)) (sym (take-append-drop n rest)) ∙ sym (spread p (drop n rest)),
           )
     ]
 
@@ -69,8 +67,7 @@ fault_or_none (Some c) = inl (c, refl)
 
 -- how a walk ends
 abbrev Ending : ℕ → Option WavSpecEx → List ℕ → Type 0
-Ending c found bytes = ((cause : Cause)
-    × (chunk_fault c found bytes ≡ Some cause)) ⊎ DataEnd c found bytes
+Ending c found bytes = ((cause : Cause) × (chunk_fault c found bytes ≡ Some cause)) ⊎ DataEnd c found bytes
 
 abbrev Goes : ℕ → Option WavSpecEx → List ℕ → Type 0
 Goes c found bytes = (ps : List Chunk) × (rest : List ℕ) × (bytes ≡ joined ps ++ rest) × Chunks c ps
@@ -88,20 +85,17 @@ goes_more c found bytes p rest is limit e (ps, end, f, each, ending) =
       end,
       e ∙ ap (λ t. chunk_bytes p ++ t) f ∙ sym (append_assoc (chunk_bytes p) (joined ps) end),
       (is, limit, each),
-      subst (λ i.
-          Ending i (last_spec (spec_after found p.tag (number p.size) p.content) ps) end) n ending,
+      subst (λ i. Ending i (last_spec (spec_after found p.tag (number p.size) p.content) ps) end) n ending,
     )
 
-goes_none : (c : ℕ) (found : Option WavSpecEx) (bytes : List ℕ) → Ending c found bytes
-    → Goes c found bytes
+goes_none : (c : ℕ) (found : Option WavSpecEx) (bytes : List ℕ) → Ending c found bytes → Goes c found bytes
 goes_none c found bytes e = let n : c ≡ c + 0 = omega arith in
     ([], bytes, refl, tt, subst (λ i. Ending i found bytes) n e)
 
 long_chunk : (p : Chunk) → IsChunk p → 8 ≤ length (chunk_bytes p)
 long_chunk p is = grind (arith, common_steps)
 
-goes : (fuel c : ℕ) (found : Option WavSpecEx) (bytes : List ℕ) → length bytes ≤ fuel
-    → Goes c found bytes
+goes : (fuel c : ℕ) (found : Option WavSpecEx) (bytes : List ℕ) → length bytes ≤ fuel → Goes c found bytes
 unfolding chunk_fault
 goes zero c found bytes l = elim (fault_or_none (chunk_fault c found bytes)) [
   | inl f ↦ goes_none c found bytes (inl f)
@@ -111,15 +105,13 @@ goes (suc fuel) c found bytes l = elim (fault_or_none (chunk_fault c found bytes
   | inl f ↦ goes_none c found bytes (inl f)
   | inr f ↦ elim (no_fault_there c found bytes f) [
     | inl d ↦ goes_none c found bytes (inr d)
-    | inr (p, rest, is, limit, e) ↦ goes_more c found bytes p rest is limit e
-        (goes fuel (c + length (chunk_bytes p))
+    | inr (p, rest, is, limit, e) ↦ goes_more c found bytes p rest is limit e (goes fuel (c + length (chunk_bytes p))
         (spec_after found p.tag (number p.size) p.content) rest
         (omega (arith, ap length e, length-append (chunk_bytes p) rest, long_chunk p is)))
   ]
 ]
 
-front_there : (bytes : List ℕ) → front_fault bytes ≡ None
-    → (size : List ℕ) × (rest : List ℕ) × (length size ≡ 4)
+front_there : (bytes : List ℕ) → front_fault bytes ≡ None → (size : List ℕ) × (rest : List ℕ) × (length size ≡ 4)
     × (bytes ≡ riff_tag ++ (size ++ (wave_tag ++ rest)))
 unfolding front_fault
 front_there bytes h = search (rules, slice_range, length-take, length-drop, take-append-drop, same_tag, parts)
@@ -141,26 +133,25 @@ ending_answer bytes size rest four e (ps, end, w, each, inl (cause, f)) = (
     rw (zero-add (length (joined ps))) at f,
   ),
 )
-ending_answer bytes size rest four e
-    (ps, end, w, each, inr (spec, dsize, after, f, limit, dfour, d)) = (
-      readable spec (number dsize) (12 + length (joined ps) + 8),
-      record {
-        chunks = ps;
-        size = dsize;
-        rest = after;
-        walk = record {
-          size = size;
-          four = four;
-          whole = cc (e, w, d);
-          each = each;
-        };
-        four = dfour;
-        data_len = refl;
-        limit = omega arith;
-        spec_is = f;
-        place = refl;
-      },
-    )
+ending_answer bytes size rest four e (ps, end, w, each, inr (spec, dsize, after, f, limit, dfour, d)) = (
+  readable spec (number dsize) (12 + length (joined ps) + 8),
+  record {
+    chunks = ps;
+    size = dsize;
+    rest = after;
+    walk = record {
+      size = size;
+      four = four;
+      whole = cc (e, w, d);
+      each = each;
+    };
+    four = dfour;
+    data_len = refl;
+    limit = omega arith;
+    spec_is = f;
+    place = refl;
+  },
+)
 
 pub some_answer : (bytes : List ℕ) → (a : Answer) × Answers bytes a
 some_answer bytes = elim (fault_or_none (front_fault bytes)) [

@@ -16,8 +16,7 @@ readable_one xs s t n m h k a b =
       g.2,
     )
 
-pub readable_no_fault : (xs : List ℕ) (s : WavSpecEx) (n h : ℕ) (c : Cause) → Readable xs s n h
-    → Unreadable xs c → ⊥
+pub readable_no_fault : (xs : List ℕ) (s : WavSpecEx) (n h : ℕ) (c : Cause) → Readable xs s n h → Unreadable xs c → ⊥
 readable_no_fault xs s n h c a (inl f) = head_no_fault xs s a.len h c a.head f
 readable_no_fault xs s n h c a (inr (t, len, k, head, fault)) =
     let g = heads_agree xs s t a.len len h k a.head head in
@@ -34,8 +33,7 @@ unreadable_one xs c d (inr (s, m, h, a, e)) (inr (t, n, k, b, f)) =
     cc (g.0, g.1, e, f)
 
 -- a head can be read, or its data length is at fault
-file_of_head : (bytes : List ℕ) (s : WavSpecEx) (len h : ℕ) → Head bytes s len h → (a : Answer)
-    × AnswersFile bytes a
+file_of_head : (bytes : List ℕ) (s : WavSpecEx) (len h : ℕ) → Head bytes s len h → (a : Answer) × AnswersFile bytes a
 file_of_head bytes s len h head = elim (fault_or_none (data_fault s len)) [
   | inl (c, f) ↦ (unreadable c, inr (s, len, h, head, f))
   | inr f ↦ (
@@ -44,13 +42,11 @@ file_of_head bytes s len h head = elim (fault_or_none (data_fault s len)) [
   )
 ]
 
-file_of_answer : (bytes : List ℕ) (a : Answer) → Answers bytes a → (b : Answer)
-    × AnswersFile bytes b
+file_of_answer : (bytes : List ℕ) (a : Answer) → Answers bytes a → (b : Answer) × AnswersFile bytes b
 file_of_answer bytes (readable s len h) head = file_of_head bytes s len h head
 file_of_answer bytes (unreadable c) f = (unreadable c, inl f)
 
-same_file_answer : (bytes : List ℕ) (a b : Answer) → AnswersFile bytes a → AnswersFile bytes b
-    → b ≡ a
+same_file_answer : (bytes : List ℕ) (a b : Answer) → AnswersFile bytes a → AnswersFile bytes b → b ≡ a
 same_file_answer bytes (readable s m h) (readable t n k) a b = let e =
     readable_one bytes s t m n h k a b in
     cc (e.0, e.1, e.2)

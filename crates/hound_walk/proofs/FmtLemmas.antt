@@ -30,8 +30,7 @@ pub fmt_and_rest : (len : ℕ) (xs rest : List ℕ) → fmt_len len ≤ length x
 fmt_and_rest len xs rest l = grind (arith, common_steps)
 
 -- the first sixteen bytes of a content, and those after them
-pub fmt_head : (len : ℕ) (h zs : List ℕ) → 16 ≤ len → length h ≡ 16
-    → fmt_of len (h ++ zs) ≡
+pub fmt_head : (len : ℕ) (h zs : List ℕ) → 16 ≤ len → length h ≡ 16 → fmt_of len (h ++ zs) ≡
     (wave_format (fmt_fields h) >>= λ found.
     by_tag (fmt_fields h).tag len found (take (fmt_len len - 16) zs))
 unfolding fmt_said

@@ -28,7 +28,8 @@ pub rejects_at : (e : HeadError) (c : Cause) (P : Cause → Type 0) → e ≡ Ca
 rejects_at e c P is r = subst (λ d. Rejects d P) is r
 
 -- an error of memory has a cause, since no read of it fails
-pub caused : (A : Type 0) (e : HeadError) (c : Cause) → (let a : Account (Unit {0}) = record { failures = 0; kept = tt } in
+pub caused : (A : Type 0) (e : HeadError) (c : Cause)
+    → (let a : Account (Unit {0}) = record { failures = 0; kept = tt } in
     CountsFailed {Kept = Unit {0}} {A = A} (Some a) (Some a) (Err e)) → Rejects e (λ d. c ≡ d) → e ≡ Caused c
 caused A (Failed e) c same is = absurd (omega (arith, ap (λ (b : Account (Unit {0})). b.failures) same))
 caused A (Caused d) c same is = ap Caused (sym is)
@@ -37,8 +38,7 @@ cut_at_end : (n : ℕ) (after : List ℕ) → length after < n → cut_fault n a
 cut_at_end n after less = grind (arith, common_steps)
 
 -- the first twelve bytes of a file decide its front
-pub front_fault_of : (file : List ℕ) (c : Cause) → front_fault (take 12 file) ≡ Some c
-    → front_fault file ≡ Some c
+pub front_fault_of : (file : List ℕ) (c : Cause) → front_fault (take 12 file) ≡ Some c → front_fault file ≡ Some c
 unfolding front_fault
 front_fault_of file c is = grind (arith, common_steps)
 
@@ -149,12 +149,14 @@ pub passed : (file tag size after : List ℕ) (found next : Option WavSpecEx) (c
 passed file tag size after found next c len w is tag_four four says other limit sound f =
     let rest = drop (12 + c) file in
     let to = c + 8 + padded len in
-    let long : length file ≡ 12 + c + (8 + length after) = passed_long file tag size after c (walked_inside file found c w) is tag_four four in
+    let long : length file ≡ 12 + c + (8 + length after) = passed_long file tag size after c
+    (walked_inside file found c w) is tag_four four in
     elim (cases_lt (length after) (padded len)) [
       | inl less ↦ inr (
         omega (arith, less, long),
         rejected_at file rest found c Ended w
-            (ap (chunk_fault c found) is ∙ cut_off c found tag size after len tag_four four says other limit sound less),
+            (ap (chunk_fault c found) is ∙ cut_off c found tag size after len tag_four four says other limit sound
+            less),
       )
       | inr whole ↦ inl (
           let content = take (padded len) after in
@@ -200,7 +202,8 @@ head_at file h found c spec len w is l room tag f k =
       slice_range h 4 8,
       size_long h l,
       sym k,
-      header_parts file h c is l ∙ ap (λ t. t ++ (slice_range h 4 8 ++ drop (20 + c) file)) (same_tag (take 4 h) data_tag tag),
+      header_parts file h c is l ∙ ap (λ t. t ++ (slice_range h 4 8 ++ drop (20 + c) file))
+          (same_tag (take 4 h) data_tag tag),
     ) refl).0
 
 -- a header at fault
@@ -221,8 +224,7 @@ pub reaches : (file : List ℕ) (next : HeadWalk) (content read : ℕ) (found : 
 reaches file next content read found to come beyond f t inside = grind (arith, common_steps)
 
 -- eight bytes of a header are inside the file
-pub header_inside : (file h : List ℕ) (c : ℕ) → h ≡ take 8 (drop (12 + c) file) → 8 ≤ length h
-    → 20 + c ≤ length file
+pub header_inside : (file h : List ℕ) (c : ℕ) → h ≡ take 8 (drop (12 + c) file) → 8 ≤ length h → 20 + c ≤ length file
 header_inside file h c is l =
     omega (arith, l, ap length is, length-take 8 (drop (12 + c) file), length-drop (12 + c) file)
 

@@ -17,8 +17,7 @@ use Rattle.hound_walk.specs.declared.cause.HeadError.{HeadError}
 use Rattle.hound_walk.specs.declared.cause.HeadError.TheVariants.{Failed, Rejected}
 
 -- h was taken, and then n bytes
-pub taken_then : (h ys zs : List ℕ) (n : ℕ) → AreTaken n ys zs
-    → AreTaken (length h + n) (h ++ ys) zs
+pub taken_then : (h ys zs : List ℕ) (n : ℕ) → AreTaken n ys zs → AreTaken (length h + n) (h ++ ys) zs
 taken_then h ys zs n t = grind (arith, common_steps, length-append, drop-append-add)
 
 -- h was taken, and then what an error takes, for a cause that P holds for
@@ -39,8 +38,7 @@ pub takes_these : (h : List ℕ) (o n : Option (List ℕ)) (g : Cause → List �
 takes_these h o n g c taken same = grind (arith, common_steps)
 
 -- an extension has no fault except another subformat
-pub subformat_fails : (found : WavSpecEx) (e : Extension) (c : Cause) → by_subformat found e ≡ Err c
-    → c ≡ Unsupported
+pub subformat_fails : (found : WavSpecEx) (e : Extension) (c : Cause) → by_subformat found e ≡ Err c → c ≡ Unsupported
 subformat_fails found e c is = grind (arith, common_steps)
 
 -- the checks of every format tag take the first sixteen bytes
@@ -101,13 +99,11 @@ pub rejected_for : (o n : Option (List ℕ)) (e : HeadError) → TakesAll Reject
 rejected_for o n e t = grind (arith, common_steps)
 
 -- a head is complete
-pub head_is_there : (bytes : List ℕ) (spec : WavSpecEx) (len h : ℕ) → Head bytes spec len h
-    → h ≤ length bytes
+pub head_is_there : (bytes : List ℕ) (spec : WavSpecEx) (len h : ℕ) → Head bytes spec len h → h ≤ length bytes
 head_is_there bytes spec len h head = grind (arith, common_steps)
 
 -- a head, and a data length at fault
-pub length_takes : (o n : Option (List ℕ)) (spec : WavSpecEx) (len h : ℕ) (c : Cause)
-    → data_fault spec len ≡ Some c
+pub length_takes : (o n : Option (List ℕ)) (spec : WavSpecEx) (len h : ℕ) (c : Cause) → data_fault spec len ≡ Some c
     → WhereKnown o n (λ xs ys. Head xs spec len h × (ys ≡ drop h xs))
     → WhereKnown o n (λ xs ys. (k : ℕ) × UnreadableAfter xs c k × AreTaken k xs ys)
 length_takes o n spec len h c fault head = grind (arith, common_steps, known_weaker, head_is_there)

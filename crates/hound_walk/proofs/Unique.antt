@@ -103,8 +103,7 @@ data_sound : (c : ℕ) (spec : WavSpecEx) (size rest : List ℕ) → c + 8 ≤ g
 unfolding chunk_fault content_fault
 data_sound c spec size rest limit four = grind (arith, common_steps)
 
-front_sound : (size rest : List ℕ) → length size ≡ 4
-    → front_fault (riff_tag ++ (size ++ (wave_tag ++ rest))) ≡ None
+front_sound : (size rest : List ℕ) → length size ≡ 4 → front_fault (riff_tag ++ (size ++ (wave_tag ++ rest))) ≡ None
 unfolding front_fault
 front_sound size rest four =
     let enough =

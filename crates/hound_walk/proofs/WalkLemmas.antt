@@ -63,8 +63,7 @@ Chunks-more c [] p each is limit = (is, omega arith, tt)
 Chunks-more c (q ∷ ps) p (first, room, each) is limit = (
   first,
   room,
-  Chunks-more (c + length (chunk_bytes q)) ps p each is
-      (omega (arith, length-append (chunk_bytes q) (joined ps))),
+  Chunks-more (c + length (chunk_bytes q)) ps p each is (omega (arith, length-append (chunk_bytes q) (joined ps))),
 )
 
 last_spec-more : (found : Option WavSpecEx) (ps : List Chunk) (p : Chunk)

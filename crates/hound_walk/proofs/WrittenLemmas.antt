@@ -41,7 +41,8 @@ with_fields s bits format =
 fields_pass : (tag bits : ℕ) (s : WavSpecEx) → IsWritable s → 0 < bits → bits % 8 ≡ 0
     → bits ≤ 8 * s.bytes_per_sample → wave_format (fields tag bits s) ≡ Ok (with_fields s bits Int)
 unfolding wave_format
-fields_pass tag bits s w some whole in_width = grind (arith, common_steps, pair_facts, mul-div_cancel_left, ne_eqb, le-ltb, eq-eqb)
+fields_pass tag bits s w some whole in_width =
+    grind (arith, common_steps, pair_facts, mul-div_cancel_left, ne_eqb, le-ltb, eq-eqb)
 
 -- and so do their bytes
 bytes_pass : (tag bits : ℕ) (s : WavSpecEx) → IsWritable s → tag < 256 ^ 2 → 0 < bits → bits % 8 ≡ 0
@@ -55,8 +56,7 @@ bytes_pass tag bits s w small some whole in_width =
 short_is_int : (f : SampleFormat) (b w : ℕ) → IsPair f b w → b ≤ 16 → f ≡ Int
 short_is_int f b w p few = search rules
 
-short_back : (s : WavSpecEx) → IsWritable s → s.spec.bits_per_sample ≤ 16
-    → fmt_of 16 (short_fmt s) ≡ Ok s
+short_back : (s : WavSpecEx) → IsWritable s → s.spec.bits_per_sample ≤ 16 → fmt_of 16 (short_fmt s) ≡ Ok s
 unfolding fmt_said by_tag wave_format_pcm
 short_back s w few =
     let p = pair_facts s.spec.sample_format s.spec.bits_per_sample s.bytes_per_sample w.pair in
@@ -92,9 +92,7 @@ long_back s w = back s.spec.sample_format
     pass = bytes_pass extensible (8 * s.bytes_per_sample) s w (lit< tt) (omega (arith, p.some))
         (omega arith) (omega arith)
 
-    back : (f : SampleFormat)
-        → fmt_of 40
-        (fmt_bytes (fields extensible (8 * s.bytes_per_sample) s) ++ bytes_of 2 22
+    back : (f : SampleFormat) → fmt_of 40 (fmt_bytes (fields extensible (8 * s.bytes_per_sample) s) ++ bytes_of 2 22
         ++ extension_bytes (more f)) ≡ Ok (with_fields s s.spec.bits_per_sample f)
     back Int = rw (pass, valid, some) refl
     back Float = rw (pass, valid, some) refl
@@ -107,12 +105,10 @@ joined-one : (len : ℕ) (content rest : List ℕ)
     → joined (fmt_chunk len content ∷ []) ++ rest ≡ fmt_tag ++ (bytes_of 4 len ++ (content ++ rest))
 joined-one len content rest = grind (arith, common_steps)
 
-length-joined-one : (len : ℕ) (content : List ℕ)
-    → length (joined (fmt_chunk len content ∷ [])) ≡ 8 + length content
+length-joined-one : (len : ℕ) (content : List ℕ) → length (joined (fmt_chunk len content ∷ [])) ≡ 8 + length content
 length-joined-one len content = grind (arith, common_steps)
 
-header-parts : (s : WavSpecEx) (size len n : ℕ) (content rest : List ℕ)
-    → sized_fmt s ≡ bytes_of 4 n ++ content
+header-parts : (s : WavSpecEx) (size len n : ℕ) (content rest : List ℕ) → sized_fmt s ≡ bytes_of 4 n ++ content
     → header s size len ++ rest ≡ riff_tag ++
     (bytes_of 4 size ++
     (wave_tag ++
@@ -133,8 +129,7 @@ head_of s size len n content rest e back few even l read fits = record {
   walk = record {
     size = bytes_of 4 size;
     four = refl;
-    whole = header-parts s size len n content rest e
-        ∙ ap (λ t. riff_tag ++ (bytes_of 4 size ++ (wave_tag ++ t)))
+    whole = header-parts s size len n content rest e ∙ ap (λ t. riff_tag ++ (bytes_of 4 size ++ (wave_tag ++ t)))
         (sym (joined-one n content (data_tag ++ (bytes_of 4 len ++ rest))));
     each = (
       record {
@@ -170,4 +165,5 @@ long_head s size len rest w long fits =
 
 pub header_head : (s : WavSpecEx) (size len : ℕ) (rest : List ℕ) → IsWritable s → len ≤ greatest_u32
     → Head (header s size len ++ rest) s len (data_start s)
-header_head s size len rest w fits = grind (arith, common_steps, cases_Bool, and_parts, short_head, nat_tests, long_head)
+header_head s size len rest w fits =
+    grind (arith, common_steps, cases_Bool, and_parts, short_head, nat_tests, long_head)

@@ -1,5 +1,4 @@
--- A file as chunks (RIFF): what is before the data, what is wrong if it can't be read, and that it is one
--- of these.
+-- A file as chunks (RIFF): what is before the data, what is wrong if it can't be read, and that it is one of these.
 use Rattle.std.specs.Prelude.{◌≡◌, ℕ, ◌+◌, ◌≤◌, ◌/◌, ◌%◌, ◌==◌, ◌⊎◌, false, not, List, [], ◌∷◌, ◌++◌, length, take, drop, slice_range, Option, Some, None, is_none, Result, Ok, Err, nat_lt, if◌then◌else◌}
 use Rattle.std.specs.Str.{bytes_eq}
 use Rattle.std.specs.List.{flat_map}
@@ -11,8 +10,8 @@ use Rattle.hound_walk.specs.declared.cause.Cause.{Cause}
 use Rattle.hound_walk.specs.declared.cause.Cause.TheVariants.{Ended, Format}
 use Rattle.hound_walk.specs.declared.cause.Reason.TheVariants.{NoRiffTag, NoWaveTag, NoDataChunk, NoFmtChunk, DataLength, FrameLength}
 
--- A chunk of the file: the tag, the length as four bytes, and the content with its
--- pad byte, if it has one (RIFF, "Chunks").
+-- A chunk of the file: the tag, the length as four bytes, and the content with its pad byte, if it has one (RIFF,
+-- "Chunks").
 pub record Chunk : Type 0 where
   pub tag : List ℕ
   pub size : List ℕ
@@ -39,8 +38,7 @@ fault_of (Err cause) = Some cause
 abbrev pub fmt_fault : List ℕ → ℕ → List ℕ → Option Cause
 fmt_fault tag len content = if bytes_eq tag fmt_tag then fault_of (fmt_of len content) else None
 
--- A chunk before the data: its tag isn't "data", its content is whole, and a fmt chunk has no
--- fault.
+-- A chunk before the data: its tag isn't "data", its content is whole, and a fmt chunk has no fault.
 pub record IsChunk (p : Chunk) : Type 0 where
   pub tag : length p.tag ≡ 4
   pub size : length p.size ≡ 4
@@ -70,8 +68,8 @@ pub record Walk (bytes : List ℕ) (chunks : List Chunk) (rest : List ℕ) : Typ
   pub whole : bytes ≡ riff_tag ++ (size ++ (wave_tag ++ (joined chunks ++ rest)))
   pub each : Chunks 0 chunks
 
--- The bytes before `data_start` are a head: chunks, and the tag and length of a data chunk. The last fmt chunk
--- has this spec.
+-- The bytes before `data_start` are a head: chunks, and the tag and length of a data chunk. The last fmt chunk has this
+-- spec.
 pub record Head (bytes : List ℕ) (spec : WavSpecEx) (len data_start : ℕ) : Type 0 where
   pub chunks : List Chunk
   pub size : List ℕ
@@ -105,8 +103,8 @@ first_fault (Some cause) second = Some cause
 abbrev pub cut_fault : ℕ → List ℕ → Option Cause
 cut_fault n bytes = if nat_lt (length bytes) n then Some Ended else None
 
--- The fault of a chunk with this tag and length, and the rest after them, if so many
--- bytes after the WAVE tag, and a spec so far, came before.
+-- The fault of a chunk with this tag and length, and the rest after them, if so many bytes after the WAVE tag, and a
+-- spec so far, came before.
 unfoldable pub content_fault : ℕ → Option WavSpecEx → List ℕ → ℕ → List ℕ → Option Cause
 content_fault taken found tag len rest =
     if bytes_eq tag data_tag then (if is_none found then Some (Format NoFmtChunk) else None)
@@ -120,8 +118,7 @@ chunk_fault taken found bytes =
     else if nat_lt (length bytes) 8 then Some Ended
     else content_fault taken found (take 4 bytes) (number (slice_range bytes 4 8)) (drop 8 bytes)
 
--- The bytes have no head for this cause: the first twelve bytes have it, or what comes after
--- whole chunks has it.
+-- The bytes have no head for this cause: the first twelve bytes have it, or what comes after whole chunks has it.
 abbrev pub Rejected : List ℕ → Cause → Type 0
 Rejected bytes cause = (front_fault bytes ≡ Some cause)
     ⊎ ((chunks : List Chunk) × (rest : List ℕ) × Walk bytes chunks rest

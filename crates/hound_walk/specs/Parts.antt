@@ -14,11 +14,10 @@ use Rattle.hound_walk.specs.declared.parts.HeadWalk.{HeadWalk}
 use Rattle.hound_walk.specs.declared.parts.Step.{Step}
 use Rattle.hound_walk.specs.declared.parts.Step.TheVariants.{Next, Data}
 
--- Whole chunks take the c bytes of the file after its first twelve, and this spec was found in them;
--- or the file ends before that, and so has no head.
+-- Whole chunks take the c bytes of the file after its first twelve, and this spec was found in them; or the file ends
+-- before that, and so has no head.
 abbrev pub Reaches : List ℕ → Option WavSpecEx → ℕ → Type 0
-Reaches file found c = Walked file (drop (12 + c) file) found c
-    ⊎ ((length file < 12 + c) × Rejected file Ended)
+Reaches file found c = Walked file (drop (12 + c) file) found c ⊎ ((length file < 12 + c) × Rejected file Ended)
 
 -- the part after a content of which so much was read: its last byte, too, unless that was read
 abbrev pub IsAfter : ℕ → ℕ → Part → Type 0

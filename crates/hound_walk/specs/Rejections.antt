@@ -31,12 +31,11 @@ reason_text ExtensibleSize = codes "unexpected WAVEFORMATEXTENSIBLE size"
 reason_text DataLength = codes "data chunk length is not a multiple of sample size"
 reason_text FrameLength = codes "invalid data chunk length"
 
--- the error of a cause: a `FormatError` with its words, the variant `Unsupported`, or for an early
--- end an `IoError` of kind `Other`
+-- the error of a cause: a `FormatError` with its words, the variant `Unsupported`, or for an early end an `IoError` of
+-- kind `Other`
 abbrev pub Names : Error → Cause → Type 0
 Names (errors.IoError e) cause = (cause ≡ Ended) × (error_kind e ≡ Other)
-Names (errors.FormatError s) cause = (reason : Reason) × (cause ≡ Format reason)
-    × (s.now ≡ reason_text reason)
+Names (errors.FormatError s) cause = (reason : Reason) × (cause ≡ Format reason) × (s.now ≡ reason_text reason)
 Names errors.Unsupported cause = cause ≡ Unsupported
 Names _ cause = ⊥
 
@@ -48,8 +47,7 @@ ReportsError (Rejected cause) modelled = Names modelled cause
 -- an `IoError`, or the error of a cause that P holds for
 abbrev pub IsRejection : Error → (Cause → Type 0) → Type 0
 IsRejection (errors.IoError e) P = ⊤
-IsRejection (errors.FormatError s) P = (reason : Reason) × P (Format reason)
-    × (s.now ≡ reason_text reason)
+IsRejection (errors.FormatError s) P = (reason : Reason) × P (Format reason) × (s.now ≡ reason_text reason)
 IsRejection errors.Unsupported P = P Unsupported
 IsRejection _ P = ⊥
 

@@ -31,8 +31,8 @@ faults_after_walk (Ok x) faults = faults
 faults_after_walk (Err (Failed e)) faults = one_more faults
 faults_after_walk (Err (Rejected c)) faults = faults
 
--- the result of a walk for bytes, of which `rest` is left: their head, or the cause why they have
--- none; a failed read shows nothing of them
+-- the result of a walk for bytes, of which `rest` is left: their head, or the cause why they have none; a failed read
+-- shows nothing of them
 abbrev pub AnswersBytes : Result FileHead HeadError → List ℕ → List ℕ → Type 0
 AnswersBytes (Ok head) bytes rest = Head bytes head.spec_ex head.data_length head.data_start
     × (rest ≡ drop head.data_start bytes)

@@ -1,5 +1,4 @@
--- The walk over chunks, step by step: what each call returns, and how many bytes are taken of a file
--- that is rejected.
+-- The walk over chunks, step by step: what each call returns, and how many bytes are taken of a file that is rejected.
 use Rattle.std.specs.Prelude.{◌≡◌, ℕ, ◌≤◌, List, length, take, drop, ⊤, Option, IfOk, IfErr, ◌-◌, Result, Ok, Err, ◌+◌, ◌++◌, Some, None, true, false, ◌<◌, ◌==◌, ◌⊎◌, slice_range, nat_lt, if◌then◌else◌}
 use Rattle.hound_number.specs.{Account, WhereKnown, NoneFailed, OneFailed, number}
 use Rattle.hound_walk.specs.declared.cause.HeadError.{HeadError}
@@ -44,13 +43,11 @@ CountsFailed old new (Ok x) = NoneFailed old new
 CountsFailed old new (Err (Failed e)) = OneFailed old new
 CountsFailed old new (Err (Rejected c)) = NoneFailed old new
 
--- What was taken of xs, of which ys are left, if a chunk was read that began c bytes after the
--- WAVE tag.
+-- What was taken of xs, of which ys are left, if a chunk was read that began c bytes after the WAVE tag.
 abbrev pub ReadsChunk : ℕ → Option WavSpecEx → ChunkRead → List ℕ → List ℕ → Type 0
 ReadsChunk c found (Data spec len) xs ys = (found ≡ Some spec) × (c + 8 ≤ greatest_u32)
     × (size : List ℕ) × (length size ≡ 4) × (number size ≡ len) × (xs ≡ data_tag ++ (size ++ ys))
-ReadsChunk c found (Other next taken) xs ys = (p : Chunk) × IsChunk p
-    × (c + 8 + padded (number p.size) ≤ greatest_u32)
+ReadsChunk c found (Other next taken) xs ys = (p : Chunk) × IsChunk p × (c + 8 + padded (number p.size) ≤ greatest_u32)
     × (next ≡ spec_after found p.tag (number p.size) p.content)
     × (taken ≡ c + length (chunk_bytes p)) × (xs ≡ chunk_bytes p ++ ys)
 
@@ -58,15 +55,13 @@ ReadsChunk c found (Other next taken) xs ys = (p : Chunk) × IsChunk p
 abbrev pub ReadsContent : ℕ → Option WavSpecEx → List ℕ → ℕ → ChunkRead → List ℕ → List ℕ → Type 0
 ReadsContent c found tag len (Data spec n) xs ys = (bytes_eq tag data_tag ≡ true)
     × (found ≡ Some spec) × (n ≡ len) × (xs ≡ ys)
-ReadsContent c found tag len (Other next taken) xs ys = (content : List ℕ)
-    × (length content ≡ padded len)
+ReadsContent c found tag len (Other next taken) xs ys = (content : List ℕ) × (length content ≡ padded len)
     × (bytes_eq tag data_tag ≡ false)
     × (fmt_fault tag len content ≡ None) × (c + 8 + padded len ≤ greatest_u32)
     × (next ≡ spec_after found tag len content) × (taken ≡ c + 8 + length content)
     × (xs ≡ content ++ ys)
 
--- The first twelve bytes of xs and whole chunks, and then ys: the spec so far, and how many bytes the
--- chunks take.
+-- The first twelve bytes of xs and whole chunks, and then ys: the spec so far, and how many bytes the chunks take.
 pub record Walked (xs ys : List ℕ) (found : Option WavSpecEx) (taken : ℕ) : Type 0 where
   pub chunks : List Chunk
   pub walk : Walk xs chunks ys
@@ -84,8 +79,8 @@ IsSoundChunk c (Data spec len) = IsSoundSpec spec
 IsSoundChunk c (Other next taken) =
     IsSoundOption next × (c + 8 ≤ taken) × (taken ≤ greatest_u32)
 
--- how many of these bytes are taken for a fault of the first twelve: those up to the end of a wrong
--- tag, or all at an early end
+-- how many of these bytes are taken for a fault of the first twelve: those up to the end of a wrong tag, or all at an
+-- early end
 abbrev pub front_taken : Cause → List ℕ → ℕ
 front_taken (Format NoRiffTag) bytes = 4
 front_taken (Format NoWaveTag) bytes = 12
@@ -105,17 +100,15 @@ abbrev pub TakesFront : HeadError → List ℕ → List ℕ → Type 0
 TakesFront (Failed e) old new = TakesLess old new
 TakesFront (Rejected cause) old new = AreTaken (front_taken cause old) old new
 
--- what callers get for it: the words of a wrong tag, or an `IoError`, for which fewer than twelve
--- bytes were taken
+-- what callers get for it: the words of a wrong tag, or an `IoError`, for which fewer than twelve bytes were taken
 abbrev pub ReportsFront : Error → List ℕ → List ℕ → Type 0
 ReportsFront (errors.IoError e) old new = TakesLess old new
 ReportsFront (errors.FormatError s) old new =
     (reason : Reason) × RejectsFront (Format reason) old new × (s.now ≡ reason_text reason)
 ReportsFront _ old new = ⊥
 
--- How many of the n bytes after the header of a chunk are taken for a fault, by the chunk's length
--- and a fmt chunk's format tag: none for what the header decides, all at an early end (WAVEFORMAT,
--- WAVEFORMATEX, WAVEFORMATEXTENSIBLE).
+-- How many of the n bytes after the header of a chunk are taken for a fault, by the chunk's length and a fmt chunk's
+-- format tag: none for what the header decides, all at an early end (WAVEFORMAT, WAVEFORMATEX, WAVEFORMATEXTENSIBLE).
 abbrev pub content_taken : ℕ → ℕ → Cause → ℕ → ℕ
 content_taken tag len Ended n = n
 content_taken tag len (Format NoFmtChunk) n = 0
@@ -132,8 +125,8 @@ content_taken tag len _ n = 16
 abbrev pub content_takes : ℕ → Cause → List ℕ → ℕ
 content_takes len cause bytes = content_taken (fmt_fields bytes).tag len cause (length bytes)
 
--- How many of these bytes are taken for the fault of a chunk that begins c bytes after the WAVE
--- tag: its header too, if the limit leaves room for one.
+-- How many of these bytes are taken for the fault of a chunk that begins c bytes after the WAVE tag: its header too, if
+-- the limit leaves room for one.
 abbrev pub chunk_taken : ℕ → Cause → List ℕ → ℕ
 chunk_taken c cause bytes =
     if nat_lt greatest_u32 (c + 8) then 0
@@ -148,8 +141,8 @@ RejectedAfter bytes cause n = ((front_fault bytes ≡ Some cause) × (n ≡ fron
     × (chunk_fault (length (joined chunks)) (last_spec None chunks) rest ≡ Some cause)
     × (n ≡ 12 + length (joined chunks) + chunk_taken (length (joined chunks)) cause rest))
 
--- The bytes can't be read for this cause, and this many of them are taken until it is found: all up
--- to the data if the data length is at fault.
+-- The bytes can't be read for this cause, and this many of them are taken until it is found: all up to the data if the
+-- data length is at fault.
 abbrev pub UnreadableAfter : List ℕ → Cause → ℕ → Type 0
 UnreadableAfter bytes cause n = RejectedAfter bytes cause n
     ⊎ ((spec : WavSpecEx) × (len : ℕ) × Head bytes spec len n × (data_fault spec len ≡ Some cause))
@@ -159,27 +152,22 @@ abbrev pub TakesFor : Option (List ℕ) → Option (List ℕ) → (Cause → Lis
 TakesFor old new n e = Rejects e (λ c. WhereKnown old new (λ xs ys. AreTaken (n c xs) xs ys))
 
 -- At an error the bytes that were taken are as many as its cause takes.
-abbrev pub TakesAll : (List ℕ → Cause → ℕ → Type 0) → Option (List ℕ) → Option (List ℕ) → HeadError
-    → Type 0
-TakesAll P old new e = Rejects e (λ c. WhereKnown old new (λ xs ys.
-    (n : ℕ) × P xs c n × AreTaken n xs ys))
+abbrev pub TakesAll : (List ℕ → Cause → ℕ → Type 0) → Option (List ℕ) → Option (List ℕ) → HeadError → Type 0
+TakesAll P old new e = Rejects e (λ c. WhereKnown old new (λ xs ys. (n : ℕ) × P xs c n × AreTaken n xs ys))
 
--- What a call does with the content of a fmt chunk of this length, after its first sixteen bytes: it
--- returns `read` of what follows, unless a read failed, and takes as many bytes for a cause as the
--- format tag says.
+-- What a call does with the content of a fmt chunk of this length, after its first sixteen bytes: it returns `read` of
+-- what follows, unless a read failed, and takes as many bytes for a cause as the format tag says.
 pub record ReadsFormat {R Kept : Type 0} (account : R → Option (Account Kept))
     (left : R → Option (List ℕ)) (tag len : ℕ) (read : List ℕ → Result WavSpecEx Cause)
     (old new : R) (result : Result WavSpecEx HeadError) : Type 0 where
   pub sound : IfOk result IsSoundSpec
   pub failures : CountsFailed (account old) (account new) result
-  pub gives : Gives (left old) (left new) (fmt_len len - 16) result
-      (λ xs. read (take (fmt_len len - 16) xs))
-  pub taken : IfErr result (TakesFor (left old) (left new)
-      (λ c xs. content_taken tag len c (16 + length xs) - 16))
+  pub gives : Gives (left old) (left new) (fmt_len len - 16) result (λ xs. read (take (fmt_len len - 16) xs))
+  pub taken : IfErr result (TakesFor (left old) (left new) (λ c xs. content_taken tag len c (16 + length xs) - 16))
   pub late : IfErr result (λ e. Rejects e (λ c. (n : ℕ) → 16 ≤ content_taken tag len c (16 + n)))
 
--- What a part of the walk does: an Ok is sound, and P relates the bytes before and after it; a cause is
--- the fault of the bytes, and n says how many of them it takes; a failed read is counted.
+-- What a part of the walk does: an Ok is sound, and P relates the bytes before and after it; a cause is the fault of
+-- the bytes, and n says how many of them it takes; a failed read is counted.
 pub record Walks {R Kept A : Type 0} (account : R → Option (Account Kept))
     (left : R → Option (List ℕ)) (IsSound : A → Type 0) (P : A → List ℕ → List ℕ → Type 0)
     (fault : List ℕ → Option Cause) (n : Cause → List ℕ → ℕ) (old new : R)
@@ -187,8 +175,7 @@ pub record Walks {R Kept A : Type 0} (account : R → Option (Account Kept))
   pub sound : IfOk result IsSound
   pub failures : CountsFailed (account old) (account new) result
   pub ok : IfOk result (λ found. WhereKnown (left old) (left new) (P found))
-  pub err : IfErr result (λ e. Rejects e (λ c.
-      WhereKnown (left old) (left new) (λ xs ys. fault xs ≡ Some c)))
+  pub err : IfErr result (λ e. Rejects e (λ c. WhereKnown (left old) (left new) (λ xs ys. fault xs ≡ Some c)))
   pub taken : IfErr result (TakesFor (left old) (left new) n)
 
 -- what a header says of the content of its chunk, c bytes after the WAVE tag

@@ -7,8 +7,8 @@ use hound_number::ReadError;
 use hound_spec::Error;
 use std::io;
 
-/// What is wrong with a file. [`error_of`] has the words for it, which a `FormatError` holds;
-/// `fmt_of` and `Rejected` of the specs have the order in which a walk looks for these.
+/// What is wrong with a file. [`error_of`] has the words for it, which a `FormatError` holds; `fmt_of` and `Rejected`
+/// of the specs have the order in which a walk looks for these.
 #[derive(Clone, Copy, Debug, PartialEq, Eq)]
 pub enum Reason {
     /// The file doesn't begin with "RIFF".
@@ -100,8 +100,8 @@ fn text_of(reason: Reason) -> &'static str
     }
 }
 
-/// The error that callers get: `FormatError` with its words, `Unsupported`, or `IoError`, for
-/// an early end of kind `Other`.
+/// The error that callers get: `FormatError` with its words, `Unsupported`, or `IoError`, for an early end of kind
+/// `Other`.
 pub fn error_of(head_error: HeadError) -> Error
     ensures { ReportsError head_error result }
 {

@@ -45,8 +45,7 @@ fn skip_bytes<R: Input>(reader: &mut R, count: u32) -> Result<(), HeadError>
     ensures ok { OnOk result ((bytes : List ℕ)
         × Consumes (R.left reader.old) (R.left reader.new) bytes × (length bytes ≡ count)) }
     ensures err { IfErr result (λ e. Rejects e (λ c. (c ≡ Cause.Ended)
-        × WhereKnown (R.left reader.old) (R.left reader.new)
-        (λ xs ys. (length xs < count) × (ys ≡ [])))) }
+        × WhereKnown (R.left reader.old) (R.left reader.new) (λ xs ys. (length xs < count) × (ys ≡ [])))) }
 {
     let mut left = count;
     while left > 0 {
@@ -66,8 +65,7 @@ pub(crate) fn read_riff_header<R: Input>(reader: &mut R) -> Result<u32, HeadErro
         (size : List ℕ) × (length size ≡ 4) × (xs ≡ riff_tag ++ (size ++ (wave_tag ++ ys))) × (n ≡ number size))) }
     ensures err { IfErr result (λ e. Rejects e (λ c.
         WhereKnown (R.left reader.old) (R.left reader.new) (λ xs ys. front_fault xs ≡ Some c))) }
-    ensures taken { IfErr result (λ e.
-        WhereKnown (R.left reader.old) (R.left reader.new) (TakesFront e)) }
+    ensures taken { IfErr result (λ e. WhereKnown (R.left reader.old) (R.left reader.new) (TakesFront e)) }
 {
     let mut tag = [0; 4];
     fill(reader, &mut tag)?;
@@ -173,11 +171,10 @@ fn read_next_chunk<R: Input>(
     read_content(reader, &head[..4], chunk_len, found, taken)
 }
 
-/// Takes exactly what is before the data, however the reads are cut: the walk that reading and
-/// appending share.
+/// Takes exactly what is before the data, however the reads are cut: the walk that reading and appending share.
 ///
-/// The length of the data isn't checked. An error that the bytes don't decide is that of a read,
-/// and the only one that counts as failed.
+/// The length of the data isn't checked. An error that the bytes don't decide is that of a read, and the only one that
+/// counts as failed.
 pub fn read_until_data<R: Input>(reader: &mut R) -> Result<FileHead, HeadError>
     ensures sound { IfOk result (λ r. IsSoundSpec r.spec_ex) }
     ensures start { IfOk result (λ r. IsDataPlace r.data_start) }

@@ -194,8 +194,7 @@ fn read_by_tag<R: Input>(
 ) -> Result<WavSpecEx, HeadError>
     requires chunk_len { 16 ≤ chunk_len }
     requires sound { IsSoundSpec found }
-    ensures { ReadsFormat R.account R.left tag chunk_len (by_tag tag chunk_len found)
-        reader.old reader.new result }
+    ensures { ReadsFormat R.account R.left tag chunk_len (by_tag tag chunk_len found) reader.old reader.new result }
 {
     match tag {
         WAVE_FORMAT_PCM => read_wave_format_pcm(reader, chunk_len, found),
@@ -205,8 +204,7 @@ fn read_by_tag<R: Input>(
     }
 }
 
-/// Reads the used part of the content of a fmt chunk of this length: of a longer one than forty
-/// bytes the first forty.
+/// Reads the used part of the content of a fmt chunk of this length: of a longer one than forty bytes the first forty.
 #[tactic(auto, unfolding(crate::specs::Fmt::fmt_said))]
 pub(crate) fn read_fmt_chunk<R: Input>(
     reader: &mut R,
@@ -214,10 +212,8 @@ pub(crate) fn read_fmt_chunk<R: Input>(
 ) -> Result<WavSpecEx, HeadError>
     ensures sound { IfOk result IsSoundSpec }
     ensures failures { CountsFailed (R.account reader.old) (R.account reader.new) result }
-    ensures gives { Gives (R.left reader.old) (R.left reader.new)
-        (fmt_len chunk_len) result (fmt_of chunk_len) }
-    ensures taken { IfErr result (TakesFor (R.left reader.old) (R.left reader.new)
-        (content_takes chunk_len)) }
+    ensures gives { Gives (R.left reader.old) (R.left reader.new) (fmt_len chunk_len) result (fmt_of chunk_len) }
+    ensures taken { IfErr result (TakesFor (R.left reader.old) (R.left reader.new) (content_takes chunk_len)) }
 {
     // Fourteen bytes would say all but the bits; no program is known to write so short a chunk.
     if chunk_len < PCMWAVEFORMAT_LENGTH {

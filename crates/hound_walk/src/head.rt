@@ -13,8 +13,7 @@ use hound_number::Input;
 use hound_spec::Result;
 use std::{io, result};
 
-/// Takes exactly what is before the data, which must be whole frames, and returns the head and how
-/// many samples follow.
+/// Takes exactly what is before the data, which must be whole frames, and returns the head and how many samples follow.
 pub fn read_until_samples<R: Input>(reader: &mut R) -> result::Result<(FileHead, u32), HeadError>
     ensures sound { IfOk result (λ r. IsSoundSpec r.0.spec_ex) }
     ensures start { IfOk result (λ r. IsDataPlace r.0.data_start) }
@@ -31,18 +30,16 @@ pub fn read_until_samples<R: Input>(reader: &mut R) -> result::Result<(FileHead,
     Ok((head, num_samples))
 }
 
-/// Takes the first twelve bytes of a file, and returns the size of the whole file in bytes by
-/// them: the RIFF size, which doesn't count itself and the tag before it, and eight bytes more
-/// (RIFF, "RIFF Forms"), at most 4294967303. So a caller learns whether this can be a WAVE file.
+/// Takes the first twelve bytes of a file, and returns the size of the whole file in bytes by them: the RIFF size,
+/// which doesn't count itself and the tag before it, and eight bytes more (RIFF, "RIFF Forms"), at most 4294967303. So
+/// a caller learns whether this can be a WAVE file.
 ///
-/// The size isn't checked. The errors, in the order of the bytes: `FormatError`, for a wrong RIFF
-/// tag and then for a wrong WAVE tag, after which no byte is taken; `IoError`, if a read fails or
-/// the input ends, which has the kind `Other`.
+/// The size isn't checked. The errors, in the order of the bytes: `FormatError`, for a wrong RIFF tag and then for a
+/// wrong WAVE tag, after which no byte is taken; `IoError`, if a read fails or the input ends, which has the kind
+/// `Other`.
 pub fn read_wave_header<R: io::Read>(reader: &mut R) -> Result<u64>
-    ensures found { IfOk result (λ n. WhereKnown (R.remaining reader.old) (R.remaining reader.new)
-        (λ xs ys.
-        (size : List ℕ) × (length size ≡ 4) × (xs ≡ riff_tag ++ (size ++ (wave_tag ++ ys)))
-        × (n ≡ number size + 8))) }
+    ensures found { IfOk result (λ n. WhereKnown (R.remaining reader.old) (R.remaining reader.new) (λ xs ys.
+        (size : List ℕ) × (length size ≡ 4) × (xs ≡ riff_tag ++ (size ++ (wave_tag ++ ys))) × (n ≡ number size + 8))) }
     ensures rejected { IfErr result (λ e.
         WhereKnown (R.remaining reader.old) (R.remaining reader.new) (ReportsFront e)) }
 {

@@ -36,8 +36,7 @@ pub(crate) fn fill<R: Input>(reader: &mut R, buf: &mut [u8]) -> Result<(), HeadE
     ensures part { OnErr result ((bytes : List ℕ) × (length bytes < length buf.new)
         × Consumes (R.left reader.old) (R.left reader.new) bytes) }
     ensures err { IfErr result (λ e. Rejects e (λ c. (c ≡ Cause.Ended)
-        × WhereKnown (R.left reader.old) (R.left reader.new)
-        (λ xs ys. (length xs < length buf.new) × (ys ≡ [])))) }
+        × WhereKnown (R.left reader.old) (R.left reader.new) (λ xs ys. (length xs < length buf.new) × (ys ≡ [])))) }
 {
     match read_into(reader, buf) {
         Ok(()) => Ok(()),

@@ -1,8 +1,8 @@
 //! The walk over what is before the data of a WAV file.
 //!
-//! A file is RIFF, a size, WAVE and chunks. The walk takes chunk after chunk up to the header of the
-//! data ([`read_until_data`], [`find_data`]), or asks its caller for the bytes ([`take_part`]).
-//! Readers, writers that append and repairs begin with it.
+//! A file is RIFF, a size, WAVE and chunks. The walk takes chunk after chunk up to the header of the data
+//! ([`read_until_data`], [`find_data`]), or asks its caller for the bytes ([`take_part`]). Readers, writers that append
+//! and repairs begin with it.
 #![tactic(auto)]
 
 mod cause;

@@ -1,5 +1,5 @@
-// The walk to the data over bytes that a caller hands in, part after part. So nothing that is
-// skipped has to be read, and a caller in C can do the reading.
+// The walk to the data over bytes that a caller hands in, part after part. So nothing that is skipped has to be read,
+// and a caller in C can do the reading.
 ghost use Rattle.std.specs.Prelude.{◌≡◌, ℕ, ◌+◌, ◌≤◌, ◌/◌, ◌%◌, List, Option, None, Some, IfOk, IfErr, length, take, drop};
 ghost use Rattle.hound_spec.specs.{greatest_u32, padded};
 ghost use Rattle.hound_spec.specs.declared.spec.WavSpecEx.{WavSpecEx};
@@ -176,8 +176,8 @@ fn take_fmt(taken: u32, chunk_len: u32, bytes: &[u8]) -> Result<Step, Cause>
     }
 }
 
-/// Takes the bytes that a walk asks for, fewer only at the end of the file, and returns where they
-/// lead. At an error the walk has ended.
+/// Takes the bytes that a walk asks for, fewer only at the end of the file, and returns where they lead. At an error
+/// the walk has ended.
 #[inline(always)]
 pub fn take_part(walk: HeadWalk, bytes: &[u8]) -> Result<Step, Cause>
     requires sound { IsSoundOption walk.found }
@@ -203,8 +203,7 @@ pub fn take_part(walk: HeadWalk, bytes: &[u8]) -> Result<Step, Cause>
 pub fn count_samples(head: FileHead) -> Result<u32, Cause>
     requires sound { IsSoundSpec head.spec_ex }
     ensures count { IfOk result (λ n. (data_fault head.spec_ex head.data_length ≡ None)
-        × (n ≡ head.data_length / head.spec_ex.bytes_per_sample)
-        × (n % head.spec_ex.spec.channels ≡ 0)) }
+        × (n ≡ head.data_length / head.spec_ex.bytes_per_sample) × (n % head.spec_ex.spec.channels ≡ 0)) }
     ensures fault { IfErr result (λ c. data_fault head.spec_ex head.data_length ≡ Some c) }
 {
     let width = head.spec_ex.bytes_per_sample as u32;

@@ -25,8 +25,7 @@ use Rattle.hound_writer.proofs.Sizes.{drop_overlay_after, take_front}
 pub use Rattle.hound_writer.proofs.Sizes.{length_overlay_max}
 
 -- a call that writes nothing
-pub adds_nothing : {W : Type 0} (state : W → MediumState) (w : WriterState W)
-    → (IsWhole state w → IsCounted state w)
+pub adds_nothing : {W : Type 0} (state : W → MediumState) (w : WriterState W) → (IsWhole state w → IsCounted state w)
     → (state w.medium).contents ≡ overlay (state w.medium).start (state w.medium).past
     → AddsAtEach state w (state w.medium)
 adds_nothing state w counts replays = grind (arith, common_steps, span_still, stored_still)
@@ -88,8 +87,7 @@ module _ {W : Type 0} (kind : Ghosts W) (w : WriterState W) (at_most : WhereTell
   abbrev at : ℕ
   at = w.data_start + w.bytes_written
 
-  pub front_stays : (n : ℕ) → n ≤ at → n ≤ length was
-      → take n now ≡ take n was
+  pub front_stays : (n : ℕ) → n ≤ at → n ≤ length was → take n now ≡ take n was
   front_stays n before there = grind (arith, common_steps, take_overlay_before)
 
   pub grows : length was ≤ length now
@@ -138,8 +136,7 @@ pub goes_beside : {W : Type 0} (state : W → MediumState) (far : ℕ) (all : Bo
 goes_beside state far all w m sound whole_written faults stays = grind (arith, common_steps, front_part, counts_at)
 
 -- a writer with an empty block, and a medium with bytes written after its data
-module _ {W : Type 0} (kind : Ghosts W) (w : WriterState W)
-    (none : w.buffered ≡ []) (sound : IsSound w)
+module _ {W : Type 0} (kind : Ghosts W) (w : WriterState W) (none : w.buffered ≡ []) (sound : IsSound w)
     (at_most : WhereTells kind.tells
     (CountsAtMost w.spec_ex w.data_start w.bytes_written (kind.state w.medium).contents)) where
   abbrev old : MediumState
@@ -166,58 +163,57 @@ module _ {W : Type 0} (kind : Ghosts W) (w : WriterState W)
 
   -- bytes that are written, all or a beginning
   module _ {T E : Type 0} (m : W) (bytes : List ℕ) (result : Result T E) (modelled : IsTrue kind.tells)
-      (puts : PutsAt kind.keeps (w.data_start + w.bytes_written) bytes result (kind.state w.medium) (kind.state m)) where
-    abbrev new : MediumState
-    new = kind.state m
+      (puts : PutsAt kind.keeps (w.data_start + w.bytes_written) bytes result (kind.state w.medium) (kind.state m))
+    where
+      abbrev new : MediumState
+      new = kind.state m
 
-    pub at_each : IsTrue kind.keeps → old.contents ≡ overlay old.start old.past → AddsAtEach kind.state w new
-    at_each kept replays =
-        let bs = take puts.count bytes in
-        let same : end ≤ length old.contents → (k : ℕ)
-        → take end (overlay old.contents (placed end (take k bs))) ≡ take end old.contents =
-        λ whole k. take_overlay_before (take k bs) end end old.contents (omega arith) whole in
-        let fixed : IsWhole kind.state w
-        → Span (λ _ c. take end c ≡ take end old.contents) 0 old new =
-        λ whole. span_puts
-        (λ _ c. take end c ≡ take end old.contents) 0 old new end bs replays puts.start
-        (puts.past kept) (inl puts.flushed) (λ k within. same whole k) in
-        record {
-          counts =
-              λ whole. span_puts
-              (λ _. Counts w.spec_ex w.data_start
-              (accepted_samples kind.state w)) 0 old new end bs replays puts.start (puts.past kept)
-              (inl puts.flushed)
-              (λ k within. counts_front modelled whole (overlay old.contents (placed end (take k bs)))
-              (same whole k));
-          front = fixed;
-          stored =
-              λ whole. stored_same w.data_start w.bytes_written
-              (concat (accepted_samples kind.state w)) old.contents old new
-              (omega (
-                arith,
-                ap length (concat-samples kind.state w none sound),
-                length-take w.bytes_written (drop w.data_start old.contents),
-              ))
-              (λ k from to. front_part end w.data_start w.bytes_written (moment new.start new.past k)
-              old.contents (omega arith) ((fixed whole).each k from to));
-        }
+      pub at_each : IsTrue kind.keeps → old.contents ≡ overlay old.start old.past → AddsAtEach kind.state w new
+      at_each kept replays =
+          let bs = take puts.count bytes in
+          let same : end ≤ length old.contents → (k : ℕ)
+          → take end (overlay old.contents (placed end (take k bs))) ≡ take end old.contents =
+          λ whole k. take_overlay_before (take k bs) end end old.contents (omega arith) whole in
+          let fixed : IsWhole kind.state w
+          → Span (λ _ c. take end c ≡ take end old.contents) 0 old new =
+          λ whole. span_puts
+          (λ _ c. take end c ≡ take end old.contents) 0 old new end bs replays puts.start
+          (puts.past kept) (inl puts.flushed) (λ k within. same whole k) in
+          record {
+            counts =
+                λ whole. span_puts
+                (λ _. Counts w.spec_ex w.data_start
+                (accepted_samples kind.state w)) 0 old new end bs replays puts.start (puts.past kept)
+                (inl puts.flushed)
+                (λ k within. counts_front modelled whole (overlay old.contents (placed end (take k bs)))
+                (same whole k));
+            front = fixed;
+            stored =
+                λ whole. stored_same w.data_start w.bytes_written
+                (concat (accepted_samples kind.state w)) old.contents old new
+                (omega (
+                  arith,
+                  ap length (concat-samples kind.state w none sound),
+                  length-take w.bytes_written (drop w.data_start old.contents),
+                ))
+                (λ k from to. front_part end w.data_start w.bytes_written (moment new.start new.past k)
+                old.contents (omega arith) ((fixed whole).each k from to));
+          }
 
-    -- all of them were written
-    module _ (all : puts.count ≡ length bytes) where
-      put : take puts.count bytes ≡ bytes
-      put = take_all puts.count bytes (omega (arith, all))
+      -- all of them were written
+      module _ (all : puts.count ≡ length bytes) where
+        put : take puts.count bytes ≡ bytes
+        put = take_all puts.count bytes (omega (arith, all))
 
-      parts : IsWhole kind.state w
-          → new.contents ≡ take end old.contents ++
-          (bytes ++ drop (end + length bytes) old.contents)
-      parts whole = grind (arith, common_steps, put, overlay_is)
+        parts : IsWhole kind.state w → new.contents ≡ take end old.contents ++
+            (bytes ++ drop (end + length bytes) old.contents)
+        parts whole = grind (arith, common_steps, put, overlay_is)
 
-      bytes_in_place : IsWhole kind.state w → take (length bytes) (drop end new.contents) ≡ bytes
-      bytes_in_place whole = grind (arith, common_steps, parts, drop_at, length-take-le, take_at)
+        bytes_in_place : IsWhole kind.state w → take (length bytes) (drop end new.contents) ≡ bytes
+        bytes_in_place whole = grind (arith, common_steps, parts, drop_at, length-take-le, take_at)
 
-      pub bytes_inside : IsWhole kind.state w
-          → w.data_start + (w.bytes_written + length bytes) ≤ length new.contents
-      bytes_inside whole = grind (arith, common_steps, parts, length-append, length-take-le)
+        pub bytes_inside : IsWhole kind.state w → w.data_start + (w.bytes_written + length bytes) ≤ length new.contents
+        bytes_inside whole = grind (arith, common_steps, parts, length-append, length-take-le)
 
   -- the same file with other bytes in it and another batch
   abbrev pub after_put : W → ℕ → WriterState W
@@ -229,8 +225,7 @@ module _ {W : Type 0} (kind : Ghosts W) (w : WriterState W)
     list = containers width (length bytes / width) bytes
 
     -- if the medium failed nothing is accepted
-    pub accepts_none : (e : IoFault)
-        → WhereTells kind.tells
+    pub accepts_none : (e : IoFault) → WhereTells kind.tells
         (PutsAt kind.keeps (w.data_start + w.bytes_written) bytes (all_out false) (kind.state w.medium) (kind.state m))
         → WhereKeeps kind.tells kind.keeps
         ((kind.state w.medium).contents ≡ overlay (kind.state w.medium).start (kind.state w.medium).past)
@@ -239,8 +234,7 @@ module _ {W : Type 0} (kind : Ghosts W) (w : WriterState W)
       adds =
           let fits = room_fits w bytes room whole_bytes in
           search rules;
-      file = λ modelled.
-          let p = puts modelled in
+      file = λ modelled. let p = puts modelled in
           let f = goes_beside kind.state (end + length bytes) false w m sound (whole_written kind.state w none sound)
           p.faults
           (around kind w at_most m bytes (all_out false) modelled p (end + length bytes) refl)
@@ -265,8 +259,7 @@ module _ {W : Type 0} (kind : Ghosts W) (w : WriterState W)
           let fits = room_fits w bytes room whole_bytes in
           let size = ap length (joined_bytes width bytes whole_bytes) in
           search rules;
-      file = λ modelled.
-          let p = puts modelled in
+      file = λ modelled. let p = puts modelled in
           let last = after_put m (w.bytes_written + length bytes) in
           let samples = drop w.data_start (kind.state m).contents in
           let more : IsWhole kind.state w
@@ -299,8 +292,7 @@ module _ {W : Type 0} (kind : Ghosts W) (w : WriterState W)
           λ modelled kept. at_each m bytes (all_out true) modelled (puts modelled) kept (replays modelled kept);
     }
 
-pub not_rejected : {T : Type 0} (P : Type 0) (answer : Result T Error) → IfErr answer IsIoError
-    → OnRejected answer P
+pub not_rejected : {T : Type 0} (P : Type 0) (answer : Result T Error) → IfErr answer IsIoError → OnRejected answer P
 not_rejected P answer failed = grind (arith, common_steps)
 
 -- the same for writers that hold other memory, which the call leaves as it is

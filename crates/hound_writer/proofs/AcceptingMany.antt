@@ -27,8 +27,7 @@ module _ {V : Type 0} (container : V → ℕ → ℕ → Result (List ℕ) Rejec
     → (length c ≡ width) × (1 ≤ width) × (width ≤ 4)) (values : List V) where
   -- in a file of this spec they have these bytes, whole containers, for which there is room
   pub record Fit {W : Type 0} (w : WriterState W) : Type 0 where
-    pub size : length (sample_bytes container w.spec_ex values)
-        ≡ w.spec_ex.bytes_per_sample * length values
+    pub size : length (sample_bytes container w.spec_ex values) ≡ w.spec_ex.bytes_per_sample * length values
     pub whole : length (sample_bytes container w.spec_ex values) % w.spec_ex.bytes_per_sample ≡ 0
     pub room : HasRoom w (length (sample_bytes container w.spec_ex values))
 
@@ -41,8 +40,7 @@ module _ {V : Type 0} (container : V → ℕ → ℕ → Result (List ℕ) Rejec
   fit w have room = grind (arith, common_steps, size_of, mul-mod_right)
 
   -- a call for their bytes
-  abbrev pub AcceptsAll : {W : Type 0} → Ghosts W →
-      Result (Unit {0}) Error → WriterState W → WriterState W → Type 0
+  abbrev pub AcceptsAll : {W : Type 0} → Ghosts W → Result (Unit {0}) Error → WriterState W → WriterState W → Type 0
   AcceptsAll kind answer w new =
       AcceptsBytes kind (sample_bytes container w.spec_ex values) answer w new
 
@@ -52,8 +50,7 @@ module _ {V : Type 0} (container : V → ℕ → ℕ → Result (List ℕ) Rejec
   asked_is s some have =
       go (containers_in container s values) refl have
     where
-      go : (all : Result (List (List ℕ)) Rejection) → containers_in container s values ≡ all
-          → IsOk all
+      go : (all : Result (List (List ℕ)) Rejection) → containers_in container s values ≡ all → IsOk all
           → whole_containers s (sample_bytes container s values) ≡ containers_in container s values
       go (Err rejection) is none = cc
       go (Ok list) is one =
@@ -78,8 +75,7 @@ module _ {V : Type 0} (container : V → ℕ → ℕ → Result (List ℕ) Rejec
         → Accepts kind (containers_in container w.spec_ex values) answer w new
     many_asked answer new have = grind (arith, common_steps, asked_is)
 
-    module _
-        (replays : WhereKeeps kind.tells kind.keeps
+    module _ (replays : WhereKeeps kind.tells kind.keeps
         ((kind.state w.medium).contents ≡ overlay (kind.state w.medium).start (kind.state w.medium).past)) where
       counts : WhereTells kind.tells (IsWhole kind.state w → IsCounted kind.state w)
       counts = (valid_of kind moved limit w known).counts

@@ -76,7 +76,8 @@ idle s file frames r m d channels whole phase = grind (arith, common_steps)
 pub directing_new : (s : WavSpecEx) (old : MediumState) (log : Log) (r : Recorder) → Opened s old log.state
     → BeginsRecorder s (Ok r) → Directed s (new_file (at_beginning old)) [] r log.state
 directing_new s old log r opened (writable, is) =
-    let d = step_same s (new_file (at_beginning old)) [] _ log.state Saving false (step_new s old log opened writable) in
+    let d = step_same s (new_file (at_beginning old)) [] _ log.state Saving false
+    (step_new s old log opened writable) in
     subst (λ r. Directed s (new_file (at_beginning old)) [] r log.state) (sym is) (record {
       in_step = d;
       channels = refl;
@@ -129,8 +130,7 @@ same_next r a b effect next given1 given2 = grind (arith, common_steps)
 
 -- the recorder's data
 abbrev IsAs : Recorder → Recorder → Type 0
-IsAs a b = (a.data_length ≡ b.data_length) × (a.bytes_per_sample ≡ b.bytes_per_sample)
-    × (a.channels ≡ b.channels)
+IsAs a b = (a.data_length ≡ b.data_length) × (a.bytes_per_sample ≡ b.bytes_per_sample) × (a.channels ≡ b.channels)
 
 -- the calls for effects keep them
 keeps_data : (ok : Bool) (a b : Recorder) (next : Result (Option Effect) RecorderError) → NextEffect ok a b next
@@ -149,7 +149,8 @@ moved s file known more old r m next phase has_rest d step (len, width, channels
 }
   where
     -- a place doesn't hang on what is under way
-    place_as : (phase : Phase) (a b : Recorder) → b ≡ record a { phase = b.phase; has_rest = b.has_rest } → HasPlace phase a
+    place_as : (phase : Phase) (a b : Recorder) → b ≡ record a { phase = b.phase; has_rest = b.has_rest }
+        → HasPlace phase a
         → HasPlace phase b
     place_as Idle a b same place = tt
     place_as Saving a b same place = tt
@@ -172,9 +173,12 @@ asks s file known r m samples d whole has = record {
 gives_up : (s : WavSpecEx) (file : Begun) (known : List Known) (old : Recorder) (m : MediumState) (phase : Phase)
     → Directed s file known old m → old.phase ≡ phase
     → Directed s file known (record (given_up phase old) { phase = Saving }) m
-gives_up s file known old m Idle d is = moved s file known known old old m m Saving old.has_rest d d.in_step (refl, refl, refl) tt
-gives_up s file known old m Saving d is = moved s file known known old old m m Saving old.has_rest d d.in_step (refl, refl, refl) tt
-gives_up s file known old m Cleaning d is = moved s file known known old old m m Saving true d d.in_step (refl, refl, refl) tt
+gives_up s file known old m Idle d is = moved s file known known old old m m Saving old.has_rest d d.in_step
+    (refl, refl, refl) tt
+gives_up s file known old m Saving d is = moved s file known known old old m m Saving old.has_rest d d.in_step
+    (refl, refl, refl) tt
+gives_up s file known old m Cleaning d is = moved s file known known old old m m Saving true d d.in_step
+    (refl, refl, refl) tt
 gives_up s file known old m (Requested n) d is =
     moved s file known known old old m m Saving old.has_rest d d.in_step (refl, refl, refl) tt
 gives_up s file known old m (Writing n) d is =
@@ -195,7 +199,8 @@ directing_asked s file known old end new m samples d gives =
     rw gives (gives_up s file known old m old.phase d refl) in
     let idle : record end { phase = Idle } ≡ end = rw gives (is_given_up old.phase old) in (
       one,
-      λ (low, some, whole, room, is). rw is (asks s file known (record end { phase = Saving }) m samples one whole room),
+      λ (low, some, whole, room, is). rw is
+          (asks s file known (record end { phase = Saving }) m samples one whole room),
       subst (λ r. Directed s file known r m) idle (record {
         in_step = step_same s file known (record end { phase = Saving }) m Idle end.has_rest one.in_step;
         channels = one.channels;
@@ -285,7 +290,8 @@ effect_ended s file known old new r m end effect (Ok x) outcome d may next did (
     (step_effect s file known old r true m end effect (Ok x) d.in_step next did))
     (refl, refl, refl) (waits old.phase may d.block)))
   where
-    waits : (phase : Phase) → MaySave phase → HasPlace phase old → HasPlace phase (record old { number = old.number + 1 })
+    waits : (phase : Phase) → MaySave phase → HasPlace phase old
+        → HasPlace phase (record old { number = old.number + 1 })
     waits Saving may place = tt
     waits (Requested n) may place = place
     waits Idle never place = absurd never
@@ -323,7 +329,8 @@ directing_performed s file known old mid new m end effect result outcome d (savi
     by (inr (inr (inr (inr (_, _, (after, step, stepped, ends)))))) =
         let (is, one) = same_next old r after (Some effect) step next stepped in
         effect_ended s file known old new r m end effect result outcome d may next did
-        (subst (λ (x : Recorder × Result (Option Effect) RecorderError). EffectEnds (is_ok result) old x.0 x.1 new outcome)
+        (subst (λ (x : Recorder × Result (Option Effect) RecorderError). EffectEnds (is_ok result) old x.0 x.1 new
+        outcome)
         (λ i. (one i, is i)) ends)
 
 -- a block of whole frames is of whole samples
@@ -340,9 +347,11 @@ pub directing_wrote : (s : WavSpecEx) (file : Begun) (known : List Known) (old n
     → Directed s file (known ++ block_known bytes (is_ok result) s ∷ []) new end.state
 directing_wrote s file known old new n m end bytes result outcome d writing rest long puts (inl (none, is, _)) =
     cc (writing, none)
-directing_wrote s file known old new n m end bytes result outcome d writing rest long puts (inr (inl (cleaning, is, _))) =
+directing_wrote s file known old new n m end bytes result outcome d writing rest long puts (inr (inl (cleaning, is, _)))
+    =
     cc (writing, cleaning)
-directing_wrote s file known old new n m end bytes result outcome d writing rest long puts (inr (inr (inl (_, _, cuts, _, _)))) =
+directing_wrote s file known old new n m end bytes result outcome d writing rest long puts
+    (inr (inr (inl (_, _, cuts, _, _)))) =
     absurd (false≢true (sym rest ∙ cuts))
 directing_wrote s file known old new n m end bytes result outcome d writing rest long puts
     (inr (inr (inr (inr (may, _, _))))) = absurd (rw writing at may)
@@ -355,21 +364,28 @@ directing_wrote s file known old new n m end bytes result outcome d writing rest
     by result frames more clear (λ r is. step_block s file known old r m end n bytes result d.in_step clear has
     (omega (arith, long, more)) whole puts is) (rw one at is)
   where
-    by : (result : Result (Unit {0}) IoFault) (frames : ℕ) → n ≡ old.data_length + frames * old.channels * old.bytes_per_sample
+    by : (result : Result (Unit {0}) IoFault) (frames : ℕ)
+        → n ≡ old.data_length + frames * old.channels * old.bytes_per_sample
         → IsClear old
-        → ((r : Recorder) → r ≡ (if is_ok result then record old { data_length = n } else record old { health = Suspect })
+        → ((r : Recorder) → r ≡
+        (if is_ok result then record old { data_length = n } else record old { health = Suspect })
         → InStep s file (known ++ block_known bytes (is_ok result) s ∷ []) r true end.state)
         → new ≡ after_block (is_ok result) n old
         → Directed s file (known ++ block_known bytes (is_ok result) s ∷ []) new end.state
     by (Ok x) frames more clear step is =
         let (before, whole) = d.whole in
         rw is (record {
-          in_step = step_same s file (known ++ block_known bytes true s ∷ []) _ end.state Idle old.has_rest (step _ refl);
+          in_step = step_same s file (known ++ block_known bytes true s ∷ []) _ end.state Idle old.has_rest
+              (step _ refl);
           channels = d.channels;
-          whole = (before + frames, sum_of old.data_length before frames old.channels old.bytes_per_sample n whole more);
+          whole = (
+            before + frames,
+            sum_of old.data_length before frames old.channels old.bytes_per_sample n whole more,
+          );
           block = tt;
         })
     by (Err e) frames more clear step is =
         let doubt : doubted old.health ≡ Suspect = rw clear.0 refl in
-        rw (is, doubt) (moved s file known (known ++ block_known bytes false s ∷ []) old (record old { health = Suspect }) m end.state
+        rw (is, doubt) (moved s file known (known ++ block_known bytes false s ∷ []) old
+        (record old { health = Suspect }) m end.state
         Cleaning old.has_rest d (step _ refl) (refl, refl, refl) tt)

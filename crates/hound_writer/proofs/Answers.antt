@@ -24,15 +24,13 @@ where_done r here = grind (arith, common_steps)
 pub on_rejected : {T P : Type 0} (answer : Result T Error) → P → OnRejected answer P
 on_rejected answer here = grind (arith, common_steps)
 
-pub rejected_then : {T P Q : Type 0} (answer : Result T Error) → (P → Q) → OnRejected answer P
-    → OnRejected answer Q
+pub rejected_then : {T P Q : Type 0} (answer : Result T Error) → (P → Q) → OnRejected answer P → OnRejected answer Q
 rejected_then answer f here = grind (arith, common_steps)
 
 pub unless_failed : {T P : Type 0} (answer : Result T Error) → P → UnlessFailed answer P
 unless_failed answer here = grind (arith, common_steps)
 
-pub unless_then : {T P Q : Type 0} (answer : Result T Error) → (P → Q) → UnlessFailed answer P
-    → UnlessFailed answer Q
+pub unless_then : {T P Q : Type 0} (answer : Result T Error) → (P → Q) → UnlessFailed answer P → UnlessFailed answer Q
 unless_then answer then here = grind (arith, common_steps)
 
 pub on_published_then : {T P Q : Type 0} (answer : Result T Error) → (P → Q) → OnPublished answer P
@@ -71,8 +69,7 @@ pub publishing_as : {V W : Type 0} (answer : Result (Unit {0}) Error) (w : Write
 publishing_as answer w v spec size is = grind (arith, common_steps)
 
 -- P, if a call with this mark published all
-pub where_marked : {P : Type 0} (answer : Result (Unit {0}) Error) → mark_of answer ≡ true
-    → OnPublished answer P → P
+pub where_marked : {P : Type 0} (answer : Result (Unit {0}) Error) → mark_of answer ≡ true → OnPublished answer P → P
 where_marked answer marked here = grind (arith, common_steps)
 
 -- an error of a call that met no fault is no `IoError`

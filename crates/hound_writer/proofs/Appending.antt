@@ -62,14 +62,12 @@ rejected_after : (head : FileHead) (old mid new : MediumState) (e : Error)
 rejected_after head old mid new e finds rejected = record {
   puts = search rules;
   why = elim rejected.why [
-    | inl (fault, is, names, faults) ↦
-        inl (
-          fault,
-          rw finds.contents at is,
-          names,
-          faults
-              ∙ finds.faults,
-        )
+    | inl (fault, is, names, faults) ↦ inl (
+      fault,
+      rw finds.contents at is,
+      names,
+      faults ∙ finds.faults,
+    )
     | inr (is, faults) ↦ inr (is, faults ∙ ap one_more finds.faults)
   ];
 }
@@ -106,6 +104,5 @@ pub walk_fails : (error : HeadError) (e : Error) (old new : MediumState) → old
     → ReportsError error e → FindsData (Err error) old new → IsNotAppended old new e
 walk_fails error e old new begins modelled finds = record {
   puts = search rules;
-  why = no_head (IsAppendFault old.contents) error e old new (λ cause is. inl (cause, refl, is))
-      begins modelled finds;
+  why = no_head (IsAppendFault old.contents) error e old new (λ cause is. inl (cause, refl, is)) begins modelled finds;
 }

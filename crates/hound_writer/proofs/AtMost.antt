@@ -1,5 +1,4 @@
--- A writer's file between its calls: the head is there, and the data length counts no more than was
--- accepted.
+-- A writer's file between its calls: the head is there, and the data length counts no more than was accepted.
 use Rattle.std.proofs.lemmas.Grind.{common_steps}
 use Rattle.std.proofs.Common.{◌≡◌, ℕ, ◌-◌, ◌≤◌, List, length, take, ap, arith, rules}
 use Rattle.hound_number.specs.{number, mix}
@@ -22,8 +21,7 @@ module _ (s : WavSpecEx) (start n : ℕ) (old new : List ℕ) (at_most : CountsA
         omega (
           arith,
           at_most.counted,
-          ap number
-              (front_part start (start - 4) 4 new old
+          ap number (front_part start (start - 4) 4 new old
               (omega (arith, head_beyond old s (field (start - 4) old) start at_most.head)) same),
         );
   }

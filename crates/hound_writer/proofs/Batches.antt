@@ -25,8 +25,7 @@ unfolding int_container
 i16_ok v fit = grind (arith, common_steps)
 
 -- and so have those after which it comes
-pub i16s_more : (values : List ℤ) (v : ℤ) → AreI16 values → FitsSigned w16 v
-    → AreI16 (values ++ v ∷ [])
+pub i16s_more : (values : List ℤ) (v : ℤ) → AreI16 values → FitsSigned w16 v → AreI16 (values ++ v ∷ [])
 i16s_more values v fits fit = grind (arith, common_steps, ok_append, i16_ok)
 
 bytes_of_i16 : (v : ℤ) (asked : Result (List ℕ) Rejection) → int_container v 16 2 ≡ asked

@@ -16,8 +16,7 @@ use Rattle.hound_writer.specs.Writer.{Ghosts, field, IsSound, IsWhole, HasHeader
 use Rattle.hound_writer.proofs.Samples.{counts_at, whole_written}
 
 -- the data length of a header with 0 in it
-field-header : (s : WavSpecEx) (p : ℕ) (rest : List ℕ) → p + 4 ≡ data_start s
-    → field p (header s 0 0 ++ rest) ≡ 0
+field-header : (s : WavSpecEx) (p : ℕ) (rest : List ℕ) → p + 4 ≡ data_start s → field p (header s 0 0 ++ rest) ≡ 0
 field-header s p rest at =
     let front = riff_tag ++ (bytes_of 4 0 ++ described s) in
     let long : length front ≡ p = grind (arith, common_steps, length-append, described, length-described) in

@@ -1,5 +1,4 @@
--- What the block of accepted samples changes: samples that join it, and its samples when it is
--- written.
+-- What the block of accepted samples changes: samples that join it, and its samples when it is written.
 use Rattle.std.proofs.lemmas.Grind.{common_steps}
 use Rattle.std.proofs.Common.{◌≡◌, ℕ, ◌+◌, ◌/◌, ◌%◌, ◌≤◌, Bool, true, false, IsTrue, List, [], ◌++◌, length, take, drop, Ok, refl, rules, sym, ◌∙◌, ap, arith, append_assoc, length-append, length-drop}
 use Rattle.std.proofs.lemmas.List.{append-nil, length-take-le, nil_from_length}
@@ -55,8 +54,7 @@ module _ {W : Type 0} (kind : Ghosts W) (w : WriterState W)
       let old = kind.state w.medium in
       record {
         adds = grind (arith, common_steps, room_fits, joined_bytes, more);
-        file = λ modelled.
-            let more = λ (whole : IsWhole kind.state w).
+        file = λ modelled. let more = λ (whole : IsWhole kind.state w).
             samples_append kind.state w w.medium w.bytes_written (w.buffered ++ bytes) bytes sound whole more
             (sym (append_assoc (take w.bytes_written (drop w.data_start old.contents)) w.buffered bytes)) in
             let counts = counts_at kind.state longer sound_longer known.whole_written old.contents in
@@ -116,9 +114,9 @@ module _ {W : Type 0} (kind : Ghosts W) (w : WriterState W)
   }
 
   -- all of it, or a beginning
-  module _ (all : Bool)
-      (puts : WhereTells kind.tells
-      (PutsAt kind.keeps (w.data_start + w.bytes_written) w.buffered (all_out all) (kind.state w.medium) (kind.state m)))
+  module _ (all : Bool) (puts : WhereTells kind.tells
+      (PutsAt kind.keeps (w.data_start + w.bytes_written) w.buffered (all_out all) (kind.state w.medium)
+      (kind.state m)))
     where
       stored_out : IsTrue kind.tells → IsTrue kind.keeps → IsWhole kind.state w
           → StaysStored w.data_start (concat (accepted_samples kind.state w)) (kind.state w.medium) (kind.state m)
@@ -145,15 +143,13 @@ module _ {W : Type 0} (kind : Ghosts W) (w : WriterState W)
           around kind w at_most m w.buffered (all_out all) modelled (puts modelled) (data_end w)
           (omega arith)
 
-  pub goes_out : (all : Bool)
-      → WhereTells kind.tells
+  pub goes_out : (all : Bool) → WhereTells kind.tells
       (PutsAt kind.keeps (w.data_start + w.bytes_written) w.buffered (all_out all) (kind.state w.medium) (kind.state m))
       → GoesOut kind (data_end w) all w (after_out all m w)
   goes_out true puts = record {
     value = refl;
     sound = known.sound;
-    file = λ modelled.
-        let f = (accepts_all kind shorter refl sound_shorter at_most m w.buffered
+    file = λ modelled. let f = (accepts_all kind shorter refl sound_shorter at_most m w.buffered
         (omega (arith, known.sound.fits)) known.whole_buffered puts replays).file modelled in
         let around = stays_around true puts modelled in
         let first = samples_first in
@@ -173,9 +169,9 @@ module _ {W : Type 0} (kind : Ghosts W) (w : WriterState W)
   sound_out : IsSound (after_out true m w)
   sound_out = grind (arith, common_steps)
 
-  pub consistent_out : (next : ℕ) → IsLimit w.data_start (data_length w) next
-      → WhereTells kind.tells
-      (PutsAt kind.keeps (w.data_start + w.bytes_written) w.buffered (all_out true) (kind.state w.medium) (kind.state m))
+  pub consistent_out : (next : ℕ) → IsLimit w.data_start (data_length w) next → WhereTells kind.tells
+      (PutsAt kind.keeps (w.data_start + w.bytes_written) w.buffered (all_out true) (kind.state w.medium)
+      (kind.state m))
       → IsConsistent kind (after_out true m w) false next
   consistent_out next room puts =
       let sound = sound_out in
@@ -186,7 +182,8 @@ module _ {W : Type 0} (kind : Ghosts W) (w : WriterState W)
       search rules
 
   pub consistent_cut : WhereTells kind.tells
-      (PutsAt kind.keeps (w.data_start + w.bytes_written) w.buffered (all_out false) (kind.state w.medium) (kind.state m))
+      (PutsAt kind.keeps (w.data_start + w.bytes_written) w.buffered (all_out false) (kind.state w.medium)
+      (kind.state m))
       → IsConsistent kind (record w { medium = m }) true limit
   consistent_cut puts =
       consistent_moved kind w m moved limit known (λ modelled. (stays_around false puts modelled).at_most)
@@ -212,8 +209,7 @@ module _ {W : Type 0} (kind : Ghosts W) (w : WriterState W)
     (moved : Bool) (limit : ℕ) (known : IsConsistent kind w moved limit)
     (none : w.buffered ≡ [])
     (m : W) (bytes : List ℕ) where
-  pub cut_at_once : (all : Bool)
-      → WhereTells kind.tells
+  pub cut_at_once : (all : Bool) → WhereTells kind.tells
       (PutsAt kind.keeps (w.data_start + w.bytes_written) bytes (all_out all) (kind.state w.medium) (kind.state m))
       → IsConsistent kind (record w { medium = m }) true limit
   cut_at_once all puts = grind (arith, common_steps, consistent_moved, still)
@@ -228,6 +224,7 @@ module _ {W : Type 0} (kind : Ghosts W) (w : WriterState W)
       let sound = sound_more kind w none known.sound known.at_most m bytes room whole in
       let both = whole_more w.bytes_written (length bytes) w.spec_ex.bytes_per_sample known.whole_written whole in
       let at_most = λ (modelled : IsTrue kind.tells).
-      at_most_more w.spec_ex w.data_start w.bytes_written (w.bytes_written + length bytes) (kind.state m).contents (omega arith)
+      at_most_more w.spec_ex w.data_start w.bytes_written (w.bytes_written + length bytes) (kind.state m).contents
+      (omega arith)
       (still kind w known.at_most m bytes (all_out true) modelled (puts modelled)) in
       search rules

@@ -35,8 +35,7 @@ fine x = Ok x
 abbrev pub bad : IoFault → Result (Unit {0}) IoFault
 bad e = Err e
 
-faults_as : (r : Result (Unit {0}) IoFault) (n : ℕ)
-    → faults_after r n ≡ faults_after (all_out (is_ok r)) n
+faults_as : (r : Result (Unit {0}) IoFault) (n : ℕ) → faults_after r n ≡ faults_after (all_out (is_ok r)) n
 faults_as r n = grind (arith, common_steps)
 
 -- bytes that were written, by whether all were
@@ -79,8 +78,7 @@ module _ (w : WriterState Log) (good : IsIdle w) where
   Both outcome end =
       Patches p size w.bytes_written outcome a end.state × PatchesAtEach p size w.bytes_written outcome a end.state
 
-  synced : (r : Result (Unit {0}) IoFault) (b c d : Log)
-      → PutsAt true 4 (bytes_of 4 size) (fine tt) a b.state
+  synced : (r : Result (Unit {0}) IoFault) (b c d : Log) → PutsAt true 4 (bytes_of 4 size) (fine tt) a b.state
       → PutsAt true p (bytes_of 4 w.bytes_written) (fine tt) b.state c.state
       → Flushes r c.state d.state → Both r d
   synced r b c d first second flush = (
@@ -138,10 +136,10 @@ module _ (w : WriterState Log) (good : IsIdle w) where
     goes_still = record {
       value = value (is_ok r) m;
       sound = good.sound;
-      file = λ _. goes_beside log_kind.state far (is_ok r) w m good.sound (whole_written log_kind.state w good.none good.sound)
+      file = λ _. goes_beside log_kind.state far (is_ok r) w m good.sound
+          (whole_written log_kind.state w good.none good.sound)
           (flush.faults ∙ faults_as r a.faults) around_still;
-      moments = λ _ _.
-          let adds = adds_still in
+      moments = λ _ _. let adds = adds_still in
           let since = flushed_since r a m.state flush in
           let same : length m.state.past ≡ length a.past = ap length flush.stays.past in
           grind (arith, common_steps, span_still);
@@ -194,11 +192,13 @@ module _ (outcome : Result (Unit {0}) IoFault) (are_frames : Bool) (answer : Res
       → Performed (Sync ∷ sizes_of w) outcome w.medium end → Left w
   after_sync w good frames padded (m, r, flush, rest) =
       step w m r (sizes_of w) (goes_still w good (padded_end w) m r flush) rest
-      (λ ok did. after_pad (record w { medium = m }) (good_over w m good (at_most_still w good (padded_end w) m r flush))
+      (λ ok did. after_pad (record w { medium = m })
+      (good_over w m good (at_most_still w good (padded_end w) m r flush))
       frames (rw flush.stays.contents padded) did)
 
   by_parity : (w : WriterState Log) → IsIdle w → HasFrames w → (odd : ℕ) → w.bytes_written % 2 ≡ odd
-      → Performed (pad_effects (w.data_start + w.bytes_written) odd ++ size_effects w.data_start w.bytes_written) outcome
+      → Performed (pad_effects (w.data_start + w.bytes_written) odd ++ size_effects w.data_start w.bytes_written)
+      outcome
       w.medium end → Left w
   by_parity w good frames zero even did =
       let none : padding (data_length w) ≡ [] =
@@ -226,5 +226,6 @@ module _ (outcome : Result (Unit {0}) IoFault) (are_frames : Bool) (answer : Res
   publishes_effects true w good frames did = publishes_checkpoint w good frames did
   publishes_effects false w good frames (m, r, flush, rest) =
       step w m r (checkpoint w.data_start w.bytes_written) (goes_still w good (padded_end w) m r flush) rest
-      (λ ok did. publishes_checkpoint (record w { medium = m }) (good_over w m good (at_most_still w good (padded_end w) m r flush))
+      (λ ok did. publishes_checkpoint (record w { medium = m })
+      (good_over w m good (at_most_still w good (padded_end w) m r flush))
       frames did)

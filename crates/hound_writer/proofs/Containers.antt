@@ -32,8 +32,7 @@ pub one_whole : (width n : ℕ) → n ≡ width → n % width ≡ 0
 one_whole width n is = ap (λ k. k % width) is ∙ mod_self width
 
 -- the count of whole containers of two parts
-pub count_append : (n more width : ℕ) → 1 ≤ width → n % width ≡ 0
-    → (n + more) / width ≡ n / width + more / width
+pub count_append : (n more width : ℕ) → 1 ≤ width → n % width ≡ 0 → (n + more) / width ≡ n / width + more / width
 count_append n more width some whole =
     ap (λ k. k / width)
     (let e : n + more ≡ n / width * width + more = omega

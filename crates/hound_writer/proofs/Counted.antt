@@ -61,7 +61,6 @@ counts_more s start accepted more contents some counts =
       samples = counts.samples;
       among = omega (arith, counts.among, length-append accepted more);
       covers = counts.covers;
-      stored = counts.stored
-          ∙ ap concat (sym (take-append-le counts.samples accepted more counts.among));
+      stored = counts.stored ∙ ap concat (sym (take-append-le counts.samples accepted more counts.among));
       reads = reads_more s start n accepted more contents few (data_fault s n) counts.reads;
     }

@@ -26,7 +26,8 @@ put_both (suc n) zero b (x ∷ c) (y ∷ d) low c_long d_long same =
 put_both (suc n) (suc at) b (x ∷ c) (y ∷ d) low c_long d_long same =
     let most : suc (max n (suc at)) ≡ max (suc n) (suc (suc at)) = omega arith in
     subst (λ k. take k (x ∷ put_at at b c) ≡ take k (y ∷ put_at at b d)) most
-    (λ i. (ap (λ l. get_or l 0 0) same) i ∷ put_both n at b c d (omega (arith, low)) (omega (arith, c_long)) (omega (arith, d_long))
+    (λ i. (ap (λ l. get_or l 0 0) same) i ∷ put_both n at b c d (omega (arith, low)) (omega (arith, c_long))
+    (omega (arith, d_long))
     (ap (drop 1) same) i)
 
 agree_put : (n at b : ℕ) (c d : List ℕ) → at ≤ n → AgreeTo n c d
@@ -39,8 +40,10 @@ agree_overlay [] n at c d low agree =
     subst (λ n. AgreeTo n c d) (let e : n ≡ max n (at + 0) = omega (arith, low) in e) agree
 agree_overlay (b ∷ bytes) n at c d low agree =
     let most : max (max n (suc at)) (suc at + length bytes) ≡ max n (at + suc (length bytes)) = omega arith in
-    subst (λ n. AgreeTo n (overlay (put_at at b c) (placed (suc at) bytes)) (overlay (put_at at b d) (placed (suc at) bytes)))
-    most (agree_overlay bytes (max n (suc at)) (suc at) (put_at at b c) (put_at at b d) (omega arith) (agree_put n at b c d low agree))
+    subst (λ n. AgreeTo n (overlay (put_at at b c) (placed (suc at) bytes))
+    (overlay (put_at at b d) (placed (suc at) bytes)))
+    most (agree_overlay bytes (max n (suc at)) (suc at) (put_at at b c) (put_at at b d) (omega arith)
+    (agree_put n at b c d low agree))
 
 pub agree_written : (n at : ℕ) (bytes cut : List ℕ) (old new : MediumState) (result : Result (Unit {0}) IoFault)
     → AgreeTo n cut old.contents → at ≤ n → (puts : PutsAt true at bytes result old new)

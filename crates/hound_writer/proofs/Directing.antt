@@ -102,7 +102,8 @@ block_call bytes (Ok x) w m idle room whole puts =
       idle =
           let none = idle.none in
           let sound = sound_more log_kind w idle.none idle.sound (λ _. idle.at_most) m bytes room whole in
-          let at_most = at_most_more w.spec_ex w.data_start w.bytes_written (w.bytes_written + length bytes) m.state.contents
+          let at_most = at_most_more w.spec_ex w.data_start w.bytes_written (w.bytes_written + length bytes)
+          m.state.contents
           (omega arith) (still log_kind w (λ _. idle.at_most) m bytes _ refl all) in
           search rules;
     }
@@ -226,7 +227,8 @@ at_none r result first last none did = rw none at did
 reported : (old new : Recorder) (w : WriterState Log) (end : Log) (n more : ℕ)
     (result : Result (Unit {0}) IoFault) → IsRecorderOf old w → old.number ≡ 0 → n ≡ old.data_length + more
     → new ≡ (if is_ok result then record old { data_length = n } else record old { health = Suspect })
-    → IsRecorderOf new (record w { medium = end; bytes_written = out_after result more w.bytes_written }) × (new.number ≡ 0)
+    → IsRecorderOf new (record w { medium = end; bytes_written = out_after result more w.bytes_written })
+    × (new.number ≡ 0)
     × (new.health ≡ Sound → w.data_start + w.bytes_written + more ≤ new.data_start + new.data_length)
 reported old new w end n more result is none long same = grind (arith, common_steps)
 
@@ -243,7 +245,8 @@ step_block s file known old new m end n bytes result d (clean, none) has long co
     let here : m ≡ w.medium.state = sym d.state ∙ ap log_kind.state same in
     let at : old.data_start + old.data_length ≡ w.data_start + w.bytes_written = omega (arith, d.is.0, d.is.1) in
     let whole : length bytes % w.spec_ex.bytes_per_sample ≡ 0 = rw d.is.2 at containers in
-    let written : PutsAt true (w.data_start + w.bytes_written) bytes result w.medium.state end.state = rw (here, at) at puts in
+    let written : PutsAt true (w.data_start + w.bytes_written) bytes result w.medium.state end.state =
+    rw (here, at) at puts in
     let call = block_call bytes result w end d.idle (has_room old w n (length bytes) d.is d.idle.none long has)
     whole written in
     let known_more = known ++ block_known bytes (is_ok result) s ∷ [] in
@@ -252,7 +255,8 @@ step_block s file known old new m end n bytes result d (clean, none) has long co
     subst (λ x. Recorded log_kind s file (known ++ block_known bytes (is_ok result) x ∷ []) next)
     (recorded_spec log_kind s file known w d.recorded)
     (recorded_more log_kind (block_known bytes (is_ok result) w.spec_ex)
-    (write (whole_containers w.spec_ex bytes)) call.answer s file known w next (refl, call.mark) d.recorded call.does) in
+    (write (whole_containers w.spec_ex bytes)) call.answer s file known w next (refl, call.mark) d.recorded
+    call.does) in
     let (fields, number, below) = reported old new w end n (length bytes) result d.is none long is in
     at_rest s file known_more new next recorded call.idle fields number
     (λ synced. let (high, order, low) = d.order synced in (
@@ -273,8 +277,7 @@ performed_more (one ∷ effects) zero effect r first mid last is (ok, same) did 
     subst (λ (x : Effect × Log). Performs x.0 r x.1.state last.state) (λ i. (this i, same i)) did in
     by r done
   where
-    by : (r : Result (Unit {0}) IoFault) → Performs one r first.state last.state
-        → Performed (one ∷ []) r first last
+    by : (r : Result (Unit {0}) IoFault) → Performs one r first.state last.state → Performed (one ∷ []) r first last
     by (Ok x) done = (last, Ok x, done, (refl, refl))
     by (Err e) done = (last, Err e, done, (refl, refl))
 performed_more (one ∷ effects) (suc k) effect r first mid last is (m, Ok x, done, rest) did =
@@ -304,7 +307,8 @@ pub step_effect : (s : WavSpecEx) (file : Begun) (known : List Known) (old new :
     → Performs effect result m end.state → InStep s file known new (is_ok result) end.state
 step_effect s file known old new ok m end effect result d (low, so, has, at, is) did =
     let one : suc old.number ≡ old.number + 1 = omega arith in
-    let before = rw (all_ok d.result (effects_of old) old.number ok d.writer.medium d.log d.last so d.performed) at d.performed in
+    let before = rw (all_ok d.result (effects_of old) old.number ok d.writer.medium d.log d.last so d.performed) at
+    d.performed in
     subst (λ r. InStep s file known r (is_ok result) end.state) (sym is) (record {
       writer = d.writer;
       recorded = d.recorded;
@@ -315,7 +319,8 @@ step_effect s file known old new ok m end effect result d (low, so, has, at, is)
       state = refl;
       result = result;
       last = λ some. refl;
-      performed = rw one at (performed_more (effects_of old) old.number effect result d.writer.medium d.log end at before
+      performed = rw one at (performed_more (effects_of old) old.number effect result d.writer.medium d.log end at
+          before
           (rw (sym d.state) at did));
     })
 
@@ -338,13 +343,15 @@ ended s file known old ok m health d all clean =
     let next = record w { medium = d.log } in
     let recorded = recorded_more log_kind (marked publish (is_ok d.result)) publish call.answer s file known w
     next (refl, call.mark) d.recorded call.does in
-    subst (InStep s file (known ++ marked publish (is_ok d.result) ∷ []) (record old { number = 0; health = health }) true)
+    subst (InStep s file (known ++ marked publish (is_ok d.result) ∷ []) (record old { number = 0; health = health })
+    true)
     d.state
     (at_rest s file (known ++ marked publish (is_ok d.result) ∷ []) (record old { number = 0; health = health }) next
     recorded call.idle d.is refl (λ synced.
     let (high, order, low) = d.order synced in
     let (top, now, small) = all_ordered (effects_of old) high (old.data_start + old.data_length) d.result w.medium d.log
-    (effects_ordered (is_sound old.health) old.data_start old.data_length high (omega (arith, d.idle.sound.after_head, d.is.0))
+    (effects_ordered (is_sound old.health) old.data_start old.data_length high
+    (omega (arith, d.idle.sound.after_head, d.is.0))
     (λ clean. low (sound_is old.health clean)))
     order whole in
     (top, now, λ is. small (clean is))))
@@ -397,7 +404,8 @@ pub step_ascends : (s : WavSpecEx) (file : Begun) (known : List Known) (r : Reco
 step_ascends s file known r ok m d synced =
     let (high, order, low) = d.order synced in
     let (last, ordered) = taken_ordered (effects_of r) r.number high (r.data_start + r.data_length)
-    (effects_ordered (is_sound r.health) r.data_start r.data_length high (omega (arith, d.idle.sound.after_head, d.is.0))
+    (effects_ordered (is_sound r.health) r.data_start r.data_length high
+    (omega (arith, d.idle.sound.after_head, d.is.0))
     (λ clean. low (sound_is r.health clean))) in
     let (top, now, small) =
     all_ordered (take r.number (effects_of r)) high last d.result d.writer.medium d.log ordered order d.performed in

@@ -11,8 +11,7 @@ use Rattle.hound_writer.specs.Writer.{field}
 use Rattle.hound_writer.proofs.Sizes.{take_front}
 
 -- contents as their four bytes at 4 and at p, and what is before, between and after these
-pub in_parts : (p : ℕ) (c : List ℕ) → 8 ≤ p
-    → c ≡ take 4 c ++
+pub in_parts : (p : ℕ) (c : List ℕ) → 8 ≤ p → c ≡ take 4 c ++
     (take 4 (drop 4 c) ++ (drop 8 (take p c) ++ (take 4 (drop p c) ++ drop (p + 4) c)))
 in_parts p c beyond =
     let at_p : drop (p - 8) (drop 8 c) ≡ drop p c =
@@ -32,8 +31,7 @@ module _ (old : List ℕ) (s : WavSpecEx) (len h : ℕ) (head : Head old s len h
       (head.size ++ head.rest)
   split = simp append_assoc head.walk.whole
 
-  long : length (riff_tag ++ (head.walk.size ++ (wave_tag ++ (joined head.chunks ++ data_tag)))) + 4
-      ≡ h
+  long : length (riff_tag ++ (head.walk.size ++ (wave_tag ++ (joined head.chunks ++ data_tag)))) + 4 ≡ h
   long = grind (arith, common_steps)
 
   -- the data begin after the first twelve bytes and a chunk's header
@@ -64,8 +62,7 @@ module _ (old : List ℕ) (s : WavSpecEx) (len h : ℕ) (head : Head old s len h
       ∙ drop_at (riff_tag ++ head.walk.size) (wave_tag ++ (joined head.chunks ++ data_tag)) 8
       (omega (arith, head.walk.four, length-append riff_tag head.walk.size))
 
-  -- contents with the same bytes except for the two sizes have the same head, with the length in
-  -- their field
+  -- contents with the same bytes except for the two sizes have the same head, with the length in their field
   pub head_with : (new : List ℕ) → h ≤ length new → take 4 new ≡ take 4 old
       → drop 8 (take (h - 4) new) ≡ drop 8 (take (h - 4) old) → Head new s (field (h - 4) new) h
   head_with new inside same_front same_middle =
@@ -80,8 +77,7 @@ module _ (old : List ℕ) (s : WavSpecEx) (len h : ℕ) (head : Head old s len h
         rest = drop (p + 4) new;
         walk = record {
           size = take 4 (drop 4 new);
-          four = length-take-le 4 (drop 4 new)
-              (omega (arith, inside, head.place, length-drop 4 new));
+          four = length-take-le 4 (drop 4 new) (omega (arith, inside, head.place, length-drop 4 new));
           whole = whole;
           each = head.walk.each;
         };
@@ -93,8 +89,7 @@ module _ (old : List ℕ) (s : WavSpecEx) (len h : ℕ) (head : Head old s len h
       }
 
   -- so have contents with the same front
-  pub head_front : (new : List ℕ) → take h new ≡ take h old → h ≤ length new
-      → Head new s (field (h - 4) new) h
+  pub head_front : (new : List ℕ) → take h new ≡ take h old → h ≤ length new → Head new s (field (h - 4) new) h
   head_front new same inside =
       head_with new inside
       (take_front 4 h old new (omega (arith, head.place)) same)

@@ -74,8 +74,7 @@ module _ {W : Type 0} (kind : Ghosts W) (far : ℕ) (a : WriterState W)
             (rw (f.accepted whole) at (at_each.stored (f.whole whole)));
       }
 
-  accepts_after : far ≤ data_end a
-      → (asked : Result (List (List ℕ)) Rejection) (answer : Result (Unit {0}) Error)
+  accepts_after : far ≤ data_end a → (asked : Result (List (List ℕ)) Rejection) (answer : Result (Unit {0}) Error)
       (c : WriterState W) → IfErr answer IsIoError
       → Accepts kind asked answer b c
       → Accepts kind asked answer a c
@@ -85,8 +84,7 @@ module _ {W : Type 0} (kind : Ghosts W) (far : ℕ) (a : WriterState W)
       omega (arith, adds.data_start, adds.data_length, length_same) in
       record {
         adds = grind (arith, common_steps, not_rejected, accept_as, length_same);
-        file = λ modelled.
-            let f = out.file modelled in
+        file = λ modelled. let f = out.file modelled in
             let g = accepts.file modelled in
             let faults = ap (faults_reported answer) f.faults in
             let rest = drop_later far (data_end c) then first (omega (arith, near, end))
@@ -96,8 +94,7 @@ module _ {W : Type 0} (kind : Ghosts W) (far : ℕ) (a : WriterState W)
       }
 
 -- containers that are accepted once the buffered samples are written
-pub accepts_later : {W : Type 0} (kind : Ghosts W)
-    (a b c : WriterState W) (asked : Result (List (List ℕ)) Rejection)
+pub accepts_later : {W : Type 0} (kind : Ghosts W) (a b c : WriterState W) (asked : Result (List (List ℕ)) Rejection)
     (answer : Result (Unit {0}) Error)
     → GoesOut kind (data_end a) true a b → IfErr answer IsIoError
     → Accepts kind asked answer (after_out true b.medium a) c

@@ -35,8 +35,10 @@ whole_frames n channels width whole =
     (n / (channels * width), let all = div-add-mod' n (channels * width) in omega (arith, all, whole))
 
 -- a call that published whole frames is Ok
-was_ok : (w : WriterState Log) (end : Log) (answer : Result (Unit {0}) Error) → LeavesWriter log_kind answer w (record w { medium = end })
-    → (w.bytes_written / w.spec_ex.bytes_per_sample % w.spec_ex.spec.channels ≡ 0) → w.buffered ≡ [] → mark_of answer ≡ true
+was_ok : (w : WriterState Log) (end : Log) (answer : Result (Unit {0}) Error)
+    → LeavesWriter log_kind answer w (record w { medium = end })
+    → (w.bytes_written / w.spec_ex.bytes_per_sample % w.spec_ex.spec.channels ≡ 0) → w.buffered ≡ []
+    → mark_of answer ≡ true
     → answer ≡ Ok tt
 was_ok w end (Ok x) leaves frames none ok = refl
 was_ok w end (Err UnfinishedSample) leaves frames none ok =
@@ -46,7 +48,8 @@ was_ok w end (Err (IoError e)) leaves frames none ok = absurd (false≢true ok)
 was_ok w end (Err e) leaves frames none ok = absurd (false≢true ok)
 
 module _ (f : FoundFile) (r : Recorder) (old : Log) (cut : IsCutOff f r.data_length old.state)
-    (appends : AppendsRecorder f.spec_ex f.data_start r.data_length (Ok (recorder_of f.spec_ex f.data_start r.data_length))) where
+    (appends : AppendsRecorder f.spec_ex f.data_start r.data_length
+    (Ok (recorder_of f.spec_ex f.data_start r.data_length))) where
   abbrev s : WavSpecEx
   s = f.spec_ex
 
@@ -78,44 +81,47 @@ module _ (f : FoundFile) (r : Recorder) (old : Log) (cut : IsCutOff f r.data_len
       }
 
   module _ (clean : Bool) (end : Log) (result : Result (Unit {0}) IoFault)
-      (did : Performed (if clean then checkpoint f.data_start n else Sync ∷ checkpoint f.data_start n) result old end) where
-    pub mends : (answer : Result (Unit {0}) Error) × (mark_of answer ≡ is_ok result)
-        × LeavesWriter log_kind answer w (record w { medium = end })
-    mends = let c = save_call clean result w end is_idle did in (c.answer, c.mark, c.does)
+      (did : Performed (if clean then checkpoint f.data_start n else Sync ∷ checkpoint f.data_start n) result old end)
+    where
+      pub mends : (answer : Result (Unit {0}) Error) × (mark_of answer ≡ is_ok result)
+          × LeavesWriter log_kind answer w (record w { medium = end })
+      mends = let c = save_call clean result w end is_idle did in (c.answer, c.mark, c.does)
 
-    pub continues : is_ok result ≡ true → (m : Log) → Goes {T = Unit {0}} {E = IoFault} (f.data_start + n) (Ok tt) end.state m.state
-        → (samples : ℕ) × (n ≡ samples * s.bytes_per_sample)
-        × Directed s (resumed_file s samples f.data_start end.state) [] (recorder_of s f.data_start n) m.state
-    continues ok m goes =
-        let c = save_call clean result w end is_idle did in
-        let count : n / s.bytes_per_sample ≡ samples =
-        ap (λ n. n / s.bytes_per_sample) counted ∙ mul-div_cancel samples cut.sound.1 in
-        let fine = was_ok w end c.answer c.does (ap (λ k. k % s.spec.channels) count ∙ mul-mod_left frames.0 s.spec.channels) refl
-        (c.mark ∙ ok) in
-        let published = c.does.publishes refl in
-        let reads = by c.answer fine (published.read cut.held) in
-        let list = accepted_samples log_kind.state w in
-        let size : length list ≡ samples =
-        length-containers s.bytes_per_sample (sample_count w) (accepted_bytes log_kind.state w)
-        ∙ ap (λ k. k / s.bytes_per_sample) (let e : n + 0 ≡ n = omega arith in e) ∙ count in
-        let found : FoundFile = record f { data_length = n; length = length end.state.contents } in (
-          samples,
-          counted,
-          idle s (resumed_file s samples f.data_start end.state) frames.0 (recorder_of s f.data_start n) m.state
-              (step_resumed found samples end.state m (record {
-                sound = cut.sound;
-                readable = subst (λ k. Readable end.state.contents s k f.data_start) size reads.readable;
-                counted = counted;
-                all = refl;
-                goes = goes;
-              }) (omega (arith, cut.held, published.grows)) appends) refl counted refl,
-        )
-      where
-        by : (answer : Result (Unit {0}) Error) → answer ≡ Ok tt
-            → OnOk answer (ReadsAs s f.data_start (accepted_samples log_kind.state w) end.state.contents)
-            → ReadsAs s f.data_start (accepted_samples log_kind.state w) end.state.contents
-        by (Ok x) is reads = reads
-        by (Err e) is reads = absurd (false≢true (ap is_ok is))
+      pub continues : is_ok result ≡ true → (m : Log) → Goes {T = Unit {0}} {E = IoFault} (f.data_start + n) (Ok tt)
+          end.state m.state
+          → (samples : ℕ) × (n ≡ samples * s.bytes_per_sample)
+          × Directed s (resumed_file s samples f.data_start end.state) [] (recorder_of s f.data_start n) m.state
+      continues ok m goes =
+          let c = save_call clean result w end is_idle did in
+          let count : n / s.bytes_per_sample ≡ samples =
+          ap (λ n. n / s.bytes_per_sample) counted ∙ mul-div_cancel samples cut.sound.1 in
+          let fine = was_ok w end c.answer c.does (ap (λ k. k % s.spec.channels) count
+          ∙ mul-mod_left frames.0 s.spec.channels) refl
+          (c.mark ∙ ok) in
+          let published = c.does.publishes refl in
+          let reads = by c.answer fine (published.read cut.held) in
+          let list = accepted_samples log_kind.state w in
+          let size : length list ≡ samples =
+          length-containers s.bytes_per_sample (sample_count w) (accepted_bytes log_kind.state w)
+          ∙ ap (λ k. k / s.bytes_per_sample) (let e : n + 0 ≡ n = omega arith in e) ∙ count in
+          let found : FoundFile = record f { data_length = n; length = length end.state.contents } in (
+            samples,
+            counted,
+            idle s (resumed_file s samples f.data_start end.state) frames.0 (recorder_of s f.data_start n) m.state
+                (step_resumed found samples end.state m (record {
+                  sound = cut.sound;
+                  readable = subst (λ k. Readable end.state.contents s k f.data_start) size reads.readable;
+                  counted = counted;
+                  all = refl;
+                  goes = goes;
+                }) (omega (arith, cut.held, published.grows)) appends) refl counted refl,
+          )
+        where
+          by : (answer : Result (Unit {0}) Error) → answer ≡ Ok tt
+              → OnOk answer (ReadsAs s f.data_start (accepted_samples log_kind.state w) end.state.contents)
+              → ReadsAs s f.data_start (accepted_samples log_kind.state w) end.state.contents
+          by (Ok x) is reads = reads
+          by (Err e) is reads = absurd (false≢true (ap is_ok is))
 
 -- what the first checkpoint leaves
 abbrev Mends : FoundFile → Recorder → Log → Log → Result (Unit {0}) IoFault → Type 0
@@ -133,9 +139,13 @@ mended_at : (f : FoundFile) (old end : Log) (r : Recorder) (result : Result (Uni
     → Mends f r old end result
 mended_at f old end r result cut did start takes =
     let clean = is_sound r.health in
-    let performed : Performed (if clean then checkpoint f.data_start r.data_length else Sync ∷ checkpoint f.data_start r.data_length)
+    let performed : Performed (if clean then checkpoint f.data_start r.data_length else Sync ∷ checkpoint f.data_start
+    r.data_length)
     result old end = rw start at did in
-    rw start (mends f r old cut takes clean end result performed, continues f r old cut takes clean end result performed)
+    rw start (
+      mends f r old cut takes clean end result performed,
+      continues f r old cut takes clean end result performed,
+    )
 
 -- the data of a recorder of a file that was found begin where those of the file do, and are whole frames
 pub begins_with : (f : FoundFile) (allowed overwrites : Bool) (r : Recorder) → Resumes f allowed overwrites (Ok r)
@@ -152,7 +162,8 @@ begins_with f allowed overwrites r resumes = by_kept (kept_length f allowed over
     )
     by_kept (Err error) never = absurd (false≢true (ap is_ok (sym never)))
 
-pub mended : (f : FoundFile) (allowed overwrites : Bool) (old end : Log) (r : Recorder) (result : Result (Unit {0}) IoFault)
+pub mended : (f : FoundFile) (allowed overwrites : Bool) (old end : Log) (r : Recorder)
+    (result : Result (Unit {0}) IoFault)
     → Resumes f allowed overwrites (Ok r) → IsCutOff f r.data_length old.state → Performed (effects_of r) result old end
     → Mends f r old end result
 mended f allowed overwrites old end r result resumes cut did =

@@ -45,8 +45,7 @@ module _ {V W : Type 0} (kind : Ghosts W)
       go (Err rejection) is accepts rest = let h = accepts.adds.answers in absurd (cc h)
       go (Ok c) is accepts (list, list_is, more) = (
         c ∷ list,
-        (λ i. and_more (is i) ((ap (λ s. containers_in container s values)
-            (sym accepts.adds.spec_ex) ∙ list_is) i)),
+        (λ i. and_more (is i) ((ap (λ s. containers_in container s values) (sym accepts.adds.spec_ex) ∙ list_is) i)),
         let samples = append_assoc (accepted_samples kind.state old) (c ∷ []) list in
             let one = length-append c [] in
             let all = length-append c (concat list) in

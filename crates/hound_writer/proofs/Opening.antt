@@ -53,7 +53,8 @@ first_done s effect effects old new given = grind (arith, common_steps)
 pub header_opened : (s : WavSpecEx) (old new : MediumState) → Opened s old new
     → PutsAt {T = Unit {0}} {E = IoFault} true 0 (header s 0 0) (Ok tt) (at_beginning old) new
 header_opened s old new opened =
-    let (named, stays, from_named) = first_done s SyncFolder (Empty ∷ Sync ∷ Header 0 ∷ Header 40 ∷ []) old new opened in
+    let (named, stays, from_named) = first_done s SyncFolder (Empty ∷ Sync ∷ Header 0 ∷ Header 40 ∷ []) old new
+    opened in
     let (emptied, cut, from_emptied) = first_done s Empty (Sync ∷ Header 0 ∷ Header 40 ∷ []) named new from_named in
     let (synced, flushes, from_synced) = first_done s Sync (Header 0 ∷ Header 40 ∷ []) emptied new from_emptied in
     let (first, one, from_first) = first_done s (Header 0) (Header 40 ∷ []) synced new from_synced in
@@ -90,8 +91,7 @@ pub record PutsFront (s : WavSpecEx) (old new : MediumState) : Type 0 where
   pub past : new.past ≡ old.past ++ placed 0 front
 
 -- nothing was written yet
-no_front : (s : WavSpecEx) (old new : MediumState) → new.start ≡ old.start → new.past ≡ old.past
-    → PutsFront s old new
+no_front : (s : WavSpecEx) (old new : MediumState) → new.start ≡ old.start → new.past ≡ old.past → PutsFront s old new
 no_front s old new start past = grind (arith, common_steps)
 
 -- the first part was written, or a beginning of it

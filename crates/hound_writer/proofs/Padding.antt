@@ -56,8 +56,7 @@ module _ {W : Type 0} (kind : Ghosts W) (w : WriterState W)
           goes_beside kind.state (padded_end w) all w m known.sound known.whole_written (puts modelled).faults
           (around kind w known.at_most m pad (all_out all) modelled (puts modelled)
           (padded_end w) (omega (arith, size, odd_size)));
-      moments = λ modelled kept.
-          goes_at_each kind w known.at_most m pad (all_out all) modelled (puts modelled) kept
+      moments = λ modelled kept. goes_at_each kind w known.at_most m pad (all_out all) modelled (puts modelled) kept
           (replays modelled kept)
           (at_each kind w none known.sound known.at_most m pad (all_out all) modelled
           (puts modelled) kept (replays modelled kept));

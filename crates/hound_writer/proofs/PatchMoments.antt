@@ -80,8 +80,7 @@ pub patches_both : {T E U F V G : Type 0} (keeps : Bool) (p size new : ℕ) (r :
     → (first : PutsAt keeps 4 (bytes_of 4 size) r a b) → first.count ≡ 4 → size < 2 ^ 32
     → PutsAt keeps p (bytes_of 4 new) s b c → OnOk answer (IsOk s)
     → PatchesAtEach p size new answer a c
-patches_both keeps p size new r s answer a b c kept replays then has small first four fits second
-    all =
+patches_both keeps p size new r s answer a b c kept replays then has small first four fits second all =
     let riff = riff_span keeps p size new r a b kept replays has first in
     let field = field_span keeps p size new s b c kept then a.contents has small
     (span_end_zero (IsPatched p size a.contents new) a b then riff)
@@ -111,11 +110,11 @@ patches_still p size new result answer a b c replays stays flushed all patches =
 old_or_new : (p size new split : ℕ) (a b : MediumState) → HasSize p a.contents → new < 2 ^ 32
     → Span (IsPatched p size a.contents new) split a b → PutsLast p split a b
     → IsOldOrNew p (field p a.contents) new a b
-old_or_new p size new split a b has small span puts k from to outside = grind (arith, common_steps, cases_lt, mix_all, mix_none, number_at_small, inside)
+old_or_new p size new split a b has small span puts k from to outside =
+    grind (arith, common_steps, cases_lt, mix_all, mix_none, number_at_small, inside)
 
 -- each intermediate state of a patch of a writer's file, by the result of the call that does it
-pub publishes_at_each : {W : Type 0} (state : W → MediumState) (w : WriterState W)
-    (none : w.buffered ≡ []) → IsSound w
+pub publishes_at_each : {W : Type 0} (state : W → MediumState) (w : WriterState W) (none : w.buffered ≡ []) → IsSound w
     → CountsAtMost w.spec_ex w.data_start w.bytes_written (state w.medium).contents
     → IsPadded w (state w.medium).contents → AreBytes (state w.medium).contents
     → (end : W) (patched : Result (Unit {0}) IoFault) (are_frames : Bool)
@@ -134,14 +133,16 @@ publishes_at_each state w none sound at_most padded small end patched are_frames
     let samples : (c : List ℕ) → drop (p + 4) c ≡ drop (p + 4) old
     → take w.bytes_written (drop w.data_start c) ≡ take w.bytes_written (drop w.data_start old) =
     λ c same. ap (take w.bytes_written) (rw start at same) in
-    let counts : IsWhole state w → (j : ℕ) (c : List ℕ) → IsPatched p (riff_size w.data_start w.bytes_written) old w.bytes_written j c
+    let counts : IsWhole state w → (j : ℕ) (c : List ℕ) → IsPatched p (riff_size w.data_start w.bytes_written) old
+    w.bytes_written j c
     → Counts w.spec_ex w.data_start (accepted_samples state w) c =
     λ whole j c at. counts_at state w sound (whole_written state w none sound) c whole
     (at_most_patched w.spec_ex w.data_start w.bytes_written old c at_most j at.same at.field)
     (samples c at.same.beyond) in
     let beyond : (c : List ℕ) → drop (p + 4) c ≡ drop (p + 4) old
     → drop (data_end w) c ≡ drop (data_end w) old = grind (arith, common_steps, drop_later) in
-    let half : (j : ℕ) (c : List ℕ) → IsPatched p (riff_size w.data_start w.bytes_written) old w.bytes_written j c → IsHalfPublished w old j c =
+    let half : (j : ℕ) (c : List ℕ) → IsPatched p (riff_size w.data_start w.bytes_written) old w.bytes_written j c
+    → IsHalfPublished w old j c =
     λ j c at.
     let out = samples c at.same.beyond in
     let length_is = at.field ∙ ap (mix j (field p old)) all in
@@ -154,8 +155,7 @@ publishes_at_each state w none sound at_most padded small end patched are_frames
             added = span.added;
             past = span.past;
             flushed = span.flushed;
-            each = λ k from to.
-                counts whole (k - split) (moment (state end).start (state end).past k)
+            each = λ k from to. counts whole (k - split) (moment (state end).start (state end).past k)
                 (span.each k from to);
           };
       split = split;
@@ -183,9 +183,9 @@ publishes_at_each state w none sound at_most padded small end patched are_frames
     }
 
 -- a call of a writer that patches, and its result by the frames
-module _ {W : Type 0} (kind : Ghosts W) (w : WriterState W) (end : W)
-    (none : w.buffered ≡ []) (sound : IsSound w)
-    (at_most : WhereTells kind.tells (CountsAtMost w.spec_ex w.data_start w.bytes_written (kind.state w.medium).contents))
+module _ {W : Type 0} (kind : Ghosts W) (w : WriterState W) (end : W) (none : w.buffered ≡ []) (sound : IsSound w)
+    (at_most : WhereTells kind.tells
+    (CountsAtMost w.spec_ex w.data_start w.bytes_written (kind.state w.medium).contents))
     (padded : WhereTells kind.tells (IsPadded w (kind.state w.medium).contents))
     (patched : Result (Unit {0}) IoFault) (are_frames : Bool) (outcome : Result (Unit {0}) Error)
     (is : IsPublishResult patched are_frames outcome)

@@ -21,8 +21,7 @@ pub with_bytes : {T E : Type 0} {keeps : Bool} {at : ℕ} {a b : List ℕ} {r : 
 with_bytes {T = T} {E = E} {keeps = keeps} {at = at} {r = r} {old = old} {new = new} is puts =
     subst (λ l. PutsAt {T = T} {E = E} keeps at l r old new) is puts
 
-pub has_size : (p : ℕ) (contents : List ℕ) → 8 ≤ p → p + 4 ≤ length contents → AreBytes contents
-    → HasSize p contents
+pub has_size : (p : ℕ) (contents : List ℕ) → 8 ≤ p → p + 4 ≤ length contents → AreBytes contents → HasSize p contents
 has_size p contents beyond inside small = grind (arith, common_steps)
 
 -- both sizes written, one after the other
@@ -41,8 +40,7 @@ sizes_put p size data_length c beyond inside =
       in_parts p (overlay d (placed p ls)) beyond,
       drop_to c 4 bs (omega arith),
       take_at bs (drop (4 + 4) c) 4 refl,
-      front_part 8 4 4 (overlay d (placed p ls)) d (omega arith)
-          (take_overlay_before ls 8 p d beyond (omega arith)),
+      front_part 8 4 4 (overlay d (placed p ls)) d (omega arith) (take_overlay_before ls 8 p d beyond (omega arith)),
       drop_to d p ls (omega arith),
       take_at ls (drop (p + 4) d) 4 refl,
     )
@@ -56,8 +54,7 @@ module _ (p size new : ℕ) (base : List ℕ) (has : HasSize p base) where
   four = omega (arith, has.beyond, has.inside)
 
   -- the RIFF size, all of its bytes or a beginning
-  pub patched_riff : (k : ℕ) → k ≤ 4
-      → IsPatched p size base new 0 (overlay base (placed 4 (take k (bytes_of 4 size))))
+  pub patched_riff : (k : ℕ) → k ≤ 4 → IsPatched p size base new 0 (overlay base (placed 4 (take k (bytes_of 4 size))))
   patched_riff k within =
       let bytes = take k (bytes_of 4 size) in
       let few : length bytes ≤ 4 = omega (arith, length-take k (bytes_of 4 size)) in
@@ -65,18 +62,15 @@ module _ (p size new : ℕ) (base : List ℕ) (has : HasSize p base) where
         same = same_riff p base has.beyond has.inside bytes few;
         riff = (k, within, number_at_mix 4 base four has.small size k within);
         order = λ some. absurd (omega (arith, some));
-        field = field_riff p base has.beyond has.inside bytes few
-            ∙ sym (mix_none (field p base) new field_small);
+        field = field_riff p base has.beyond has.inside bytes few ∙ sym (mix_none (field p base) new field_small);
       }
 
   -- after it the field
-  module _ (c : List ℕ) (small : AreBytes c) (so_far : IsPatched p size base new 0 c)
-      (riff : field 4 c ≡ size) where
+  module _ (c : List ℕ) (small : AreBytes c) (so_far : IsPatched p size base new 0 c) (riff : field 4 c ≡ size) where
     inside_now : p + 4 ≤ length c
     inside_now = omega (arith, has.inside, so_far.same.long)
 
-    pub patched_field : (j : ℕ) → j ≤ 4
-        → IsPatched p size base new j (overlay c (placed p (take j (bytes_of 4 new))))
+    pub patched_field : (j : ℕ) → j ≤ 4 → IsPatched p size base new j (overlay c (placed p (take j (bytes_of 4 new))))
     patched_field j within =
         let bytes = take j (bytes_of 4 new) in
         let few : length bytes ≤ 4 = omega (arith, length-take j (bytes_of 4 new)) in
@@ -120,8 +114,7 @@ pub patched : {T E V F X Y : Type 0} (keeps : Bool) (p size data_length : ℕ) (
     (second : PutsAt keeps p (bytes_of 4 data_length) s b c) → first.count ≡ 4
     → second.count ≡ 4 → size < 2 ^ 32 → c.faults ≡ a.faults → Flushes flush c d
     → Patches p size data_length flush a d
-patched keeps p size data_length r s flush a b c d has small first second all_first
-    all_second fits faults flushes =
+patched keeps p size data_length r s flush a b c d has small first second all_first all_second fits faults flushes =
     let one : b.contents ≡ overlay a.contents (placed 4 (bytes_of 4 size)) =
     grind (arith, common_steps, take_all) in
     let both : c.contents ≡ with_sizes p size data_length a.contents =
@@ -132,16 +125,14 @@ patched keeps p size data_length r s flush a b c d has small first second all_fi
       half = (
         second.count,
         second.within,
-        rw same
-            (second_half keeps p size data_length r a b has first s c small all_first fits second),
+        rw same (second_half keeps p size data_length r a b has first s c small all_first fits second),
       );
       flushed =
           is_flushed (d.flushed ≡ length d.past) (d.flushed ≡ c.flushed) flush flushes.flushed;
       faults = flushes.faults ∙ ap (faults_after flush) faults;
     }
   where
-    is_flushed : {X Y : Type 0} (P Q : Type 0) (flush : Result X Y)
-        → MatchResult flush (λ _. P) (λ _. Q) → OnOk flush P
+    is_flushed : {X Y : Type 0} (P Q : Type 0) (flush : Result X Y) → MatchResult flush (λ _. P) (λ _. Q) → OnOk flush P
     is_flushed P Q (Ok x) here = here
     is_flushed P Q (Err e) there = tt
 
@@ -162,8 +153,7 @@ module _ (p size data_length : ℕ) (c : List ℕ) (beyond : 8 ≤ p) (inside : 
       )
 
   -- what is before the data length, and the data length with what comes after it
-  at_length : with_sizes p size data_length c ≡
-      (take 4 c ++ (bytes_of 4 size ++ drop 8 (take p c))) ++
+  at_length : with_sizes p size data_length c ≡ (take 4 c ++ (bytes_of 4 size ++ drop 8 (take p c))) ++
       (bytes_of 4 data_length ++ drop (p + 4) c)
   unfolding with_sizes
   at_length = grind (arith, common_steps)
@@ -175,6 +165,5 @@ module _ (p size data_length : ℕ) (c : List ℕ) (beyond : 8 ≤ p) (inside : 
   at_data : drop p (with_sizes p size data_length c) ≡ bytes_of 4 data_length ++ drop (p + 4) c
   at_data = grind (arith, common_steps, at_length, drop_at, length-before)
 
-  pub data_length_of_sizes : data_length < 2 ^ 32
-      → field p (with_sizes p size data_length c) ≡ data_length
+  pub data_length_of_sizes : data_length < 2 ^ 32 → field p (with_sizes p size data_length c) ≡ data_length
   data_length_of_sizes small = grind (arith, common_steps, number-bytes_of, at_data)

@@ -1,5 +1,5 @@
--- A call that publishes: the buffered samples are written before, and the pad byte, and if that
--- fails nothing is patched.
+-- A call that publishes: the buffered samples are written before, and the pad byte, and if that fails nothing is
+-- patched.
 use Rattle.std.proofs.lemmas.Grind.{common_steps}
 use Rattle.std.proofs.Common.{◌≡◌, ℕ, ◌+◌, ◌-◌, ◌≤◌, inl, inr, true, false, IsTrue, ◌%◌, Result, Err, List, length, take, drop, refl, rules, sym, ◌∙◌, ap, arith}
 use Rattle.std.proofs.lemmas.Bool.{cases_lt}
@@ -42,8 +42,7 @@ module _ {W : Type 0} (state : W → MediumState) (a : WriterState W) (sound : I
   sizes_of : (c : List ℕ) → take start c ≡ take start first → ChangesSizesOnly start first c
   sizes_of c same = sizes_front start first c (omega (arith, sound.after_head)) same
 
-  header_of : (c : List ℕ) → take start c ≡ take start first → IsBegun state a
-      → HasHeader a.spec_ex c
+  header_of : (c : List ℕ) → take start c ≡ take start first → IsBegun state a → HasHeader a.spec_ex c
   header_of c same (has, at) = header_front a.spec_ex start first c at same has
 
   data_of : (c : List ℕ) → take (start + a.bytes_written) c ≡ take (start + a.bytes_written) first
@@ -62,15 +61,13 @@ module _ {W : Type 0} (state : W → MediumState) (a : WriterState W) (sound : I
     longer : length (state a.medium).past ≤ length m.past
     longer = grind (arith, common_steps)
 
-    half_out : (split : ℕ) → length m.past ≤ split
-        → Span (IsHalfPublished a first) split (state a.medium) m
+    half_out : (split : ℕ) → length m.past ≤ split → Span (IsHalfPublished a first) split (state a.medium) m
     half_out split later = record {
       start = goes.front.start;
       added = goes.front.added;
       past = goes.front.past;
       flushed = goes.front.flushed;
-      each = λ k from to.
-          let c = moment m.start m.past k in
+      each = λ k from to. let c = moment m.start m.past k in
           let same = goes.front.each k from to in
           let none : k - split ≡ 0 = omega (arith, to, later) in
           let front = sizes_of c same in
@@ -119,8 +116,7 @@ module _ {W : Type 0} (kind : Ghosts W) (a : WriterState W) (m : W)
       (λ modelled kept. publishes_at_each_cut modelled kept (small modelled))
 
 -- the same for a writer as contracts see it
-pub published_cut : {W : Type 0} (kind : Ghosts W) (far at : ℕ)
-    (a b : WriterState W) (e : IoFault) → far ≤ padded_end a
+pub published_cut : {W : Type 0} (kind : Ghosts W) (far at : ℕ) (a b : WriterState W) (e : IoFault) → far ≤ padded_end a
     → GoesOut kind far false a b
     → WhereTells kind.tells (AreBytes (kind.state a.medium).contents)
     → PublishesTo kind at (Err (IoError e)) a b
@@ -158,8 +154,7 @@ module _ {W : Type 0} (kind : Ghosts W) (a : WriterState W) (m : W)
         λ is. (header_of kind.state a sound mid around.front is, is.1) in
         record {
           faults = g.faults ∙ ap (faults_reported answer) f.faults;
-          front = sizes_then a.data_start old mid new (sizes_of kind.state a sound mid around.front)
-              g.front;
+          front = sizes_then a.data_start old mid new (sizes_of kind.state a sound mid around.front) g.front;
           bytes_written = λ whole. take_front a.bytes_written (data_length a) (drop a.data_start mid)
               (drop a.data_start new) (omega arith) (g.bytes_written (f.whole whole))
               ∙ data_of kind.state a sound mid (around.bytes_written whole);
@@ -206,8 +201,7 @@ module _ {W : Type 0} (kind : Ghosts W) (a : WriterState W) (m : W)
       old_or_new_later k from to outside =
           let sooner = longer kind.state a sound small (kind.state m) (out.file modelled).around goes in
           elim (cases_lt (length (kind.state m).past) k) [
-            | inl later ↦
-                (rw (field_same, same_length) at g.old_or_new) k (omega (arith, later)) to
+            | inl later ↦ (rw (field_same, same_length) at g.old_or_new) k (omega (arith, later)) to
                 (λ i low high. outside i (omega (arith, low, sooner)) high)
             | inr before ↦ inl (at_first k from before)
           ]
@@ -217,8 +211,7 @@ module _ {W : Type 0} (kind : Ghosts W) (a : WriterState W) (m : W)
           → OncePutBefore a.data_start P (kind.state a.medium) (kind.state end)
       once_later P once i k from to before later last =
           elim (cases_lt i (length (kind.state m).past)) [
-            | inl sooner ↦
-                let same : place_of (kind.state end).past i ≡ place_of (kind.state m).past i =
+            | inl sooner ↦ let same : place_of (kind.state end).past i ≡ place_of (kind.state m).past i =
                 ap (λ l. place_of l i) g.half.past
                 ∙ place_before (kind.state m).past g.half.added i sooner in
                 absurd (omega (arith, before, same, goes.beyond i from sooner))
@@ -245,8 +238,7 @@ module _ {W : Type 0} (kind : Ghosts W) (a : WriterState W) (m : W)
             whole = g.whole;
             old_or_new = old_or_new_later;
             padded = once_later (IsPadded a) (rw same_length at g.padded);
-            there = λ whole. once_later (λ c. data_end a ≤ length c)
-                (rw same_length at (g.there (f.whole whole)));
+            there = λ whole. once_later (λ c. data_end a ≤ length c) (rw same_length at (g.there (f.whole whole)));
             stored =
                 λ whole. stored_join a.data_start (concat (accepted_samples kind.state a))
                 (kind.state a.medium) (kind.state m) (kind.state end) goes.front.added g.half.added goes.front.past
@@ -282,8 +274,7 @@ published_later kind far at a b c answer within out small g =
     (rw out.value at g)
 
 -- the same as the end of a writer
-pub finishes_of : {W : Type 0} (kind : Ghosts W)
-    (answer : Result (Unit {0}) Error) (w new : WriterState W)
+pub finishes_of : {W : Type 0} (kind : Ghosts W) (answer : Result (Unit {0}) Error) (w new : WriterState W)
     → PublishesTo kind new.data_start answer w new
     → Finishes kind w answer new.medium
 finishes_of kind answer w new p = grind (arith, common_steps)

@@ -46,14 +46,12 @@ module _ (s : WavSpecEx) (size length_before : ℕ) (start p : ℕ) (before : p 
       ap (drop 8) (sym (take-take p start c (omega arith)) ∙ ap (take p) whole
       ∙ take_at front (bytes_of 4 length_before) p long)
 
-  pub header_with : (n data_length : ℕ)
-      → with_sizes p n data_length c ≡ header s n data_length ++ drop start c
+  pub header_with : (n data_length : ℕ) → with_sizes p n data_length c ≡ header s n data_length ++ drop start c
   unfolding with_sizes
   header_with n data_length =
       grind (arith, common_steps, append_assoc, described, header-parts, begins_with_riff, goes_on_with_fmt)
 
--- this much data after a header with its sizes, and their pad byte, are the canonical file of its
--- containers
+-- this much data after a header with its sizes, and their pad byte, are the canonical file of its containers
 pub canonical_begins : (s : WavSpecEx) (containers : List (List ℕ)) (n start : ℕ)
     (samples contents : List ℕ) → data_start s ≡ start → n ≤ length samples
     → concat containers ≡ take n samples → StartsWith (drop n samples) (padding n)
@@ -123,8 +121,7 @@ module _ {W : Type 0} (state : W → MediumState) (w : WriterState W) (none : w.
   there : p + 4 ≤ length old
   there = omega (arith, before, inside w.spec_ex w.data_start w.bytes_written old old at_most)
 
-  module _
-      (put : (state end).contents ≡ with_sizes (w.data_start - 4)
+  module _ (put : (state end).contents ≡ with_sizes (w.data_start - 4)
       (riff_size w.data_start w.bytes_written) w.bytes_written (state w.medium).contents) where
     riff_says : field 4 (state end).contents ≡ riff_size w.data_start (data_length w)
     riff_says = grind (arith, common_steps, riff_size_of_sizes, there, all)
@@ -179,14 +176,12 @@ module _ {W : Type 0} (state : W → MediumState) (w : WriterState W) (none : w.
         counts = counts;
         begun = grind (arith, common_steps, begun_still);
         flushed = published _ patched are_frames outcome is patches.flushed;
-        riff_says = published _ patched are_frames outcome is
-            (on_ok_weaker patched riff_says patches.contents);
+        riff_says = published _ patched are_frames outcome is (on_ok_weaker patched riff_says patches.contents);
         length_says = published _ patched are_frames outcome is
             (on_ok_weaker patched (λ put. length_says put ∙ all) patches.contents);
         stored = grind (arith, common_steps, on_ok, published, concat-samples, all);
         padded = published _ patched are_frames outcome is (on_ok patched (rw beyond padded));
-        read = λ whole. reported_ok _ patched are_frames outcome is
-            (λ yes. on_ok_weaker patched
+        read = λ whole. reported_ok _ patched are_frames outcome is (λ yes. on_ok_weaker patched
             (λ put. reads_all w.spec_ex w.data_start w.bytes_written (accepted_samples state w)
             (state end).contents (whole_written state w none sound)
             (ap (λ n. n / w.spec_ex.bytes_per_sample % w.spec_ex.spec.channels) all ∙ frames yes)
@@ -201,7 +196,8 @@ module _ {W : Type 0} (state : W → MediumState) (w : WriterState W) (none : w.
 pub consistent_patched : {W : Type 0} (kind : Ghosts W) (w : WriterState W)
     (end : W) (may_have_moved : Bool) (limit : ℕ) (riff : ℕ) (result : Result (Unit {0}) IoFault)
     → IsConsistent kind w may_have_moved limit
-    → WhereTells kind.tells (Patches (w.data_start - 4) riff w.bytes_written result (kind.state w.medium) (kind.state end))
+    → WhereTells kind.tells
+    (Patches (w.data_start - 4) riff w.bytes_written result (kind.state w.medium) (kind.state end))
     → IsConsistent kind (record w { medium = end }) true limit
 consistent_patched kind w end may_have_moved limit riff result before patches =
     consistent_moved kind w end may_have_moved limit before

@@ -34,8 +34,7 @@ module _ {V : Type 0} (container : V → Result (List ℕ) Rejection) (width : �
   size_piece : length piece ≡ width * count
   size_piece = grind (arith, common_steps, joined_size, have_part, length-take-le, length-drop)
 
-  rest_is : drop (width * done) all
-      ≡ piece ++ joined_containers container (drop count (drop done values))
+  rest_is : drop (width * done) all ≡ piece ++ joined_containers container (drop count (drop done values))
   rest_is =
       joined_rest container width sized values done (omega (arith, inside)) have
       ∙ ap (joined_containers container) (sym (take-append-drop count (drop done values)))
@@ -46,8 +45,7 @@ module _ {V : Type 0} (container : V → Result (List ℕ) Rejection) (width : �
   size_next : width * done + width * count ≡ width * next
   size_next = omega (arith, ap (λ n. width * n) (let e : done + count ≡ next = omega arith in e))
 
-  more : (n : ℕ) → n ≤ length piece → PutsFirst keeps piece n mid new
-      → PutsFirst keeps all (width * done + n) old new
+  more : (n : ℕ) → n ≤ length piece → PutsFirst keeps piece n mid new → PutsFirst keeps all (width * done + n) old new
   more n few puts =
       takes_more keeps all (width * done) n old mid new
       (omega (arith, size_next, mul-le-mul_left width inside, size_all)) so_far

@@ -16,8 +16,7 @@ use Rattle.hound_writer.specs.Calls.{AreKnown, Asked, write, publish, Call, Does
 use Rattle.hound_writer.proofs.Answers.{on_published_then}
 
 -- a writer of the same file is the same but for its memory
-pub same_but_memory : {W : Type 0} (a b : WriterState W) → IsSameFile a b
-    → with_memory a b.batch_memory ≡ b
+pub same_but_memory : {W : Type 0} (a b : WriterState W) → IsSameFile a b → with_memory a b.batch_memory ≡ b
 same_but_memory a b same = search rules
 
 -- one call more of which this is known
@@ -57,8 +56,7 @@ module _ {W : Type 0} (kind : Ghosts W) where
   lead_same (call ∷ calls) a b memory (first, mid, at, does, rest) =
       (first, mid, at, does, lead_same calls mid b memory rest)
 
-  pub asked_more : (calls : List Call) (asked : Asked) (answer : Result (Unit {0}) Error)
-      (b : WriterState W)
+  pub asked_more : (calls : List Call) (asked : Asked) (answer : Result (Unit {0}) Error) (b : WriterState W)
       → asked_by_all (calls ++ call_at asked answer b ∷ []) ≡ asked_by_all calls ++ asked ∷ []
   asked_more [] asked answer b = refl
   asked_more (call ∷ calls) asked answer b =
@@ -69,15 +67,13 @@ module _ {W : Type 0} (kind : Ghosts W) where
       → Does kind asked answer a b → b.spec_ex ≡ a.spec_ex
   call_spec asked answer a b accepts = grind (arith, common_steps)
 
-  pub lead_spec : (calls : List Call) (a b : WriterState W) → Lead kind calls a b
-      → b.spec_ex ≡ a.spec_ex
+  pub lead_spec : (calls : List Call) (a b : WriterState W) → Lead kind calls a b → b.spec_ex ≡ a.spec_ex
   lead_spec [] a b (memory, same) = ap (λ (w : WriterState W). w.spec_ex) same
   lead_spec (call ∷ calls) a b (memory, mid, at, does, rest) =
       lead_spec calls mid b rest
       ∙ call_spec call.asked call.answer (with_memory a memory) mid does
 
-  pub opens_spec : (s : WavSpecEx) (file : Begun) (first : WriterState W)
-      → Opens kind s file first → first.spec_ex ≡ s
+  pub opens_spec : (s : WavSpecEx) (file : Begun) (first : WriterState W) → Opens kind s file first → first.spec_ex ≡ s
   opens_spec s file first opens = grind (arith, common_steps)
 
   -- a flush or an end leaves its medium somewhere

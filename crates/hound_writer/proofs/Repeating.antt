@@ -75,7 +75,8 @@ module _ (at : ℕ) (bytes : List ℕ) (m : MediumState) (replays : m.contents �
       moment w.start w.past (length m.past + i) ≡ overlay m.contents (placed at (take i bytes))
   state_first n i less within = grind (arith, common_steps, take-placed, moment_after, take_less)
 
-  module _ (n : ℕ) (old new : MediumState) (within : n ≤ length bytes) (repeats : Repeats (written_first at bytes n m) old)
+  module _ (n : ℕ) (old new : MediumState) (within : n ≤ length bytes)
+      (repeats : Repeats (written_first at bytes n m) old)
       (result : Result (Unit {0}) IoFault) (puts : PutsAt true at bytes result old new) where
     abbrev far : ℕ
     far = length old.past
@@ -116,7 +117,8 @@ module _ (at : ℕ) (bytes : List ℕ) (m : MediumState) (replays : m.contents �
     split : once.past ≡ (written_first at bytes n m).past ++ placed (at + length (take n bytes)) rest
     split =
         let parts : take (max n count) bytes ≡ take n bytes ++ rest =
-        sym (take-append-drop n (take (max n count) bytes)) ∙ ap (λ l. l ++ rest) (take_less n (max n count) bytes (omega arith)) in
+        sym (take-append-drop n (take (max n count) bytes))
+        ∙ ap (λ l. l ++ rest) (take_less n (max n count) bytes (omega arith)) in
         ap (λ l. m.past ++ placed at l) parts ∙ ap (λ l. m.past ++ l) (placed-append at (take n bytes) rest)
         ∙ sym (append_assoc m.past (placed at (take n bytes)) (placed (at + length (take n bytes)) rest))
 
@@ -170,7 +172,8 @@ module _ (at : ℕ) (bytes : List ℕ) (m : MediumState) (replays : m.contents �
       within = λ k. inside k (cases_lt far k);
       same = λ k. same k (cases_lt far k);
       last = last_is (cases_lt far (length new.past));
-      contents = puts.contents ∙ ap (λ c. overlay c (placed at (take count bytes))) repeats.contents ∙ overlay_again bytes n count at m.contents;
+      contents = puts.contents ∙ ap (λ c. overlay c (placed at (take count bytes))) repeats.contents
+          ∙ overlay_again bytes n count at m.contents;
       flushed = omega (arith, puts.flushed, repeats.flushed, long_now);
       synced = is_synced (cases_lt far new.flushed);
     }
@@ -213,7 +216,8 @@ module _ (at : ℕ) (bytes : List ℕ) (m : MediumState) (replays : m.contents �
         all : (said : Result (Unit {0}) IoFault) → IsSaid said result → OnOk said (max n count ≡ length bytes)
         all (Ok x) is = by result (is refl) puts.whole
           where
-            by : (r : Result (Unit {0}) IoFault) → is_ok r ≡ true → OnOk r (count ≡ length bytes) → max n count ≡ length bytes
+            by : (r : Result (Unit {0}) IoFault) → is_ok r ≡ true → OnOk r (count ≡ length bytes)
+                → max n count ≡ length bytes
             by (Ok y) ok whole = omega (arith, whole, within)
             by (Err e) ok whole = absurd (false≢true ok)
         all (Err e) is = tt
@@ -278,7 +282,11 @@ synced_once m old new result said repeats flushes is =
         by : (r : Result (Unit {0}) IoFault)
             → MatchResult r (λ _. new.flushed ≡ length new.past) (λ _. new.flushed ≡ old.flushed)
             → m.state.flushed ≤ repeats.state new.flushed
-        by (Ok x) is = omega (arith, repeats.synced, repeats.in_order old.flushed new.flushed (omega (arith, is, long, repeats.flushed)))
+        by (Ok x) is = omega (
+          arith,
+          repeats.synced,
+          repeats.in_order old.flushed new.flushed (omega (arith, is, long, repeats.flushed)),
+        )
         by (Err e) is = let here = ap repeats.state is in omega (arith, here, repeats.synced)
 
     synced : (said r : Result (Unit {0}) IoFault) → IsSaid said r
@@ -289,11 +297,16 @@ synced_once m old new result said repeats flushes is =
     synced (Err e) r is same = before
 
 -- and one whose end isn't
-pub repeats_more : (at : ℕ) (bytes : List ℕ) (m : Log) (n : ℕ) (old new : MediumState) (result : Result (Unit {0}) IoFault)
+pub repeats_more : (at : ℕ) (bytes : List ℕ) (m : Log) (n : ℕ) (old new : MediumState)
+    (result : Result (Unit {0}) IoFault)
     → n ≤ length bytes → Repeats (written_first at bytes n m.state) old → PutsAt true at bytes result old new
     → (n : ℕ) × (n ≤ length bytes) × Repeats (written_first at bytes n m.state) new
-repeats_more at bytes m n old new result within repeats puts =
-    (max n puts.count, omega (arith, within, puts.within), written_again at bytes m.state m.replays n old new within repeats result puts)
+repeats_more at bytes m n old new result within repeats puts = (
+  max n puts.count,
+  omega (arith, within, puts.within),
+  written_again at bytes m.state m.replays n old new within
+      repeats result puts,
+)
 
 -- before anything is written
 pub repeats_begun : (at : ℕ) (bytes : List ℕ) (m again : MediumState) → Repeats m again
@@ -319,7 +332,12 @@ pub repeated_survives : (once again : MediumState) (r : Repeats once again) (sec
     → SurvivesLoss sector once.start once.past (r.state f) (r.state k) contents
 repeated_survives once again r sector f k contents within survives =
     let (j, from, to, long) = survives.long in record {
-      long = (r.state j, r.in_order f j from, r.in_order j k to, long ∙ ap length (r.same j (omega (arith, to, within))));
+      long = (
+        r.state j,
+        r.in_order f j from,
+        r.in_order j k to,
+        long ∙ ap length (r.same j (omega (arith, to, within))),
+      );
       sectors = λ n. let (j, from, to, same) = survives.sectors n in (
         r.state j,
         r.in_order f j from,

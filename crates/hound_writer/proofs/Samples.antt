@@ -28,7 +28,8 @@ pub samples_append : {W : Type 0} (state : W → MediumState) (w : WriterState W
     → accepted_samples state (record w { medium = m; bytes_written = written; buffered = buffered })
     ≡ accepted_samples state w ++ containers w.spec_ex.bytes_per_sample
     (length bytes / w.spec_ex.bytes_per_sample) bytes
-samples_append state w m written buffered bytes sound whole more is = grind (arith, common_steps, length-accepted, containers_join)
+samples_append state w m written buffered bytes sound whole more is =
+    grind (arith, common_steps, length-accepted, containers_join)
 
 -- whole samples are in the medium
 module _ {W : Type 0} (state : W → MediumState) (w : WriterState W) (sound : IsSound w)
@@ -37,8 +38,7 @@ module _ {W : Type 0} (state : W → MediumState) (w : WriterState W) (sound : I
   wide = w.spec_ex.bytes_per_sample
 
   -- those in the medium, and the buffered ones
-  pub samples_parts : IsWhole state w
-      → accepted_samples state w ≡ containers w.spec_ex.bytes_per_sample
+  pub samples_parts : IsWhole state w → accepted_samples state w ≡ containers w.spec_ex.bytes_per_sample
       (w.bytes_written / w.spec_ex.bytes_per_sample)
       (drop w.data_start (state w.medium).contents) ++ containers w.spec_ex.bytes_per_sample
       (length w.buffered / w.spec_ex.bytes_per_sample) w.buffered

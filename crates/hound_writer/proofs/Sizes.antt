@@ -12,8 +12,7 @@ use Rattle.hound_medium.proofs.Overlays.{front_part, length-put_at, length_overl
 use Rattle.hound_writer.specs.Writer.{ChangesSizesOnly, field, SameButSizes, HasHeader}
 
 -- what is before a place stays, so what is before an earlier one does
-pub take_front : (n m : ℕ) (old new : List ℕ) → n ≤ m → take m new ≡ take m old
-    → take n new ≡ take n old
+pub take_front : (n m : ℕ) (old new : List ℕ) → n ≤ m → take m new ≡ take m old → take n new ≡ take n old
 take_front n m old new le same = front_part m 0 n new old (omega arith) same
 
 -- so the header does, in a file that was begun with it
@@ -33,8 +32,7 @@ pub sizes_then : (start : ℕ) (a b c : List ℕ) → ChangesSizesOnly start a b
     → ChangesSizesOnly start b c → ChangesSizesOnly start a c
 sizes_then start a b c first then = search rules
 
-pub same_transitive : (p : ℕ) (a b c : List ℕ) → SameButSizes p a b → SameButSizes p b c
-    → SameButSizes p a c
+pub same_transitive : (p : ℕ) (a b c : List ℕ) → SameButSizes p a b → SameButSizes p b c → SameButSizes p a c
 same_transitive p a b c ab bc = search rules
 
 -- bytes at a place reach no further than the old end or their own
@@ -59,8 +57,7 @@ drop_overlay_after (b ∷ bs) n p c after =
     drop_overlay_after bs n (suc p) (put_at p b c) (omega (arith, after))
     ∙ drop_put n p b c (omega (arith, after))
 
-module _ (p : ℕ) (c : List ℕ) (beyond : 8 ≤ p) (inside : p + 4 ≤ length c) (bs : List ℕ)
-    (few : length bs ≤ 4) where
+module _ (p : ℕ) (c : List ℕ) (beyond : 8 ≤ p) (inside : p + 4 ≤ length c) (bs : List ℕ) (few : length bs ≤ 4) where
   -- bytes at 4 leave the rest
   pub same_riff : SameButSizes p c (overlay c (placed 4 bs))
   same_riff = record {

@@ -35,8 +35,7 @@ same_front (suc q) b (x ∷ xs) (y ∷ c) right here =
     cc
 
 -- and so do bytes at a place
-same_at : (p q b : ℕ) (xs c : List ℕ)
-    → ((i : ℕ) → q ≡ p + i → i < length xs → get_or xs i 0 ≡ b)
+same_at : (p q b : ℕ) (xs c : List ℕ) → ((i : ℕ) → q ≡ p + i → i < length xs → get_or xs i 0 ≡ b)
     → take (length xs) (drop p c) ≡ xs → take (length xs) (drop p (put_at q b c)) ≡ xs
 same_at zero q b xs c right here = same_front q b xs c (right q (omega arith)) here
 same_at (suc p) q b [] c right here = refl
@@ -66,8 +65,7 @@ steps_stay P old new step k m from le to here =
         (go n (k + 1) (omega (arith, from)) (omega (arith, to))
         (rw (overlay_more new.start new.past k (0, 0) few) (step k from few here)))
 
-byte_placed : (at : ℕ) (bytes : List ℕ) (j : ℕ) → j < length bytes
-    → byte_of (placed at bytes) j ≡ get_or bytes j 0
+byte_placed : (at : ℕ) (bytes : List ℕ) (j : ℕ) → j < length bytes → byte_of (placed at bytes) j ≡ get_or bytes j 0
 byte_placed at [] j few = absurd (omega (arith, few))
 byte_placed at (b ∷ bytes) zero few = refl
 byte_placed at (b ∷ bytes) (suc j) few = byte_placed (suc at) bytes j (omega (arith, few))
@@ -135,8 +133,7 @@ stored_still start bytes s a len within k m from le to here = grind (arith, comm
 pub stored_join : (start : ℕ) (bytes : List ℕ) (a b c : MediumState) (earlier later : List (ℕ × ℕ))
     → b.past ≡ a.past ++ earlier → c.start ≡ b.start → c.past ≡ b.past ++ later
     → StaysStored start bytes a b → StaysStored start bytes b c → StaysStored start bytes a c
-stored_join start bytes a b c earlier later was begins past first then p len within k m from le to
-    here =
+stored_join start bytes a b c earlier later was begins past first then p len within k m from le to here =
     let P : List ℕ → Type 0 = IsStored start bytes p len in
     let sooner : length a.past ≤ length b.past =
     omega (arith, ap length was, length-append a.past earlier) in
@@ -151,13 +148,11 @@ stored_join start bytes a b c earlier later was begins past first then p len wit
     (subst P (sym (same k (omega (arith, low, high)))) here)) in
     elim (cases_lt (length b.past) k) [
       | inl after ↦ late k (omega (arith, after)) le here
-      | inr before ↦
-          elim (cases_lt (length b.past) m) [
-            | inl over ↦
-                late (length b.past) (omega arith) (omega (arith, over))
-                (early (length b.past) before (omega arith))
-            | inr inside ↦ early m le inside
-          ]
+      | inr before ↦ elim (cases_lt (length b.past) m) [
+        | inl over ↦ late (length b.past) (omega arith) (omega (arith, over))
+            (early (length b.past) before (omega arith))
+        | inr inside ↦ early m le inside
+      ]
     ]
 
 -- fewer bytes

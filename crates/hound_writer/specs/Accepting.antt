@@ -55,36 +55,33 @@ abbrev pub one : Result (List ℕ) Rejection → Result (List (List ℕ)) Reject
 one (Ok container) = Ok (container ∷ [])
 one (Err rejection) = Err rejection
 
--- the result for containers, by whether the RIFF size has room for them: Ok or an `IoError`, or that
--- the file would be too long
+-- the result for containers, by whether the RIFF size has room for them: Ok or an `IoError`, or that the file would be
+-- too long
 abbrev pub FitAnswer : {T : Type 0} → Bool → Result T Error → Type 0
 FitAnswer true answer = OnRejected answer ⊥
 FitAnswer false answer = answer ≡ Err TooLong
 
 -- the result for a sample or a batch: the error of the type, or as above
-abbrev pub AcceptAnswer : {T W : Type 0} → Result (List (List ℕ)) Rejection → WriterState W →
-    Result T Error → Type 0
+abbrev pub AcceptAnswer : {T W : Type 0} → Result (List (List ℕ)) Rejection → WriterState W → Result T Error → Type 0
 AcceptAnswer (Err rejection) w answer = answer ≡ Err (error_of rejection)
 AcceptAnswer (Ok list) w answer =
     let size = riff_size w.data_start (data_length w + length (concat list)) in
     FitAnswer (nat_le size greatest_u32) answer
 
--- the result of a call that publishes: Ok exactly for whole frames, else `UnfinishedSample`; or an
--- `IoError`
+-- the result of a call that publishes: Ok exactly for whole frames, else `UnfinishedSample`; or an `IoError`
 abbrev pub IsPublishing : {T W : Type 0} → Result T Error → WriterState W → Type 0
 IsPublishing (Ok x) w = AreFrames w
 IsPublishing (Err UnfinishedSample) w = AreFrames w → ⊥
 IsPublishing (Err (IoError e)) w = ⊤
 IsPublishing (Err _) w = ⊥
 
--- P stays true from one state of a medium to a later one: true after some byte, it is true after
--- each later byte
+-- P stays true from one state of a medium to a later one: true after some byte, it is true after each later byte
 abbrev pub StaysTrue : (List ℕ → Type 0) → MediumState → MediumState → Type 0
 StaysTrue P old new = (k m : ℕ) → length old.past ≤ k → k ≤ m → m ≤ length new.past →
     P (moment new.start new.past k) → P (moment new.start new.past m)
 
--- of these bytes, whose first has its place at `start`, the part of length `len` from the a-th on is
--- stored at its place
+-- of these bytes, whose first has its place at `start`, the part of length `len` from the a-th on is stored at its
+-- place
 abbrev pub IsStored : ℕ → List ℕ → ℕ → ℕ → List ℕ → Type 0
 IsStored start bytes a len contents =
     take len (drop (start + a) contents) ≡ take len (drop a bytes)
@@ -94,30 +91,24 @@ abbrev pub StaysStored : ℕ → List ℕ → MediumState → MediumState → Ty
 StaysStored start bytes old new =
     (a len : ℕ) → a + len ≤ length bytes → StaysTrue (IsStored start bytes a len) old new
 
--- What a call with these containers did to its writer, by its result, over every medium: it accepts
--- all of them or none, and an error of the type or the size leaves the writer and its medium as
--- they were.
+-- What a call with these containers did to its writer, by its result, over every medium: it accepts all of them or
+-- none, and an error of the type or the size leaves the writer and its medium as they were.
 pub record Adds {W : Type 0} (asked : Result (List (List ℕ)) Rejection)
     (answer : Result (Unit {0}) Error) (old new : WriterState W) : Type 0 where
   pub answers : AcceptAnswer asked old answer
   pub rejected : OnRejected answer (new ≡ old)
   pub spec_ex : new.spec_ex ≡ old.spec_ex
   pub data_start : new.data_start ≡ old.data_start
-  pub data_length : data_length new
-      ≡ data_length old + length (concat (if_marked (mark_of answer) asked))
+  pub data_length : data_length new ≡ data_length old + length (concat (if_marked (mark_of answer) asked))
   pub batch_memory : new.batch_memory ≡ old.batch_memory
 
--- What it left in the medium. A fault is counted exactly at an `IoError`; what is before the data
--- stays, and unless the medium failed what is after the accepted data. If the bytes in the medium
--- were all there, they are so afterwards.
-pub record AddsToFile {W : Type 0} (state : W → MediumState)
-    (asked : Result (List (List ℕ)) Rejection)
+-- What it left in the medium. A fault is counted exactly at an `IoError`; what is before the data stays, and unless the
+-- medium failed what is after the accepted data. If the bytes in the medium were all there, they are so afterwards.
+pub record AddsToFile {W : Type 0} (state : W → MediumState) (asked : Result (List (List ℕ)) Rejection)
     (answer : Result (Unit {0}) Error) (old new : WriterState W) : Type 0 where
   pub faults : (state new.medium).faults ≡ faults_reported answer (state old.medium).faults
-  pub front : take old.data_start (state new.medium).contents
-      ≡ take old.data_start (state old.medium).contents
-  pub rest : UnlessFailed answer
-      (drop (data_end new) (state new.medium).contents
+  pub front : take old.data_start (state new.medium).contents ≡ take old.data_start (state old.medium).contents
+  pub rest : UnlessFailed answer (drop (data_end new) (state new.medium).contents
       ≡ drop (data_end new) (state old.medium).contents)
   pub reach : UnlessFailed answer
       (length (state new.medium).contents ≤ max (length (state old.medium).contents) (data_end new))
@@ -126,16 +117,12 @@ pub record AddsToFile {W : Type 0} (state : W → MediumState)
       accepted_samples state new ≡ accepted_samples state old ++ if_marked (mark_of answer) asked
   pub counts : IsWhole state old → IsCounted state new
 
--- The intermediate states of such a call: the samples accepted before it count, nothing up to the
--- end of the bytes in the medium has changed, and of all accepted bytes those that are
--- stored stay stored.
-pub record AddsAtEach {W : Type 0} (state : W → MediumState) (old : WriterState W)
-    (new : MediumState) : Type 0 where
-  pub counts : IsWhole state old →
-      Span (λ _. Counts old.spec_ex old.data_start (accepted_samples state old)) 0
+-- The intermediate states of such a call: the samples accepted before it count, nothing up to the end of the bytes in
+-- the medium has changed, and of all accepted bytes those that are stored stay stored.
+pub record AddsAtEach {W : Type 0} (state : W → MediumState) (old : WriterState W) (new : MediumState) : Type 0 where
+  pub counts : IsWhole state old → Span (λ _. Counts old.spec_ex old.data_start (accepted_samples state old)) 0
       (state old.medium) new
-  pub front : IsWhole state old →
-      Span (λ _ c. take (old.data_start + old.bytes_written) c
+  pub front : IsWhole state old → Span (λ _ c. take (old.data_start + old.bytes_written) c
       ≡ take (old.data_start + old.bytes_written) (state old.medium).contents)
       0 (state old.medium) new
   pub stored : IsWhole state old →
@@ -172,8 +159,7 @@ containers_in container s values =
     all_containers (λ v. container v s.spec.bits_per_sample s.bytes_per_sample) values
 
 -- the bytes of samples in a file of this spec
-abbrev pub sample_bytes : {V : Type 0} → (V → ℕ → ℕ → Result (List ℕ) Rejection) → WavSpecEx → List V →
-    List ℕ
+abbrev pub sample_bytes : {V : Type 0} → (V → ℕ → ℕ → Result (List ℕ) Rejection) → WavSpecEx → List V → List ℕ
 sample_bytes container s values =
     joined_containers (λ v. container v s.spec.bits_per_sample s.bytes_per_sample) values
 

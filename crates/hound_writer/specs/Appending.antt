@@ -12,14 +12,12 @@ use Rattle.hound_walk.specs.{Head, IsRejection, IsSoundSpec, Rejected, Names}
 use Rattle.hound_writer.specs.Accepting.{IsIoError}
 use Rattle.hound_writer.specs.Writer.{Ghosts, WriterState, IsSound, IsWhole, IsCounted, data_length, data_end}
 
--- why a file isn't appended to: for a cause that its bytes decide, or since its RIFF size would not
--- fit 32 bits
+-- why a file isn't appended to: for a cause that its bytes decide, or since its RIFF size would not fit 32 bits
 pub data AppendFault : Type 0 where
   by_bytes : Cause → AppendFault
   too_long : AppendFault
 
--- The first check that a head fails: whole samples, samples that are written, whole frames, a RIFF
--- size that fits.
+-- The first check that a head fails: whole samples, samples that are written, whole frames, a RIFF size that fits.
 unfoldable pub head_fault : WavSpecEx → ℕ → ℕ → Option AppendFault
 head_fault s len h =
     if not (len % s.bytes_per_sample == 0) then Some (by_bytes (Format DataLength))
@@ -37,8 +35,7 @@ IsAppendFault bytes fault =
     ⊎ ((s : WavSpecEx) × (len : ℕ) × (h : ℕ) × Head bytes s len h
     × (head_fault s len h ≡ Some fault))
 
--- the spec, the data's length and the place of the data, if the bytes can be appended to; or the
--- fault
+-- the spec, the data's length and the place of the data, if the bytes can be appended to; or the fault
 pub data AppendAnswer : Type 0 where
   appendable : WavSpecEx → ℕ → ℕ → AppendAnswer
   faulty : AppendFault → AppendAnswer
@@ -72,10 +69,9 @@ pub record PutsNothing (old new : MediumState) : Type 0 where
   pub stays : Stays old new
   pub flushed : new.flushed ≡ old.flushed
 
--- A writer that appends to a file, over a medium whose bytes are known: the file's head is there
--- and fails no check, the data chunk is what was accepted, and the next sample goes to its end.
-pub record FollowsData {W : Type 0} (old : MediumState) (state : W → MediumState)
-    (w : WriterState W) : Type 0 where
+-- A writer that appends to a file, over a medium whose bytes are known: the file's head is there and fails no check,
+-- the data chunk is what was accepted, and the next sample goes to its end.
+pub record FollowsData {W : Type 0} (old : MediumState) (state : W → MediumState) (w : WriterState W) : Type 0 where
   pub head : Head old.contents w.spec_ex (data_length w) w.data_start
   pub check : head_fault w.spec_ex (data_length w) w.data_start ≡ None
   pub puts : PutsNothing old (state w.medium)
@@ -84,8 +80,7 @@ pub record FollowsData {W : Type 0} (old : MediumState) (state : W → MediumSta
   pub counts : IsWhole state w → IsCounted state w
 
 -- A writer that appends to a file.
-pub record Appends {W : Type 0} (kind : Ghosts W) (old : MediumState)
-    (w : WriterState W) : Type 0 where
+pub record Appends {W : Type 0} (kind : Ghosts W) (old : MediumState) (w : WriterState W) : Type 0 where
   pub sound : IsSound w
   pub sound_spec : IsSoundSpec w.spec_ex
   pub none_buffered : w.buffered ≡ []
@@ -95,8 +90,7 @@ pub record Appends {W : Type 0} (kind : Ghosts W) (old : MediumState)
 -- A file that isn't appended to, for a fault that its bytes have, or since the medium failed.
 pub record IsNotAppended (old new : MediumState) (e : Error) : Type 0 where
   pub puts : PutsNothing old new
-  pub why : ((fault : AppendFault) × IsAppendFault old.contents fault × NamesFault e fault
-      × (new.faults ≡ old.faults))
+  pub why : ((fault : AppendFault) × IsAppendFault old.contents fault × NamesFault e fault × (new.faults ≡ old.faults))
       ⊎ (IsIoError e × (new.faults ≡ one_more old.faults))
 
 -- the result of a check: Ok if a head has no fault, else the error of its fault

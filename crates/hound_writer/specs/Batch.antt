@@ -34,8 +34,8 @@ module _ {W B : Type 0} {medium : Ghosts W} {memory : MemoryGhosts B} where
   abbrev pub remaining : SampleWriter16 W B medium memory → ℕ
   remaining batch = batch.left
 
-  -- A sample with these bytes is written to a batch: one less is still to be written, and its writer
-  -- stays as it is, with as much memory.
+  -- A sample with these bytes is written to a batch: one less is still to be written, and its writer stays as it is,
+  -- with as much memory.
   pub record WritesToBatch (bytes : List ℕ) (old new : SampleWriter16 W B medium memory) : Type 0
     where
       pub lender : batch_lender new ≡ batch_lender old
@@ -43,5 +43,4 @@ module _ {W B : Type 0} {medium : Ghosts W} {memory : MemoryGhosts B} where
       pub left : remaining new + 1 ≡ remaining old
       pub stays : IsSameFile (batch_writer old) (batch_writer new)
       pub kept : length (batch_writer new).batch_memory ≡ length (batch_writer old).batch_memory
-      pub recorded : HasSameCalls medium (batch_writer old)
-          (batch_writer new)
+      pub recorded : HasSameCalls medium (batch_writer old) (batch_writer new)

@@ -15,12 +15,10 @@ use Rattle.hound_writer.specs.declared.effects.BeginningEffect.TheVariants.{Empt
 use Rattle.hound_writer.specs.declared.recorder.RecorderError.{RecorderError}
 use Rattle.hound_writer.specs.declared.recorder.RecorderError.TheVariants.{NotWritable}
 
--- The whole header was written where the medium was, with both sizes 0, and nothing else; all that
--- was accepted, which is nothing, is there and counted.
-pub record PutsHeader {W : Type 0} (kind : Ghosts W) (old : MediumState)
-    (w : WriterState W) : Type 0 where
-  pub puts : PutsFirst kind.keeps (header w.spec_ex 0 0) (length (header w.spec_ex 0 0)) old
-      (kind.state w.medium)
+-- The whole header was written where the medium was, with both sizes 0, and nothing else; all that was accepted, which
+-- is nothing, is there and counted.
+pub record PutsHeader {W : Type 0} (kind : Ghosts W) (old : MediumState) (w : WriterState W) : Type 0 where
+  pub puts : PutsFirst kind.keeps (header w.spec_ex 0 0) (length (header w.spec_ex 0 0)) old (kind.state w.medium)
   pub faults : (kind.state w.medium).faults ≡ old.faults
   pub header : HasHeader w.spec_ex (kind.state w.medium).contents
   pub reach : length (kind.state w.medium).contents ≤ max (length old.contents) w.data_start
@@ -49,8 +47,8 @@ pub record Begins {W : Type 0} (kind : Ghosts W) (spec_ex : WavSpecEx) (old : Me
   pub begun : HasBegun spec_ex w
   pub file : WhereTells kind.tells (PutsHeader kind old w)
 
--- Why no file is begun: a spec that can't be written, and the medium is as it was; or the medium
--- failed, and a beginning of the header was written.
+-- Why no file is begun: a spec that can't be written, and the medium is as it was; or the medium failed, and a
+-- beginning of the header was written.
 abbrev pub IsNotBegun : {W : Type 0} → Ghosts W → WavSpecEx → W → W → Error → Type 0
 IsNotBegun kind spec_ex old new e =
     ((IsWritable spec_ex → ⊥) × (e ≡ Unsupported) × (new ≡ old))

@@ -11,8 +11,8 @@ use Rattle.hound_writer.specs.Beginning.{Begins}
 use Rattle.hound_writer.specs.Publishing.{LeavesWriter}
 use Rattle.hound_writer.specs.Writer.{Ghosts, WriterState, IsWhole, accepted_samples}
 
--- What a call asks of a writer: to accept these containers, or none, with the reason; or to publish
--- what was accepted, by a flush or an end.
+-- What a call asks of a writer: to accept these containers, or none, with the reason; or to publish what was accepted,
+-- by a flush or an end.
 pub data Asked : Type 0 where
   write : Result (List (List ℕ)) Rejection → Asked
   publish : Asked
@@ -68,8 +68,7 @@ AreKnown (one ∷ known) (call ∷ calls) = IsKnown one call × AreKnown known c
 AreKnown _ _ = ⊥
 
 -- what a call did to its writer, by what it asked and what it returned
-abbrev pub Does : {W : Type 0} → Ghosts W → Asked →
-    Result (Unit {0}) Error → WriterState W → WriterState W → Type 0
+abbrev pub Does : {W : Type 0} → Ghosts W → Asked → Result (Unit {0}) Error → WriterState W → WriterState W → Type 0
 Does kind (write containers) answer old new = Accepts kind containers answer old new
 Does kind publish answer old new = LeavesWriter kind answer old new
 
@@ -77,8 +76,8 @@ Does kind publish answer old new = LeavesWriter kind answer old new
 abbrev pub with_memory : {W : Type 0} → WriterState W → List ℕ → WriterState W
 with_memory w memory = record w { batch_memory = memory }
 
--- These calls led from the one writer to the other, each from where the one before it ended; between
--- them only the memory for batches may have changed.
+-- These calls led from the one writer to the other, each from where the one before it ended; between them only the
+-- memory for batches may have changed.
 abbrev pub Lead : {W : Type 0} → Ghosts W → List Call → WriterState W → WriterState W → Type 0
 Lead kind [] old new = (memory : List ℕ) × (new ≡ with_memory old memory)
 Lead {W} kind (call ∷ calls) old new =
@@ -86,8 +85,8 @@ Lead {W} kind (call ∷ calls) old new =
     × Does kind call.asked call.answer (with_memory old memory) mid
     × Lead kind calls mid new
 
--- A file as its writer began it in a medium that was handed in with this state: a new one, or one
--- whose data begin at a place and which had these samples.
+-- A file as its writer began it in a medium that was handed in with this state: a new one, or one whose data begin at a
+-- place and which had these samples.
 pub data Begun : Type 0 where
   new_file : MediumState → Begun
   appended : MediumState → ℕ → List (List ℕ) → Begun
@@ -107,8 +106,7 @@ abbrev pub found_in : Begun → List (List ℕ)
 found_in (new_file old) = []
 found_in (appended old start found) = found
 
--- A file that was appended to in this medium has this spec, and had its data at this place, all of
--- them there.
+-- A file that was appended to in this medium has this spec, and had its data at this place, all of them there.
 pub record HadData {W : Type 0} (kind : Ghosts W) (s : WavSpecEx)
     (old : MediumState) (start : ℕ) (found : List (List ℕ)) (first : WriterState W) : Type 0 where
   pub appends : Appends kind old first
@@ -131,10 +129,9 @@ pub record RecordedBy {W : Type 0} (kind : Ghosts W) (s : WavSpecEx)
   pub lead : Lead kind calls first last
   pub are_known : AreKnown known calls
 
--- calls of which these are known were made with the writer of such a file, and led to this one:
--- `RecordedBy` as a word that a caller's proof doesn't open
-unfoldable pub Recorded : {W : Type 0} → Ghosts W → WavSpecEx → Begun →
-    List Known → WriterState W → Type 0
+-- calls of which these are known were made with the writer of such a file, and led to this one: `RecordedBy` as a word
+-- that a caller's proof doesn't open
+unfoldable pub Recorded : {W : Type 0} → Ghosts W → WavSpecEx → Begun → List Known → WriterState W → Type 0
 Recorded kind s file known last = RecordedBy kind s file known last
 
 -- what is known of the calls of the one writer is known of those of the other
@@ -143,14 +140,12 @@ HasSameCalls kind old new = (s : WavSpecEx) (file : Begun) (known : List Known) 
     Recorded kind s file known old → Recorded kind s file known new
 
 -- a call appends this to what is known, by the spec of the file
-abbrev pub Extends : {W : Type 0} → Ghosts W → (WavSpecEx → Known) →
-    WriterState W → WriterState W → Type 0
-Extends kind one old new = (s : WavSpecEx) (file : Begun) (known : List Known) →
-    Recorded kind s file known old →
+abbrev pub Extends : {W : Type 0} → Ghosts W → (WavSpecEx → Known) → WriterState W → WriterState W → Type 0
+Extends kind one old new = (s : WavSpecEx) (file : Begun) (known : List Known) → Recorded kind s file known old →
     Recorded kind s file (known ++ one s ∷ []) new
 
--- The medium of a writer to which calls led of which these are known; of an end the last of them is
--- the end's own, to publish.
+-- The medium of a writer to which calls led of which these are known; of an end the last of them is the end's own, to
+-- publish.
 pub record LeftBy {W : Type 0} (kind : Ghosts W) (s : WavSpecEx)
     (file : Begun) (known : List Known) (medium : W) : Type 0 where
   pub last : WriterState W
@@ -163,6 +158,5 @@ Left kind s file known medium = LeftBy kind s file known medium
 
 -- an end appends this to what is known, and leaves the medium
 abbrev pub Ends : {W : Type 0} → Ghosts W → Known → WriterState W → W → Type 0
-Ends kind one last medium = (s : WavSpecEx) (file : Begun) (known : List Known) →
-    Recorded kind s file known last →
+Ends kind one last medium = (s : WavSpecEx) (file : Begun) (known : List Known) → Recorded kind s file known last →
     Left kind s file (known ++ one ∷ []) medium

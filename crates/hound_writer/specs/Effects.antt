@@ -28,8 +28,8 @@ nth [] k = None
 nth (one ∷ others) zero = Some one
 nth (one ∷ others) (suc k) = nth others k
 
--- A file as effects have left it: the bytes that it began with, each byte written since with its
--- place, how many of them were synced, and what that makes of it.
+-- A file as effects have left it: the bytes that it began with, each byte written since with its place, how many of
+-- them were synced, and what that makes of it.
 pub record Log : Type 0 where
   pub state : MediumState
   pub replays : state.contents ≡ overlay state.start state.past

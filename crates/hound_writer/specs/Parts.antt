@@ -1,5 +1,5 @@
--- What the parts of a writer's calls do to its medium, what becomes of the buffered samples, and what a
--- writer's fields keep true.
+-- What the parts of a writer's calls do to its medium, what becomes of the buffered samples, and what a writer's fields
+-- keep true.
 use Rattle.std.specs.Prelude.{◌≡◌, ℕ, ◌+◌, ◌-◌, ◌≤◌, List, ◌++◌, length, take, Bool, true, false, IsTrue, Result, Ok, Err, OnOk, max, [], drop, ℤ, ◌%◌, Option, None, Some}
 use Rattle.hound_number.specs.{AreBytes, mix}
 use Rattle.std.specs.declared.io.Error.{Error as IoFault}
@@ -32,19 +32,18 @@ pub record HasSize (p : ℕ) (contents : List ℕ) : Type 0 where
   pub inside : p + 4 ≤ length contents
   pub small : AreBytes contents
 
--- The contents while two sizes are written over a base, the RIFF size first: it has its i low bytes
--- from the new number and the others from the base, and the field at p its j low ones, which come
--- only after the whole RIFF size. Nothing else has changed.
+-- The contents while two sizes are written over a base, the RIFF size first: it has its i low bytes from the new number
+-- and the others from the base, and the field at p its j low ones, which come only after the whole RIFF size. Nothing
+-- else has changed.
 pub record IsPatched (p size : ℕ) (base : List ℕ) (new j : ℕ) (contents : List ℕ) : Type 0 where
   pub same : SameButSizes p base contents
   pub riff : (i : ℕ) × (i ≤ 4) × (field 4 contents ≡ mix i (field 4 base) size)
   pub order : 1 ≤ j → field 4 contents ≡ size
   pub field : field p contents ≡ mix j (field p base) new
 
--- A patch: at an Ok both sizes are there, and the medium was flushed. A fault may have cut either
--- size, and nothing else has changed.
-pub record Patches {T E : Type 0} (p size data_length : ℕ) (result : Result T E)
-    (old new : MediumState) : Type 0 where
+-- A patch: at an Ok both sizes are there, and the medium was flushed. A fault may have cut either size, and nothing
+-- else has changed.
+pub record Patches {T E : Type 0} (p size data_length : ℕ) (result : Result T E) (old new : MediumState) : Type 0 where
   pub contents : OnOk result (new.contents ≡ with_sizes p size data_length old.contents)
   pub half : (j : ℕ) × (j ≤ 4) × IsPatched p size old.contents data_length j new.contents
   pub flushed : OnOk result (new.flushed ≡ length new.past)
@@ -84,14 +83,13 @@ abbrev pub after_out : {W : Type 0} → Bool → W → WriterState W → WriterS
 after_out true medium w = record w { medium = medium; bytes_written = data_length w; buffered = [] }
 after_out false medium w = record w { medium = medium }
 
--- What bytes after those in the medium, up to `end`, leave as is: the head is there, and nothing
--- before them nor after `end` has changed.
+-- What bytes after those in the medium, up to `end`, leave as is: the head is there, and nothing before them nor after
+-- `end` has changed.
 pub record StaysAround {W : Type 0} (state : W → MediumState) (end : ℕ) (old : WriterState W)
     (new : MediumState) : Type 0 where
   pub at_most : CountsAtMost old.spec_ex old.data_start old.bytes_written new.contents
   pub front : take old.data_start new.contents ≡ take old.data_start (state old.medium).contents
-  pub bytes_written : IsWhole state old →
-      take (old.data_start + old.bytes_written) new.contents
+  pub bytes_written : IsWhole state old → take (old.data_start + old.bytes_written) new.contents
       ≡ take (old.data_start + old.bytes_written) (state old.medium).contents
   pub rest : drop end new.contents ≡ drop end (state old.medium).contents
   pub grows : length (state old.medium).contents ≤ length new.contents
@@ -107,32 +105,28 @@ pub record GoesToFile {W : Type 0} (state : W → MediumState) (end : ℕ) (all 
   pub counts : IsWhole state old → IsCounted state new
 
 -- the intermediate states meanwhile: nothing is written before the data
-pub record GoesAtEach {W : Type 0} (state : W → MediumState) (old : WriterState W)
-    (new : MediumState) : Type 0 where
+pub record GoesAtEach {W : Type 0} (state : W → MediumState) (old : WriterState W) (new : MediumState) : Type 0 where
   pub adds : AddsAtEach state old new
-  pub front : Span
-      (λ _ c. take old.data_start c ≡ take old.data_start (state old.medium).contents) 0
+  pub front : Span (λ _ c. take old.data_start c ≡ take old.data_start (state old.medium).contents) 0
       (state old.medium) new
   pub beyond : PutsFrom old.data_start (state old.medium) new
 
--- The buffered samples are written, and then perhaps bytes up to `end`; or a beginning of all that
--- if the medium fails, and then all samples stay buffered.
-pub record GoesOut {W : Type 0} (kind : Ghosts W) (end : ℕ)
-    (all : Bool) (old new : WriterState W) : Type 0 where
+-- The buffered samples are written, and then perhaps bytes up to `end`; or a beginning of all that if the medium fails,
+-- and then all samples stay buffered.
+pub record GoesOut {W : Type 0} (kind : Ghosts W) (end : ℕ) (all : Bool) (old new : WriterState W) : Type 0 where
   pub value : new ≡ after_out all new.medium old
   pub sound : IsSound old
   pub file : WhereTells kind.tells (GoesToFile kind.state end all old new)
   pub moments : WhereKeeps kind.tells kind.keeps (GoesAtEach kind.state old (kind.state new.medium))
 
--- Below this many buffered bytes there is room for a sample of any width: in the block, and in the
--- file for a whole block.
+-- Below this many buffered bytes there is room for a sample of any width: in the block, and in the file for a whole
+-- block.
 pub record IsLimit (start written limit : ℕ) : Type 0 where
   pub block : limit + 3 ≤ block_length
   pub file : 1 ≤ limit → riff_size start (written + block_length) ≤ greatest_u32
 
 -- the value of a writer's fields
-abbrev pub of_fields : {W : Type 0} → W → WavSpecEx → ℕ → ℕ → List ℕ → List ℕ →
-    WriterState W
+abbrev pub of_fields : {W : Type 0} → W → WavSpecEx → ℕ → ℕ → List ℕ → List ℕ → WriterState W
 of_fields medium spec_ex start written buffered memory = record {
   medium = medium;
   spec_ex = spec_ex;
@@ -142,9 +136,9 @@ of_fields medium spec_ex start written buffered memory = record {
   batch_memory = memory;
 }
 
--- What a writer keeps true between its calls: the samples in the medium are whole and so are the
--- buffered ones, in one block; the head of its file is there, the data length counts no more than
--- the bytes in the medium, and the next ones go after these.
+-- What a writer keeps true between its calls: the samples in the medium are whole and so are the buffered ones, in one
+-- block; the head of its file is there, the data length counts no more than the bytes in the medium, and the next ones
+-- go after these.
 pub record IsConsistent {W : Type 0} (kind : Ghosts W) (w : WriterState W)
     (may_have_moved : Bool) (limit : ℕ) : Type 0 where
   pub sound : IsSound w

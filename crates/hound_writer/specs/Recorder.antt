@@ -27,8 +27,7 @@ recorder_of s start len = record {
 
 -- what the call for a new file does: a checkpoint is under way, which stores the header
 abbrev pub BeginsRecorder : WavSpecEx → Result Recorder RecorderError → Type 0
-BeginsRecorder s (Ok recorder) = IsWritable s
-    × (recorder ≡ record (recorder_of s (data_start s) 0) { phase = Saving })
+BeginsRecorder s (Ok recorder) = IsWritable s × (recorder ≡ record (recorder_of s (data_start s) 0) { phase = Saving })
 BeginsRecorder s (Err error) = (IsWritable s → ⊥) × (error ≡ NotWritable)
 
 -- a file has so many bytes of data where a recorder's begin

@@ -73,10 +73,10 @@ abbrev pub IsRecorderOf : Recorder → WriterState Log → Type 0
 IsRecorderOf r w = (r.data_start ≡ w.data_start) × (r.data_length ≡ w.bytes_written)
     × (r.bytes_per_sample ≡ w.spec_ex.bytes_per_sample)
 
--- A file is in step with its recorder: calls of a writer led to it, of which these are known, a write or
--- a checkpoint each; and of a checkpoint under way the effects so far were performed, the last one Ok
--- or not. If all was synced in the file as it was handed in, what was written since the last sync is at
--- ascending places, before that of the next samples unless a write has failed.
+-- A file is in step with its recorder: calls of a writer led to it, of which these are known, a write or a checkpoint
+-- each; and of a checkpoint under way the effects so far were performed, the last one Ok or not. If all was synced in
+-- the file as it was handed in, what was written since the last sync is at ascending places, before that of the next
+-- samples unless a write has failed.
 pub record InStep (s : WavSpecEx) (file : Begun) (known : List Known) (r : Recorder) (ok : Bool)
     (m : MediumState) : Type 0 where
   pub writer : WriterState Log
@@ -105,8 +105,8 @@ HasPlace (Requested n) r = HasRoomTo n r
 HasPlace (Writing n) r = HasRoomTo n r × IsClear r
 HasPlace _ r = Unit
 
--- What a caller has that did as its recorder said, and has reported it: the file is in step with the
--- recorder, and all that is written are whole frames. So is the block that is requested, and it has room.
+-- What a caller has that did as its recorder said, and has reported it: the file is in step with the recorder, and all
+-- that is written are whole frames. So is the block that is requested, and it has room.
 pub record Directed (s : WavSpecEx) (file : Begun) (known : List Known) (r : Recorder) (m : MediumState) : Type 0 where
   pub in_step : InStep s file known r true m
   pub channels : r.channels ≡ s.spec.channels

@@ -9,15 +9,14 @@ written_first at bytes n m = record m {
   past = m.past ++ placed at (take n bytes);
 }
 
--- Each state of a file in which effects were performed again is one of a file in which each was performed
--- once, in the same order: after k bytes that of the other after `state k`. They end alike, and no byte of
--- the other was synced before it was written here.
+-- Each state of a file in which effects were performed again is one of a file in which each was performed once, in the
+-- same order: after k bytes that of the other after `state k`. They end alike, and no byte of the other was synced
+-- before it was written here.
 pub record Repeats (once again : MediumState) : Type 0 where
   pub state : ℕ → ℕ
   pub in_order : (j k : ℕ) → j ≤ k → state j ≤ state k
   pub within : (k : ℕ) → state k ≤ length once.past
-  pub same : (k : ℕ) → k ≤ length again.past
-      → moment again.start again.past k ≡ moment once.start once.past (state k)
+  pub same : (k : ℕ) → k ≤ length again.past → moment again.start again.past k ≡ moment once.start once.past (state k)
   pub last : state (length again.past) ≡ length once.past
   pub contents : again.contents ≡ once.contents
   pub flushed : again.flushed ≤ length again.past

@@ -13,8 +13,8 @@ use Rattle.hound_writer.specs.declared.resuming.FoundFile.{FoundFile}
 abbrev pub found_frame : FoundFile → ℕ
 found_frame f = f.spec_ex.spec.channels * f.spec_ex.bytes_per_sample
 
--- the file ends with the whole frames that its header counts, or with a pad byte after them, and holds no
--- other frame: a sample of one byte may be where the pad byte would
+-- the file ends with the whole frames that its header counts, or with a pad byte after them, and holds no other frame:
+-- a sample of one byte may be where the pad byte would
 abbrev pub ends_whole : FoundFile → Bool
 ends_whole f = nat_lt 0 (found_frame f) && ((f.data_length % found_frame f == 0)
     && (nat_le (f.frames * found_frame f) f.data_length
@@ -47,8 +47,8 @@ kept_length f mends overwrites =
 abbrev pub rest_follows : FoundFile → ℕ → Bool
 rest_follows f n = nat_lt (f.data_start + n + n % 2) f.length
 
--- the recorder that keeps n bytes of data: what follows them is cut off, and a checkpoint comes first if the
--- header counts others or something is cut off
+-- the recorder that keeps n bytes of data: what follows them is cut off, and a checkpoint comes first if the header
+-- counts others or something is cut off
 abbrev pub resumed_recorder : FoundFile → ℕ → Recorder
 resumed_recorder f n = record (recorder_of f.spec_ex f.data_start n) {
   has_rest = rest_follows f n;

@@ -9,8 +9,8 @@ use Rattle.hound_walk.specs.{Readable, Unreadable, data_fault}
 use Rattle.std.specs.Io.{StartsWith}
 use Rattle.hound_spec.specs.{header, data_start, riff_size, padded, padding, IsPair, greatest_u32}
 use Rattle.hound_medium.specs.{MediumState, WhereTells}
--- What contracts know of media of a type W, `W.Placed`: whether their bytes are known (`tells`), whether
--- each byte written is recorded (`keeps`), and the state of each.
+-- What contracts know of media of a type W, `W.Placed`: whether their bytes are known (`tells`), whether each byte
+-- written is recorded (`keeps`), and the state of each.
 pub use Rattle.hound_medium.specs.declared.medium.Placed.{Ghosts}
 use Rattle.hound_spec.specs.declared.spec.SampleFormat.TheVariants.{Int}
 
@@ -36,8 +36,8 @@ pub record SameButSizes (p : ℕ) (old new : List ℕ) : Type 0 where
   pub beyond : drop (p + 4) new ≡ drop (p + 4) old
   pub long : length new ≡ length old
 
--- what reading gives, by the fault of a data length n: exactly the first n bytes of the accepted
--- samples, or that n is no whole samples or frames
+-- what reading gives, by the fault of a data length n: exactly the first n bytes of the accepted samples, or that n is
+-- no whole samples or frames
 abbrev pub ReadsFirst : Option Cause → WavSpecEx → ℕ → ℕ → List (List ℕ) → List ℕ → Type 0
 ReadsFirst None s start n accepted contents =
     Readable contents s (n / s.bytes_per_sample) start
@@ -45,22 +45,19 @@ ReadsFirst None s start n accepted contents =
     ≡ take (n / s.bytes_per_sample) accepted)
 ReadsFirst (Some cause) s start n accepted contents = Unreadable contents cause
 
--- The data length counts no more than the accepted samples, enough of which are there to cover it;
--- and reading gives exactly the first ones it counts, or rejects a length of no whole frames (RIFF,
--- "Waveform Audio File Format": the data chunk).
-pub record Counts (s : WavSpecEx) (start : ℕ) (accepted : List (List ℕ))
-    (contents : List ℕ) : Type 0 where
+-- The data length counts no more than the accepted samples, enough of which are there to cover it; and reading gives
+-- exactly the first ones it counts, or rejects a length of no whole frames (RIFF, "Waveform Audio File Format": the
+-- data chunk).
+pub record Counts (s : WavSpecEx) (start : ℕ) (accepted : List (List ℕ)) (contents : List ℕ) : Type 0 where
   pub samples : ℕ
   pub among : samples ≤ length accepted
   pub covers : field (start - 4) contents ≤ samples * s.bytes_per_sample
-  pub stored : take (samples * s.bytes_per_sample) (drop start contents)
-      ≡ concat (take samples accepted)
+  pub stored : take (samples * s.bytes_per_sample) (drop start contents) ≡ concat (take samples accepted)
   pub reads : ReadsFirst (data_fault s (field (start - 4) contents)) s start
       (field (start - 4) contents) accepted contents
 
--- A writer: its medium, the spec, the place of the first data byte, how many bytes of the accepted
--- samples are in the medium, and the others, which are buffered in the writer. Then the memory that
--- it holds for batches.
+-- A writer: its medium, the spec, the place of the first data byte, how many bytes of the accepted samples are in the
+-- medium, and the others, which are buffered in the writer. Then the memory that it holds for batches.
 pub record WriterState (W : Type 0) : Type 0 where
   pub medium : W
   pub spec_ex : WavSpecEx
@@ -97,20 +94,17 @@ AreFrames w = sample_count w % w.spec_ex.spec.channels ≡ 0
 abbrev pub HasRoom : {W : Type 0} → WriterState W → ℕ → Type 0
 HasRoom w more = riff_size w.data_start (data_length w + more) ≤ greatest_u32
 
--- What holds for every writer, over any medium: its bits and width are a known pair, it can divide
--- by the channels and the width, its samples are whole, and the RIFF size fits its
--- field.
+-- What holds for every writer, over any medium: its bits and width are a known pair, it can divide by the channels and
+-- the width, its samples are whole, and the RIFF size fits its field.
 pub record IsSound {W : Type 0} (w : WriterState W) : Type 0 where
-  pub pair : IsPair w.spec_ex.spec.sample_format w.spec_ex.spec.bits_per_sample
-      w.spec_ex.bytes_per_sample
+  pub pair : IsPair w.spec_ex.spec.sample_format w.spec_ex.spec.bits_per_sample w.spec_ex.bytes_per_sample
   pub channels : 1 ≤ w.spec_ex.spec.channels
   pub width : 1 ≤ w.spec_ex.bytes_per_sample
   pub whole : data_length w % w.spec_ex.bytes_per_sample ≡ 0
   pub after_head : 20 ≤ w.data_start
   pub fits : riff_size w.data_start (data_length w) ≤ greatest_u32
 
--- The accepted bytes: those in the medium are where the data begin, and the buffered ones follow
--- them.
+-- The accepted bytes: those in the medium are where the data begin, and the buffered ones follow them.
 abbrev pub accepted_bytes : {W : Type 0} → (W → MediumState) → WriterState W → List ℕ
 accepted_bytes state w = take w.bytes_written (drop w.data_start (state w.medium).contents) ++ w.buffered
 
@@ -132,8 +126,8 @@ IsCounted state w =
 abbrev pub block_length : ℕ
 block_length = 4096
 
--- What holds of every writer: it is sound, no more than a block is buffered, and its data length
--- counts accepted samples if the medium has all their bytes.
+-- What holds of every writer: it is sound, no more than a block is buffered, and its data length counts accepted
+-- samples if the medium has all their bytes.
 pub record IsValid {W : Type 0} (kind : Ghosts W) (w : WriterState W) : Type 0 where
   pub sound : IsSound w
   pub buffered : length w.buffered ≤ block_length
@@ -149,8 +143,8 @@ abbrev pub IsBegun : {W : Type 0} → (W → MediumState) → WriterState W → 
 IsBegun state w =
     HasHeader w.spec_ex (state w.medium).contents × (w.data_start ≡ data_start w.spec_ex)
 
--- A writer of the same samples: of its value only the medium has changed, and the buffered samples
--- may have been written.
+-- A writer of the same samples: of its value only the medium has changed, and the buffered samples may have been
+-- written.
 pub record HasSameSamples {W : Type 0} (old new : WriterState W) : Type 0 where
   pub spec_ex : new.spec_ex ≡ old.spec_ex
   pub data_start : new.data_start ≡ old.data_start

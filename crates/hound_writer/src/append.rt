@@ -42,8 +42,7 @@ pub(crate) fn append_at<W: Medium>(
 ) -> result::Result<WavWriter<W>, (W, Error)>
     requires sound { IsSoundSpec head.spec_ex }
     requires start { IsDataPlace head.data_start }
-    requires head { WhereTells W.tells
-        (Head (W.state writer).contents head.spec_ex head.data_length head.data_start) }
+    requires head { WhereTells W.tells (Head (W.state writer).contents head.spec_ex head.data_length head.data_start) }
     ensures appends { MatchResult result (Appends W.Placed (W.state writer))
         (λ rejected. WhereTells W.tells (IsNotAppended (W.state writer) (W.state rejected.0) rejected.1)) }
     ensures reported { IfErr result (λ rejected. IsMediumError rejected.1) }
@@ -59,9 +58,8 @@ pub(crate) fn append_at<W: Medium>(
 }
 
 impl<W: Source + Medium> WavWriter<W> {
-    /// Appends to the file in a medium, as [`WavWriter::try_append`] does, which returns the medium
-    /// at an error: conditions and errors are the same. Here it is dropped, unless it was
-    /// lent.
+    /// Appends to the file in a medium, as [`WavWriter::try_append`] does, which returns the medium at an error:
+    /// conditions and errors are the same. Here it is dropped, unless it was lent.
     ///
     /// ```
     /// let mut writer = WavWriter::new_append(&mut tape)?;
@@ -74,32 +72,28 @@ impl<W: Source + Medium> WavWriter<W> {
             (λ e. (back : W) × WhereTells W.tells (IsNotAppended (W.state writer) (W.state back) e)) }
         ensures reported { IfErr result IsMediumError }
         ensures recorded { IfOk result (λ w. WhereTells W.tells (IsWhole W.state w) →
-            Recorded W.Placed w.spec_ex (appended (W.state writer) w.data_start
-            (accepted_samples W.state w)) [] w) }
+            Recorded W.Placed w.spec_ex (appended (W.state writer) w.data_start (accepted_samples W.state w)) [] w) }
     {
         WavWriter::try_append(writer).map_err(|(_, error)| error)
     }
 
-    /// Appends to the file in a medium that is at its beginning, and returns the medium at an
-    /// error. The next sample goes after the data chunk, over what may be there.
+    /// Appends to the file in a medium that is at its beginning, and returns the medium at an error. The next sample
+    /// goes after the data chunk, over what may be there.
     ///
-    /// The medium must be at 0, as each new one is; `go(0)` leads there. This call writes nothing,
-    /// and later ones change before the data only the two sizes: so a fact chunk keeps its old
-    /// count.
+    /// The medium must be at 0, as each new one is; `go(0)` leads there. This call writes nothing, and later ones
+    /// change before the data only the two sizes: so a fact chunk keeps its old count.
     ///
-    /// The errors, in their order: those of a reader's walk to the data, by the bytes; a
-    /// `FormatError`, for data that are no whole samples; `Unsupported`, for samples that are not
-    /// written with these bits, bytes and format; a `FormatError`, for data that are no whole
-    /// frames; `TooLong`, if the RIFF size would pass 4294967295; `IoError`, if the medium
-    /// failed. An early end is an `IoError` of kind `Other`.
+    /// The errors, in their order: those of a reader's walk to the data, by the bytes; a `FormatError`, for data that
+    /// are no whole samples; `Unsupported`, for samples that are not written with these bits, bytes and format; a
+    /// `FormatError`, for data that are no whole frames; `TooLong`, if the RIFF size would pass 4294967295; `IoError`,
+    /// if the medium failed. An early end is an `IoError` of kind `Other`.
     pub fn try_append(writer: W) -> result::Result<WavWriter<W>, (W, Error)>
         requires { WhereTells W.tells ((W.state writer).place ≡ 0) }
         ensures appends { MatchResult result (Appends W.Placed (W.state writer))
             (λ rejected. WhereTells W.tells (IsNotAppended (W.state writer) (W.state rejected.0) rejected.1)) }
         ensures reported { IfErr result (λ rejected. IsMediumError rejected.1) }
         ensures recorded { IfOk result (λ w. WhereTells W.tells (IsWhole W.state w) →
-            Recorded W.Placed w.spec_ex (appended (W.state writer) w.data_start
-            (accepted_samples W.state w)) [] w) }
+            Recorded W.Placed w.spec_ex (appended (W.state writer) w.data_start (accepted_samples W.state w)) [] w) }
     {
         let (writer, head) = find_data(writer);
         match head {

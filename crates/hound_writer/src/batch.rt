@@ -18,8 +18,8 @@ use std::alloc::Global;
 
 /// A batch of samples of sixteen bits for a writer, all of which are accepted by one call.
 ///
-/// [`WavWriter::get_i16_writer`] makes it, for a number of samples; write each, and then end it
-/// with [`SampleWriter16::flush`]. If it is dropped without that nothing is accepted.
+/// [`WavWriter::get_i16_writer`] makes it, for a number of samples; write each, and then end it with
+/// [`SampleWriter16::flush`]. If it is dropped without that nothing is accepted.
 pub struct SampleWriter16<'parent, W: Medium, B: BatchMemory = Vec<i16>> {
     // The writer that the batch goes to.
     pub(crate) parent: &'parent mut WavWriter<W>,
@@ -43,18 +43,17 @@ pub struct SampleWriter16<'parent, W: Medium, B: BatchMemory = Vec<i16>> {
 impl<W: Medium, B: BatchMemory> SampleWriter16<'_, W, B> {
     ghost use Rattle.hound_writer.specs.Batch.{batch_bytes, batch_writer, remaining};
 
-    /// Accepts all samples of a batch that is full, or none of them. It publishes nothing:
-    /// [`WavWriter::flush`] does that.
+    /// Accepts all samples of a batch that is full, or none of them. It publishes nothing: [`WavWriter::flush`] does
+    /// that.
     ///
-    /// The batch must be full: [`SampleWriter16::remaining`] must be 0. The one error is
-    /// `IoError`, if the medium failed: none of the batch is accepted, and writing can continue.
+    /// The batch must be full: [`SampleWriter16::remaining`] must be 0. The one error is `IoError`, if the medium
+    /// failed: none of the batch is accepted, and writing can continue.
     #[inline]
     pub fn flush(self) -> Result<()>
         requires { remaining self ≡ 0 }
         ensures accepts { let old = batch_writer self.entry in Accepts W.Placed
             (whole_containers old.spec_ex (batch_bytes self.entry)) result old self.exit.0.now }
-        ensures recorded { Extends W.Placed
-            (λ s. made (write (whole_containers s (batch_bytes self.entry))))
+        ensures recorded { Extends W.Placed (λ s. made (write (whole_containers s (batch_bytes self.entry))))
             (batch_writer self.entry) self.exit.0.now }
         ensures marked { Extends W.Placed
             (λ s. marked (write (whole_containers s (batch_bytes self.entry))) (mark_of result))
@@ -118,14 +117,13 @@ impl<W: Medium> Output<W> {
 impl<W: Medium> WavWriter<W> {
     ghost use Rattle.hound_writer.specs.Batch.{IsSameFile, batch_bytes, batch_lender, batch_writer, remaining};
 
-    /// A batch of this many samples of sixteen bits, which are accepted by one call. They are
-    /// samples, not frames: the channels of a frame follow one another. There may be 0.
+    /// A batch of this many samples of sixteen bits, which are accepted by one call. They are samples, not frames: the
+    /// channels of a frame follow one another. There may be 0.
     ///
-    /// The writer must be one of integers with sixteen bits: [`WavWriter::spec`] must have the
-    /// format `Int` and 16 bits. A batch takes two bytes of memory a sample, which the writer
-    /// reuses for later batches. The errors, in their order: `TooLong`, if the RIFF size of the
-    /// longer file would pass 4294967295; `OutOfMemory`, if the batch needs more memory than the
-    /// writer has and there is none. Either leaves the writer as it was.
+    /// The writer must be one of integers with sixteen bits: [`WavWriter::spec`] must have the format `Int` and 16
+    /// bits. A batch takes two bytes of memory a sample, which the writer reuses for later batches. The errors, in
+    /// their order: `TooLong`, if the RIFF size of the longer file would pass 4294967295; `OutOfMemory`, if the batch
+    /// needs more memory than the writer has and there is none. Either leaves the writer as it was.
     ///
     /// ```
     /// let mut batch = writer.get_i16_writer(alloc, 2)?;
@@ -148,13 +146,11 @@ impl<W: Medium> WavWriter<W> {
         ensures width { OnOk result (self.old.spec_ex.bytes_per_sample ≡ 2) }
         ensures no_memory { HasRoom self.old (2 * num_samples) → IfErr result (λ e.
             (e ≡ OutOfMemory) × (length self.old.batch_memory < 2 * num_samples)) }
-        ensures size { IfOk result (λ batch. (remaining batch ≡ num_samples)
-            × (batch_bytes batch ≡ [])) }
+        ensures size { IfOk result (λ batch. (remaining batch ≡ num_samples) × (batch_bytes batch ≡ [])) }
         ensures stays { IfOk result (λ batch. IsSameFile self.old (batch_writer batch)) }
         ensures kept { IfOk result (λ batch. length (batch_writer batch).batch_memory
             ≡ max (length self.old.batch_memory) (2 * num_samples)) }
-        ensures recorded { IfOk result (λ batch.
-            HasSameCalls W.Placed self.old (batch_writer batch)) }
+        ensures recorded { IfOk result (λ batch. HasSameCalls W.Placed self.old (batch_writer batch)) }
     {
         if !self.output.has_room(num_samples as u64 * 2) {
             return Err(Error::TooLong);
@@ -174,10 +170,9 @@ impl<'parent, W: Medium, B: BatchMemory> SampleWriter16<'parent, W, B> {
 
     /// Writes a sample to the batch: its lowest sixteen bits, as a signed number.
     ///
-    /// The batch must have room for it: [`SampleWriter16::remaining`] must be above 0, as it is
-    /// for as many samples as the batch was made for. And the sample must have such bits, as
-    /// `can_cast` says: each `i8`, `i16` and `i32` has. Higher bits of an `i32` are lost without an
-    /// error.
+    /// The batch must have room for it: [`SampleWriter16::remaining`] must be above 0, as it is for as many samples as
+    /// the batch was made for. And the sample must have such bits, as `can_cast` says: each `i8`, `i16` and `i32` has.
+    /// Higher bits of an `i32` are lost without an error.
     #[inline]
     pub fn write_sample<S: Sample>(&mut self, sample: S)
         requires room { 1 ≤ remaining self.old }
@@ -190,8 +185,8 @@ impl<'parent, W: Medium, B: BatchMemory> SampleWriter16<'parent, W, B> {
         self.memory.store(index, sample.as_i16());
     }
 
-    /// Does what [`SampleWriter16::write_sample`] does, which is safe and checks nothing, under the
-    /// same conditions. It is there for code that calls it by that name.
+    /// Does what [`SampleWriter16::write_sample`] does, which is safe and checks nothing, under the same conditions. It
+    /// is there for code that calls it by that name.
     #[inline]
     pub fn write_sample_unchecked<S: Sample>(&mut self, sample: S)
         requires room { 1 ≤ remaining self.old }

@@ -90,8 +90,7 @@ impl Block {
         requires have { IsOk (all_containers (λ s. S.container s bits width) samples.now) }
         requires width { width ≤ 4 }
         requires room { length self.old + width * length samples.now ≤ block_length }
-        ensures { self.new ≡ self.old
-            ++ joined_containers (λ s. S.container s bits width) samples.now }
+        ensures { self.new ≡ self.old ++ joined_containers (λ s. S.container s bits width) samples.now }
     {
         let at = self.length;
         let end = at + width as usize * samples.len();

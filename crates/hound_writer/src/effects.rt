@@ -65,8 +65,8 @@ pub enum Report {
     Failed,
 }
 
-// The effect with this number, from 0, of a checkpoint of a file whose data begin at this place and
-// have this length; none after the last.
+// The effect with this number, from 0, of a checkpoint of a file whose data begin at this place and have this length;
+// none after the last.
 pub(crate) fn checkpoint_effect(data_start: u64, data_length: u32, number: u32) -> Option<Effect>
     requires after_header { 20 ≤ data_start }
     requires fits { riff_size data_start data_length ≤ greatest_u32 }

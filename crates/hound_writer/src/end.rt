@@ -11,8 +11,7 @@ use hound_sample::Sample;
 use hound_spec::WavSpecEx;
 use std::io;
 
-/// Writes bytes at the end of the written data, where the medium may be already. It may have moved at
-/// an error.
+/// Writes bytes at the end of the written data, where the medium may be already. It may have moved at an error.
 pub(crate) fn put_at_end<M: Medium>(
     medium: &mut M,
     may_have_moved: &mut bool,
@@ -37,8 +36,7 @@ fn go_and_put<M: Medium>(
     bytes: &[u8],
 ) -> io::Result<()>
     requires { WhereTells M.tells (may_have_moved ≡ false → (M.state medium.old).place ≡ at) }
-    ensures { WhereTells M.tells (PutsAt M.keeps at bytes.now result (M.state medium.old)
-        (M.state medium.new)) }
+    ensures { WhereTells M.tells (PutsAt M.keeps at bytes.now result (M.state medium.old) (M.state medium.new)) }
 {
     if may_have_moved {
         return put_all_at(medium, at, bytes);
@@ -57,8 +55,7 @@ fn put_samples<M: Medium, S: Sample + Copy>(
     requires have { IsOk (all_containers (λ s. S.container s bits width) samples.now) }
     requires some { 1 ≤ width }
     requires width { width ≤ 4 }
-    ensures { WhereTells M.tells
-        (PutsAll M.keeps (joined_containers (λ s. S.container s bits width) samples.now) result
+    ensures { WhereTells M.tells (PutsAll M.keeps (joined_containers (λ s. S.container s bits width) samples.now) result
         (M.state medium.old) (M.state medium.new)) }
 {
     let most = BLOCK_LENGTH / width as usize;
@@ -73,8 +70,8 @@ fn put_samples<M: Medium, S: Sample + Copy>(
     Ok(())
 }
 
-/// Writes the containers of samples at the end of the written data, as `put_at_end` writes bytes.
-/// The block is used for it, and must be empty.
+/// Writes the containers of samples at the end of the written data, as `put_at_end` writes bytes. The block is used for
+/// it, and must be empty.
 pub(crate) fn put_samples_at_end<M: Medium, S: Sample + Copy>(
     medium: &mut M,
     may_have_moved: &mut bool,

@@ -29,8 +29,8 @@ fn with_buffer(alloc: Global, file: fs::File) -> Result<io::BufWriter<fs::File>>
     io::BufWriter::with_capacity(alloc, FILE_BUFFER_SIZE, file).or(Err(Error::OutOfMemory))
 }
 
-// Returns once the disk has the name of this file. Where the path is a link, it is the folder of the
-// file itself that has this name.
+// Returns once the disk has the name of this file. Where the path is a link, it is the folder of the file itself that
+// has this name.
 fn sync_folder(rt: &impl Files<File = fs::File>, alloc: Global, path: Path<'_>) -> Result<()>
     ensures { IfErr result (λ e. IsIoError e) }
 {
@@ -77,14 +77,12 @@ fn open_until_data(
 }
 
 impl WavWriter<io::BufWriter<fs::File>> {
-    /// Creates a file, or empties an existing one, and begins it with this spec, as
-    /// [`WavWriter::new`] does. `rt` is what `main` and each test get, `alloc` is
-    /// `rt.alloc()`.
+    /// Creates a file, or empties an existing one, and begins it with this spec, as [`WavWriter::new`] does. `rt` is
+    /// what `main` and each test get, `alloc` is `rt.alloc()`.
     ///
-    /// The file is created or emptied before the spec is checked, so a bad spec leaves it empty.
-    /// The errors, in their order: `IoError`, if the file can't be created; `OutOfMemory`, if there
-    /// is no memory for the buffer; `Unsupported`, for a spec that can't be written; `IoError`,
-    /// if the header can't be written.
+    /// The file is created or emptied before the spec is checked, so a bad spec leaves it empty. The errors, in their
+    /// order: `IoError`, if the file can't be created; `OutOfMemory`, if there is no memory for the buffer;
+    /// `Unsupported`, for a spec that can't be written; `IoError`, if the header can't be written.
     ///
     /// ```
     /// let mut writer = WavWriter::create(rt, rt.alloc(), path, spec)?;
@@ -119,16 +117,14 @@ impl WavWriter<io::BufWriter<fs::File>> {
         WavWriter::new_with_spec_ex(writer, spec_ex)
     }
 
-    /// Appends to an existing file, which is neither created nor emptied: the next sample goes
-    /// after its data chunk, over what may be there.
+    /// Appends to an existing file, which is neither created nor emptied: the next sample goes after its data chunk,
+    /// over what may be there.
     ///
-    /// An error leaves the file as it was. If the recording was cut off, the sizes may say less than
-    /// the file holds, or be torn: `repair_file` of the crate `hound` mends it first.
-    /// `rt` and `alloc` are those of [`WavWriter::create`].
-    /// The errors, in their order: `IoError`, if the file can't be opened for reading and
-    /// writing or has no place, as a pipe; `OutOfMemory`, if there is no memory for the buffer
-    /// of the walk; those of a reader's walk to the data; `OutOfMemory`, if there is none for
-    /// the writer's buffer; those of [`WavWriter::try_append`] after the walk.
+    /// An error leaves the file as it was. If the recording was cut off, the sizes may say less than the file holds, or
+    /// be torn: `repair_file` of the crate `hound` mends it first. `rt` and `alloc` are those of [`WavWriter::create`].
+    /// The errors, in their order: `IoError`, if the file can't be opened for reading and writing or has no place, as a
+    /// pipe; `OutOfMemory`, if there is no memory for the buffer of the walk; those of a reader's walk to the data;
+    /// `OutOfMemory`, if there is none for the writer's buffer; those of [`WavWriter::try_append`] after the walk.
     pub fn append(
         rt: &impl Files<File = fs::File>,
         alloc: Global,
@@ -145,19 +141,17 @@ impl WavWriter<io::BufWriter<fs::File>> {
 }
 
 impl WavWriter<Durable<SyncedFile>> {
-    /// Creates a file as [`WavWriter::create`] does, and syncs it: here until the disk has the
-    /// empty file and its name, and at each `flush` first the samples, then the sizes that count
-    /// them.
+    /// Creates a file as [`WavWriter::create`] does, and syncs it: here until the disk has the empty file and its name,
+    /// and at each `flush` first the samples, then the sizes that count them.
     ///
-    /// A loss of power before this call returns may leave what was at the path before, and where the
-    /// file system has no journal a part of it. After its Ok it leaves an empty file or the new one.
-    /// After a sync that failed each later `flush` fails too: see [`SyncedFile`].
+    /// A loss of power before this call returns may leave what was at the path before, and where the file system has no
+    /// journal a part of it. After its Ok it leaves an empty file or the new one. After a sync that failed each later
+    /// `flush` fails too: see [`SyncedFile`].
     ///
-    /// What a loss of power leaves is proved for a [`Durable`] medium whose bytes are known to
-    /// contracts; for a real file the order of the calls is tested, and only the errors are proved.
-    /// They are those of `create`, in the same order, and after the file was created `IoError`
-    /// if the file or its folder can't be synced. If the path is a link, this folder is that of the
-    /// file that it leads to.
+    /// What a loss of power leaves is proved for a [`Durable`] medium whose bytes are known to contracts; for a real
+    /// file the order of the calls is tested, and only the errors are proved. They are those of `create`, in the same
+    /// order, and after the file was created `IoError` if the file or its folder can't be synced. If the path is a
+    /// link, this folder is that of the file that it leads to.
     pub fn create_durable(
         rt: &impl Files<File = fs::File>,
         alloc: Global,
@@ -169,8 +163,7 @@ impl WavWriter<Durable<SyncedFile>> {
         WavWriter::create_durable_with_spec_ex(rt, alloc, path, WavSpecEx::from(spec))
     }
 
-    /// Creates a file as [`WavWriter::create_durable`] does, with containers of the width of this
-    /// spec.
+    /// Creates a file as [`WavWriter::create_durable`] does, with containers of the width of this spec.
     pub fn create_durable_with_spec_ex(
         rt: &impl Files<File = fs::File>,
         alloc: Global,
@@ -183,12 +176,12 @@ impl WavWriter<Durable<SyncedFile>> {
         WavWriter::new_with_spec_ex(synced(rt, alloc, path, file)?, spec_ex)
     }
 
-    /// Appends to a file as [`WavWriter::append`] does, and syncs it at each `flush` as
-    /// [`WavWriter::create_durable`] does.
+    /// Appends to a file as [`WavWriter::append`] does, and syncs it at each `flush` as [`WavWriter::create_durable`]
+    /// does.
     ///
-    /// It first syncs the file as it was found, and its folder, since whoever wrote it may not have.
-    /// The errors are those of `append`, in the same order, and before that of the writer's buffer
-    /// `IoError` if the file or its folder can't be synced.
+    /// It first syncs the file as it was found, and its folder, since whoever wrote it may not have. The errors are
+    /// those of `append`, in the same order, and before that of the writer's buffer `IoError` if the file or its folder
+    /// can't be synced.
     pub fn append_durable(
         rt: &impl Files<File = fs::File>,
         alloc: Global,

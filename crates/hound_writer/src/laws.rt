@@ -30,8 +30,8 @@ use hound_medium::Medium;
 use hound_sample::Sample;
 use hound_walk::one_answer;
 
-/// Bytes can be appended to with one head, or have one fault for which they can't, and never two of
-/// these: so what the calls that append return is decided by the bytes, unless the medium failed.
+/// Bytes can be appended to with one head, or have one fault for which they can't, and never two of these: so what the
+/// calls that append return is decided by the bytes, unless the medium failed.
 pub fn one_append_answer()
     ensures { (bytes : List ℕ) → HasOneAppendAnswer bytes }
 {
@@ -40,8 +40,8 @@ pub fn one_append_answer()
 
 /// A block accepts what its samples do one by one: the same samples, and the same count of them.
 ///
-/// It holds over a medium whose bytes are known, from one writer whose accepted samples are there,
-/// if `write_samples` and each `write_sample` returned Ok.
+/// It holds over a medium whose bytes are known, from one writer whose accepted samples are there, if `write_samples`
+/// and each `write_sample` returned Ok.
 pub fn a_block_is_its_samples<S: Sample, M: Medium>()
     ensures { WhereTells M.tells ((samples : List S) (a b c : WriterState M) → IsWhole M.state a →
         Accepts M.Placed (containers_in S.container a.spec_ex samples) (Ok tt) a b
@@ -49,19 +49,18 @@ pub fn a_block_is_its_samples<S: Sample, M: Medium>()
         (accepted_samples M.state b ≡ accepted_samples M.state c) × (data_length b ≡ data_length c)) }
 {}
 
-/// A caller that does what a [`Recorder`](crate::Recorder) says makes calls of a writer, whatever fails. It
-/// begins a recorder of a file that it began by all effects of [`beginning_effect`](crate::beginning_effect)
-/// (`new`), or of one that was found (`resumed`), and asks for blocks and checkpoints (`asked`); a request that is
-/// rejected gives up what was under way. It performs the effects that
-/// [`next`](crate::Recorder::next) returns (`performed`), writes the block at its place (`handed`, `wrote`),
-/// cuts off what follows, or not (`cut`), and reports each result, until there is no more (`saved`). An error
-/// comes only of what it reports, or once a sync has failed (`failed`).
+/// A caller that does what a [`Recorder`](crate::Recorder) says makes calls of a writer, whatever fails. It begins a
+/// recorder of a file that it began by all effects of [`beginning_effect`](crate::beginning_effect) (`new`), or of one
+/// that was found (`resumed`), and asks for blocks and checkpoints (`asked`); a request that is rejected gives up what
+/// was under way. It performs the effects that [`next`](crate::Recorder::next) returns (`performed`), writes the block
+/// at its place (`handed`, `wrote`), cuts off what follows, or not (`cut`), and reports each result, until there is no
+/// more (`saved`). An error comes only of what it reports, or once a sync has failed (`failed`).
 ///
-/// Of a recording that was cut off, and is mended, the first checkpoint publishes the samples that the file
-/// holds as a `flush` of them does, up to an effect that fails (`mended`). Once it is done, the calls begin.
+/// Of a recording that was cut off, and is mended, the first checkpoint publishes the samples that the file holds as a
+/// `flush` of them does, up to an effect that fails (`mended`). Once it is done, the calls begin.
 ///
-/// Each block is a call for its samples, and each checkpoint a `flush`. The clauses take the contracts of
-/// the recorder's methods, and those of hound_c, as they are.
+/// Each block is a call for its samples, and each checkpoint a `flush`. The clauses take the contracts of the
+/// recorder's methods, and those of hound_c, as they are.
 pub fn a_recorder_directs()
     ensures new { (s : WavSpecEx) (old : MediumState) (log : Log) (r : Recorder) → Opened s old log.state
         → BeginsRecorder s (Ok r) → Directed s (new_file (at_beginning old)) [] r log.state }
@@ -71,8 +70,7 @@ pub fn a_recorder_directs()
         → Directed f.spec_ex (resumed_file f.spec_ex samples f.data_start old) [] r log.state }
     ensures mended { (f : FoundFile) (mends overwrites : Bool) (old end : Log) (r : Recorder)
         (result : Result Unit IoFault) → Resumes f mends overwrites (Ok r) → IsCutOff f r.data_length old.state
-        → Performed (effects_of r) result old end
-        → ((answer : Result Unit Error) × (mark_of answer ≡ is_ok result)
+        → Performed (effects_of r) result old end → ((answer : Result Unit Error) × (mark_of answer ≡ is_ok result)
         × LeavesWriter log_kind answer (writer_of f.spec_ex r old) (writer_of f.spec_ex r end))
         × (is_ok result ≡ true → (m : Log) → Goes {T = Unit} {E = IoFault} (end_of r) (Ok tt) end.state m.state
         → (samples : ℕ) × (r.data_length ≡ samples * f.spec_ex.bytes_per_sample)
@@ -98,8 +96,7 @@ pub fn a_recorder_directs()
         → cuts_next old.phase old.has_rest ≡ true → HasEnded ok old new outcome → Directed s file known new m }
     ensures handed { (s : WavSpecEx) (file : Begun) (known : List Known) (old new : Recorder)
         (m : MediumState) (place len : ℕ) → Directed s file known old m
-        → GoesOn old new (Ok (Some (WriteBlock place len))) → (place ≡ end_of new)
-        × (Directed s file known new m
+        → GoesOn old new (Ok (Some (WriteBlock place len))) → (place ≡ end_of new) × (Directed s file known new m
         ⊎ ((0 < old.number) × Directed s file (known ++ marked publish true ∷ []) new m)) }
     ensures saved { (s : WavSpecEx) (file : Begun) (known : List Known) (old new : Recorder)
         (m : MediumState) → Directed s file known old m → old.phase ≡ Saving → GoesOn old new (Ok None)
@@ -109,13 +106,13 @@ pub fn a_recorder_directs()
         → GoesOn old new (Err error) → ⊥ }
 {}
 
-/// An effect whose end isn't reported may be performed again: what was written then is written once more, at
-/// the same place. Of some first bytes of it that were written before (`again`) there may be more then, and once
-/// its end is reported, it is as if it had been performed once, with this report (`written`, `synced`). An effect is
-/// reported as done only if it is, and a sync is always reported.
+/// An effect whose end isn't reported may be performed again: what was written then is written once more, at the same
+/// place. Of some first bytes of it that were written before (`again`) there may be more then, and once its end is
+/// reported, it is as if it had been performed once, with this report (`written`, `synced`). An effect is reported as
+/// done only if it is, and a sync is always reported.
 ///
-/// Such a file has no state that the other hasn't ([`Repeats`](crate)), and a loss of power leaves nothing
-/// of it that it wouldn't leave of the other (`survives`).
+/// Such a file has no state that the other hasn't ([`Repeats`](crate)), and a loss of power leaves nothing of it that
+/// it wouldn't leave of the other (`survives`).
 pub fn an_effect_may_be_repeated()
     ensures once { (m : MediumState) → m.flushed ≤ length m.past → Repeats m m }
     ensures begun { (at : ℕ) (bytes : List ℕ) (m again : MediumState) → Repeats m again
@@ -136,8 +133,8 @@ pub fn an_effect_may_be_repeated()
         → SurvivesLoss sector once.start once.past (r.state f) (r.state k) contents }
 {}
 
-/// What a cut leaves agrees up to its place with what was there (`cut`), and it still does once bytes are written
-/// that begin at that place or before it (`written`): what is cut off, or isn't, is ignored until it is overwritten.
+/// What a cut leaves agrees up to its place with what was there (`cut`), and it still does once bytes are written that
+/// begin at that place or before it (`written`): what is cut off, or isn't, is ignored until it is overwritten.
 pub fn a_cut_is_ignored()
     ensures cut { (n : ℕ) (contents : List ℕ) → n ≤ length contents → AgreeTo n (take n contents) contents }
     ensures written { (n at : ℕ) (bytes cut : List ℕ) (old new : MediumState) (result : Result Unit IoFault)

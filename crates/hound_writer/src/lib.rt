@@ -1,5 +1,5 @@
-//! Writing WAV files: a [`WavWriter`] accepts samples, one by one or in batches, and publishes them
-//! by writing the two sizes into the header.
+//! Writing WAV files: a [`WavWriter`] accepts samples, one by one or in batches, and publishes them by writing the two
+//! sizes into the header.
 #![tactic(auto)]
 
 mod append;

@@ -30,8 +30,8 @@ impl Recorder {
         self.phase = Phase::Idle;
     }
 
-    /// Asks for a block of so many samples after the others, and before that for the checkpoint that is
-    /// needed. What was under way is reported, and given up.
+    /// Asks for a block of so many samples after the others, and before that for the checkpoint that is needed. What
+    /// was under way is reported, and given up.
     pub fn write(&mut self, report: Report, samples: u64) -> Result<(), RecorderError>
         ensures { AsksForBlock report samples self.old self.new result }
     {
@@ -47,8 +47,8 @@ impl Recorder {
         Ok(())
     }
 
-    /// Asks for a checkpoint of all that is written. What was under way is reported; a checkpoint continues,
-    /// and a block is given up.
+    /// Asks for a checkpoint of all that is written. What was under way is reported; a checkpoint continues, and a
+    /// block is given up.
     pub fn checkpoint(&mut self, report: Report)
         ensures { AsksForCheckpoint report self.old self.new }
     {
@@ -193,8 +193,8 @@ impl Recorder {
         }
     }
 
-    /// What the caller does next; nothing if all is done. The report is of what the last call returned: if
-    /// that hasn't ended, it is returned again. Once a sync has failed, each call returns that error.
+    /// What the caller does next; nothing if all is done. The report is of what the last call returned: if that hasn't
+    /// ended, it is returned again. Once a sync has failed, each call returns that error.
     pub fn next(&mut self, report: Report) -> Result<Option<Action>, RecorderError>
         ensures { Advances report self.old self.new result }
     {

@@ -54,8 +54,8 @@ impl<W: Medium> Model for Output<W> {
         (memory_bytes (λ memory. memory.items) w.batch_memory)) w.may_have_moved w.fast_path_limit };
 }
 
-// Below how many buffered bytes a block has room for a sample of any width, if this many bytes are
-// written: 0 if a whole block more might not fit the RIFF size.
+// Below how many buffered bytes a block has room for a sample of any width, if this many bytes are written: 0 if a
+// whole block more might not fit the RIFF size.
 fn fast_path_limit_of(data_start: u64, data_bytes_written: u32) -> usize
     requires beyond { 8 ≤ data_start }
     requires small { data_start ≤ 2 ^ 33 }
@@ -97,8 +97,7 @@ impl<W: Medium> Output<W> {
         data_length: u32,
     ) -> Output<W>
         requires sound { IsSound (of_fields writer spec_ex data_start data_length [] []) }
-        requires at_most { WhereTells W.tells (CountsAtMost spec_ex data_start data_length
-            (W.state writer).contents) }
+        requires at_most { WhereTells W.tells (CountsAtMost spec_ex data_start data_length (W.state writer).contents) }
         requires place { WhereTells W.tells ((W.state writer).place ≡ data_start + data_length) }
         ensures { result ≡ of_fields writer spec_ex data_start data_length [] [] }
     {
@@ -149,13 +148,12 @@ impl<W: Medium> Output<W> {
         Ok(())
     }
 
-    // Writes the pad byte after data of an odd length, once nothing is buffered. The medium is then
-    // elsewhere than where the next sample goes.
+    // Writes the pad byte after data of an odd length, once nothing is buffered. The medium is then elsewhere than
+    // where the next sample goes.
     fn put_pad(&mut self) -> io::Result<()>
         requires { self.old.buffered ≡ [] }
         ensures goes { GoesOut W.Placed (padded_end self.old) (is_ok result) self.old self.new }
-        ensures padded { WhereTells W.tells (OnOk result
-            (IsPadded self.new (W.state self.new.medium).contents)) }
+        ensures padded { WhereTells W.tells (OnOk result (IsPadded self.new (W.state self.new.medium).contents)) }
     {
         if self.data_bytes_written % 2 == 0 {
             return Ok(());
@@ -176,8 +174,8 @@ impl<W: Medium> Output<W> {
         self.block.extend(bytes);
     }
 
-    // Accepts a container if the block, or the file, may have no room for it: the block is written
-    // first if it has none. A fault is saved, and the container isn't accepted.
+    // Accepts a container if the block, or the file, may have no room for it: the block is written first if it has
+    // none. A fault is saved, and the container isn't accepted.
     #[cold]
     #[inline(never)]
     fn accept_slowly(
@@ -235,8 +233,7 @@ impl<W: Medium> Output<W> {
     #[inline(always)]
     fn accept_samples_in_block<S: Sample + Copy>(&mut self, samples: &[S])
         requires have { IsOk (containers_in S.container self.old.spec_ex samples.now) }
-        requires room { HasRoom self.old
-            (self.old.spec_ex.bytes_per_sample * length samples.now) }
+        requires room { HasRoom self.old (self.old.spec_ex.bytes_per_sample * length samples.now) }
         requires few { length self.old.buffered
             + self.old.spec_ex.bytes_per_sample * length samples.now ≤ block_length }
         ensures { AcceptsBytes W.Placed
@@ -246,12 +243,10 @@ impl<W: Medium> Output<W> {
         self.block.extend_by(samples, spec.bits_per_sample, self.spec_ex.bytes_per_sample);
     }
 
-    // Writes samples, each of which has a container, with nothing buffered before them, and then
-    // accepts them.
+    // Writes samples, each of which has a container, with nothing buffered before them, and then accepts them.
     fn accept_samples_at_once<S: Sample + Copy>(&mut self, samples: &[S]) -> io::Result<()>
         requires have { IsOk (containers_in S.container self.old.spec_ex samples.now) }
-        requires room { HasRoom self.old
-            (self.old.spec_ex.bytes_per_sample * length samples.now) }
+        requires room { HasRoom self.old (self.old.spec_ex.bytes_per_sample * length samples.now) }
         requires none_buffered { self.old.buffered ≡ [] }
         ensures { AcceptsBytes W.Placed
             (sample_bytes S.container self.old.spec_ex samples.now) (as_error result) self.old self.new }
@@ -272,12 +267,11 @@ impl<W: Medium> Output<W> {
         Ok(())
     }
 
-    // Accepts samples, each of which has a container: in the block, which is written first if it
-    // has no room for them. At an error none of them is accepted.
+    // Accepts samples, each of which has a container: in the block, which is written first if it has no room for them.
+    // At an error none of them is accepted.
     fn accept_encoded<S: Sample + Copy>(&mut self, samples: &[S]) -> io::Result<()>
         requires have { IsOk (containers_in S.container self.old.spec_ex samples.now) }
-        requires room { HasRoom self.old
-            (self.old.spec_ex.bytes_per_sample * length samples.now) }
+        requires room { HasRoom self.old (self.old.spec_ex.bytes_per_sample * length samples.now) }
         ensures { AcceptsBytes W.Placed
             (sample_bytes S.container self.old.spec_ex samples.now) (as_error result) self.old self.new }
     {
@@ -352,22 +346,20 @@ impl<W: Medium> Output<W> {
         self.len() % self.spec_ex.spec.channels as u32 == 0
     }
 
-    // Writes both sizes, once nothing is buffered, and flushes the medium. It is then at the end of
-    // the accepted samples if the writer continues, or else where the data begin.
+    // Writes both sizes, once nothing is buffered, and flushes the medium. It is then at the end of the accepted
+    // samples if the writer continues, or else where the data begin.
     fn publish(&mut self, continues: bool) -> io::Result<()>
         requires { self.old.buffered ≡ [] }
         ensures stays { self.new ≡ record self.old { medium = self.new.medium } }
         ensures sound { IsSound self.old }
-        ensures at_most { WhereTells W.tells
-            (CountsAtMost self.old.spec_ex self.old.data_start self.old.bytes_written
+        ensures at_most { WhereTells W.tells (CountsAtMost self.old.spec_ex self.old.data_start self.old.bytes_written
             (W.state self.old.medium).contents) }
         ensures patches { WhereTells W.tells (Patches (self.old.data_start - 4)
             (riff_size self.old.data_start self.old.bytes_written) self.old.bytes_written result
             (W.state self.old.medium) (W.state self.new.medium)) }
         ensures place { WhereTells W.tells (OnOk result ((W.state self.new.medium).place
             ≡ place_after continues self.new)) }
-        ensures moments { WhereKeeps W.tells W.keeps
-            (PatchesAtEach (self.old.data_start - 4)
+        ensures moments { WhereKeeps W.tells W.keeps (PatchesAtEach (self.old.data_start - 4)
             (riff_size self.old.data_start self.old.bytes_written) self.old.bytes_written result
             (W.state self.old.medium) (W.state self.new.medium)) }
     {
@@ -383,8 +375,8 @@ impl<W: Medium> Output<W> {
         Ok(())
     }
 
-    /// Publishes all accepted samples. The medium is then at their end if the writer continues, or
-    /// else where the data begin.
+    /// Publishes all accepted samples. The medium is then at their end if the writer continues, or else where the data
+    /// begin.
     pub(crate) fn publish_all(&mut self, continues: bool) -> Result<()>
         ensures { PublishesTo W.Placed (place_after continues self.new) result self.old self.new }
     {

@@ -40,8 +40,8 @@ pub enum Health {
     /// Nothing has failed since the last checkpoint.
     Sound,
 
-    /// A write has failed, or the header counts other samples than the recorder. A checkpoint has to be done
-    /// before a block is written.
+    /// A write has failed, or the header counts other samples than the recorder. A checkpoint has to be done before a
+    /// block is written.
     Suspect,
 
     /// A sync has failed, so nobody knows what is stored. Each call is an error from then on.
@@ -68,8 +68,8 @@ pub enum Phase {
 }
 
 /// What a recorder keeps of a file that its caller writes. The caller asks for blocks and checkpoints
-/// ([`write`](Recorder::write), [`checkpoint`](Recorder::checkpoint)), and performs one action after
-/// the other that [`next`](Recorder::next) returns, each time with a report of the last one.
+/// ([`write`](Recorder::write), [`checkpoint`](Recorder::checkpoint)), and performs one action after the other that
+/// [`next`](Recorder::next) returns, each time with a report of the last one.
 #[derive(Clone, Copy)]
 pub struct Recorder {
     /// The place of the first data byte.
@@ -114,9 +114,9 @@ impl Recorder {
         }
     }
 
-    /// A recorder of a new file, which the caller has begun ([`beginning_effect`](crate::beginning_effect)). What
-    /// comes next is a checkpoint of no samples, after which a loss of power leaves the header; a block or a checkpoint
-    /// that is requested before it takes its place.
+    /// A recorder of a new file, which the caller has begun ([`beginning_effect`](crate::beginning_effect)). What comes
+    /// next is a checkpoint of no samples, after which a loss of power leaves the header; a block or a checkpoint that
+    /// is requested before it takes its place.
     pub fn begin(spec_ex: WavSpecEx) -> Result<Recorder, RecorderError>
         ensures { BeginsRecorder spec_ex result }
     {
@@ -204,8 +204,8 @@ impl Recorder {
         checkpoint_effect(self.data_start, self.data_length, number - 1)
     }
 
-    // The next effect of a checkpoint of all that is written, or none if it is done; `ok` is whether the
-    // last one succeeded, and is ignored at the first.
+    // The next effect of a checkpoint of all that is written, or none if it is done; `ok` is whether the last one
+    // succeeded, and is ignored at the first.
     pub(crate) fn next_effect(&mut self, ok: bool) -> Result<Option<Effect>, RecorderError>
         ensures { NextEffect ok self.old self.new result }
     {

@@ -15,14 +15,13 @@ pub enum RepairState {
     /// The data length is wrong, as where a recording was cut off.
     CutOff,
 
-    /// Something follows the data, by the data length, so the file wasn't cut off in them: a chunk
-    /// with a tag of RIFF or its common extensions, as `LIST`, `bext` or `id3 `, which may itself be
-    /// cut off; chunks with printable tags to the end of the file; or an ID3v1 tag at the end. The
-    /// pad byte after the data may lack.
+    /// Something follows the data, by the data length, so the file wasn't cut off in them: a chunk with a tag of RIFF
+    /// or its common extensions, as `LIST`, `bext` or `id3 `, which may itself be cut off; chunks with printable tags
+    /// to the end of the file; or an ID3v1 tag at the end. The pad byte after the data may lack.
     HasChunksAfterData,
 
-    /// The data length counts all whole frames that the file holds. Only the RIFF size is another one than
-    /// in the canonical form, as where a program writes no pad byte, so no sample is concerned.
+    /// The data length counts all whole frames that the file holds. Only the RIFF size is another one than in the
+    /// canonical form, as where a program writes no pad byte, so no sample is concerned.
     AllCounted,
 }
 
@@ -69,8 +68,8 @@ impl FoundFile {
         self.spec_ex.spec.channels as u32 * self.spec_ex.bytes_per_sample as u32
     }
 
-    // Whether the file ends with the whole frames that its header counts, or with a pad byte after them, and
-    // not with another sample in its place.
+    // Whether the file ends with the whole frames that its header counts, or with a pad byte after them, and not with
+    // another sample in its place.
     fn ends_whole(&self) -> bool
         ensures { result ≡ ends_whole self.now }
     {
@@ -110,8 +109,8 @@ impl FoundFile {
 }
 
 impl Recorder {
-    // A recorder that appends to a file after so many bytes of data. What follows them is cut off, and
-    // then, or if the header counts others, a checkpoint comes first.
+    // A recorder that appends to a file after so many bytes of data. What follows them is cut off, and then, or if the
+    // header counts others, a checkpoint comes first.
     fn continue_after(found: FoundFile, data_length: u64) -> Result<Recorder, RecorderError>
         ensures { ContinuesAfter found data_length result }
     {
@@ -130,9 +129,9 @@ impl Recorder {
         Ok(recorder)
     }
 
-    /// A recorder that appends to a file that was found. What follows the samples that the header counts is
-    /// cut off, and never without leave: samples of a recording that was cut off are kept instead where `mends`
-    /// is true, and chunks are given up where `overwrites` is. It is an error if samples are missing.
+    /// A recorder that appends to a file that was found. What follows the samples that the header counts is cut off,
+    /// and never without leave: samples of a recording that was cut off are kept instead where `mends` is true, and
+    /// chunks are given up where `overwrites` is. It is an error if samples are missing.
     ///
     /// So the recorder keeps all that the header counts. A header that counts a part of a frame, too, has to be
     /// repaired first, since that part would be cut off while it is still counted.

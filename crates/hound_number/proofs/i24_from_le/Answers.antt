@@ -10,13 +10,11 @@ use Rattle.hound_number.proofs.i24_from_le.Goals as goal
 low_half : (l h : ℕ) → l < 65536 → h < 128 → pos h *ℤ pos 65536 +ℤ pos l ≡ signed_of 3 (l + h * 65536)
 low_half l h small low = search rules
 
-high_half : (l k : ℕ) → l < 65536 → k < 128
-    → negsuc k *ℤ pos 65536 +ℤ pos l ≡ signed_of 3 (l + (255 - k) * 65536)
+high_half : (l k : ℕ) → l < 65536 → k < 128 → negsuc k *ℤ pos 65536 +ℤ pos l ≡ signed_of 3 (l + (255 - k) * 65536)
 high_half l k small low = search rules
 
 -- the sign of the high byte is that of the number
-signed_high : (l h : ℕ) → l < 65536 → h < 256
-    → to_z w8 h *ℤ pos 65536 +ℤ pos l ≡ signed_of 3 (l + h * 65536)
+signed_high : (l h : ℕ) → l < 65536 → h < 256 → to_z w8 h *ℤ pos 65536 +ℤ pos l ≡ signed_of 3 (l + h * 65536)
 signed_high l h small byte = grind (arith, common_steps, cases_lt, to_z_pos, low_half, to_z, to_z-neg, high_half)
 
 -- the number of three bytes, each by its place
@@ -38,10 +36,14 @@ returns c =
     let h = slice_index_or c.args.bytes 2 0 in
     let s = c.cast_signed.result in
     let three : length c.args.bytes ≡ 3 = search rules in
-    let low : to_z w32 (of_z w32 (to_z w32 b0 +ℤ to_z w32 (of_z w32 (to_z w32 b1 *ℤ pos 256)))) ≡ pos (b0 + b1 * 256) = search rules in
-    let high : to_z w32 (of_z w32 (to_z w32 (of_z w32 (to_z w8 (of_z w8 s))) *ℤ pos 65536)) ≡ s *ℤ pos 65536 = search rules in
-    let fits : to_z w32 (of_z w32 (s *ℤ pos 65536 +ℤ pos (b0 + b1 * 256))) ≡ s *ℤ pos 65536 +ℤ pos (b0 + b1 * 256) = search rules in
-    ap (λ z. to_z w32 (of_z w32 (z +ℤ to_z w32 (of_z w32 (to_z w32 b0 +ℤ to_z w32 (of_z w32 (to_z w32 b1 *ℤ pos 256))))))) high
+    let low : to_z w32 (of_z w32 (to_z w32 b0 +ℤ to_z w32 (of_z w32 (to_z w32 b1 *ℤ pos 256)))) ≡ pos (b0 + b1 * 256) =
+    search rules in
+    let high : to_z w32 (of_z w32 (to_z w32 (of_z w32 (to_z w8 (of_z w8 s))) *ℤ pos 65536)) ≡ s *ℤ pos 65536 =
+    search rules in
+    let fits : to_z w32 (of_z w32 (s *ℤ pos 65536 +ℤ pos (b0 + b1 * 256))) ≡ s *ℤ pos 65536 +ℤ pos (b0 + b1 * 256) =
+    search rules in
+    ap (λ z. to_z w32 (of_z w32
+    (z +ℤ to_z w32 (of_z w32 (to_z w32 b0 +ℤ to_z w32 (of_z w32 (to_z w32 b1 *ℤ pos 256))))))) high
     ∙ ap (λ z. to_z w32 (of_z w32 (s *ℤ pos 65536 +ℤ z))) low
     ∙ fits ∙ ap (λ z. z *ℤ pos 65536 +ℤ pos (b0 + b1 * 256)) c.cast_signed.ensures
     ∙ signed_high (b0 + b1 * 256) h (omega (arith, c.element_fits, c.element_fits2)) (omega (arith, c.element_fits3))

@@ -5,8 +5,7 @@ use Rattle.hound_number.proofs.write_bytes.Given as goal
 abbrev pub invariant-loop-at : goal.invariant-loop-at
 invariant-loop-at g l = record {
   within : l.at ≤ length l.bytes;
-  written : Appends (g.W.Write.contents l.fn.writer) (g.W.Write.contents l.writer)
-      (take l.at l.bytes);
+  written : Appends (g.W.Write.contents l.fn.writer) (g.W.Write.contents l.writer) (take l.at l.bytes);
 }
 
 abbrev pub decreases-loop-at : goal.decreases-loop-at

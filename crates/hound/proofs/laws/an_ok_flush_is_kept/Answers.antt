@@ -12,7 +12,8 @@ returns-clause-now g c modelled = ok_now g.M.Placed modelled
 pub returns-clause-at_each : goal.returns-clause-at_each
 returns-clause-at_each g c modelled keeps s file known mid w later recorded lead none =
     let M = g.M.Placed in
-    let (all, are, holds, kept) = kept_on M (g.met.M.Medium.replays) s file _ mid w later recorded lead modelled keeps in
+    let (all, are, holds, kept) = kept_on M (g.met.M.Medium.replays) s file _ mid w later recorded lead modelled
+    keeps in
     let (calls, calls_are, same, reads) = ok_holds_at_each s file known all later (M.state w.medium) kept are none in (
       calls,
       calls_are,

@@ -30,6 +30,5 @@ returns g c =
       session = inr run;
       begun = λ tells s is_new empty long. run;
       canonical = λ tells s is_new is_finalize. new_canonical (new s is_new) tells is_finalize;
-      exact = λ tells s is_new writable empty none.
-          new_exact (new s is_new) tells empty none;
+      exact = λ tells s is_new writable empty none. new_exact (new s is_new) tells empty none;
     }

@@ -18,8 +18,7 @@ loop-i-preserved g c =
     let ok = is_ok again.result.1 c.in_default.not-Err in
     record {
       within = omega arith;
-      leads = λ answer medium others.
-          leads_on (RunsOn W Append) c.args.sessions.now c.loop-i.i
+      leads = λ answer medium others. leads_on (RunsOn W Append) c.args.sessions.now c.loop-i.i
           c.args.medium c.loop-i.medium c.loop-i.invariant.leads _ c.loop-i-test.true answer medium
           (inr (again.result.0, rw ok at again.ensures, others));
     }

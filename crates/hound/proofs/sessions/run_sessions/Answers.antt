@@ -15,8 +15,7 @@ returns-in-Err g c =
     (inl (
       c.in-Err.error,
       refl,
-      subst (λ r. RunsOnce W
-          (New c.args.spec_ex) c.in-Some.first.now.now c.args.medium r run.result.0) c.in-Err.is
+      subst (λ r. RunsOnce W (New c.args.spec_ex) c.in-Some.first.now.now c.args.medium r run.result.0) c.in-Err.is
           run.ensures,
     )) in
     record {
@@ -42,8 +41,7 @@ returns g c =
     (sym c.in-Some.ensures.cases.0)
     (inr (
       run.result.0,
-      subst (λ r. RunsOnce W
-          (New c.args.spec_ex) c.in-Some.first.now.now c.args.medium r run.result.0) ok run.ensures,
+      subst (λ r. RunsOnce W (New c.args.spec_ex) c.in-Some.first.now.now c.args.medium r run.result.0) ok run.ensures,
       on.ensures,
     )) in
     let left = λ (modelled : IsTrue W.tells). leave W c.args.spec_ex c.args.medium on.result.0 modelled
@@ -53,7 +51,6 @@ returns g c =
       returned = sessions_returned W c.args.spec_ex c.args.medium _
           (λ modelled m. g.met.M.Placed.bytes m modelled) c.requires c.args.sessions.now on.result.1 runs;
       canonical = λ modelled some. on_ok_weaker on.result.1 (λ both. both.0) ((left modelled).file some);
-      exact = λ modelled some empty.
-          on_ok_weaker on.result.1 (λ both. both.1 empty) ((left modelled).file some);
+      exact = λ modelled some empty. on_ok_weaker on.result.1 (λ both. both.1 empty) ((left modelled).file some);
       stops = λ modelled. (left modelled).stops;
     }

@@ -6,8 +6,7 @@ returns-in-Ok-take_until_error g c =
     inr (
       c.in-Ok.writer,
       c.in-Ok.ensures,
-      c.in-Ok-take_until_error.ensures _ _
-          c.finalize_into.ensures.finishes,
+      c.in-Ok-take_until_error.ensures _ _ c.finalize_into.ensures.finishes,
     )
 
 pub returns-in-Err-take_until_error : goal.returns-in-Err-take_until_error

@@ -24,8 +24,7 @@ loop-i-preserved g c =
     let take = c.take_step in
     record {
       within = omega arith;
-      leads = λ answer medium runs.
-          leads_on (RunsUntil W) c.args.steps.now c.loop-i.i
+      leads = λ answer medium runs. leads_on (RunsUntil W) c.args.steps.now c.loop-i.i
           c.args.writer.now c.loop-i.writer c.loop-i.invariant.leads _ c.loop-i-test.true answer
           medium (inr (take.new.writer, rw c.in-Ok.is at take.ensures, runs));
     }

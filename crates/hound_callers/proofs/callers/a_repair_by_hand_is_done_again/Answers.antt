@@ -21,5 +21,6 @@ returns c looks again d old mid result next new other at performed some same rep
     ∙ ap (λ k. k * frame_length s) (sym (held_found d.state s d.head.data_length (shown_of d.head) d.held at.apart)) in
     let left : PartlyMended start (found_length (repair_of d)) old.state.contents next.contents =
     subst (λ (x : ℕ × List ℕ). PartlyMended start x.0 old.state.contents x.1) (λ i. (length_is i, sym same i)) partly in
-    c.a_stopped_repair_is_done_again.ensures.same looks again old.state.contents next new (repair_of d) other d.head.data_length
+    c.a_stopped_repair_is_done_again.ensures.same looks again old.state.contents next new (repair_of d) other
+    d.head.data_length
     start at.found at.apart some left repairs alone

@@ -4,8 +4,7 @@ use Rattle.hound.specs.declared.Error.TheVariants.{IoError}
 use Rattle.hound_callers.proofs.callers.open_written.Goals as goal
 
 -- The samples of bytes begin at one place, so those of an opened reader are left there.
-left : {R : Type 0} (now : R → List ℕ) (s : WavSpecEx) (list : List (List ℕ)) (start : ℕ)
-    (bytes : List ℕ)
+left : {R : Type 0} (now : R → List ℕ) (s : WavSpecEx) (list : List (List ℕ)) (start : ℕ) (bytes : List ℕ)
     (result : Result (ReaderState R) Error) → HasOneFileAnswer bytes
     → Readable bytes s (length list) start
     × (containers s.bytes_per_sample (length list) (drop start bytes) ≡ list)
@@ -20,8 +19,7 @@ left now s list start bytes (Ok r) (a, _, one) (read, same) (h, found, beyond) (
     let place : h ≡ start = cc in (
       spec,
       samples,
-      ap (λ rest. containers s.bytes_per_sample (length list) rest)
-          (beyond ∙ ap (λ k. drop k bytes) place) ∙ same,
+      ap (λ rest. containers s.bytes_per_sample (length list) rest) (beyond ∙ ap (λ k. drop k bytes) place) ∙ same,
     )
 left now s list start bytes (Err (IoError e)) one read found opens = tt
 left now s list start bytes (Err _) one read found opens = absurd opens

@@ -55,8 +55,7 @@ done_again law old left premise found len start is state half = inr (
   len,
   start,
   is,
-  λ here positive next new other same again.
-      law false false old next new found other len start is
+  λ here positive next new other same again. law false false old next new found other len start is
       (λ chunks. let h : false ≡ true = sym (ap (is_mended true) chunks) ∙ state in cc h) positive
       (subst (PartlyMended start (found_length found) old) (sym same) (half here))
       again (λ looks here. absurd (false≢true looks)),
@@ -70,7 +69,8 @@ returns-clause-stopped g c modelled =
       | inl (fault, here, names, none, all) ↦ inl none.stays.contents
       | inr (io, inl none, one) ↦ inl none.stays.contents
       | inr (io, inr (found, len, start, is, state, half), one) ↦
-          done_again c.a_stopped_repair_is_done_again.ensures.same old.contents _ (λ _. ⊤) found len start is state (λ _. half)
+          done_again c.a_stopped_repair_is_done_again.ensures.same old.contents _ (λ _. ⊤) found len start is state
+          (λ _. half)
     ])
 
 -- what is left after a loss
@@ -84,7 +84,8 @@ through_loss law old new mends sector left settled wide lost =
     elim (mends sector left settled wide lost) [
       | inl same ↦ inl same
       | inr (found, len, start, is, state, half) ↦
-          done_again law old.contents left (λ start. (start - 4) / sector ≡ (start - 1) / sector) found len start is state half
+          done_again law old.contents left (λ start. (start - 4) / sector ≡ (start - 1) / sector) found len start is
+          state half
     ]
 
 pub returns-clause-lost : goal.returns-clause-lost

@@ -7,8 +7,7 @@ use Rattle.hound.specs.declared.SampleFormat.{SampleFormat}
 use Rattle.hound_callers.proofs.callers.samples_of.Goals as goal
 
 -- items, and one more
-module _ {R A : Type 0} (left : R → Option (List ℕ))
-    (rejection : SampleFormat → ℕ → ℕ → Option ReadRejection)
+module _ {R A : Type 0} (left : R → Option (List ℕ)) (rejection : SampleFormat → ℕ → ℕ → Option ReadRejection)
     (meaning : SampleFormat → ℕ → ℕ → List ℕ → A) where
   one_more : (items : List (Result A Error)) (item : Result A Error) (old mid new : ReaderState R)
       → GivesItems left rejection meaning items old mid

@@ -9,8 +9,7 @@ returns g c =
     let end = c.finalize_into-medium in (
       w,
       c.in_ok-writer.ensures.appends,
-      λ modelled whole.
-          let left = end.ensures.left w.spec_ex _ _
+      λ modelled whole. let left = end.ensures.left w.spec_ex _ _
           (c.record_blocks.ensures w.spec_ex _ [] (c.in_ok-writer.ensures.recorded (λ modelled. whole))) in (
             c.an_append_keeps_the_front.ensures modelled w.spec_ex _ w.data_start found _ end.result.0 left,
             c.what_is_kept.ensures.at_end modelled w.spec_ex _ _ end.result.0 left,

@@ -24,5 +24,6 @@ returns-clause-checkpoint c =
     IfOk-weaker c.bytes_after.result _ _
     (λ bytes is s file calls keeps before later after flush same published none from to frames.
     subst (ReadsAs s (start_of s file) (found_in file ++ accepted_by_all before)) (sym is)
-    (c.a_checkpoint_holds.ensures.at_each s file calls _ keeps before later after flush c.args.k same published none from
+    (c.a_checkpoint_holds.ensures.at_each s file calls _ keeps before later after flush c.args.k same published none
+    from
     to frames)) c.bytes_after.ensures.moment

@@ -6,8 +6,7 @@ use Rattle.hound.specs.declared.SampleFormat.{SampleFormat}
 use Rattle.hound_callers.proofs.reading.read_from.Goals as goal
 
 -- samples take their containers
-took : {R A : Type 0} (left : R → Option (List ℕ))
-    (rejection : SampleFormat → ℕ → ℕ → Option ReadRejection)
+took : {R A : Type 0} (left : R → Option (List ℕ)) (rejection : SampleFormat → ℕ → ℕ → Option ReadRejection)
     (meaning : SampleFormat → ℕ → ℕ → List ℕ → A) (values : List A) (old new : ReaderState R)
     → GivesItems left rejection meaning (map Ok values) old new
     → new.bytes_read ≡ old.bytes_read + length values * old.spec_ex.bytes_per_sample

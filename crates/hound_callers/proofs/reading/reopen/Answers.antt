@@ -8,8 +8,7 @@ use Rattle.hound.specs.{Cause, IsSound, FollowsData, HasOneAppendAnswer, Head, I
 use Rattle.hound_callers.proofs.reading.reopen.Goals as goal
 
 -- whole samples, and whole frames
-are_whole : (s : WavSpecEx) (len : ℕ) → data_fault s len ≡ None
-    → (eqb (len % s.bytes_per_sample) 0 ≡ true)
+are_whole : (s : WavSpecEx) (len : ℕ) → data_fault s len ≡ None → (eqb (len % s.bytes_per_sample) 0 ≡ true)
     × (eqb (len / s.bytes_per_sample % s.spec.channels) 0 ≡ true)
 are_whole s len none =
     go (eqb (len % s.bytes_per_sample) 0) (eqb (len / s.bytes_per_sample % s.spec.channels) 0) _ _
@@ -81,8 +80,7 @@ returns-clause-begun g c modelled s size len rest writable none fits is =
       all ∙ ap (containers s.bytes_per_sample (len / s.bytes_per_sample)) after,
     ))
     (λ rejected not. elim (not modelled).why [
-      | inl (fault, here, names, same) ↦
-          let a = answer.2 (faulty fault) here in
+      | inl (fault, here, names, same) ↦ let a = answer.2 (faulty fault) here in
           let b = this M.state s len old answer head sound in
           let never : faulty fault ≡ appendable s len (data_start s) = a ∙ sym b in
           absurd (cc never)
@@ -114,8 +112,7 @@ returns-clause-written g c modelled s list writable each fits is =
     (λ w (spec, whole, all). (
       spec,
       whole (omega (arith, length-append (concat list) (padding n))),
-      all ∙ (λ i. containers s.bytes_per_sample
-          ((ap (λ k. k / s.bytes_per_sample) (sym long) ∙ sym read.count) i)
+      all ∙ (λ i. containers s.bytes_per_sample ((ap (λ k. k / s.bytes_per_sample) (sym long) ∙ sym read.count) i)
           (sym (drop_at (header s size n) rest (data_start s) (length-header s size n)) i)) ∙ same,
     ))
     (λ rejected failed. failed)

@@ -50,7 +50,8 @@ returns-in-Err-clause-why g c =
     let f = found_as s start c.in-Some.data_length (length bytes) samples in
     let sound : IsSoundSpec s = rw c.spec_ex-spec_ex.ensures c.in_ok-reader.ensures.sound.0 in
     let counted : f.data_length ≡ samples * s.bytes_per_sample = grind (arith, common_steps) in
-    inl (not_resumed f bytes samples c.in-Err.error c.error_of.result here counted refl refl refl sound.0 sound.1 c.in-Err.ensures.resumes
+    inl (not_resumed f bytes samples c.in-Err.error c.error_of.result here counted refl refl refl sound.0 sound.1
+    c.in-Err.ensures.resumes
     c.error_of.ensures)
 
 pub returns-clause-saved : goal.returns-clause-saved
@@ -87,7 +88,8 @@ returns-clause-saved g c tells keeps =
       here,
       saves s (resumed_file s samples start old) c.args.blocks.now c.save_blocks.result c.save_blocks.new.recorder _
           c.save_blocks.ensures.within
-          (λ known r m d none. c.a_recording_is_kept.ensures.survives s (resumed_file s samples start old) known r m d none
+          (λ known r m d none. c.a_recording_is_kept.ensures.survives s (resumed_file s samples start old) known r m d
+          none
           (c.requires.synced tells keeps))
           (c.save_blocks.ensures.saved tells keeps s (resumed_file s samples start old) (log.state, begun, once)),
     )

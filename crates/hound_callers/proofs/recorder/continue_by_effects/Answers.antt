@@ -5,7 +5,8 @@ use Rattle.hound_callers.proofs.Performing.{log_of, saves}
 use Rattle.hound_callers.proofs.recorder.continue_by_effects.Goals as goal
 
 pub returns-in_err-mend-clause-rejected : goal.returns-in_err-mend-clause-rejected
-returns-in_err-mend-clause-rejected g c = if_err c.from_residual-in_err-mend.result (λ error. inr (λ tells keeps is_found.
+returns-in_err-mend-clause-rejected g c = if_err c.from_residual-in_err-mend.result
+    (λ error. inr (λ tells keeps is_found.
     let M = g.M.Placed in
     let f = c.args.found in
     let r = c.in_ok-continued.continued in
@@ -16,8 +17,10 @@ returns-in_err-mend-clause-rejected g c = if_err c.from_residual-in_err-mend.res
     let failed : is_ok result ≡ false = bad in
     let cut = is_cut_off f r start.state is_found c.in_ok-continued.ensures.resumes
     c.in_ok-continued.ensures.counted in
-    let ((answer, mark, leaves), on) = c.a_recorder_directs.ensures.mended f true false start end r result c.in_ok-continued.ensures.resumes cut done in
-    let lost = c.a_recording_is_kept.ensures.mended f true false start end r result c.in_ok-continued.ensures.resumes cut
+    let ((answer, mark, leaves), on) = c.a_recorder_directs.ensures.mended f true false start end r result
+    c.in_ok-continued.ensures.resumes cut done in
+    let lost = c.a_recording_is_kept.ensures.mended f true false start end r result c.in_ok-continued.ensures.resumes
+    cut
     (c.requires.synced tells keeps) done in
     (r, end, (start, answer, c.in_ok-continued.ensures.resumes, refl, mark ∙ failed, leaves, lost), now)))
 
@@ -35,10 +38,12 @@ returns-clause-saved g c tells keeps is_found =
     let all_synced = effects_synced r start end result ok done in
     let cut = is_cut_off f r start.state is_found c.in_ok-continued.ensures.resumes
     c.in_ok-continued.ensures.counted in
-    let ((answer, mark, leaves), on) = c.a_recorder_directs.ensures.mended f true false start end r result c.in_ok-continued.ensures.resumes cut done in
+    let ((answer, mark, leaves), on) = c.a_recorder_directs.ensures.mended f true false start end r result
+    c.in_ok-continued.ensures.resumes cut done in
     let (m, goes, moved) = at_end (end_of r) end _ now in
     let (samples, counted, directed) = on ok m goes in
-    let begun = is_mended f r c.mend.new.recorder m (resumed_file s samples f.data_start end.state) c.in_ok-continued.ensures.resumes
+    let begun = is_mended f r c.mend.new.recorder m (resumed_file s samples f.data_start end.state)
+    c.in_ok-continued.ensures.resumes
     c.in_ok-mend.ensures.done directed in (
       r,
       end,
@@ -54,9 +59,12 @@ returns-clause-saved g c tells keeps is_found =
             (c.requires.synced tells keeps) done,
       ),
       counted,
-      saves s (resumed_file s samples f.data_start end.state) c.args.blocks.now c.save_blocks.result c.save_blocks.new.recorder _
+      saves s (resumed_file s samples f.data_start end.state) c.args.blocks.now c.save_blocks.result
+          c.save_blocks.new.recorder _
           c.save_blocks.ensures.within
-          (λ known r m d none. c.a_recording_is_kept.ensures.survives s (resumed_file s samples f.data_start end.state) known r m d none
+          (λ known r m d none. c.a_recording_is_kept.ensures.survives s (resumed_file s samples f.data_start end.state)
+          known r m d none
           all_synced)
-          (c.save_blocks.ensures.saved tells keeps s (resumed_file s samples f.data_start end.state) (m.state, begun, moved)),
+          (c.save_blocks.ensures.saved tells keeps s (resumed_file s samples f.data_start end.state)
+          (m.state, begun, moved)),
     )

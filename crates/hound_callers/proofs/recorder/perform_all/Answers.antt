@@ -35,15 +35,18 @@ loop-action-preserved g c =
       within = (o, w c.perform-report.result);
       action = has_action c.perform-report.result c.next.new.self c.in-Some.action goes;
       made = c.is_next_lost.ensures.within;
-      directed = λ tells keeps s file known d.
-          let M = g.M.Placed in
-          let (before, end, over, within, k, has, still, way) = c.loop-action.invariant.directed tells keeps s file known d in
+      directed = λ tells keeps s file known d. let M = g.M.Placed in
+          let (before, end, over, within, k, has, still, way) = c.loop-action.invariant.directed tells keeps s file
+          known d in
           let says = c.a_recorder_directs.ensures in
           let law = c.an_effect_may_be_repeated.ensures in
-          let again : Again = record { begun = law.begun; again = law.again; written = law.written; synced = law.synced } in
+          let again : Again = record
+          { begun = law.begun; again = law.again; written = law.written; synced = law.synced } in
           let laws = laws_of s file known asked c.args.block.now c.requires.asked c.loop-action.report before end
-          (λ old mid new effect result modelled. says.performed s file known old mid new before end effect result modelled)
-          (λ old new n result modelled d writing rest long. says.wrote s file known old new n before end c.args.block.now result modelled d writing rest long)
+          (λ old mid new effect result modelled. says.performed s file known old mid new before end effect result
+          modelled)
+          (λ old new n result modelled d writing rest long. says.wrote s file known old new n before end
+          c.args.block.now result modelled d writing rest long)
           (λ known old new ok modelled. says.cut s file known old new before ok modelled)
           (λ m old new place len. says.handed s file known old new m place len)
           (λ old new. says.saved s file known old new end.state) still in
@@ -58,12 +61,14 @@ loop-action-preserved g c =
           c.perform-report.result end _ _ (g.met.M.Placed.bytes c.perform-report.new.medium tells) was
           (c.perform-report.ensures.tries tells keeps) in
           come_again (λ m over r. KnownAt s file known asked c.args.block.now m over r) asked c.args.block.now
-          c.perform-report.result c.next.new.self c.in-Some.action o end.state once _ (w c.perform-report.result) k goes came;
-      performed = λ tells keeps start repeats one has_data.
-          let M = g.M.Placed in
-          let (before, end, over, within, k, has, still, way) = c.loop-action.invariant.performed tells keeps start repeats one has_data in
+          c.perform-report.result c.next.new.self c.in-Some.action o end.state once _ (w c.perform-report.result) k goes
+          came;
+      performed = λ tells keeps start repeats one has_data. let M = g.M.Placed in
+          let (before, end, over, within, k, has, still, way) = c.loop-action.invariant.performed tells keeps start
+          repeats one has_data in
           let law = c.an_effect_may_be_repeated.ensures in
-          let again : Again = record { begun = law.begun; again = law.again; written = law.written; synced = law.synced } in
+          let again : Again = record
+          { begun = law.begun; again = law.again; written = law.written; synced = law.synced } in
           let laws = effect_laws asked start one c.args.block.now c.loop-action.report before end still in
           let (o, w, k, goes) = next_some asked (length c.args.block.now) c.requires.asked c.loop-action.report
           (λ o r. PerformedAt asked start before o r) (λ o r. PerformedAt asked start end.state o r)
@@ -75,7 +80,8 @@ loop-action-preserved g c =
           c.perform-report.result end _ _ (g.met.M.Placed.bytes c.perform-report.new.medium tells) was
           (c.perform-report.ensures.tries tells keeps) in
           come_again (λ m over r. PerformedAt asked start m over r) asked c.args.block.now
-          c.perform-report.result c.next.new.self c.in-Some.action o end.state once _ (w c.perform-report.result) k goes came;
+          c.perform-report.result c.next.new.self c.in-Some.action o end.state once _ (w c.perform-report.result) k goes
+          came;
     }
 
 pub loop-action-smaller : goal.loop-action-smaller
@@ -85,11 +91,13 @@ loop-action-smaller g c =
     smaller c.is_next_lost.result (actions_left c.loop-action.recorder) (actions_left c.next.new.self)
     (step_of c.loop-action.report) (step_of c.perform-report.result) c.loop-action.made c.is_next_lost.new.made
     (length c.args.lost.now)
-    (λ none. law.again _ _ c.in-Some.action (subst (λ r. Advances r c.loop-action.recorder c.next.new.self (Ok (Some c.in-Some.action)))
+    (λ none. law.again _ _ c.in-Some.action
+    (subst (λ r. Advances r c.loop-action.recorder c.next.new.self (Ok (Some c.in-Some.action)))
     (at_rest c.loop-action.report none) next))
     (λ one. law.nearer c.loop-action.report _ _ c.in-Some.action
     (λ pending. absurd (let none = ap step_of pending in omega (arith, none, one))) next)
-    (one_at_most c.loop-action.report) c.is_next_lost.ensures.counted c.is_next_lost.ensures.grows c.is_next_lost.ensures.within
+    (one_at_most c.loop-action.report) c.is_next_lost.ensures.counted c.is_next_lost.ensures.grows
+    c.is_next_lost.ensures.within
     (λ kept. not_at_rest c.perform-report.result (c.perform-report.ensures.ended kept))
 
 pub returns-clause-done : goal.returns-clause-done
@@ -105,7 +113,8 @@ returns-clause-directed g c tells keeps s file known d =
     let next = rw c.in_default.is at c.in_ok-action.ensures in
     let laws = laws_of s file known asked c.args.block.now c.requires.asked c.loop-action.report before end
     (λ old mid new effect result modelled. says.performed s file known old mid new before end effect result modelled)
-    (λ old new n result modelled d writing rest long. says.wrote s file known old new n before end c.args.block.now result modelled d writing rest long)
+    (λ old new n result modelled d writing rest long. says.wrote s file known old new n before end c.args.block.now
+    result modelled d writing rest long)
     (λ known old new ok modelled. says.cut s file known old new before ok modelled)
     (λ m old new place len. says.handed s file known old new m place len)
     (λ old new. says.saved s file known old new end.state) still in
@@ -116,7 +125,12 @@ returns-clause-directed g c tells keeps s file known d =
     c.loop-action.recorder c.next.new.self over
     within k has next in (
       ap (λ (x : Recorder). x.number) is,
-      (end.state, k, all_done again c.args.block.now c.loop-action.report c.loop-action.recorder c.next.new.self end.state _ way next),
+      (
+        end.state,
+        k,
+        all_done again c.args.block.now c.loop-action.report c.loop-action.recorder c.next.new.self
+            end.state _ way next,
+      ),
     )
 
 pub returns-in_err-action-clause-directed : goal.returns-in_err-action-clause-directed
@@ -128,12 +142,14 @@ returns-in_err-action-clause-directed g c tells keeps s file known d =
     let asked = c.args.recorder.now in
     let laws = laws_of s file known asked c.args.block.now c.requires.asked c.loop-action.report before end
     (λ old mid new effect result modelled. says.performed s file known old mid new before end effect result modelled)
-    (λ old new n result modelled d writing rest long. says.wrote s file known old new n before end c.args.block.now result modelled d writing rest long)
+    (λ old new n result modelled d writing rest long. says.wrote s file known old new n before end c.args.block.now
+    result modelled d writing rest long)
     (λ known old new ok modelled. says.cut s file known old new before ok modelled)
     (λ m old new place len. says.handed s file known old new m place len)
     (λ old new. says.saved s file known old new end.state) still in
     let failed = not_failed s file known asked c.args.block.now c.requires.asked c.loop-action.report before end
-    (λ known old new error. says.failed s file known old new end.state error) c.next.new.self c.in_err-action.field-0.0 in
+    (λ known old new error. says.failed s file known old new end.state error) c.next.new.self
+    c.in_err-action.field-0.0 in
     let (none, k2) = next_err asked (length c.args.block.now) c.requires.asked c.loop-action.report
     (λ o r. KnownAt s file known asked c.args.block.now before o r)
     (λ o r. KnownAt s file known asked c.args.block.now end.state o r)
@@ -151,7 +167,8 @@ returns-in_err-action-clause-directed g c tells keeps s file known d =
             (inl (subst (λ x. IsWithin asked x c.loop-action.recorder over) pending within)) in (
               alive,
               failed over c.loop-action.recorder
-                  (subst (λ m. KnownAt s file known asked c.args.block.now m over c.loop-action.recorder) (sym (still pending)) k)
+                  (subst (λ m. KnownAt s file known asked c.args.block.now m over c.loop-action.recorder)
+                  (sym (still pending)) k)
                   alive,
             ))
             way c.in_err-action.ensures,
@@ -160,13 +177,15 @@ returns-in_err-action-clause-directed g c tells keeps s file known d =
 
 pub returns-clause-performed : goal.returns-clause-performed
 returns-clause-performed g c tells keeps start repeats one has_data =
-    let (before, end, over, within, k, has, still, way) = c.loop-action.invariant.performed tells keeps start repeats one has_data in
+    let (before, end, over, within, k, has, still, way) = c.loop-action.invariant.performed tells keeps start repeats
+    one has_data in
     let law = c.an_effect_may_be_repeated.ensures in
     let again : Again = record { begun = law.begun; again = law.again; written = law.written; synced = law.synced } in
     let asked = c.args.recorder.now in
     let next = rw c.in_default.is at c.in_ok-action.ensures in
     let laws = effect_laws asked start one c.args.block.now c.loop-action.report before end still in
-    let (is, (idle, log, here, (result, ok, done))) = next_none asked (length c.args.block.now) c.requires.asked c.loop-action.report
+    let (is, (idle, log, here, (result, ok, done))) = next_none asked (length c.args.block.now) c.requires.asked
+    c.loop-action.report
     (λ o r. PerformedAt asked start before o r) (λ o r. PerformedAt asked start end.state o r)
     (λ action. DoesAction action c.args.block.now c.loop-action.report before end.state) laws
     c.loop-action.recorder c.next.new.self over within k has next in (
@@ -174,19 +193,22 @@ returns-clause-performed g c tells keeps start repeats one has_data =
       result,
       ok,
       done,
-      subst (λ m. Repeats m (g.M.Placed.state c.loop-action.medium)) (sym here) (all_done again c.args.block.now c.loop-action.report c.loop-action.recorder
+      subst (λ m. Repeats m (g.M.Placed.state c.loop-action.medium)) (sym here)
+          (all_done again c.args.block.now c.loop-action.report c.loop-action.recorder
           c.next.new.self end.state _ way next),
     )
 
 pub returns-in_err-action-clause-performed : goal.returns-in_err-action-clause-performed
 returns-in_err-action-clause-performed g c tells keeps start repeats one has_data =
-    let (before, end, over, within, k, has, still, way) = c.loop-action.invariant.performed tells keeps start repeats one has_data in
+    let (before, end, over, within, k, has, still, way) = c.loop-action.invariant.performed tells keeps start repeats
+    one has_data in
     let law = c.an_effect_may_be_repeated.ensures in
     let again : Again = record { begun = law.begun; again = law.again; written = law.written; synced = law.synced } in
     let asked = c.args.recorder.now in
     let laws = effect_laws asked start one c.args.block.now c.loop-action.report before end still in
     let failed = effects_not_failed asked start end.state c.next.new.self c.in_err-action.field-0.0 in
-    let (none, (idle, log, here, (result, bad, done))) = next_err asked (length c.args.block.now) c.requires.asked c.loop-action.report
+    let (none, (idle, log, here, (result, bad, done))) = next_err asked (length c.args.block.now) c.requires.asked
+    c.loop-action.report
     (λ o r. PerformedAt asked start before o r) (λ o r. PerformedAt asked start end.state o r)
     (λ action. DoesAction action c.args.block.now c.loop-action.report before end.state) laws
     c.loop-action.recorder c.next.new.self over c.in_err-action.field-0.0 failed within k has c.in_err-action.ensures in
@@ -195,13 +217,15 @@ returns-in_err-action-clause-performed g c tells keeps start repeats one has_dat
       result,
       bad,
       done,
-      subst (λ m. Repeats m (g.M.Placed.state c.loop-action.medium)) (sym here) (has_failed again c.args.block.now c.loop-action.report c.loop-action.recorder
+      subst (λ m. Repeats m (g.M.Placed.state c.loop-action.medium)) (sym here)
+          (has_failed again c.args.block.now c.loop-action.report c.loop-action.recorder
           c.next.new.self c.in_err-action.field-0.0 end.state _
           (λ pending.
           let alive = settled_low asked (length c.args.block.now) c.requires.asked c.loop-action.recorder over
           (inl (subst (λ x. IsWithin asked x c.loop-action.recorder over) pending within)) in (
             alive,
-            failed over c.loop-action.recorder (subst (λ m. PerformedAt asked start m over c.loop-action.recorder) (sym (still pending)) k)
+            failed over c.loop-action.recorder
+                (subst (λ m. PerformedAt asked start m over c.loop-action.recorder) (sym (still pending)) k)
                 alive,
           ))
           way c.in_err-action.ensures),

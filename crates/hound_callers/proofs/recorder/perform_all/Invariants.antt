@@ -20,7 +20,8 @@ invariant-loop-action g l =
           → IsUnderWay s file known l.fn.recorder l.block l.report l.recorder (M.state l.medium));
       performed : WhereKeeps M.tells M.keeps ((start : Log) → Repeats start.state (M.state l.fn.medium)
           → l.fn.recorder.phase ≡ Saving → HasData l.fn.recorder l.fn.recorder.data_length
-          → IsUnderWayBy (λ m over r. PerformedAt l.fn.recorder start m over r) l.fn.recorder l.block l.report l.recorder
+          → IsUnderWayBy (λ m over r. PerformedAt l.fn.recorder start m over r) l.fn.recorder l.block l.report
+          l.recorder
           (M.state l.medium));
     }
 

@@ -13,5 +13,6 @@ invariant-loop-i g l =
       ready : IsReady l.recorder;
       directed : WhereKeeps M.tells M.keeps ((s : WavSpecEx) (file : Begun)
           → IsDirected s file [] l.fn.recorder (M.state l.fn.medium)
-          → IsDirected s file (seen (published_calls (samples_of s) (take l.i l.blocks))) l.recorder (M.state l.medium));
+          → IsDirected s file (seen (published_calls (samples_of s) (take l.i l.blocks))) l.recorder
+          (M.state l.medium));
     }

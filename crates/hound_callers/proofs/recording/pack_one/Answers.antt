@@ -68,8 +68,7 @@ returns-in_default-Ok g c =
       began = length (W.state first.medium).past;
     } in
     record {
-      run = subst (λ v. Ran W (New s) (Whole v ∷ []) (true ∷ []) Finalize
-          c.args.medium (Ok tt) end.result.0) back
+      run = subst (λ v. Ran W (New s) (Whole v ∷ []) (true ∷ []) Finalize c.args.medium (Ok tt) end.result.0) back
           (c.calls_are_a_run.ensures (New s) Finalize c.args.medium end.result.0 first last
           (call ∷ []) (Ok tt) (Ok tt) c.in_ok-writer.ensures.begins
           (first.batch_memory, last, refl, takes, (last.batch_memory, refl)) refl finishes refl);

@@ -21,8 +21,7 @@ loop-i-preserved g c =
           c.loop-i.invariant.have
           (subst IsOk (λ j. f (c.loop-i.invariant.spec j) (c.index-blocks-i.is j))
           (at_ok c.publish_block.result ok c.publish_block.ensures.have));
-      published = λ x file first.
-          subst (λ l. Recorded M x file l c.publish_block.new.writer)
+      published = λ x file first. subst (λ l. Recorded M x file l c.publish_block.new.writer)
           (ap (λ block. seen (published_calls (f x) (take i blocks))
           ++ seen (published_calls (f x) (block ∷ []))) c.index-blocks-i.is
           ∙ sym (seen_more (f x) blocks i _ c.loop-i-test.true))

@@ -9,8 +9,6 @@ invariant-loop-i g l = record {
   within : l.i ≤ length l.blocks;
   spec : l.writer.spec_ex ≡ l.fn.writer.spec_ex;
   have : All (λ block. IsOk (containers_by g.S.Sample.container l.fn.writer.spec_ex block)) (take l.i l.blocks);
-  published : (s : WavSpecEx) (file : Begun)
-      → Recorded g.M.Placed s file [] l.fn.writer
-      → Recorded g.M.Placed s file
+  published : (s : WavSpecEx) (file : Begun) → Recorded g.M.Placed s file [] l.fn.writer → Recorded g.M.Placed s file
       (seen (published_calls (containers_by g.S.Sample.container s) (take l.i l.blocks))) l.writer;
 }

@@ -9,8 +9,7 @@ ok_same : {T E A B W Q : Type 0} {Each : W → Type 0} (r : Result T E) (f : W �
     (a : A) (b : B) {c : A} {d : B} → a ≡ c → b ≡ d
     → ((x : T) → r ≡ Ok x → Q → (each : W) → Each each → (a ≡ f each) × (b ≡ g each))
     → OnOk r (Q → (each : W) → Each each → (c ≡ f each) × (d ≡ g each))
-ok_same (Ok x) f g a b ac bd same = λ q each went.
-    let (af, bg) = same x refl q each went in
+ok_same (Ok x) f g a b ac bd same = λ q each went. let (af, bg) = same x refl q each went in
     (sym ac ∙ af, sym bd ∙ bg)
 ok_same (Err e) f g a b ac bd same = tt
 

@@ -9,7 +9,6 @@ invariant-loop-value g l = record {
   left : remaining l.values + l.value-index ≡ length l.batch;
   written : batch_bytes l.values ≡ flat_map (signed_bytes_of 2) (take l.value-index l.batch);
   stays : IsSameFile l.fn.writer (batch_writer l.values);
-  recorded : (s : WavSpecEx) (file : Begun) (known : List Known)
-      → Recorded g.M.Placed s file known l.fn.writer
+  recorded : (s : WavSpecEx) (file : Begun) (known : List Known) → Recorded g.M.Placed s file known l.fn.writer
       → Recorded g.M.Placed s file known (batch_writer l.values);
 }

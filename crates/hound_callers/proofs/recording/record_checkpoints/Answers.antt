@@ -22,15 +22,12 @@ returns-clause-published g c modelled keeps =
         more,
         stops,
         kept,
-        λ some. last_flush (containers_by container s) first more (made publish ∷ [])
-            kept.left.recorded.calls
-            (omega (
-              arith,
-              some,
-              c.publish_blocks-published.ensures.within,
-              length-take c.publish_blocks-published.result c.args.blocks.now,
-            ))
-            (subst (λ (x : WavSpecEx). All (λ block. IsOk (containers_by container x block)) first)
+        λ some. last_flush (containers_by container s) first more (made publish ∷ []) kept.left.recorded.calls (omega (
+          arith,
+          some,
+          c.publish_blocks-published.ensures.within,
+          length-take c.publish_blocks-published.result c.args.blocks.now,
+        )) (subst (λ (x : WavSpecEx). All (λ block. IsOk (containers_by container x block)) first)
             c.in-Ok.ensures.begins.begun.spec c.publish_blocks-published.ensures.have)
             c.what_is_known.ensures.published kept.left.recorded.are_known,
       ),

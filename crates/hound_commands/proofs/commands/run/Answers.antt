@@ -27,17 +27,34 @@ pack_words _ none spec least below word says = absurd (omega arith)
 
 pub returns-clause-failed : goal.returns-clause-failed
 returns-clause-failed g c = λ one. elim c.if-words-lt2.branch [
-  | in-show w ↦
-      let (failure, until) = failure_of_one (λ f. ShowsUntil (g.R.Read.remaining c.args.input.now) f (g.O.Write.contents c.args.output.now) (g.O.Write.contents w.show-result.new.output))
-      c.if-words-lt2.result w.show-result.result c.status_of.result w.result-is c.status_of.ensures one w.show-result.ensures.until in
-      let shows : IsShowCommand c.args.words.now = search rules in
-      (failure, inl (shows, subst (λ o. ShowsUntil (g.R.Read.remaining c.args.input.now) failure (g.O.Write.contents c.args.output.now) (g.O.Write.contents o)) (sym w.output-is) until))
-  | in-pack+in-Some w ↦
-      let (failure, until) = failure_of_one (λ f. PacksUntil g.O.Write.contents (with_default_width w.in-Some.spec) (g.R.Read.remaining c.args.input.now) f c.args.output.now w.pack.new.output)
+  | in-show w ↦ let (failure, until) =
+      failure_of_one (λ f. ShowsUntil (g.R.Read.remaining c.args.input.now) f (g.O.Write.contents c.args.output.now)
+      (g.O.Write.contents w.show-result.new.output))
+      c.if-words-lt2.result w.show-result.result c.status_of.result w.result-is c.status_of.ensures one
+      w.show-result.ensures.until in
+      let shows : IsShowCommand c.args.words.now = search rules in (
+        failure,
+        inl (
+          shows,
+          subst (λ o. ShowsUntil (g.R.Read.remaining c.args.input.now) failure (g.O.Write.contents c.args.output.now)
+              (g.O.Write.contents o)) (sym w.output-is) until,
+        ),
+      )
+  | in-pack+in-Some w ↦ let (failure, until) =
+      failure_of_one (λ f. PacksUntil g.O.Write.contents (with_default_width w.in-Some.spec)
+      (g.R.Read.remaining c.args.input.now) f c.args.output.now w.pack.new.output)
       c.if-words-lt2.result w.pack.result c.status_of.result w.result-is c.status_of.ensures one w.pack.ensures.until in
       let packs : IsPackCommand c.args.words.now w.in-Some.spec =
-      pack_words c.args.words.now _ w.in-Some.spec w.in-pack.len_at_least w.in-pack.len_below w.in-pack.is-pack w.in-Some.ensures.said in
-      (failure, inr (w.in-Some.spec, packs, subst (λ o. PacksUntil g.O.Write.contents (with_default_width w.in-Some.spec) (g.R.Read.remaining c.args.input.now) failure c.args.output.now o) (sym w.output-is) until))
+      pack_words c.args.words.now _ w.in-Some.spec w.in-pack.len_at_least w.in-pack.len_below w.in-pack.is-pack
+      w.in-Some.ensures.said in (
+        failure,
+        inr (
+          w.in-Some.spec,
+          packs,
+          subst (λ o. PacksUntil g.O.Write.contents (with_default_width w.in-Some.spec)
+              (g.R.Read.remaining c.args.input.now) failure c.args.output.now o) (sym w.output-is) until,
+        ),
+      )
 ]
 
 pub returns-in-None-clause-usage : goal.returns-in-None-clause-usage

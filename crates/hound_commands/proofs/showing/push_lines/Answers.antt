@@ -39,5 +39,6 @@ loop-sample-preserved g c =
     (subst (GetsBuffered old new (c.make_room.new.lines ++ line sample))
     (append_assoc first before (line sample) ∙ ap (λ l. first ++ l) more)
     (gets-more old new (first ++ before) c.make_room.new.lines (line sample)
-    (gets-then old (g.O.Write.contents c.loop-sample.output) new (first ++ before) c.loop-sample.lines c.make_room.new.lines c.loop-sample.invariant
+    (gets-then old (g.O.Write.contents c.loop-sample.output) new (first ++ before) c.loop-sample.lines
+    c.make_room.new.lines c.loop-sample.invariant
     c.in_ok-make_room.ensures.moved)))

@@ -11,7 +11,8 @@ use Rattle.hound_commands.specs.declared.error.CommandError.TheVariants.{InputOr
 use Rattle.hound_commands.proofs.showing.show.Goals as goal
 
 -- what was shown, once the result is known
-answered : (s : WavSpecEx) (n : ℕ) (r known : Result (Unit {0}) CommandError) (left old new : Option (List ℕ)) (first last : List ℕ)
+answered : (s : WavSpecEx) (n : ℕ) (r known : Result (Unit {0}) CommandError) (left old new : Option (List ℕ))
+    (first last : List ℕ)
     → r ≡ known → AnswersSamples s n r left old new first last → AnswersSamples s n known left old new first last
 answered s n r known left old new first last is holds =
     subst (λ r. AnswersSamples s n r left old new first last) is holds

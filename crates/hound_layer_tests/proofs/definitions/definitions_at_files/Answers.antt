@@ -68,20 +68,41 @@ returns-clause-four_samples c =
 pub returns-clause-long_fact : goal.returns-clause-long_fact
 unfolding spec_after fmt_said wave_format by_tag wave_format_pcm
 returns-clause-long_fact c =
-    headed (fmt_chunk ∷ long_fact_chunk ∷ []) _ (length_of 0x2c) (length_of 0x08) four_containers refl refl
-    (fmt_is, omega arith, (record { tag = refl; size = refl; content = refl; other = refl; sound = refl }, omega arith, tt)) (omega arith) refl
+    headed (fmt_chunk ∷ long_fact_chunk ∷ []) _ (length_of 0x2c) (length_of 0x08) four_containers refl refl (
+      fmt_is,
+      omega arith,
+      (
+        record { tag = refl; size = refl; content = refl; other = refl; sound = refl },
+        omega arith,
+        tt,
+      ),
+    ) (omega arith) refl
 
 pub returns-clause-empty_fact : goal.returns-clause-empty_fact
 unfolding spec_after fmt_said wave_format by_tag wave_format_pcm
 returns-clause-empty_fact c =
-    headed (fmt_chunk ∷ empty_fact_chunk ∷ []) _ (length_of 0x2c) (length_of 0x08) four_containers refl refl
-    (fmt_is, omega arith, (record { tag = refl; size = refl; content = refl; other = refl; sound = refl }, omega arith, tt)) (omega arith) refl
+    headed (fmt_chunk ∷ empty_fact_chunk ∷ []) _ (length_of 0x2c) (length_of 0x08) four_containers refl refl (
+      fmt_is,
+      omega arith,
+      (
+        record { tag = refl; size = refl; content = refl; other = refl; sound = refl },
+        omega arith,
+        tt,
+      ),
+    ) (omega arith) refl
 
 pub returns-clause-odd_junk : goal.returns-clause-odd_junk
 unfolding spec_after fmt_said wave_format by_tag wave_format_pcm
 returns-clause-odd_junk c =
-    headed (fmt_chunk ∷ junk_chunk ∷ []) _ (length_of 0x2c) (length_of 0x08) four_containers refl refl
-    (fmt_is, omega arith, (record { tag = refl; size = refl; content = refl; other = refl; sound = refl }, omega arith, tt)) (omega arith) refl
+    headed (fmt_chunk ∷ junk_chunk ∷ []) _ (length_of 0x2c) (length_of 0x08) four_containers refl refl (
+      fmt_is,
+      omega arith,
+      (
+        record { tag = refl; size = refl; content = refl; other = refl; sound = refl },
+        omega arith,
+        tt,
+      ),
+    ) (omega arith) refl
 
 pub returns-clause-long_fmt : goal.returns-clause-long_fmt
 unfolding spec_after fmt_said wave_format by_tag wave_format_extensible

@@ -8,8 +8,7 @@ invariant-loop-at g l = record {
   within : l.at ≤ length l.buf;
   passes : IsTrue g.R.Placed.tells
       → PassesBytes l.at (g.R.Placed.state l.fn.reader.reader) (g.R.Placed.state l.reader.reader);
-  bytes : IsTrue g.R.Placed.tells
-      → take l.at l.buf ≡ take l.at (unread (g.R.Placed.state l.fn.reader.reader));
+  bytes : IsTrue g.R.Placed.tells → take l.at l.buf ≡ take l.at (unread (g.R.Placed.state l.fn.reader.reader));
   faults : IsTrue g.R.Placed.tells
       → (g.R.Placed.state l.reader.reader).faults ≡ (g.R.Placed.state l.fn.reader.reader).faults;
 }

@@ -116,7 +116,8 @@ returns-in-Err-answer-clause-gets g c t =
       samples = first;
       ok = tt;
       err = subst (λ reason. IsGetError g.S.Decode.decode_rejection s (length (take (done + count) (put_mid done
-          (done + c.min-wanted.result - done) c.loop-done.samples c.decode_many-count.new.samples))) old new (error_of_sample reason fault)) (sym failed)
+          (done + c.min-wanted.result - done) c.loop-done.samples c.decode_many-count.new.samples))) old new
+          (error_of_sample reason fault)) (sym failed)
           (subst (λ n. IsGetError g.S.Decode.decode_rejection s n old new (IoError fault)) (sym long) why);
     }
 

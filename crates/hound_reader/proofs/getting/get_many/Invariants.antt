@@ -13,8 +13,7 @@ invariant-loop-done g l = record {
   passes : IsTrue g.R.Placed.tells
       → PassesBytes (l.done * l.spec_ex.bytes_per_sample) (g.R.Placed.state l.fn.reader.reader)
       (g.R.Placed.state l.reader.reader);
-  samples : IsTrue g.R.Placed.tells → take l.done l.samples
-      ≡ map (meaning_at g.S.Decode.value l.spec_ex)
+  samples : IsTrue g.R.Placed.tells → take l.done l.samples ≡ map (meaning_at g.S.Decode.value l.spec_ex)
       (containers l.spec_ex.bytes_per_sample l.done (unread (g.R.Placed.state l.fn.reader.reader)));
   faults : IsTrue g.R.Placed.tells
       → (g.R.Placed.state l.reader.reader).faults ≡ (g.R.Placed.state l.fn.reader.reader).faults;

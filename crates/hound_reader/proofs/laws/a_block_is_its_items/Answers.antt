@@ -7,4 +7,5 @@ pub returns-clause-items : goal.returns-clause-items
 returns-clause-items g c = items_of_bytes g.R.Read.remaining g.S.Sample.rejection g.S.Sample.meaning
 
 pub returns-clause-same : goal.returns-clause-same
-returns-clause-same g c samples others old block new known size first second = grind (arith, common_steps, known_bytes, same_samples, items_of_bytes)
+returns-clause-same g c samples others old block new known size first second =
+    grind (arith, common_steps, known_bytes, same_samples, items_of_bytes)

@@ -13,7 +13,12 @@ returns-in-Found-clause-inside c =
     let found = subst (λ r. LooksTo (looks_for_chunks c.args.task) file (Ok r)) c.in-Found.is
     (c.in_ok-next.ensures.leads file refl c.parts.invariant.at
     (c.bytes_at-part.ensures ∙ (λ i. take (c.count.ensures.is i) (drop (c.place.ensures i) file)))) in
-    omega (arith, found.1, length-drop head.data_start file, head_inside file head.spec_ex head.data_length head.data_start found.0.head)
+    omega (
+      arith,
+      found.1,
+      length-drop head.data_start file,
+      head_inside file head.spec_ex head.data_length head.data_start found.0.head,
+    )
 
 pub returns-in-Found-clause-finds : goal.returns-in-Found-clause-finds
 returns-in-Found-clause-finds c =

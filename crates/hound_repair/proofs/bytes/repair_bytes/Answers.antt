@@ -9,8 +9,7 @@ use Rattle.hound_repair.proofs.Mending.{repairs_kept}
 use Rattle.hound_repair.proofs.bytes.repair_bytes.Goals as goal
 
 pub returns-then-not-mends-clause-repairs : goal.returns-then-not-mends-clause-repairs
-returns-then-not-mends-clause-repairs c = λ finds.
-    let looks = looks_for_chunks c.args.task in
+returns-then-not-mends-clause-repairs c = λ finds. let looks = looks_for_chunks c.args.task in
     let file = as_medium (take c.args.used c.args.bytes.now) in
     record {
       repairs = repairs_kept looks file file _ _ _ finds.found c.requires.sound.spec
@@ -19,8 +18,7 @@ returns-then-not-mends-clause-repairs c = λ finds.
     }
 
 pub returns-then-not-lacks_pad-clause-repairs : goal.returns-then-not-lacks_pad-clause-repairs
-returns-then-not-lacks_pad-clause-repairs c = λ finds.
-    let looks = looks_for_chunks c.args.task in
+returns-then-not-lacks_pad-clause-repairs c = λ finds. let looks = looks_for_chunks c.args.task in
     let used = c.args.used in
     let old = c.args.bytes.now in
     let new = c.set_sizes.new.bytes in
@@ -31,8 +29,7 @@ returns-then-not-lacks_pad-clause-repairs c = λ finds.
     (drop_at new (drop used old) used size) refl
 
 pub returns-clause-repairs : goal.returns-clause-repairs
-returns-clause-repairs c = λ finds.
-    let looks = looks_for_chunks c.args.task in
+returns-clause-repairs c = λ finds. let looks = looks_for_chunks c.args.task in
     let used = c.args.used in
     let old = c.args.bytes.now in
     let new = c.set_sizes.new.bytes in

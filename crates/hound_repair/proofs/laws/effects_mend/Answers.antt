@@ -10,8 +10,7 @@ use Rattle.hound_repair.proofs.Lost.{first_sector, mending_is_safe, same_sector,
 use Rattle.hound_repair.proofs.laws.effects_mend.Goals as goal
 
 pub returns-clause-leaves : goal.returns-clause-leaves
-returns-clause-leaves c = λ looks d old new result at performed.
-    let start = d.head.data_start in
+returns-clause-leaves c = λ looks d old new result at performed. let start = d.head.data_start in
     let n = d.sizes.data_length in
     let c = old.state.contents in
     mends true start n c
@@ -25,8 +24,7 @@ returns-clause-leaves c = λ looks d old new result at performed.
     (on_log (mending d) result old new performed))
 
 pub returns-clause-moments : goal.returns-clause-moments
-returns-clause-moments c = λ looks d old new result at performed.
-    let start = d.head.data_start in
+returns-clause-moments c = λ looks d old new result at performed. let start = d.head.data_start in
     let n = d.sizes.data_length in
     let c = old.state.contents in
     spans (PartlyMended start n c) (mending_effects start n (held start c)) result old.state new.state

@@ -10,7 +10,8 @@ pub returns-in_ok-damage-in-Mends-clause-next : goal.returns-in_ok-damage-in-Men
 returns-in_ok-damage-in-Mends-clause-next c =
     let is = mapped_ok _ _ _ _ c.in_ok-damage-in-Mends.ensures.variant c.in_ok-damage-in-Mends.ensures.cases in
     let seen = c.measured.ensures in
-    subst (λ old. AsksNext c.args.task c.args.length c.args.bytes.now c.args.report old c.after_effect.new.state c.after_effect.result)
+    subst (λ old. AsksNext c.args.task c.args.length c.args.bytes.now c.args.report old c.after_effect.new.state
+    c.after_effect.result)
     (sym c.in-Mends.is)
     (inl (
       c.in_ok-damage-in-Mends.damage,
@@ -25,7 +26,8 @@ pub returns-in_ok-damage-in-Found-clause-next : goal.returns-in_ok-damage-in-Fou
 returns-in_ok-damage-in-Found-clause-next c =
     let is = mapped_ok _ _ _ _ c.in_ok-damage-in-Found.ensures.variant c.in_ok-damage-in-Found.ensures.cases in
     let seen = c.measured-in-Found.ensures in
-    subst (λ old. AsksNext c.args.task c.args.length c.args.bytes.now c.args.report old old (Ok (Found (record c.in_ok-damage-in-Found.damage { state = c.in-Found.found }))))
+    subst (λ old. AsksNext c.args.task c.args.length c.args.bytes.now c.args.report old old
+    (Ok (Found (record c.in_ok-damage-in-Found.damage { state = c.in-Found.found }))))
     (sym c.in-Found.is) (
       refl,
       inl (
@@ -40,22 +42,23 @@ returns-in_ok-damage-in-Found-clause-next c =
 
 pub returns-in_err-damage-in-Mends-clause-next : goal.returns-in_err-damage-in-Mends-clause-next
 returns-in_err-damage-in-Mends-clause-next c =
-    let found : (why : Unrepairable) × (c.measured.result ≡ Err why) × (c.from_residual.result ≡ Err (rejected why)) = search rules in
+    let found : (why : Unrepairable) × (c.measured.result ≡ Err why) × (c.from_residual.result ≡ Err (rejected why)) =
+    search rules in
     subst (λ old. AsksNext c.args.task c.args.length c.args.bytes.now c.args.report old old c.from_residual.result)
     (sym c.in-Mends.is)
     (inr (
       found.0,
       found.2,
       refl,
-      λ file size head shown.
-          subst (MeasuresTo file) found.1 (c.measured.ensures.measures file size head shown),
+      λ file size head shown. subst (MeasuresTo file) found.1 (c.measured.ensures.measures file size head shown),
     ))
 
 pub returns-in_err-damage-in-Found-clause-next : goal.returns-in_err-damage-in-Found-clause-next
 returns-in_err-damage-in-Found-clause-next c =
     let found : (why : Unrepairable) × (c.measured-in-Found.result ≡ Err why)
     × (c.from_residual-in_err-damage-in-Found.result ≡ Err (rejected why)) = search rules in
-    subst (λ old. AsksNext c.args.task c.args.length c.args.bytes.now c.args.report old old c.from_residual-in_err-damage-in-Found.result)
+    subst (λ old. AsksNext c.args.task c.args.length c.args.bytes.now c.args.report old old
+    c.from_residual-in_err-damage-in-Found.result)
     (sym c.in-Found.is) (
       refl,
       inr (

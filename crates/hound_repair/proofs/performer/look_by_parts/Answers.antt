@@ -9,8 +9,7 @@ pub parts-init : goal.parts-init
 parts-init g c = record {
   sound = c.first-stage.ensures.sound;
   size = λ modelled. grind (arith, common_steps, c.in_ok-length.ensures.length modelled);
-  same = λ modelled.
-      let looks = c.in_ok-length.ensures.looks modelled in
+  same = λ modelled. let looks = c.in_ok-length.ensures.looks modelled in
       record { puts = looks.puts; faults = looks.faults };
   at = λ modelled. c.first-stage.ensures.at _ _;
 }
@@ -20,11 +19,11 @@ parts-preserved g c = record {
   sound = search rules;
   size = c.parts.invariant.size;
   same = search rules;
-  at = λ modelled.
-      let file = (g.S.Placed.state c.args.source.now).contents in
+  at = λ modelled. let file = (g.S.Placed.state c.args.source.now).contents in
       subst (λ r. LooksTo (looks_for_chunks c.args.task) file (Ok r)) c.in-Ok-Next.field-0-is
       (c.in-Ok-Next.ensures.leads file (c.parts.invariant.size modelled) (c.parts.invariant.at modelled)
-      (part_read c.in_ok-count.count c.count-asked.result _ c.place.result _ _ _ _ file _ c.part_at.auto.buf (grind (arith, length-take, c.count-asked.ensures.few))
+      (part_read c.in_ok-count.count c.count-asked.result _ c.place.result _ _ _ _ file _ c.part_at.auto.buf
+      (grind (arith, length-take, c.count-asked.ensures.few))
       c.in_ok-count.ensures.within (c.parts.invariant.same modelled).puts.stays.contents
       (c.in_ok-count.ensures.bytes modelled) c.count-asked.ensures.is c.place.ensures));
 }
@@ -35,7 +34,8 @@ returns-in-Ok-Found-clause-finds g c modelled =
     let found =
     subst (λ r. LooksTo (looks_for_chunks c.args.task) file (Ok r)) c.in-Ok-Found.field-0-is
     (c.in-Ok-Found.ensures.leads file (c.parts.invariant.size modelled) (c.parts.invariant.at modelled)
-    (part_read c.in_ok-count.count c.count-asked.result _ c.place.result _ _ _ _ file _ c.part_at.auto.buf (grind (arith, length-take, c.count-asked.ensures.few))
+    (part_read c.in_ok-count.count c.count-asked.result _ c.place.result _ _ _ _ file _ c.part_at.auto.buf
+    (grind (arith, length-take, c.count-asked.ensures.few))
     c.in_ok-count.ensures.within (c.parts.invariant.same modelled).puts.stays.contents
     (c.in_ok-count.ensures.bytes modelled) c.count-asked.ensures.is c.place.ensures)) in
     record {
@@ -52,8 +52,10 @@ returns-in-Err-clause-finds g c modelled =
       puts = search rules;
       why = inl (
         rejected_for c.in-Err.why,
-        fault_of c.in-Err.why file (c.in-Err.ensures.leads file (c.parts.invariant.size modelled) (c.parts.invariant.at modelled)
-            (part_read c.in_ok-count.count c.count-asked.result _ c.place.result _ _ _ _ file _ c.part_at.auto.buf (grind (arith, length-take, c.count-asked.ensures.few))
+        fault_of c.in-Err.why file
+            (c.in-Err.ensures.leads file (c.parts.invariant.size modelled) (c.parts.invariant.at modelled)
+            (part_read c.in_ok-count.count c.count-asked.result _ c.place.result _ _ _ _ file _ c.part_at.auto.buf
+            (grind (arith, length-take, c.count-asked.ensures.few))
             c.in_ok-count.ensures.within (c.parts.invariant.same modelled).puts.stays.contents
             (c.in_ok-count.ensures.bytes modelled) c.count-asked.ensures.is c.place.ensures)),
         c.error_for.ensures.names,

@@ -7,8 +7,7 @@ abbrev pub invariant-parts : goal.invariant-parts
 invariant-parts g l = record {
   sound : IsSoundStage l.stage;
   size : WhereTells g.S.Placed.tells (IsLengthOf l.length (g.S.Placed.state l.fn.source).contents);
-  same : WhereTells g.S.Placed.tells
-      (IsSame (g.S.Placed.state l.fn.source) (g.S.Placed.state l.source));
+  same : WhereTells g.S.Placed.tells (IsSame (g.S.Placed.state l.fn.source) (g.S.Placed.state l.source));
   at : WhereTells g.S.Placed.tells
       (IsAtStage (looks_for_chunks l.task) (g.S.Placed.state l.fn.source).contents l.stage);
 }

@@ -7,7 +7,8 @@ use Rattle.hound_repair.proofs.performer.perform_all.Given as goal
 abbrev pub invariant-loop-effect : goal.invariant-loop-effect
 invariant-loop-effect g l = record {
   leads : WhereTells g.M.Placed.tells ((end : MediumState) (result : Result (Unit {0}) IoFault)
-      → PerformedOn g.M.Placed.keeps (drop l.number (effects_of_task l.task l.damage)) result (g.M.Placed.state l.medium) end
+      → PerformedOn g.M.Placed.keeps (drop l.number (effects_of_task l.task l.damage)) result
+      (g.M.Placed.state l.medium) end
       → PerformedOn g.M.Placed.keeps (effects_of_task l.task l.damage) result (g.M.Placed.state l.fn.medium) end);
 }
 

@@ -14,14 +14,19 @@ returns-in-Err-clause-repaired g c modelled =
 pub returns-in-Ok-perform_all-clause-repaired : goal.returns-in-Ok-perform_all-clause-repaired
 returns-in-Ok-perform_all-clause-repaired g c modelled =
     let state = g.M.Placed.state in
-    subst (λ r. Repairs (looks_for_chunks c.args.task) (state c.args.medium) r (state c.perform_all.new.medium)) (sym c.repair.ensures)
-    (done_by (looks_for_chunks c.args.task) g.M.Placed.keeps _ _ _ c.in-Ok.damage c.in-Ok.ensures.sound (c.in-Ok.ensures.finds modelled)
-    (g.met.M.Placed.bytes c.look_by_parts.new.source modelled) (as_mended _ c.in-Ok.damage c.args.task _ _ _ c.requires (c.in-Ok-perform_all.ensures modelled)))
+    subst (λ r. Repairs (looks_for_chunks c.args.task) (state c.args.medium) r (state c.perform_all.new.medium))
+    (sym c.repair.ensures)
+    (done_by (looks_for_chunks c.args.task) g.M.Placed.keeps _ _ _ c.in-Ok.damage c.in-Ok.ensures.sound
+    (c.in-Ok.ensures.finds modelled)
+    (g.met.M.Placed.bytes c.look_by_parts.new.source modelled)
+    (as_mended _ c.in-Ok.damage c.args.task _ _ _ c.requires (c.in-Ok-perform_all.ensures modelled)))
 
 pub returns-in-Err-perform_all-clause-repaired : goal.returns-in-Err-perform_all-clause-repaired
 returns-in-Err-perform_all-clause-repaired g c modelled =
-    stopped_by (looks_for_chunks c.args.task) g.M.Placed.keeps _ _ _ c.in-Ok.damage c.in-Ok.ensures.sound (c.in-Ok.ensures.finds modelled)
-    (g.met.M.Placed.bytes c.look_by_parts.new.source modelled) c.in-Err-perform_all.error (as_mended _ c.in-Ok.damage c.args.task _ _ _ c.requires (c.in-Err-perform_all.ensures modelled))
+    stopped_by (looks_for_chunks c.args.task) g.M.Placed.keeps _ _ _ c.in-Ok.damage c.in-Ok.ensures.sound
+    (c.in-Ok.ensures.finds modelled)
+    (g.met.M.Placed.bytes c.look_by_parts.new.source modelled) c.in-Err-perform_all.error
+    (as_mended _ c.in-Ok.damage c.args.task _ _ _ c.requires (c.in-Err-perform_all.ensures modelled))
 
 pub returns-in-Err-clause-moments : goal.returns-in-Err-clause-moments
 returns-in-Err-clause-moments g c modelled kept =
@@ -29,13 +34,19 @@ returns-in-Err-clause-moments g c modelled kept =
 
 pub returns-in-Ok-perform_all-clause-moments : goal.returns-in-Ok-perform_all-clause-moments
 returns-in-Ok-perform_all-clause-moments g c modelled kept =
-    moments_by (looks_for_chunks c.args.task) g.M.Placed.keeps _ _ _ c.in-Ok.damage c.in-Ok.ensures.sound (c.in-Ok.ensures.finds modelled)
-    (g.met.M.Placed.bytes c.look_by_parts.new.source modelled) _ kept (g.met.M.Medium.replays c.look_by_parts.new.source modelled kept) (as_mended _ c.in-Ok.damage c.args.task _ _ _ c.requires (c.in-Ok-perform_all.ensures modelled))
+    moments_by (looks_for_chunks c.args.task) g.M.Placed.keeps _ _ _ c.in-Ok.damage c.in-Ok.ensures.sound
+    (c.in-Ok.ensures.finds modelled)
+    (g.met.M.Placed.bytes c.look_by_parts.new.source modelled) _ kept
+    (g.met.M.Medium.replays c.look_by_parts.new.source modelled kept)
+    (as_mended _ c.in-Ok.damage c.args.task _ _ _ c.requires (c.in-Ok-perform_all.ensures modelled))
 
 pub returns-in-Err-perform_all-clause-moments : goal.returns-in-Err-perform_all-clause-moments
 returns-in-Err-perform_all-clause-moments g c modelled kept =
-    moments_by (looks_for_chunks c.args.task) g.M.Placed.keeps _ _ _ c.in-Ok.damage c.in-Ok.ensures.sound (c.in-Ok.ensures.finds modelled)
-    (g.met.M.Placed.bytes c.look_by_parts.new.source modelled) _ kept (g.met.M.Medium.replays c.look_by_parts.new.source modelled kept) (as_mended _ c.in-Ok.damage c.args.task _ _ _ c.requires (c.in-Err-perform_all.ensures modelled))
+    moments_by (looks_for_chunks c.args.task) g.M.Placed.keeps _ _ _ c.in-Ok.damage c.in-Ok.ensures.sound
+    (c.in-Ok.ensures.finds modelled)
+    (g.met.M.Placed.bytes c.look_by_parts.new.source modelled) _ kept
+    (g.met.M.Medium.replays c.look_by_parts.new.source modelled kept)
+    (as_mended _ c.in-Ok.damage c.args.task _ _ _ c.requires (c.in-Err-perform_all.ensures modelled))
 
 pub returns-in-Err-clause-performed : goal.returns-in-Err-clause-performed
 returns-in-Err-clause-performed g c modelled = inl (c.in-Err.ensures.finds modelled).puts
@@ -60,12 +71,16 @@ returns-in-Err-clause-lost g c modelled kept = λ sector left settled wide lost.
 
 pub returns-in-Ok-perform_all-clause-lost : goal.returns-in-Ok-perform_all-clause-lost
 returns-in-Ok-perform_all-clause-lost g c modelled kept =
-    lost_by (looks_for_chunks c.args.task) g.M.Placed.keeps _ _ _ c.in-Ok.damage c.in-Ok.ensures.sound (c.in-Ok.ensures.finds modelled)
-    (g.met.M.Placed.bytes c.look_by_parts.new.source modelled) _ kept (g.met.M.Medium.replays c.look_by_parts.new.source modelled kept)
+    lost_by (looks_for_chunks c.args.task) g.M.Placed.keeps _ _ _ c.in-Ok.damage c.in-Ok.ensures.sound
+    (c.in-Ok.ensures.finds modelled)
+    (g.met.M.Placed.bytes c.look_by_parts.new.source modelled) _ kept
+    (g.met.M.Medium.replays c.look_by_parts.new.source modelled kept)
     (as_mended _ c.in-Ok.damage c.args.task _ _ _ c.requires (c.in-Ok-perform_all.ensures modelled))
 
 pub returns-in-Err-perform_all-clause-lost : goal.returns-in-Err-perform_all-clause-lost
 returns-in-Err-perform_all-clause-lost g c modelled kept =
-    lost_by (looks_for_chunks c.args.task) g.M.Placed.keeps _ _ _ c.in-Ok.damage c.in-Ok.ensures.sound (c.in-Ok.ensures.finds modelled)
-    (g.met.M.Placed.bytes c.look_by_parts.new.source modelled) _ kept (g.met.M.Medium.replays c.look_by_parts.new.source modelled kept)
+    lost_by (looks_for_chunks c.args.task) g.M.Placed.keeps _ _ _ c.in-Ok.damage c.in-Ok.ensures.sound
+    (c.in-Ok.ensures.finds modelled)
+    (g.met.M.Placed.bytes c.look_by_parts.new.source modelled) _ kept
+    (g.met.M.Medium.replays c.look_by_parts.new.source modelled kept)
     (as_mended _ c.in-Ok.damage c.args.task _ _ _ c.requires (c.in-Err-perform_all.ensures modelled))

@@ -6,8 +6,7 @@ use Rattle.hound_repair.proofs.read_at.part_at.Given as goal
 abbrev pub invariant-loop-at : goal.invariant-loop-at
 invariant-loop-at g l = record {
   within : l.at ≤ length l.buf;
-  same : WhereTells g.S.Placed.tells
-      (IsSame (g.S.Placed.state l.fn.source) (g.S.Placed.state l.source));
+  same : WhereTells g.S.Placed.tells (IsSame (g.S.Placed.state l.fn.source) (g.S.Placed.state l.source));
   place : WhereTells g.S.Placed.tells ((g.S.Placed.state l.source).place ≡ l.place + l.at);
   bytes : WhereTells g.S.Placed.tells
       (take l.at l.buf ≡ take l.at (drop l.place (g.S.Placed.state l.fn.source).contents));

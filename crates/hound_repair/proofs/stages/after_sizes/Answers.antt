@@ -8,8 +8,7 @@ returns-then-padded-damage-clause-leads c = λ looks file m not.
     begin_padded looks file c.args.damage.head not (omega (arith, m.held_is))
 
 pub returns-clause-leads : goal.returns-clause-leads
-returns-clause-leads c = λ looks file m not.
-    c.at_no_chunk.ensures.leads looks file m not
+returns-clause-leads c = λ looks file m not. c.at_no_chunk.ensures.leads looks file m not
     (pass_padded file c.args.damage.head (omega (arith, m.held_is)))
 
 pub returns-clause-nearer : goal.returns-clause-nearer

@@ -4,8 +4,7 @@ use Rattle.hound_repair.proofs.Stepping.{pass_both, two_left}
 use Rattle.hound_repair.proofs.stages.at_no_chunk.Goals as goal
 
 pub returns-clause-leads : goal.returns-clause-leads
-returns-clause-leads c = λ looks file m not is.
-    c.at_end.ensures.leads looks file m
+returns-clause-leads c = λ looks file m not is. c.at_end.ensures.leads looks file m
     (not, is ∙ pass_both c.args.padded file c.args.damage.head (λ yes. grind (arith, common_steps, yes, m.held_is)))
 
 pub returns-clause-nearer : goal.returns-clause-nearer

@@ -11,8 +11,7 @@ pub returns-then-not-is_pair-clause-measures : goal.returns-then-not-is_pair-cla
 returns-then-not-is_pair-clause-measures c = grind (arith, common_steps, not_written)
 
 pub returns-clause-measures : goal.returns-clause-measures
-returns-clause-measures c = λ file size head shown.
-    let h = c.args.head in
+returns-clause-measures c = λ file size head shown. let h = c.args.head in
     let s = h.spec_ex in
     let small : h.data_length < 2 ^ 32 = search rules in
     let few : shown_of h ≤ 2 ^ 32 = subst (λ k. k ≤ 2 ^ 32) c.shown.ensures.is c.shown.ensures.small in

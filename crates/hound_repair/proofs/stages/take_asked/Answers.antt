@@ -16,18 +16,18 @@ pub returns-in-Last-clause-nearer : goal.returns-in-Last-clause-nearer
 returns-in-Last-clause-nearer c = rw c.in-Last.is (c.take_last.ensures.nearer c.args.length)
 
 pub returns-in_ok-measured-in-Size-clause-leads : goal.returns-in_ok-measured-in-Size-clause-leads
-returns-in_ok-measured-in-Size-clause-leads c = λ file size at is.
-    let there = rw c.in-Size.is at at in
-    c.take_size.ensures.leads file (c.in_ok-measured-in-Size.ensures.measures file size there.0 there.1) (rw c.in-Size.is at is)
+returns-in_ok-measured-in-Size-clause-leads c = λ file size at is. let there = rw c.in-Size.is at at in
+    c.take_size.ensures.leads file (c.in_ok-measured-in-Size.ensures.measures file size there.0 there.1)
+    (rw c.in-Size.is at is)
 
 pub returns-in_ok-measured-in-Size-clause-nearer : goal.returns-in_ok-measured-in-Size-clause-nearer
 returns-in_ok-measured-in-Size-clause-nearer c =
     rw c.in-Size.is (c.take_size.ensures.nearer c.args.length c.in_ok-measured-in-Size.ensures.inside)
 
 pub returns-in_ok-damage-in-Chunk-clause-leads : goal.returns-in_ok-damage-in-Chunk-clause-leads
-returns-in_ok-damage-in-Chunk-clause-leads c = λ file size at is.
-    let there = rw c.in-Chunk.is at at in
-    c.take_chunk.ensures.leads _ file (c.in_ok-damage-in-Chunk.ensures.measures file size there.0.head_is there.0.shown_is)
+returns-in_ok-damage-in-Chunk-clause-leads c = λ file size at is. let there = rw c.in-Chunk.is at at in
+    c.take_chunk.ensures.leads _ file
+    (c.in_ok-damage-in-Chunk.ensures.measures file size there.0.head_is there.0.shown_is)
     (subst (λ h. IsAtChunk (looks_for_chunks c.args.task) file h c.in-Chunk.place c.in-Chunk.padded)
     (sym c.in_ok-damage-in-Chunk.ensures.head) there)
     (rw c.in-Chunk.is at is)
@@ -36,16 +36,18 @@ pub returns-in_ok-damage-in-Chunk-clause-nearer : goal.returns-in_ok-damage-in-C
 returns-in_ok-damage-in-Chunk-clause-nearer c =
     rw c.in-Chunk.is (subst (λ h. StageNearer c.args.length
     (steps_left c.args.length (stages.Chunk h c.in-Chunk.place c.in-Chunk.padded)) c.take_chunk.result)
-    c.in_ok-damage-in-Chunk.ensures.head (c.take_chunk.ensures.nearer c.args.length c.in_ok-damage-in-Chunk.ensures.inside))
+    c.in_ok-damage-in-Chunk.ensures.head
+    (c.take_chunk.ensures.nearer c.args.length c.in_ok-damage-in-Chunk.ensures.inside))
 
 pub returns-in_ok-measured-in-Tag-clause-leads : goal.returns-in_ok-measured-in-Tag-clause-leads
-returns-in_ok-measured-in-Tag-clause-leads c = λ file size at is.
-    let there = rw c.in-Tag.is at at in
+returns-in_ok-measured-in-Tag-clause-leads c = λ file size at is. let there = rw c.in-Tag.is at at in
     let seen = c.in_ok-measured-in-Tag.ensures in
     let m = seen.measures file size there.0.0.head_is there.0.0.shown_is in
     c.take_tag.ensures.leads _ file m
     (subst (λ h. IsAtStage (looks_for_chunks c.args.task) file (stages.Tag h)) (sym seen.head) there)
-    (rw c.in-Tag.is at is ∙ ap (λ k. take 3 (drop (k - 128) file)) (tag_length c.args.length file c.in_ok-measured-in-Tag.field-0 size m seen.inside seen.sound))
+    (rw c.in-Tag.is at is
+    ∙ ap (λ k. take 3 (drop (k - 128) file))
+    (tag_length c.args.length file c.in_ok-measured-in-Tag.field-0 size m seen.inside seen.sound))
 
 pub returns-in_ok-measured-in-Tag-clause-nearer : goal.returns-in_ok-measured-in-Tag-clause-nearer
 returns-in_ok-measured-in-Tag-clause-nearer c = c.take_tag.ensures.nearer _ _

@@ -10,6 +10,6 @@ pub returns-then-eq-clause-leads : goal.returns-then-eq-clause-leads
 returns-then-eq-clause-leads c = grind (arith, common_steps, found_wrong)
 
 pub returns-clause-leads : goal.returns-clause-leads
-returns-clause-leads c = λ file m is.
-    c.after_sizes.ensures.leads _ file m
-    (not_whole _ file c.args.damage c.requires.sound m (grind (arith, common_steps)) (λ riff len. grind (arith, common_steps, riff, len, is)))
+returns-clause-leads c = λ file m is. c.after_sizes.ensures.leads _ file m
+    (not_whole _ file c.args.damage c.requires.sound m (grind (arith, common_steps))
+    (λ riff len. grind (arith, common_steps, riff, len, is)))

@@ -9,6 +9,7 @@ invariant-loop-i g l = record {
   size : length l.bytes ≡ length l.fn.bytes;
   stored : take (l.i * l.width) l.bytes ≡ joined_containers (λ v. int_container v l.bits l.width)
       (map (λ x. scaled_to l.bits (g.S.Amplitude.amplitude x)) (take l.i l.amplitudes));
-  count : l.count ≡ count_by (λ x. not (fits l.bits (scaled l.bits (g.S.Amplitude.amplitude x)))) (take l.i l.amplitudes);
+  count : l.count ≡ count_by (λ x. not (fits l.bits (scaled l.bits (g.S.Amplitude.amplitude x))))
+      (take l.i l.amplitudes);
   few : l.count ≤ l.i;
 }

@@ -35,14 +35,25 @@ loop-i-preserved g c =
       size = c.store_container.ensures.size ∙ c.loop-i.invariant.size;
       state = c.next_state-next.ensures ∙ ap next_state c.loop-i.invariant.state ∙ one_more i c.args.state.now;
       left = next.1 ∙ ap (λ s. with_noise float bits s (drop (i + 1) values)) (sym c.next_state-next.ensures);
-      stored = ap (λ n. take n c.store_container.new.bytes) (let same : (i + 1) * width ≡ i * width + width = omega arith in same)
+      stored = ap (λ n. take n c.store_container.new.bytes)
+          (let same : (i + 1) * width ≡ i * width + width = omega arith in same)
           ∙ c.store_container.ensures.stored
           ∙ ap (λ l. l ++ take width c.container_of.result) c.loop-i.invariant.stored
           ∙ sym (joined_next bits width noisy i _ some
           (ap (λ v. int_container v bits width) (sym value) ∙ c.container_of.ensures));
       count = elim c.if-is_clipped.branch [
-        | then-is_clipped w ↦ search (rules, w.count-is, c.loop-i.invariant.count, count_by_more_yes clips noisy i nan some (sym is ∙ w.if-is_clipped.true))
-        | else-is_clipped w ↦ search (rules, w.count-is, c.loop-i.invariant.count, count_by_more_no clips noisy i nan some (sym is ∙ w.if-is_clipped.false))
+        | then-is_clipped w ↦ search (
+          rules,
+          w.count-is,
+          c.loop-i.invariant.count,
+          count_by_more_yes clips noisy i nan some (sym is ∙ w.if-is_clipped.true),
+        )
+        | else-is_clipped w ↦ search (
+          rules,
+          w.count-is,
+          c.loop-i.invariant.count,
+          count_by_more_no clips noisy i nan some (sym is ∙ w.if-is_clipped.false),
+        )
       ];
       few = search rules;
     }

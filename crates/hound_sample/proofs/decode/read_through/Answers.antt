@@ -56,10 +56,35 @@ returns-in-Err-clause-each g c =
     c.read_piece-taken.ensures.taken values c.loop-done.invariant.each
 
 pub returns-in-Err-clause-front : goal.returns-in-Err-clause-front
-returns-in-Err-clause-front g c = grind (arith, common_steps, wanted_fit, length-take-le, count_fits, length-drop, div-lt_iff_lt-mul, drop-put_mid, drop_further)
+returns-in-Err-clause-front g c = grind (
+  arith,
+  common_steps,
+  wanted_fit,
+  length-take-le,
+  count_fits,
+  length-drop,
+  div-lt_iff_lt-mul,
+  drop-put_mid,
+  drop_further,
+)
 
 pub loop-done-preserved : goal.loop-done-preserved
-loop-done-preserved g c = grind (arith, common_steps, wanted_fit, length-take-le, count_all, length-drop, le-div_iff_mul-le, decoded, front_of_front, div-mul-le_self, length-append, drop-put_mid, drop_further, each_beyond)
+loop-done-preserved g c = grind (
+  arith,
+  common_steps,
+  wanted_fit,
+  length-take-le,
+  count_all,
+  length-drop,
+  le-div_iff_mul-le,
+  decoded,
+  front_of_front,
+  div-mul-le_self,
+  length-append,
+  drop-put_mid,
+  drop_further,
+  each_beyond,
+)
 
 pub slice_bounds-read_piece-end-in-loop-done : goal.slice_bounds-read_piece-end-in-loop-done
 slice_bounds-read_piece-end-in-loop-done g c = grind (arith, common_steps)

@@ -13,7 +13,8 @@ use Rattle.hound_sample.proofs.scale.int_to_float.Goals as goal
 pub returns : goal.returns
 returns c =
     let value = to_z-of_z c.ranges.sample in
-    let size = c.nearest_u32_to_f32.ensures ∙ ap (λ m. of_int binary32 (pos m)) (c.unsigned_abs.ensures.value ∙ ap nat_abs value) in
+    let size = c.nearest_u32_to_f32.ensures
+    ∙ ap (λ m. of_int binary32 (pos m)) (c.unsigned_abs.ensures.value ∙ ap nat_abs value) in
     let full = c.nearest_u32_to_f32-step.ensures ∙ ap (λ m. of_int binary32 (pos m)) c.two_to.ensures.value in
     let step = ap (div binary32 (of_bits binary32 0x3f80_0000)) full in
     (λ i. mul binary32 (size i) (slice_index_or (step i ∷ neg (step i) ∷ []) (bool_byte (lt_z (value i) (pos 0))) nan))

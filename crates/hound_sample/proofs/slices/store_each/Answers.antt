@@ -13,8 +13,7 @@ loop-sample-preserved g c =
     each_has container a.samples.now loop.sample-index c.sample-item.result
     c.loop-sample-test.true c.sample-item.is c.requires.have in
     elim c.match-encode.branch [
-      | in-Ok w ↦
-          let is : container c.sample-item.result ≡ Ok (take a.width c.match-encode.container) =
+      | in-Ok w ↦ let is : container c.sample-item.result ≡ Ok (take a.width c.match-encode.container) =
           subst (λ l. container c.sample-item.result ≡ Ok (take a.width l)) (sym w.container-is)
           (encoded_bytes _ _ a.width (λ b e. (g.met.S.Sample.in_width _ _ _ b e).0)
           w.in-Ok.ensures) in

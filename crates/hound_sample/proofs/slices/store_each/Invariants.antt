@@ -6,7 +6,6 @@ abbrev pub invariant-loop-sample : goal.invariant-loop-sample
 invariant-loop-sample g l = record {
   end : l.end ≡ l.width * l.sample-index;
   size : length l.bytes ≡ length l.fn.bytes;
-  stored : take l.end l.bytes
-      ≡ joined_containers (λ s. g.S.Sample.container s l.bits l.width)
+  stored : take l.end l.bytes ≡ joined_containers (λ s. g.S.Sample.container s l.bits l.width)
       (take l.sample-index l.samples);
 }

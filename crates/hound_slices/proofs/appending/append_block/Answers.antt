@@ -41,7 +41,8 @@ returns-clause-appends g c =
     let room : n ≤ length file = omega (arith, c.if-size-file.false) in
     let front = c.in_ok-head.ensures.start.0 in
     let data_is = ap (λ l. l ++ padding dl) j.bytes in
-    let new = two s samples h used n k (n - 8) list file added (padding dl) data_is size front within inside n_is room small in
+    let new = two s samples h used n k (n - 8) list file added (padding dl) data_is size front within inside n_is room
+    small in
     let all : c.set_sizes.new.bytes ≡ new =
     c.set_sizes.ensures ∙ (λ i. with_sizes (h - 4) (n - 8) (dl_is i) (c.write_data_at.ensures i)) in
     let r = c.in_ok-head.ensures.readable in
@@ -68,7 +69,8 @@ returns-clause-appends g c =
       bytes = λ i. with_sizes (h - 4) (n - 8) (sym total i * w) (take (h + samples * w) file
           ++ ((j.bytes i ++ padding (c.in_ok-data_length.ensures.data i)) ++ drop (sym n_is i) file));
       reads = subst (λ l. ReadsAs s h (l ++ list) (take n new)) same
-          (reads s samples h used n k (n - 8) list file added (padding dl) data_is size front within inside n_is room small
+          (reads s samples h used n k (n - 8) list file added (padding dl) data_is size front within inside n_is room
+          small
           r.len r.head c.in_ok-head.ensures.sound.1
           (ap (λ m. m % s.spec.channels) (sym total) ∙ c.in_ok-data_length.ensures.frames) j.back);
     })

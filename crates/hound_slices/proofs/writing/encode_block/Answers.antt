@@ -16,7 +16,8 @@ returns-in_err-check_samples-clause-encodes g c =
       refl,
       subst (λ s. IsEncodeError c.args.format g.S.Sample.container s c.args.samples.now (length c.args.out.now) error)
           c.spec_from_c-spec_ex.ensures
-          (not_encoded c.args.format g.S.Sample.container c.spec_from_c-spec_ex.result c.args.samples.now (length c.args.out.now) error
+          (not_encoded c.args.format g.S.Sample.container c.spec_from_c-spec_ex.result c.args.samples.now
+          (length c.args.out.now) error
           c.in_err-check_samples.ensures.unencoded),
     )
 
@@ -33,7 +34,8 @@ returns-clause-encodes g c =
     let body_is = c.store_containers.ensures in
     let size : length c.store_containers.new.bytes ≡ n = ap length body_is ∙ omega (arith, j.size) in
     let same : s.spec.sample_format ≡ c.args.format = search rules in
-    subst (λ t. Encodes c.args.format g.S.Sample.container t values c.args.out.now (c.store_containers.new.bytes ++ rest) (Ok n))
+    subst (λ t. Encodes c.args.format g.S.Sample.container t values c.args.out.now
+    (c.store_containers.new.bytes ++ rest) (Ok n))
     c.spec_from_c-spec_ex.ensures (
       same,
       search rules,

@@ -22,7 +22,8 @@ returns-in_err-check_samples-clause-writes g c =
       refl,
       subst (λ s. IsWriteError c.args.format g.S.Sample.container s c.args.samples.now (length c.args.out.now) error)
           c.spec_from_c-spec_ex.ensures
-          (not_written c.args.format g.S.Sample.container c.spec_from_c-spec_ex.result c.args.samples.now (length c.args.out.now) error
+          (not_written c.args.format g.S.Sample.container c.spec_from_c-spec_ex.result c.args.samples.now
+          (length c.args.out.now) error
           c.in_err-check_samples.ensures.unencoded),
     )
 
@@ -53,7 +54,14 @@ returns-clause-writes g c =
     let long : len ≡ length (concat list) =
     omega (arith, c.in_ok-data_length.ensures.data, j.size, ap length j.bytes) in
     let riff : end - 8 ≡ riff_size (data_start s) (length (concat list)) =
-    omega (arith, long, c.in_ok-data_length.ensures.end, c.in_ok-data_length.ensures.data, c.header_length-data_start.ensures, data_start_least s) in
+    omega (
+      arith,
+      long,
+      c.in_ok-data_length.ensures.end,
+      c.in_ok-data_length.ensures.data,
+      c.header_length-data_start.ensures,
+      data_start_least s,
+    ) in
     let file_is : take end c.write_data_at.new.out ≡ canonical s list =
     ap (take end) c.write_data_at.ensures ∙ ap (λ out. take end (put start k out body)) begun
     ∙ take_put start k (head ++ drop start old) body size within end end_is

@@ -5,8 +5,7 @@ use Rattle.hound_text.proofs.output.write_text.Given as goal
 abbrev pub invariant-loop-at : goal.invariant-loop-at
 invariant-loop-at g l = record {
   within : l.at ≤ length l.bytes;
-  written : Appends (g.O.Write.contents l.fn.output) (g.O.Write.contents l.output)
-      (take l.at l.bytes);
+  written : Appends (g.O.Write.contents l.fn.output) (g.O.Write.contents l.output) (take l.at l.bytes);
 }
 
 -- each turn writes a byte or uses up a try

@@ -36,9 +36,9 @@ returns-in_ok-skip_bytes-in-Fmt g c =
     let (rest, taken, l) = c.in_ok-skip_bytes-in-Fmt.ensures.ok in
     record {
       sound = search rules;
-      failures = NoneFailed-trans _ _ _ c.in_ok-spec_ex-in-Fmt.ensures.failures c.in_ok-skip_bytes-in-Fmt.ensures.failures;
-      ok = known_both _ _ _ _ (λ ys zs. ys ≡ rest ++ zs)
-          (ReadsContent c.args.taken c.args.found tag len
+      failures = NoneFailed-trans _ _ _ c.in_ok-spec_ex-in-Fmt.ensures.failures
+          c.in_ok-skip_bytes-in-Fmt.ensures.failures;
+      ok = known_both _ _ _ _ (λ ys zs. ys ≡ rest ++ zs) (ReadsContent c.args.taken c.args.found tag len
           (Other (Some found) (c.args.taken + 8 + padded len))) c.in_ok-spec_ex-in-Fmt.ensures.gives
           (known_from rest _ _ (λ ys zs. ys ≡ rest ++ zs) taken (λ ys. refl))
           (λ xs ys zs p e.

@@ -16,8 +16,7 @@ returns g c =
     record {
       sound = c.read_content.ensures.sound;
       failures = search rules;
-      ok = IfOk-weaker c.read_content.result _ _
-          (λ t k. known_then h _ _ _ _ _ c.in_ok-fill.ensures.ok k (λ ys zs q.
+      ok = IfOk-weaker c.read_content.result _ _ (λ t k. known_then h _ _ _ _ _ c.in_ok-fill.ensures.ok k (λ ys zs q.
           chunk_from c.args.taken c.args.found h t ys zs (omega arith) (omega arith)
           (subst (λ n. ReadsContent c.args.taken c.args.found
           (take 4 h) n t ys zs) c.u32_at-chunk_len.ensures q))) c.read_content.ensures.ok;

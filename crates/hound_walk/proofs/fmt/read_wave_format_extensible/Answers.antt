@@ -28,8 +28,7 @@ returns-in_err-choose_subformat g c =
       failures = search rules;
       gives = err_from_taken _ (a ++ b) _ _ (wave_format_extensible c.args.chunk_len c.args.found)
           c.in_err-choose_subformat.field-0.0 all (omega (arith, length-append a b)) (at ∙ bad);
-      taken = takes_these (a ++ b) _ _
-          (λ d xs. content_taken extensible c.args.chunk_len d (16 + length xs) - 16)
+      taken = takes_these (a ++ b) _ _ (λ d xs. content_taken extensible c.args.chunk_len d (16 + length xs) - 16)
           c.in_err-choose_subformat.field-0.0 all (λ ys. rw is (omega (arith, length-append a b)));
       late = λ n. rw is (omega arith);
     })

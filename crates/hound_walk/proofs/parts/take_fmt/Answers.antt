@@ -7,8 +7,7 @@ use Rattle.hound_walk.specs.Parts.{IsAfter}
 use Rattle.hound_walk.proofs.parts.take_fmt.Goals as goal
 
 pub returns-in-Ok-clause-leads : goal.returns-in-Ok-clause-leads
-returns-in-Ok-clause-leads c = λ file found at is.
-    let (w, limit, size, four, says, parts) = at in
+returns-in-Ok-clause-leads c = λ file found at is. let (w, limit, size, four, says, parts) = at in
     let len = c.args.chunk_len in
     let t = c.args.taken in
     let b = c.args.bytes.now in
@@ -16,12 +15,16 @@ returns-in-Ok-clause-leads c = λ file found at is.
     let (read, enough, left) = c.in-Ok.ensures.gives in
     reaches file c.skip.result (padded len) (fmt_len len) _ (t + 8 + padded len)
     (passed_fmt file size b found spec t len w four says parts limit is read)
-    (subst (λ n. IsAfter (padded len) n c.skip.result.part) c.min.ensures c.skip.ensures.part) c.skip.ensures.found c.skip.ensures.taken
-    (λ none. omega (arith, none, fmt_inside file b t (fmt_len len) is enough (chunk_inside file size found t w four parts)))
+    (subst (λ n. IsAfter (padded len) n c.skip.result.part) c.min.ensures c.skip.ensures.part) c.skip.ensures.found
+    c.skip.ensures.taken
+    (λ none. omega (
+      arith,
+      none,
+      fmt_inside file b t (fmt_len len) is enough (chunk_inside file size found t w four parts),
+    ))
 
 pub returns-in-Err-clause-leads : goal.returns-in-Err-clause-leads
-returns-in-Err-clause-leads c = λ file found at is.
-    let (w, limit, size, four, says, parts) = at in
+returns-in-Err-clause-leads c = λ file found at is. let (w, limit, size, four, says, parts) = at in
     let len = c.args.chunk_len in
     let e = c.in-Err.error in
     let cause = c.cause_of.result in

@@ -8,8 +8,7 @@ returns-in-Ok-clause-leads c = λ file is.
     let (size, four, e, n) = c.in-Ok.ensures.ok in front_walked file size _ (sym is ∙ e) four
 
 pub returns-in-Err-clause-leads : goal.returns-in-Err-clause-leads
-returns-in-Err-clause-leads c = λ file is.
-    let e = c.in-Err.error in
+returns-in-Err-clause-leads c = λ file is. let e = c.in-Err.error in
     let cause = c.cause_of.result in
     let at = caused ℕ e cause c.in-Err.ensures.failures c.cause_of.ensures in
     inl (front_fault_of file cause

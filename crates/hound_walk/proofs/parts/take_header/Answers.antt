@@ -24,8 +24,7 @@ pub returns-in-Data-clause-leads : goal.returns-in-Data-clause-leads
 returns-in-Data-clause-leads c = grind (arith, common_steps, head_at)
 
 pub returns-in-Fmt-clause-leads : goal.returns-in-Fmt-clause-leads
-returns-in-Fmt-clause-leads c = λ file w is.
-    let did = rw c.in-Fmt.is at c.in_ok-spec_ex.ensures in
+returns-in-Fmt-clause-leads c = λ file w is. let did = rw c.in-Fmt.is at c.in_ok-spec_ex.ensures in
     let h = c.args.bytes.now in (
       w,
       did.says.2,

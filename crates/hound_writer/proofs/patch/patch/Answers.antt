@@ -14,8 +14,7 @@ returns-in_err-put_all_at-clause-patches g c tells =
     cut _ _ _ 0 _ _ _ c.from_residual.ensures.0 (omega arith)
     (first_half g.M.Placed.keeps _ _ c.args.data_length _ _ _ has first) first.faults
 
-pub returns-in_err-put_all_at-2-clause-patches :
-    goal.returns-in_err-put_all_at-2-clause-patches
+pub returns-in_err-put_all_at-2-clause-patches : goal.returns-in_err-put_all_at-2-clause-patches
 returns-in_err-put_all_at-2-clause-patches g c tells =
     let first = (with_bytes c.le_u32.ensures (c.in_ok-put_all_at.ensures tells)) in
     let second = (with_bytes c.le_u32-2.ensures (c.in_err-put_all_at-2.ensures tells)) in
@@ -46,10 +45,10 @@ returns-in_err-put_all_at-clause-moments g c tells keeps =
     patches_none p c.args.riff_size c.args.data_length c.from_residual.result old
     (g.M.Placed.state c.put_all_at.new.medium)
     (riff_span g.M.Placed.keeps p c.args.riff_size c.args.data_length c.put_all_at.result _ _ keeps
-    (g.met.M.Medium.replays c.args.medium.now tells keeps) has (with_bytes c.le_u32.ensures (c.put_all_at.ensures tells))) (search rules)
+    (g.met.M.Medium.replays c.args.medium.now tells keeps) has
+    (with_bytes c.le_u32.ensures (c.put_all_at.ensures tells))) (search rules)
 
-pub returns-in_err-put_all_at-2-clause-moments :
-    goal.returns-in_err-put_all_at-2-clause-moments
+pub returns-in_err-put_all_at-2-clause-moments : goal.returns-in_err-put_all_at-2-clause-moments
 returns-in_err-put_all_at-2-clause-moments g c tells keeps =
     let bytes = g.met.M.Placed.bytes in
     let replays = g.met.M.Medium.replays in

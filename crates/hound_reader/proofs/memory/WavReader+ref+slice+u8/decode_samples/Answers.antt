@@ -26,12 +26,20 @@ returns-clause-block g c =
       samples_read = r.samples_read + requested k answer;
       bytes_read = r.bytes_read + block_bytes k r.spec_ex.bytes_per_sample read.result.1 answer;
     } in
-    rw c.result_of.ensures (subst (λ end. ReadsBlock (λ bytes. Some bytes.now) g.S.Decode.decode_rejection g.S.Decode.value k
+    rw c.result_of.ensures
+    (subst (λ end. ReadsBlock (λ bytes. Some bytes.now) g.S.Decode.decode_rejection g.S.Decode.value k
     (answer_of answer fault) xs (read.new.samples ++ drop wanted xs) c.args.self.now end) (sym c.count_block.ensures)
-    (subst (λ begin. ReadsBlock (λ bytes. Some bytes.now) g.S.Decode.decode_rejection g.S.Decode.value k (answer_of answer fault) xs
+    (subst (λ begin. ReadsBlock (λ bytes. Some bytes.now) g.S.Decode.decode_rejection g.S.Decode.value k
+    (answer_of answer fault) xs
     (read.new.samples ++ drop wanted xs) begin new) c.self.view_is
-    (is_block (λ bytes. Some bytes.now) g.S.Decode.decode_rejection g.S.Decode.value k wanted read.result.1 answer answer fault xs read.new.samples _ new refl
-    (omega (arith, c.min-wanted.ensures, c.samples_left.ensures, ap (λ (s : ReaderState _). samples_left s) c.self.view_is))
+    (is_block (λ bytes. Some bytes.now) g.S.Decode.decode_rejection g.S.Decode.value k wanted read.result.1 answer
+    answer fault xs read.new.samples _ new refl
+    (omega (
+      arith,
+      c.min-wanted.ensures,
+      c.samples_left.ensures,
+      ap (λ (s : ReaderState _). samples_left s) c.self.view_is,
+    ))
     read.auto.samples (omega (arith, c.self.ranges)) (omega (arith, c.self.ranges)) read.ensures.front
     (read.ensures.answers fault) read.ensures.given
     read.ensures.untouched refl)))

@@ -26,8 +26,14 @@ returns g c =
     (answer_of answer fault) xs (read.new.samples ++ drop wanted xs) c.args.self.now end) (sym c.count_block.ensures)
     (subst (λ begin. ReadsBlock g.R.Read.remaining g.S.Sample.rejection g.S.Sample.meaning k (answer_of answer fault) xs
     (read.new.samples ++ drop wanted xs) begin new) c.self.view_is
-    (is_block g.R.Read.remaining g.S.Sample.rejection g.S.Sample.meaning k wanted read.result.1 answer answer fault xs read.new.samples _ new refl
-    (omega (arith, c.min-wanted.ensures, c.samples_left.ensures, ap (λ (s : ReaderState _). samples_left s) c.self.view_is))
+    (is_block g.R.Read.remaining g.S.Sample.rejection g.S.Sample.meaning k wanted read.result.1 answer answer fault xs
+    read.new.samples _ new refl
+    (omega (
+      arith,
+      c.min-wanted.ensures,
+      c.samples_left.ensures,
+      ap (λ (s : ReaderState _). samples_left s) c.self.view_is,
+    ))
     read.auto.samples (omega (arith, c.self.ranges)) (omega (arith, c.self.ranges)) read.ensures.front
     (read.ensures.answers fault) read.ensures.given
     (λ some. ap (λ (k : SavingReader _). k.reader) (read.ensures.untouched some)) refl)))

@@ -36,12 +36,20 @@ returns-clause-block g c t =
     let each = λ (old left : Option (List ℕ)). ReadsEach (rejection_at g.S.Decode.decode_rejection r.spec_ex)
     (meaning_at g.S.Decode.value r.spec_ex) r.spec_ex.bytes_per_sample
     (items_of (take k read.new.samples) (answer_of answer fault)) old left in
-    rw c.result_of-result.ensures (subst (λ end. ReadsBlock g.R.Read.remaining g.S.Decode.decode_rejection g.S.Decode.value k
+    rw c.result_of-result.ensures
+    (subst (λ end. ReadsBlock g.R.Read.remaining g.S.Decode.decode_rejection g.S.Decode.value k
     (answer_of answer fault) xs (read.new.samples ++ drop wanted xs) c.args.self.now end) (sym c.count_block.ensures)
-    (subst (λ begin. ReadsBlock g.R.Read.remaining g.S.Decode.decode_rejection g.S.Decode.value k (answer_of answer fault) xs
+    (subst (λ begin. ReadsBlock g.R.Read.remaining g.S.Decode.decode_rejection g.S.Decode.value k
+    (answer_of answer fault) xs
     (read.new.samples ++ drop wanted xs) begin new) c.self.view_is
-    (is_block g.R.Read.remaining g.S.Decode.decode_rejection g.S.Decode.value k wanted read.result.1 answer answer fault xs read.new.samples before new refl
-    (omega (arith, c.min-wanted.ensures, c.samples_left.ensures, ap (λ (s : ReaderState _). samples_left s) c.self.view_is))
+    (is_block g.R.Read.remaining g.S.Decode.decode_rejection g.S.Decode.value k wanted read.result.1 answer answer fault
+    xs read.new.samples before new refl
+    (omega (
+      arith,
+      c.min-wanted.ensures,
+      c.samples_left.ensures,
+      ap (λ (s : ReaderState _). samples_left s) c.self.view_is,
+    ))
     read.auto.samples (omega (arith, c.self.ranges)) (omega (arith, c.self.ranges)) read.ensures.front
     (subst (λ left. each left (g.R.Read.remaining new.reader)) old_left
     (subst (λ left. each (Some (unread (g.R.Placed.state r.reader.reader))) left) new_left

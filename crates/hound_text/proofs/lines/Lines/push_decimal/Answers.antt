@@ -21,11 +21,17 @@ returns c =
     let made : drop (loop.start + zeros) text ≡ decimal number ++ tail =
     sym (drop-drop zeros loop.start text)
     ∙ ap (drop zeros)
-    (pair-copied (number % 100) loop.start loop.text _ (omega arith) (omega (arith, loop.invariant.within, loop.array_long)) c.copy_from_slice.ensures.after
+    (pair-copied (number % 100) loop.start loop.text _ (omega arith)
+    (omega (arith, loop.invariant.within, loop.array_long)) c.copy_from_slice.ensures.after
     ∙ ap (λ n. pair n ++ tail) (omega (arith, small)))
     ∙ decimal_small number tail small in
     c.append.ensures
     ∙ ap (λ l. c.args.self.now ++ l)
     (take_all (10 - (loop.start + zeros)) (drop (loop.start + zeros) text)
-    (omega (arith, length-drop (loop.start + zeros) text, same_len_mid _ _ loop.text _ c.copy_from_slice.ensures.len, loop.array_long))
+    (omega (
+      arith,
+      length-drop (loop.start + zeros) text,
+      same_len_mid _ _ loop.text _ c.copy_from_slice.ensures.len,
+      loop.array_long,
+    ))
     ∙ made ∙ loop.invariant.digits)

@@ -12,7 +12,8 @@ loop-place-preserved c =
     let rest = padded_digits 16 k c.args.pattern in
     let more : suc k ≡ loop.place = omega (arith, c.loop-place-test.true) in
     let digit : c.unwrap.result ≡ digit_glyph false (c.args.pattern / 16 ^ k % 16) =
-    (rw c.unwrap.ensures at c.from_digit.ensures.value).1 ∙ ap (λ n. digit_glyph false (c.args.pattern / n % 16)) (sixteen-pow k) in
+    (rw c.unwrap.ensures at c.from_digit.ensures.value).1 ∙ ap (λ n. digit_glyph false (c.args.pattern / n % 16))
+    (sixteen-pow k) in
     record {
       within = omega (arith, loop.invariant.within);
       room = omega (
@@ -22,8 +23,7 @@ loop-place-preserved c =
         ap length c.push.ensures,
         length-append loop.self (c.unwrap.result ∷ []),
       );
-      digits = ap (λ l. l ++ rest) c.push.ensures
-          ∙ append_assoc loop.self (c.unwrap.result ∷ []) rest
+      digits = ap (λ l. l ++ rest) c.push.ensures ∙ append_assoc loop.self (c.unwrap.result ∷ []) rest
           ∙ ap (λ g. loop.self ++ (g ∷ rest)) digit
           ∙ ap (λ n. loop.self ++ padded_digits 16 n c.args.pattern) more
           ∙ loop.invariant.digits;

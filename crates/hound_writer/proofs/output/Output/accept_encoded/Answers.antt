@@ -16,8 +16,7 @@ returns-in_err-put_block g c =
     (accepts_cut W _ w _ (sample_bytes g.S.Sample.container w.spec_ex values)
     _ c.in_err-put_block.ensures fits.room fits.whole)
 
-pub returns-then-num_bytes-gt-BLOCK_LENGTH :
-    goal.returns-then-num_bytes-gt-BLOCK_LENGTH
+pub returns-then-num_bytes-gt-BLOCK_LENGTH : goal.returns-then-num_bytes-gt-BLOCK_LENGTH
 returns-then-num_bytes-gt-BLOCK_LENGTH g c =
     let W = g.W.Placed in
     let out = c.in_ok-put_block.ensures in

@@ -3,8 +3,7 @@ use Rattle.std.proofs.lemmas.Bool.{false≢true}
 use Rattle.hound_writer.proofs.AcceptingMany.{many_asked, many_rejected}
 use Rattle.hound_writer.proofs.output.Output.accept_samples.Goals as goal
 
-pub returns-then-not-have_containers :
-    goal.returns-then-not-have_containers
+pub returns-then-not-have_containers : goal.returns-then-not-have_containers
 returns-then-not-have_containers g c =
     let W = g.W.Placed in
     rw (← c.self.view_is)

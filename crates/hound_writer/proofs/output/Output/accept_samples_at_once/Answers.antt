@@ -16,8 +16,7 @@ invariant_of-self g c =
     (sample_bytes g.S.Sample.container i.spec_ex c.args.samples.now) false
     (rw (ap is_ok c.in_err-result.was) at c.put_samples_at_end-result.ensures.puts))
 
-pub returns-in_err-result :
-    goal.returns-in_err-result
+pub returns-in_err-result : goal.returns-in_err-result
 returns-in_err-result g c =
     let W = g.W.Placed in
     let i = c.self.inside in
@@ -61,4 +60,5 @@ returns g c =
     (arith, fits.size) in
     rw (c.clear.ensures, ← none, more, ← c.self.view_is)
     (accepts_all W _ none known.sound known.at_most _ bytes
-    fits.room fits.whole (rw (ap is_ok c.in_ok-result.was) at c.put_samples_at_end-result.ensures.puts) (g.met.W.Medium.replays _))
+    fits.room fits.whole (rw (ap is_ok c.in_ok-result.was) at c.put_samples_at_end-result.ensures.puts)
+    (g.met.W.Medium.replays _))

@@ -23,12 +23,12 @@ returns-then-not-has_room g c =
     (rw (← c.self.view_is) at c.requires.have)
     (λ room. false≢true (sym c.if-not-has_room.true ∙ fits.1 room)))
 
-pub returns-in-Err :
-    goal.returns-in-Err
+pub returns-in-Err : goal.returns-in-Err
 returns-in-Err g c =
     let W = g.W.Placed in
     rw (← c.self.view_is)
-    (many_asked g.S.Sample.container g.met.S.Sample.in_width c.args.samples.now W _ _ _ c.self.invariant (Err (IoError c.in-Err.error)) _
+    (many_asked g.S.Sample.container g.met.S.Sample.in_width c.args.samples.now W _ _ _ c.self.invariant
+    (Err (IoError c.in-Err.error)) _
     (rw (← c.self.view_is) at c.requires.have)
     (rw (← c.self.view_is) at c.in-Err.ensures))
 
