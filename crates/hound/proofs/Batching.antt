@@ -25,8 +25,7 @@ wide (v ∷ values) = (refl, wide values)
 i16_container : (v : ℤ) (bits width : ℕ) (c : List ℕ) → bits ≡ 16
     → int_container v bits width ≡ Ok c → c ≡ signed_bytes_of 2 v
 i16_container v bits width c sixteen is =
-    let (pair, _, same) =
-    contained v 16 width c (ap (λ b. int_container v b width) (sym sixteen) ∙ is) in
+    let (pair, _, same) = contained v 16 width c (ap (λ b. int_container v b width) (sym sixteen) ∙ is) in
     let two : width ≡ 2 = grind (arith, nat_tests) in
     same ∙ ap (int_bytes v 16) two
 
@@ -49,12 +48,10 @@ module _ {M : Type 0} (kind : Ghosts M) (modelled : IsTrue kind.tells) where
   each_went (v ∷ values) old new sixteen (mid, accepts, each) =
       let s = old.spec_ex in
       let container = int_container v s.spec.bits_per_sample s.bytes_per_sample in
-      let first = call_went kind modelled (Ok tt) old.batch_memory old mid (write (one container))
-      accepts in
+      let first = call_went kind modelled (Ok tt) old.batch_memory old mid (write (one container)) accepts in
       let bytes = signed_bytes_of 2 v in
       went_then kind modelled (bytes ∷ []) (map (signed_bytes_of 2) values) old mid new
-      (subst (λ l. Went kind modelled l old mid)
-      (one_taken old container bytes
+      (subst (λ l. Went kind modelled l old mid) (one_taken old container bytes
       (λ c. i16_container v s.spec.bits_per_sample s.bytes_per_sample c sixteen)
       accepts.adds.answers) first)
       (each_went values mid new (ap (λ x. x.spec.bits_per_sample) first.spec_ex ∙ sixteen) each)
@@ -73,19 +70,15 @@ module _ {M : Type 0} (kind : Ghosts M) (modelled : IsTrue kind.tells) where
       let each_two = map (signed_bytes_of 2) values in
       let count : length bytes / 2 ≡ length each_two =
       omega (arith, ap length (joined values), length-concat 2 each_two (wide values)) in
-      let width : a.spec_ex.bytes_per_sample ≡ 2 =
-      ap (λ x. x.bytes_per_sample) stays.spec_ex ∙ two in
-      let list = containers a.spec_ex.bytes_per_sample (length bytes / a.spec_ex.bytes_per_sample)
-      bytes in
-      let same : list ≡ each_two =
-      (λ i. containers (width i) (length bytes / width i) bytes)
+      let width : a.spec_ex.bytes_per_sample ≡ 2 = ap (λ x. x.bytes_per_sample) stays.spec_ex ∙ two in
+      let list = containers a.spec_ex.bytes_per_sample (length bytes / a.spec_ex.bytes_per_sample) bytes in
+      let same : list ≡ each_two = (λ i. containers (width i) (length bytes / width i) bytes)
       ∙ (λ i. containers 2 (count i) ((joined values ∙ sym (append-nil (concat each_two))) i))
       ∙ containers-concat 2 each_two [] (wide values) in
       let t = went_then kind modelled [] list first a b
       (subst (Went kind modelled [] first) (same_but_memory first a stays)
       (went_still kind modelled first a.batch_memory))
-      (call_went kind modelled (Ok tt) a.batch_memory a b (write (Ok list))
-      batch) in
+      (call_went kind modelled (Ok tt) a.batch_memory a b (write (Ok list)) batch) in
       let l = each_went values first c sixteen each in (
         t.accepted whole ∙ ap (λ x. accepted_samples kind.state first ++ x) same ∙ sym (l.accepted whole),
         omega (arith, t.size, l.size, ap (λ x. length (concat x)) same),

@@ -114,8 +114,7 @@ module _ {W : Type 0} (kind : Ghosts W) (modelled : IsTrue kind.tells) where
               (first.sizes kept replays beyond whole k from within)
           | inl after ↦ sizes_then h base (kind.state b.medium).contents now (first.front beyond)
               (subst (λ n. ChangesSizesOnly n (kind.state b.medium).contents now) first.data_start
-              (then.sizes kept replays (omega (arith, beyond, first.data_start)) there k
-              (omega (arith, after)) to))
+              (then.sizes kept replays (omega (arith, beyond, first.data_start)) there k (omega (arith, after)) to))
         ];
     stored = λ kept whole. let list = accepted_samples kind.state a in
         let there = first.whole whole in
@@ -313,10 +312,8 @@ module _ {W : Type 0} (kind : Ghosts W) (modelled : IsTrue kind.tells) where
       counted before after call k same from to =
           let m = made calls before after call old new same lead in
           let w = m.earlier in
-          let within : k ≤ length (kind.state m.next.medium).past =
-          omega (arith, to, begin after m.next new m.rest) in
-          let span = call_span call.answer m.memory m.mid m.next kept call.asked m.does
-          (w.whole whole) in
+          let within : k ≤ length (kind.state m.next.medium).past = omega (arith, to, begin after m.next new m.rest) in
+          let span = call_span call.answer m.memory m.mid m.next kept call.asked m.does (w.whole whole) in
           subst (λ (x : _ × (ℕ × List (List ℕ))).
           Counts x.0 x.1.0 x.1.1 (moment (kind.state new.medium).start (kind.state new.medium).past k))
           (λ i. (w.spec_ex i, (w.data_start i, w.accepted whole i)))
@@ -328,8 +325,7 @@ module _ {W : Type 0} (kind : Ghosts W) (modelled : IsTrue kind.tells) where
       pub stored : StoredAtEach old.spec_ex old.data_start (accepted_samples kind.state old) calls
           (kind.state new.medium)
       stored before after a len k m same from le to inside here =
-          let (mid, first, rest) = lead_parts before after old new
-          (subst (λ l. Lead kind l old new) same lead) in
+          let (mid, first, rest) = lead_parts before after old new (subst (λ l. Lead kind l old new) same lead) in
           let w = went before old mid first in
           let end = kind.state new.medium in
           subst (λ (x : ℕ × List (List ℕ)). a + len ≤ length (concat x.1)
@@ -345,8 +341,7 @@ module _ {W : Type 0} (kind : Ghosts W) (modelled : IsTrue kind.tells) where
           (kind.state new.medium)
       stays_flushed before after flush same has_all =
           let m = made calls before after flush old new same lead in
-          let does = subst (λ a. Does kind a flush.answer (with_memory m.mid m.memory)
-          m.next) has_all.0 m.does in
+          let does = subst (λ a. Does kind a flush.answer (with_memory m.mid m.memory) m.next) has_all.0 m.does in
           let flushed = where_marked flush.answer has_all.1 (does.publishes modelled).flushed in
           let then = later after m.next new m.rest (m.here.whole (m.earlier.whole whole)) in
           let ends = begin after m.next new m.rest in

@@ -95,8 +95,7 @@ pub holds_at_each : (s : WavSpecEx) (file : Begun) (calls : List Call) (m : Medi
 holds_at_each s file calls m keeps before later after flush k is published none from to frames =
     let p = keeps.promises in
     let (more, counts) = counted_since s (start_of s file) (found_in file) calls m p.counted p.in_order before later
-    after
-    flush k is from to in
+    after flush k is from to in
     reads_front s (start_of s file) (found_in file ++ accepted_by_all before) more (moment m.start m.past k)
     keeps.at_end.sound.1 (wide_before s file calls before (flush ∷ (later ++ after)) m keeps.at_end is) frames
     (p.published before later after flush k is published none from to) counts

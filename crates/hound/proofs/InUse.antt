@@ -38,10 +38,8 @@ module _ {W : Type 0} (kind : Ghosts W) (modelled : IsTrue kind.tells) (kept : I
       subst (λ (w : W). Promises s (start_of s file) (found_in file) (calls ++ rejected ∷ []) (kind.state w))
       (sym left.is)
       (keeps_promises kind s file (calls ++ rejected ∷ []) r.first left.last is_first
-      (lead_more kind calls (write (Err too_wide)) (Err TooWide) r.first left.last
-      left.last r.lead
-      (type_rejects kind left.last too_wide (λ _ _. counts)
-      (λ _ _. replays left.last.medium))) modelled kept replays)
+      (lead_more kind calls (write (Err too_wide)) (Err TooWide) r.first left.last left.last r.lead
+      (type_rejects kind left.last too_wide (λ _ _. counts) (λ _ _. replays left.last.medium))) modelled kept replays)
 
   begins_same : (list : List Call) → begins_at (list ++ rejected ∷ []) m.past ≡ begins_at list m.past
   begins_same list = grind (arith, common_steps)

@@ -130,13 +130,11 @@ module _ {W : Type 0} (kind : Ghosts W) where
         let w = last.spec_ex.bytes_per_sample in
         let bytes = accepted_bytes kind.state last in
         let held = take last.bytes_written (drop last.data_start (kind.state last.medium).contents) in
-        let size : length bytes ≡ data_length last =
-        length-append held last.buffered
+        let size : length bytes ≡ data_length last = length-append held last.buffered
         ∙ ap (λ n. n + length last.buffered) (length-written kind.state last (l.whole whole)) in
         subst (λ (x : ℕ × List (List ℕ)). AllByRecursion (λ c. length c ≡ x.0) x.1)
         (λ i. ((l.spec_ex i).bytes_per_sample, l.accepted whole i))
-        (wide_containers w (data_length last / w) bytes
-        (omega (arith, size, div-mul-le_self (data_length last) w)))
+        (wide_containers w (data_length last / w) bytes (omega (arith, size, div-mul-le_self (data_length last) w)))
 
     -- an end that published leaves the canonical file
     pub canonical_at_end : IsBegun kind.state first
@@ -146,8 +144,7 @@ module _ {W : Type 0} (kind : Ghosts W) where
         let m = made kind modelled calls before [] end first last same lead in
         let w = m.earlier in
         let does : Does kind publish end.answer (with_memory m.mid m.memory) m.next =
-        subst (λ a. Does kind a end.answer (with_memory m.mid m.memory) m.next)
-        has_all.0 m.does in
+        subst (λ a. Does kind a end.answer (with_memory m.mid m.memory) m.next) has_all.0 m.does in
         let file : StartsWith (kind.state m.next.medium).contents
         (canonical m.mid.spec_ex (accepted_samples kind.state m.mid)) =
         where_marked end.answer has_all.1 ((does.publishes modelled).canonical (w.whole whole) (w.begun begun)) in
@@ -162,8 +159,7 @@ module _ {W : Type 0} (kind : Ghosts W) where
         (kind.state last.medium)
     lasts_to_end before later flush same has_all only =
         let m = made kind modelled calls before later flush first last same lead in
-        let does = subst (λ a. Does kind a flush.answer (with_memory m.mid m.memory)
-        m.next) has_all.0 m.does in
+        let does = subst (λ a. Does kind a flush.answer (with_memory m.mid m.memory) m.next) has_all.0 m.does in
         let n = m.next.data_start in
         let start : n ≡ first.data_start = m.here.data_start ∙ m.earlier.data_start in
         ap (λ k. field (k - 4) (kind.state last.medium).contents) (sym start)
@@ -198,14 +194,12 @@ module _ {W : Type 0} (kind : Ghosts W) where
         → let list = canonical first.spec_ex
         (accepted_samples kind.state first ++ accepted_by_all before) in
         StartsWith (kind.state last.medium).contents list
-        × (length (kind.state last.medium).contents
-        ≤ max (length (handed_in file).contents) (length list))
+        × (length (kind.state last.medium).contents ≤ max (length (handed_in file).contents) (length list))
     exact_at_end begun none before end same asked =
         let m = made kind modelled calls before [] end first last same lead in
         let w = m.earlier in
         let does : Does kind publish end.answer (with_memory m.mid m.memory) m.next =
-        subst (λ a. Does kind a end.answer (with_memory m.mid m.memory) m.next) asked
-        m.does in
+        subst (λ a. Does kind a end.answer (with_memory m.mid m.memory) m.next) asked m.does in
         let parts = no_fault_parts (kind.state first.medium) (kind.state m.mid.medium) (kind.state m.next.medium)
         w.faults m.here.faults
         (subst (λ (x : WriterState W). NoFault (kind.state first.medium) (kind.state x.medium)) m.rest.1 none) in
@@ -232,8 +226,7 @@ module _ {W : Type 0} (kind : Ghosts W) where
     pub counts_at_end : Counts first.spec_ex first.data_start
         (accepted_samples kind.state first ++ accepted_by_all calls) (kind.state last.medium).contents
     counts_at_end =
-        subst (λ (x : WavSpecEx × (ℕ × List (List ℕ))).
-        Counts x.0 x.1.0 x.1.1 (kind.state last.medium).contents)
+        subst (λ (x : WavSpecEx × (ℕ × List (List ℕ))). Counts x.0 x.1.0 x.1.1 (kind.state last.medium).contents)
         (λ i. (l.spec_ex i, (l.data_start i, l.accepted whole i)))
         (l.counts whole (is_first.counts modelled))
 
@@ -283,14 +276,11 @@ module _ {W : Type 0} (kind : Ghosts W) where
           let counts = counted kind modelled kept calls first last lead whole in
           let at_most = stored kind modelled kept calls first last lead whole in
           let order = in_order kind modelled kept calls first last lead whole in
-          let never = never_less kind modelled kept replays calls first last lead beyond
-          whole size in
-          let flushes = stays_flushed kind modelled kept calls first last lead
-          whole in
+          let never = never_less kind modelled kept replays calls first last lead beyond whole size in
+          let flushes = stays_flushed kind modelled kept calls first last lead whole in
           let losses = after_losses first.spec_ex h head.0 list calls end
           (kind.state first.medium).contents is_first.sound.width counts at_most order
-          (λ k from to. (fronts k from to).0) (λ k from to. (fronts k from to).1) head.1 tall all_wide
-          never flushes in
+          (λ k from to. (fronts k from to).0) (λ k from to. (fronts k from to).1) head.1 tall all_wide never flushes in
           record {
             counted = counts;
             head = head_at_each;
@@ -331,8 +321,7 @@ module _ {W : Type 0} (kind : Ghosts W) where
               let list = canonical s (found ++ accepted_by_all before) in
               StartsWith m.contents list
               × (length m.contents ≤ max (length (handed_in file).contents) (length list)))
-              (exact_at_end begun (none ∙ sym faults, omega (arith, faults, small)) before end same
-              asked));
+              (exact_at_end begun (none ∙ sym faults, omega (arith, faults, small)) before end same asked));
           canonical = if_begun_then s file (is_first.begun modelled) (λ begun.
               of_file (λ s start found. CanonicalAtEnd s start found calls m)
               (canonical_at_end begun));
@@ -439,8 +428,7 @@ module _ {W : Type 0} (kind : Ghosts W) where
         r.opens.start_is i,
         ((a.file modelled).puts.stays.contents i, ap (λ m. (kind.state m).contents) (sym left.is) i),
       ))
-      ((went kind modelled r.calls r.first left.last r.lead).front
-      (omega (arith, a.sound.after_head)))
+      ((went kind modelled r.calls r.first left.last r.lead).front (omega (arith, a.sound.after_head)))
 
 -- What survives in a medium of this past that was flushed up to f, no earlier than the flushes of these calls did, and
 -- then wrote bytes at ascending places only, if what a loss leaves counts.

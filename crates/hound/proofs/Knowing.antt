@@ -26,8 +26,7 @@ among [] after one [] are = absurd are
 among [] after one (call ∷ calls) are = ([], calls, call, refl, tt, are.0, are.1)
 among (other ∷ before) after one [] are = absurd are
 among (other ∷ before) after one (call ∷ calls) are =
-    let (first, last, found, parts, before_are, is, after_are) =
-    among before after one calls are.1 in
+    let (first, last, found, parts, before_are, is, after_are) = among before after one calls are.1 in
     (call ∷ first, last, found, ap (λ l. call ∷ l) parts, (are.0, before_are), is, after_are)
 
 -- what calls accepted whose marks are known

@@ -19,8 +19,7 @@ use Rattle.hound.proofs.Later.{Later, later_then, longer, same_moment}
 
 -- a state in which no write of the field is cut is so in one of the calls
 outside_within : (p hi : ℕ) (a b end : MediumState) (k : ℕ) → Later b end → hi ≡ length b.past
-    → ((i : ℕ) → length a.past ≤ i → i < hi → i < k → place_of end.past i ≡ p
-    → (i + 4 ≤ hi) × (i + 4 ≤ k))
+    → ((i : ℕ) → length a.past ≤ i → i < hi → i < k → place_of end.past i ≡ p → (i + 4 ≤ hi) × (i + 4 ≤ k))
     → IsOutside p a b k
 outside_within p hi a b end k later ends each i since to at before = grind (arith, common_steps)
 
@@ -75,8 +74,7 @@ module _ {W : Type 0} (kind : Ghosts W) (modelled : IsTrue kind.tells) (kept : I
       let then = later kind modelled kept calls mid new rest (t.whole whole) in
       let ends = begin kind modelled calls mid new rest in
       let last = length (kind.state mid.medium).past in
-      let up = longer (kind.state old.medium) (kind.state mid.medium)
-      (t.later kept whole) in
+      let up = longer (kind.state old.medium) (kind.state mid.medium) (t.later kept whole) in
       let j = min k last in
       let here = call_field call.asked call.answer memory old mid does at beyond whole has_it j
       (omega (arith, from, up)) (omega arith) (elim fine [
@@ -85,8 +83,7 @@ module _ {W : Type 0} (kind : Ghosts W) (modelled : IsTrue kind.tells) (kept : I
           grows (data_length old) (omega arith),
           outside_within p (begins_at calls end.past) (kind.state old.medium) (kind.state mid.medium) end j then ends
               (λ i since less before is.
-              let four = uncut [] calls call i refl (omega (arith, since, begins)) less
-              (omega (arith, before)) is in
+              let four = uncut [] calls call i refl (omega (arith, since, begins)) less (omega (arith, before)) is in
               (four.0, omega (arith, four.0, four.1, ends))),
         )
       ]) in
@@ -98,8 +95,7 @@ module _ {W : Type 0} (kind : Ghosts W) (modelled : IsTrue kind.tells) (kept : I
         | inl after ↦ let e : j ≡ last = omega (arith, after) in
             stays calls mid new rest (at ∙ ap (λ n. n - 4) (sym t.data_start))
             (omega (arith, beyond, t.data_start)) (t.whole whole)
-            (subst (λ c. P (field p c))
-            (ap (moment (kind.state mid.medium).start (kind.state mid.medium).past) e
+            (subst (λ c. P (field p c)) (ap (moment (kind.state mid.medium).start (kind.state mid.medium).past) e
             ∙ moment_last (kind.state mid.medium) (replays mid.medium)) here) k (omega (arith, after)) to
             (elim fine [
               | inl writes ↦ inl writes.1
@@ -192,8 +188,7 @@ module _ {W : Type 0} (kind : Ghosts W) (modelled : IsTrue kind.tells) (kept : I
   pub mixed : MixedInPatches old.spec_ex old.data_start (accepted_samples kind.state old) calls end
   mixed before after patch same asked =
       let c = call_of before after patch same in
-      let does = subst (λ a. Does kind a patch.answer (with_memory c.mid c.memory)
-      c.next) asked c.does in
+      let does = subst (λ a. Does kind a patch.answer (with_memory c.mid c.memory) c.next) asked c.does in
       let p = does.moments modelled kept in (
         λ k. min 4 (k - p.split),
         omega (arith, c.began, p.puts.later),
@@ -207,8 +202,7 @@ module _ {W : Type 0} (kind : Ghosts W) (modelled : IsTrue kind.tells) (kept : I
                   (λ i. ((c.start i, few i), (c.all i, (c.still k to i, sym c.first i))))
                   (p.half.each k since until).length_is,
               λ some. let split : p.split < k = omega (arith, some) in
-                  let last : p.split < length (kind.state c.next.medium).past =
-                  omega (arith, split, until) in
+                  let last : p.split < length (kind.state c.next.medium).past = omega (arith, split, until) in
                   omega (
                     arith,
                     p.there c.whole p.split k p.puts.later last
@@ -224,17 +218,13 @@ module _ {W : Type 0} (kind : Ghosts W) (modelled : IsTrue kind.tells) (kept : I
   pub old_or_new : OldOrNewInPatches old.spec_ex old.data_start (accepted_samples kind.state old) calls end
   old_or_new before after patch k same asked from to uncut =
       let c = call_of before after patch same in
-      let does = subst (λ a. Does kind a patch.answer (with_memory c.mid c.memory)
-      c.next) asked c.does in
-      subst (λ (x : (ℕ × ℕ) × (List ℕ × List ℕ)). (field x.0.0 x.1.0 ≡ field x.0.0 x.1.1)
-      ⊎ (field x.0.0 x.1.0 ≡ x.0.1))
+      let does = subst (λ a. Does kind a patch.answer (with_memory c.mid c.memory) c.next) asked c.does in
+      subst (λ (x : (ℕ × ℕ) × (List ℕ × List ℕ)). (field x.0.0 x.1.0 ≡ field x.0.0 x.1.1) ⊎ (field x.0.0 x.1.0 ≡ x.0.1))
       (λ i. ((c.start i - 4, c.all i), (c.still k to i, sym c.first i)))
-      ((does.moments modelled kept).old_or_new k (omega (arith, from, c.began))
-      (omega (arith, to, c.ended))
+      ((does.moments modelled kept).old_or_new k (omega (arith, from, c.began)) (omega (arith, to, c.ended))
       (outside_within (c.mid.data_start - 4) (begins_at after end.past) (kind.state c.mid.medium)
       (kind.state c.next.medium) end k c.later c.ended
-      (λ i since less before is.
-      uncut [] after patch i refl (omega (arith, since, c.began)) less before
+      (λ i since less before is. uncut [] after patch i refl (omega (arith, since, c.began)) less before
       (is ∙ ap (λ n. n - 4) c.start))))
 
   -- a flush that published all has counted it
@@ -244,12 +234,10 @@ module _ {W : Type 0} (kind : Ghosts W) (modelled : IsTrue kind.tells) (kept : I
       × (data_length c.next ≡ length (concat (accepted_samples kind.state old ++ accepted_by_all before)))
   flushed before after flush same (asked, marked) =
       let c = call_of before after flush same in
-      let does = subst (λ a. Does kind a flush.answer (with_memory c.mid c.memory)
-      c.next) asked c.does in (
+      let does = subst (λ a. Does kind a flush.answer (with_memory c.mid c.memory) c.next) asked c.does in (
         c,
         ap (λ n. field (n - 4) (kind.state c.next.medium).contents) (sym c.start)
-            ∙ where_marked flush.answer marked (does.publishes modelled).length_says
-            ∙ sym does.samples.data_length,
+            ∙ where_marked flush.answer marked (does.publishes modelled).length_says ∙ sym does.samples.data_length,
         omega (arith, does.samples.data_length, c.all),
       )
 
@@ -260,8 +248,7 @@ module _ {W : Type 0} (kind : Ghosts W) (modelled : IsTrue kind.tells) (kept : I
       let (far, there, rest) = lead_parts kind modelled then after f.next new f.rest in
       let n = length (concat (accepted_samples kind.state old ++ accepted_by_all before)) in
       subst (λ c. field at c ≡ n)
-      (same_moment (kind.state far.medium) (kind.state new.medium) k
-      (later kind modelled kept after far new rest
+      (same_moment (kind.state far.medium) (kind.state new.medium) k (later kind modelled kept after far new rest
       ((went kind modelled then f.next far there).whole f.next_whole))
       (omega (arith, to, begin kind modelled after far new rest)))
       (stays kind modelled kept replays at (λ v. v ≡ n) then f.next far there

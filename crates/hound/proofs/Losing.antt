@@ -17,12 +17,10 @@ use Rattle.hound_durable.specs.{Ascends, SurvivesLoss, place_of}
 -- A part of what a loss of power leaves, if the states that its sectors are from have it all.
 pub part_survives : (p n sector f k : ℕ) (d start : List ℕ) (past : List (ℕ × ℕ)) (c : List ℕ)
     → length d ≡ n → p + n ≤ length c → (lost : SurvivesLoss sector start past f k c)
-    → ((i : ℕ) → i < n
-    → take n (drop p (moment start past (lost.sectors ((p + i) / sector)).0)) ≡ d)
+    → ((i : ℕ) → i < n → take n (drop p (moment start past (lost.sectors ((p + i) / sector)).0)) ≡ d)
     → take n (drop p c) ≡ d
 part_survives p n sector f k d start past c size inside lost each =
-    let long : length (take n (drop p c)) ≡ n =
-    length-take-le n (drop p c) (omega (arith, inside, length-drop p c)) in
+    let long : length (take n (drop p c)) ≡ n = length-take-le n (drop p c) (omega (arith, inside, length-drop p c)) in
     ext_get_or 0 (take n (drop p c)) d (long ∙ sym size)
     (λ i few.
     let less : i < n = omega (arith, few, long) in
@@ -63,8 +61,7 @@ pub moments_grow : (start : List ℕ) (past : List (ℕ × ℕ)) (i k : ℕ) →
     → length (moment start past i) ≤ length (moment start past k)
 moments_grow start past i k le =
     let first = take i past in
-    let parts : take k past ≡ first ++ drop i (take k past) =
-    sym (take-append-drop i (take k past))
+    let parts : take k past ≡ first ++ drop i (take k past) = sym (take-append-drop i (take k past))
     ∙ ap (λ l. l ++ drop i (take k past)) (take-take i k past le) in
     omega (
       arith,
@@ -91,8 +88,7 @@ module _ (h f k : ℕ) (start : List ℕ) (past : List (ℕ × ℕ)) (beyond : 2
   -- What holds of a state since it holds of the next one, where a byte before the data is written, and else since its
   -- data length is that of a later state.
   back : (j : ℕ) (X : ℕ → Type 0) → ((m : ℕ) → f ≤ m → m < k → place_of past m < h → X (suc m) → X m)
-      → ((m : ℕ) → f ≤ m → m ≤ j
-      → field (h - 4) (moment start past m) ≡ field (h - 4) (moment start past j) → X m)
+      → ((m : ℕ) → f ≤ m → m ≤ j → field (h - 4) (moment start past m) ≡ field (h - 4) (moment start past j) → X m)
       → (d m : ℕ) → f ≤ m → m + d ≡ j → j ≤ k
       → X m × (((t : ℕ) → m ≤ t → t < j → h ≤ place_of past t)
       → field (h - 4) (moment start past m) ≡ field (h - 4) (moment start past j))
@@ -111,8 +107,7 @@ module _ (h f k : ℕ) (start : List ℕ) (past : List (ℕ × ℕ)) (beyond : 2
         )
         | inr high ↦ let at = moment start past in
             let one = next start past m (omega (arith, less, within)) in
-            let front : take h (at (suc m)) ≡ take h (at m) =
-            ap (take h) one.1
+            let front : take h (at (suc m)) ≡ take h (at m) = ap (take h) one.1
             ∙ take_overlay_before (one.0 ∷ []) h p (at m) high (long m from (omega (arith, less))) in
             let says : field (h - 4) (at m) ≡ field (h - 4) (at j) =
             sym (ap number (front_part h (h - 4) 4 (at (suc m)) (at m) (omega (arith, beyond)) front))
@@ -167,8 +162,7 @@ module _ (h : ℕ) (bytes base start : List ℕ) (past : List (ℕ × ℕ)) (cov
       (λ m. take (cover (says j)) (drop h (at m)) ≡ take (cover (says j)) bytes)
       (λ m from less low rest.
       let one = next start past m (omega (arith, less, within)) in
-      ap (take (cover (says j))) (sym (ap (drop h) one.1
-      ∙ drop_beyond (at m) (place_of past m) (one.0 ∷ [])
+      ap (take (cover (says j))) (sym (ap (drop h) one.1 ∙ drop_beyond (at m) (place_of past m) (one.0 ∷ [])
       (omega (arith, low, long m from (omega (arith, less)))) h (omega (arith, low)))) ∙ rest)
       (λ m from before same. subst (λ v. take (cover v) (drop h (at m)) ≡ take (cover v) bytes) same
       (kept m m from (omega arith) (omega (arith, before, to)))) (j - m) m from (omega (arith, le)) to).0
@@ -207,8 +201,7 @@ module _ (h : ℕ) (bytes base start : List ℕ) (past : List (ℕ × ℕ)) (cov
         let there = long chosen chosen_from chosen_to in
         ap number
         (part_survives (h - 4) 4 sector f k (take 4 (drop (h - 4) (at chosen))) start past c
-        (length-take-le 4 (drop (h - 4) (at chosen))
-        (omega (arith, there, beyond, length-drop (h - 4) (at chosen))))
+        (length-take-le 4 (drop (h - 4) (at chosen)) (omega (arith, there, beyond, length-drop (h - 4) (at chosen))))
         (omega (arith, inside, beyond)) lost
         (λ i less. ap (λ n. take 4 (drop (h - 4) (at (lost.sectors n).0))) (in_field i less)))
 
@@ -219,20 +212,17 @@ module _ (h : ℕ) (bytes base start : List ℕ) (past : List (ℕ × ℕ)) (cov
         subst (λ v. take (cover v) (drop h c) ≡ take (cover v) bytes) (sym says_chosen)
         (part_survives h n sector f k (take n bytes) start past c
         (length-take-le n bytes (few chosen chosen_from chosen_to)) inside lost
-        (λ i less. let s = lost.sectors ((h + i) / sector) in
-        anywhere chosen s.0 chosen_from chosen_to s.1 s.2))
+        (λ i less. let s = lost.sectors ((h + i) / sector) in anywhere chosen s.0 chosen_from chosen_to s.1 s.2))
 
     -- and so is the head
     head_after : (s : WavSpecEx) (len : ℕ) → Head base s len h → h ≤ length base → Head c s (field (h - 4) c) h
     head_after s len head whole =
         let n = h - 4 - 8 in
         let middle = take n (drop 8 base) in
-        let front : take 4 c ≡ take 4 base =
-        part_survives 0 4 sector f k (take 4 base) start past c
+        let front : take 4 c ≡ take 4 base = part_survives 0 4 sector f k (take 4 base) start past c
         (length-take-le 4 base (omega (arith, whole, beyond))) (omega (arith, inside, beyond)) lost
         (λ i less. let s = lost.sectors ((0 + i) / sector) in (changes s.0 s.1 s.2).front) in
-        let rest : take n (drop 8 c) ≡ middle =
-        part_survives 8 n sector f k middle start past c
+        let rest : take n (drop 8 c) ≡ middle = part_survives 8 n sector f k middle start past c
         (length-take-le n (drop 8 base) (omega (arith, whole, beyond, length-drop 8 base)))
         (omega (arith, inside, beyond)) lost
         (λ i less. let s = lost.sectors ((8 + i) / sector) in

@@ -74,8 +74,7 @@ module _ (start n : ℕ) (base : List ℕ) (beyond : 20 ≤ start) where
       let there : p + 4 ≤ length c = omega (arith, still.inside, beyond) in
       let none : mix 0 (field p base) n ≡ field p base =
       mix_none (field p base) n (omega (arith, number_at_small p c there small, old)) in
-      let at_riff : (j : ℕ) → j ≤ 4 → HasStill start n base (overlay c (placed 4 (take j riff))) =
-      λ j few.
+      let at_riff : (j : ℕ) → j ≤ 4 → HasStill start n base (overlay c (placed 4 (take j riff))) = λ j few.
       let short : length (take j riff) ≤ 4 = omega (arith, length-take j riff) in
       sized c (overlay c (placed 4 (take j riff))) still (same_riff p c eight there (take j riff) short)
       (0, omega arith, field_riff p c eight there (take j riff) short ∙ old ∙ sym none) in
@@ -83,8 +82,7 @@ module _ (start n : ℕ) (base : List ℕ) (beyond : 20 ≤ start) where
       let y_still : HasStill start n base y = at_riff 4 (omega arith) in
       let y_small = small_overlay c 4 riff small (small_bytes 4 (riff_size start n)) in
       let y_there : p + 4 ≤ length y = omega (arith, y_still.inside, beyond) in
-      let at_length : (j : ℕ) → j ≤ 4 → HasStill start n base (overlay y (placed p (take j (bytes_of 4 n)))) =
-      λ j few.
+      let at_length : (j : ℕ) → j ≤ 4 → HasStill start n base (overlay y (placed p (take j (bytes_of 4 n)))) = λ j few.
       let bs = take j (bytes_of 4 n) in
       sized y (overlay y (placed p bs)) y_still
       (same_length p y eight y_there bs (omega (arith, length-take j (bytes_of 4 n)))) (
@@ -171,12 +169,9 @@ module _ (f : FoundFile) (n : ℕ) (old end : Log) (result : Result (Unit {0}) I
         let (top, order, low) = all_ordered (first_effects h n base beyond clean) 0 (h + n) result old end
         (effects_ordered clean h n 0 beyond (λ is. omega arith)) (in_order_none 0 old.state synced) did in
         let after = left_after h bytes base m.start m.past (λ v. n) m.flushed (length m.past) beyond (omega arith)
-        order.ascends
-        (λ j from to. omega (arith, (still_at j from to).inside))
-        (λ j from to. omega (arith, bytes_long))
+        order.ascends (λ j from to. omega (arith, (still_at j from to).inside)) (λ j from to. omega (arith, bytes_long))
         (λ j k from le to. (still_at k (omega (arith, from, le)) to).stored
-        ∙ sym (take-take n n (drop h base) (omega arith)))
-        (λ j from to. (still_at j from to).changes)
+        ∙ sym (take-take n n (drop h base) (omega arith))) (λ j from to. (still_at j from to).changes)
         sector wide one left lost s f.data_length cut.head (omega (arith, cut.held)) in
         let chosen = lost.sectors ((h - 4) / sector) in
         let (j, within, mixed) = (still_at chosen.0 chosen.1 chosen.2).says in
@@ -210,8 +205,7 @@ mended_survives f mends overwrites old end r result resumes cut synced did secto
     let (frames, is) = whole_frames n f.spec_ex.spec.channels width takes.2 in
     let whole : n % width ≡ 0 = ap (λ k. k % width) is ∙ mul-mod_left (frames * f.spec_ex.spec.channels) width in
     let performed : Performed (if is_sound r.health then checkpoint f.data_start n else Sync ∷ checkpoint f.data_start
-    n) result old end =
-    rw at at did in
+    n) result old end = rw at at did in
     let (counts, says) = counted_then f n old end result (is_sound r.health) cut synced whole cut.sound.1 performed
     sector left wide one lost in
     let size : n + 0 ≡ n = omega arith in

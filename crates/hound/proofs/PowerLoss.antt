@@ -48,8 +48,7 @@ counts_stored s h q list c some wide head few among stored =
     let w = s.bytes_per_sample in
     let first = take q list in
     let size : length first ≡ q = length-take-le q list among in
-    let found : containers w q (drop h c) ≡ first =
-    containers_front w q (drop h c) (concat list) stored
+    let found : containers w q (drop h c) ≡ first = containers_front w q (drop h c) (concat list) stored
     ∙ (λ i. containers w (sym size i) (concat_front q list i))
     ∙ containers-concat w first (concat (drop q list)) (wide_take w q list wide) in
     let back : (q * w + 0) / w ≡ q = div-mul-add q w 0 (omega (arith, some)) in
@@ -119,8 +118,7 @@ module _ (s : WavSpecEx) (h len : ℕ) (found : List (List ℕ)) (calls : List C
     (in_order : BeginInOrder s h found calls end)
     (sizes : (k : ℕ) → begins_at calls end.past ≤ k → k ≤ length end.past
     → ChangesSizesOnly h base (moment end.start end.past k))
-    (long : (k : ℕ) → begins_at calls end.past ≤ k → k ≤ length end.past
-    → h ≤ length (moment end.start end.past k))
+    (long : (k : ℕ) → begins_at calls end.past ≤ k → k ≤ length end.past → h ≤ length (moment end.start end.past k))
     (head : Head base s len h) (whole : h ≤ length base)
     (wide : AreWide s.bytes_per_sample (found ++ accepted_by_all calls)) where
   abbrev w : ℕ
@@ -146,8 +144,7 @@ module _ (s : WavSpecEx) (h len : ℕ) (found : List (List ℕ)) (calls : List C
   covered : (before after : List Call) (call : Call) (j : ℕ)
       → calls ≡ before ++ (call ∷ after) → call.began ≤ j → j ≤ begins_at after end.past
       → (cover w (says j) ≤ length (concat (list before)))
-      × (take (cover w (says j)) (drop h (at j))
-      ≡ take (cover w (says j)) (concat (list before)))
+      × (take (cover w (says j)) (drop h (at j)) ≡ take (cover w (says j)) (concat (list before)))
   covered before after call j same from to =
       let c = counted before after call j same from to in
       let n = cover w (says j) in
@@ -167,17 +164,13 @@ module _ (s : WavSpecEx) (h len : ℕ) (found : List (List ℕ)) (calls : List C
       let bytes = concat all in
       let wide_all = wide_before before (call ∷ after) same in
       let beyond : 20 ≤ h = head_beyond base s len h head in
-      let within : k ≤ length end.past =
-      omega (arith, to, (in_order before (call ∷ []) after same).1) in
-      let at_call = λ (j : ℕ) (since : f ≤ j) (until : j ≤ k).
-      during before after call end j
+      let within : k ≤ length end.past = omega (arith, to, (in_order before (call ∷ []) after same).1) in
+      let at_call = λ (j : ℕ) (since : f ≤ j) (until : j ≤ k). during before after call end j
       (omega (arith, begun, since, ap (λ l. begins_at l end.past) same)) (omega (arith, until, to)) in
       let more = λ (j : ℕ) (since : f ≤ j) (until : j ≤ k).
       let d = at_call j since until in
-      (let e : all ≡ list d.first ++ accepted_by_all d.others =
-      ap list d.earlier ∙ earlier d.first d.others in e) in
-      let fits : (j : ℕ) → f ≤ j → j ≤ k → cover w (says j) ≤ length bytes =
-      λ j since until.
+      (let e : all ≡ list d.first ++ accepted_by_all d.others = ap list d.earlier ∙ earlier d.first d.others in e) in
+      let fits : (j : ℕ) → f ≤ j → j ≤ k → cover w (says j) ≤ length bytes = λ j since until.
       let d = at_call j since until in
       omega (
         arith,
@@ -187,8 +180,7 @@ module _ (s : WavSpecEx) (h len : ℕ) (found : List (List ℕ)) (calls : List C
         length-append (concat (list d.first)) (concat (accepted_by_all d.others)),
       ) in
       let kept : (j m : ℕ) → f ≤ j → j ≤ m → m ≤ k
-      → take (cover w (says j)) (drop h (at m)) ≡ take (cover w (says j)) bytes =
-      λ j m since upto until.
+      → take (cover w (says j)) (drop h (at m)) ≡ take (cover w (says j)) bytes = λ j m since upto until.
       let d = at_call j since (omega (arith, upto, until)) in
       let more_j = more j since (omega (arith, upto, until)) in
       let early = concat (list d.first) in
@@ -197,8 +189,7 @@ module _ (s : WavSpecEx) (h len : ℕ) (found : List (List ℕ)) (calls : List C
       let e : h + 0 ≡ h = omega arith in
       let later : take n (drop (h + 0) (at m)) ≡ take n early =
       stored d.first (d.call ∷ d.rest) 0 n j m (same ∙ d.parts) d.from upto
-      (omega (arith, until, within)) (omega (arith, here.0))
-      (ap (λ p. take n (drop p (at j))) e ∙ here.1) in
+      (omega (arith, until, within)) (omega (arith, here.0)) (ap (λ p. take n (drop p (at j))) e ∙ here.1) in
       ap (λ p. take n (drop p (at m))) (sym e) ∙ later
       ∙ sym (take-append-le n early (concat (accepted_by_all d.others)) here.0)
       ∙ ap (take n) (sym (ap concat more_j ∙ concat-append (list d.first) (accepted_by_all d.others))) in
@@ -210,8 +201,7 @@ module _ (s : WavSpecEx) (h len : ℕ) (found : List (List ℕ)) (calls : List C
       beyond within ascends tall fits kept changes sector sized one c lost s len head whole in
       let v = field (h - 4) c in
       let q = (v + (w - 1)) / w in
-      let among : q ≤ length all =
-      elim (cases_lt (length all) q) [
+      let among : q ≤ length all = elim (cases_lt (length all) q) [
         | inl over ↦ absurd (omega (
           arith,
           some,

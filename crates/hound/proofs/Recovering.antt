@@ -109,8 +109,7 @@ module _ (s : WavSpecEx) (h : ℕ) (found : List (List ℕ)) (calls : List Call)
             let (count, none, grows, whole, each) = promises.mixed first rest call parts asked in
             let here = each k low high in
             let old = field (h - 4) (at call.began) in
-            let unmixed : mix 0 old new ≡ old =
-            ap (λ j. mix j old new) (sym none)
+            let unmixed : mix 0 old new ≡ old = ap (λ j. mix j old new) (sym none)
             ∙ sym (each call.began (omega arith) (omega (arith, low, high))).0 in
             elim (cases_lt 0 (count k)) [
               | inr nothing ↦ let zero : count k ≡ 0 = omega (arith, nothing) in
@@ -176,8 +175,7 @@ module _ (s : WavSpecEx) (h : ℕ) (found : List (List ℕ)) (calls : List Call)
       )) in
       let d = during front [] last end k
       (omega (arith, first_began, since, le, ap (λ l. begins_at l end.past) ends)) until in
-      let (counted, (j, low, high, is), head) =
-      promises.after_loss d.first d.rest d.call f k sector c (ends ∙ d.parts)
+      let (counted, (j, low, high, is), head) = promises.after_loss d.first d.rest d.call f k sector c (ends ∙ d.parts)
       (omega (arith, first_began, since)) le d.from d.to ascends sized one lost in
       let state = λ (j : ℕ) (low : f ≤ j) (high : j ≤ k).
       in_state j (omega (arith, since, low)) (omega (arith, high, until)) in

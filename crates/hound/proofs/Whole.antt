@@ -27,8 +27,7 @@ use Rattle.hound.proofs.Keeping.{first_of, holds_at_end, keeps_promises}
 pub part_of_header : {M : Type 0} (kind : Ghosts M) (s : WavSpecEx)
     (old back : M) (e : Error) → IsTrue kind.tells → IsNotBegunAs kind (New s) old back e
     → (count : ℕ) × (count < data_start s)
-    × (length (kind.state back).contents
-    ≤ max (length (kind.state old).contents) ((kind.state old).place + count))
+    × (length (kind.state back).contents ≤ max (length (kind.state old).contents) ((kind.state old).place + count))
     × (IsTrue kind.keeps → length (kind.state back).past ≡ length (kind.state old).past + count)
 part_of_header kind s old back e modelled given =
     grind (

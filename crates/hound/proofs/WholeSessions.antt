@@ -97,8 +97,7 @@ module _ {M : Type 0} (kind : Ghosts M) (modelled : IsTrue kind.tells)
       let c = (kind.state old).contents in
       let h = data_start s in
       let read = file.reads in
-      let agree =
-      heads_agree c s w.spec_ex read.readable.len (data_length w) h w.data_start read.readable.head
+      let agree = heads_agree c s w.spec_ex read.readable.len (data_length w) h w.data_start read.readable.head
       follows.head in
       let same = follows.puts.stays.contents in
       let at : w.data_start ≡ h = sym agree.2 in
@@ -158,13 +157,11 @@ module _ {M : Type 0} (kind : Ghosts M) (modelled : IsTrue kind.tells)
       let spec = on.after.spec in
       let at = on.after.start in
       let size = on.after.size in
-      let read : ReadsAs s h list c =
-      subst (λ (x : WavSpecEx × (ℕ × List (List ℕ))). ReadsAs x.0 x.1.0 x.1.1 c)
+      let read : ReadsAs s h list c = subst (λ (x : WavSpecEx × (ℕ × List (List ℕ))). ReadsAs x.0 x.1.0 x.1.1 c)
       (λ i. (spec i, (at i, on.holds i))) (p.read on.whole) in
       let len = read.readable.len in
       let inside = head_inside c s len h read.readable.head in
-      let riff : field 4 c ≡ riff_size h (length (concat list)) =
-      p.riff_says ∙ (λ i. riff_size (at i) (size i)) in
+      let riff : field 4 c ≡ riff_size h (length (concat list)) = p.riff_says ∙ (λ i. riff_size (at i) (size i)) in
       record {
         reads = read;
         size = sym (head_field c s len h read.readable.head) ∙ (λ i. field (sym at i - 4) c) ∙ p.length_says ∙ size;
@@ -251,8 +248,7 @@ module _ {M : Type 0} (kind : Ghosts M) (modelled : IsTrue kind.tells)
       × AnswersSession s list steps answer
   until list [] rest w answer medium on ends = grind (arith, common_steps, publishing_after, finish)
   until list (step ∷ steps) rest w answer medium on (inl (e, new, dropped, is, takes, ends)) =
-      let does = subst (λ x. Does kind (asked_by x step) (Err e) w new) on.after.spec
-      takes in
+      let does = subst (λ x. Does kind (asked_by x step) (Err e) w new) on.after.spec takes in
       let t = call_went kind modelled (Err e) w.batch_memory w new (asked_by s step) does in
       let answers = step_answers kind s w new list step (Err e) on.after takes in
       subst (λ r. Leads list (step ∷ steps) (step ∷ (steps ++ rest)) (kind.state medium) r
@@ -262,16 +258,14 @@ module _ {M : Type 0} (kind : Ghosts M) (modelled : IsTrue kind.tells)
             (grows_reported dropped (kind.state new.medium) (kind.state medium) (ends.publishes modelled).faults)
             (clean ∙ sym on.none, omega (arith, on.none, few)) in
             let no_fault = no_io e (kind.state w.medium).faults parts.0.1
-            (sym (call_faults kind modelled (Err e) w.batch_memory w new (asked_by s step) does)
-            ∙ parts.0.0) in
+            (sym (call_faults kind modelled (Err e) w.batch_memory w new (asked_by s step) does) ∙ parts.0.0) in
             stop_early list (step ∷ (steps ++ rest)) e new dropped medium
             (on_rejected list (asked_by s step) e w new no_fault on does parts.0) parts.1 ends no_fault
             (inr (step, steps ++ rest, refl, answers)),
         inl (e, refl, answers),
       )
   until list (step ∷ steps) rest w answer medium on (inr (new, takes, runs)) =
-      let does = subst (λ x. Does kind (asked_by x step) (Ok tt) w new) on.after.spec
-      takes in
+      let does = subst (λ x. Does kind (asked_by x step) (Ok tt) w new) on.after.spec takes in
       let more = accepted_by s step true in
       let (led, answers) = until (list ++ more) steps rest new answer medium
       (on_call list (asked_by s step) (Ok tt) w new on does
@@ -284,8 +278,7 @@ module _ {M : Type 0} (kind : Ghosts M) (modelled : IsTrue kind.tells)
   -- a session that begins with a writer of this file, or ends with a fault before that
   abbrev Starts : List (List ℕ) → List Step → Answer → M → Type 0
   Starts list steps answer medium =
-      ((e : Error) × (answer ≡ Err e) × IsIoError e
-      × ((kind.state medium).faults ≡ one_more start.faults))
+      ((e : Error) × (answer ≡ Err e) × IsIoError e × ((kind.state medium).faults ≡ one_more start.faults))
       ⊎ ((w : WriterState M) × OnFile list w × RunsUntil kind steps w answer medium)
 
   -- the first session

@@ -129,8 +129,7 @@ reads_saved s file blocks r left more log m kept here stops none some frames =
     let sum : accepted_by_all calls ≡ samples =
     accepted_of_known (published_calls f blocks ++ more) calls kept.left.recorded.are_known
     ∙ parts ∙ (λ i. accepted f blocks i ++ stopped_none s r left more stops none i) ∙ append-nil samples in
-    let says = lasts s file written (seen more) calls log.state end
-    (rw known at kept.left.recorded.are_known) none in
+    let says = lasts s file written (seen more) calls log.state end (rw known at kept.left.recorded.are_known) none in
     let wide = length-concat s.bytes_per_sample list (rw sum at end.wide) in
     let size : field (start_of s file - 4) m.contents ≡ length list * s.bytes_per_sample =
     rw (here, so_far, accepted f blocks, wide) at says in

@@ -78,8 +78,7 @@ not_resumed f contents samples error e readable counted all frames state some wi
         let same : error ≡ NeedsOverwrite = cc in
         let product : f.data_length ≡ f.frames * found_frame f =
         counted ∙ in_frames samples f.spec_ex.spec.channels f.spec_ex.bytes_per_sample
-        (readable_frames f.spec_ex samples f.data_start contents readable)
-        ∙ ap (λ n. n * found_frame f) (sym frames) in
+        (readable_frames f.spec_ex samples f.data_start contents readable) ∙ ap (λ n. n * found_frame f) (sym frames) in
         let follows = more_follows f (product_is_some f.spec_ex.spec.channels f.spec_ex.bytes_per_sample some wide)
         (rw product (mul-mod_left f.frames (found_frame f))) (omega (arith, product)) ends in
         inr (

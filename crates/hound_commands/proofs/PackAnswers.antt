@@ -126,8 +126,7 @@ module _ {W : Type 0} (s : WavSpecEx) (integers : s.spec.sample_format ≡ Int) 
     count_is : sample_count last ≡ length cs
     count_is =
         let bytes = have-bytes s ns cs have in
-        let size : data_length last ≡ length cs * s.bytes_per_sample =
-        omega (arith, grown, nothing, bytes) in
+        let size : data_length last ≡ length cs * s.bytes_per_sample = omega (arith, grown, nothing, bytes) in
         (λ i. size i / ((spec ∙ begun.spec) i).bytes_per_sample)
         ∙ mul-div_cancel (length cs) (subst (λ x. 1 ≤ x.bytes_per_sample) begun.spec begun.sound.width)
 
@@ -162,8 +161,7 @@ module _ {W : Type 0} {kind : Ghosts W} (s : WavSpecEx)
   file_made modelled empty start ok =
       let b = begins.begun in
       let (cs, have, room) = write_accepted s integers ns first b asked is accepts.adds.answers in
-      let accepted =
-      subst (λ a. Accepts kind a (Ok tt) first last) (sym is ∙ have) accepts in
+      let accepted = subst (λ a. Accepts kind a (Ok tt) first last) (sym is ∙ have) accepts in
       let finished = subst (λ a. Finishes kind last a end) ok finishes in
       record {
         writable = b.writable;
@@ -180,8 +178,7 @@ module _ {W : Type 0} {kind : Ghosts W} (s : WavSpecEx)
   end_named e failed =
       let b = begins.begun in
       let (cs, have, room) = write_accepted s integers ns first b asked is accepts.adds.answers in
-      let accepted =
-      subst (λ a. Accepts kind a (Ok tt) first last) (sym is ∙ have) accepts in
+      let accepted = subst (λ a. Accepts kind a (Ok tt) first last) (sym is ∙ have) accepts in
       end_rejected s integers ns first b last cs have accepted.adds.spec_ex
       accepted.adds.data_length room e
       (subst (λ a. IsPublishing a last) failed finishes.answers)

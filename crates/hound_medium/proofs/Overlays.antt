@@ -51,8 +51,7 @@ drop-put_at (suc p) b (suc m) (x ∷ c) h = drop-put_at p b m c (omega arith)
 pub overlay_is : (c : List ℕ) (p : ℕ) (bs : List ℕ) → p ≤ length c
     → overlay c (placed p bs) ≡ take p c ++ (bs ++ drop (p + length bs) c)
 overlay_is c p [] h =
-    sym (ap (λ q. take p c ++ drop q c) (let e : p + 0 ≡ p = omega arith in e)
-    ∙ take-append-drop p c)
+    sym (ap (λ q. take p c ++ drop q c) (let e : p + 0 ≡ p = omega arith in e) ∙ take-append-drop p c)
 overlay_is c p (b ∷ bs) h =
     let d = put_at p b c in
     let far : p < suc p + length bs = omega arith in

@@ -9,8 +9,7 @@ pub get_consumes : {E : Type 0} (buf : List ℕ) (result : Result ℕ E) (old ne
     → ReadConsumes (Some (drop old.place old.contents))
     (Some (drop new.place new.contents)) result buf
 get_consumes buf (Ok n) old new gets =
-    let rest : drop n (drop old.place old.contents) ≡ drop new.place new.contents =
-    drop-drop n old.place old.contents
+    let rest : drop n (drop old.place old.contents) ≡ drop new.place new.contents = drop-drop n old.place old.contents
     ∙ (λ i. drop (sym gets.place i) (sym gets.stays.contents i)) in (
       sym (take-append-drop n (drop old.place old.contents)) ∙ (λ i. sym gets.bytes i ++ rest i),
       λ none room. sym rest ∙ ap (λ k. drop k (drop old.place old.contents)) none ∙ gets.some none room,

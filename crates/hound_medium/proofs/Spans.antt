@@ -45,8 +45,7 @@ module _ (At : ℕ → List ℕ → Type 0) (split : ℕ) where
         flushed = flushed;
         each = λ k from to. let n = k - length old.past in
             let is_k : length old.past + n ≡ k = omega arith in
-            let here : overlay old.contents
-            (placed at (take n bytes)) ≡ moment new.start new.past k =
+            let here : overlay old.contents (placed at (take n bytes)) ≡ moment new.start new.past k =
             (λ i. overlay (replays i) (sym (take-placed n at bytes) i))
             ∙ sym (moment_after old.start old.past (placed at bytes) n)
             ∙ (λ i. moment (sym start i) (sym past i) (is_k i)) in

@@ -26,8 +26,7 @@ pub taken_beyond : (old mid new : Option (List ℕ)) (at k n : ℕ) (buf given :
     → Consumes mid new (take n given) → Consumes old new (take (at + n) (put_mid at k buf given))
 taken_beyond old mid new at k n buf given within fits before more =
     let part = slice_range-put_mid at k n buf given within fits in
-    let joined =
-    front_and_part at (at + n) buf (put_mid at k buf given) (omega arith)
+    let joined = front_and_part at (at + n) buf (put_mid at k buf given) (omega arith)
     (take-put_mid_below _ _ _ _ _ (le_refl _) within) in
     subst (Consumes old new) (ap (λ l. take at buf ++ l) (sym part) ∙ joined)
     (Consumes-trans _ _ _ _ _ before more)

@@ -175,8 +175,7 @@ module _ {A : Type 0} (rejection : SampleFormat → ℕ → ℕ → Option ReadR
       let last : ReaderState (Option (List ℕ)) = further next 1 torn new in
       subst (Gives (map Ok values ++ (Err (error_of_sample reason fault) ∷ [])) old)
       (let e : last ≡ further old (k + 1) (k * width + torn) new = grind (arith, common_steps) in e)
-      (items_more (map Ok values) _ old next last
-      (samples_are_items values old mid (omega (arith, few)) before)
+      (items_more (map Ok values) _ old next last (samples_are_items values old mid (omega (arith, few)) before)
       (let taken : CountsTaken (λ (bytes : Option (List ℕ)). bytes) next last =
       (torn, refl, torn_takes r m width values reason fault given old.reader mid new small has before read unknown) in
       grind (arith, common_steps, taken, read)))
@@ -219,8 +218,7 @@ module _ {R A : Type 0} (left : R → Option (List ℕ))
       let begin = over_bytes left old in
       let width = old.spec_ex.bytes_per_sample in
       let front = subst (λ a. FillsFront count a (take wanted xs) ys) shown fills in
-      let (taken, rest, long) =
-      front_filled count wanted xs ys (omega (arith, is)) size front.within front.rest in
+      let (taken, rest, long) = front_filled count wanted xs ys (omega (arith, is)) size front.within front.rest in
       let wide = length-take-le wanted xs (omega (arith, is)) in
       let all = length-take-le count ys front.within in
       let few : requested (length (take count ys)) answer ≤ samples_left old =
@@ -298,8 +296,7 @@ module _ {A : Type 0} (rejection : SampleFormat → ℕ → ℕ → Option ReadR
       (subst (λ b. Reads r m width b mid.reader (Ok sample)) known step.read) in
       let (is', left') = value_read r m width xs mid'.reader other
       (subst (λ b. Reads r m width b mid'.reader (Ok other)) known step'.read) in
-      let same : mid' ≡ mid =
-      grind (arith, common_steps) in
+      let same : mid' ≡ mid = grind (arith, common_steps) in
       let (more, end) = same_samples samples others mid block new (drop width xs) left (omega (arith, size)) first
       (subst (λ s. Gives rejection meaning (map Ok others) s new) same second) in
       ((λ i. (is ∙ sym is') i ∷ more i), end)

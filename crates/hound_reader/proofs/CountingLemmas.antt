@@ -12,8 +12,7 @@ pub given_read : (first old new : Option (List ℕ)) (given count sum : ℕ) (bu
 given_read (Some xs) (Some ys) (Some zs) given count sum buf few h t s =
     let n = length xs - length ys in
     let size = length-take-le count buf few in
-    let e : length ys ≡ count + length zs =
-    omega (arith, size, ap length t ∙ length-append (take count buf) zs) in
+    let e : length ys ≡ count + length zs = omega (arith, size, ap length t ∙ length-append (take count buf) zs) in
     let tail : zs ≡ drop count ys = sym (ap (drop count) t ∙ drop_at (take count buf) zs count size) in
     let same : n + count ≡ length xs - length zs = omega (arith, e, h.0) in (
       omega (arith, e, h.0),

@@ -64,8 +64,7 @@ module _ {R : Type 0} (state : R → MediumState) (start time : ℕ) (old new : 
       let p : suc (time * old.spec_ex.spec.channels) * width ≤ old.num_samples * width =
       mul-le-mul_right width (frame_inside time old.spec_ex.spec.channels old.num_samples t) in
       let l : length (unread (state new.reader)) ≡ length (state old.reader).contents -
-      (start + bytes_before time old.spec_ex) =
-      grind (arith, common_steps, sought_unread) in
+      (start + bytes_before time old.spec_ex) = grind (arith, common_steps, sought_unread) in
       omega (arith, p, l, whole)
 
 module _ {R A : Type 0} (state : R → MediumState) (left : R → Option (List ℕ))
@@ -137,8 +136,7 @@ module _ {R : Type 0} (left : R → Option (List ℕ)) (state : R → MediumStat
         let p = counted_after start calls mid new (passed start old mid at_count step) run in
         (p.0, p.1 ∙ step.in_place.contents, p.2 ∙ step.spec_ex, p.3 ∙ step.num_samples)
     counted_after start (Some time ∷ calls) old new at_count (mid, step, run) =
-        let p = counted_after start calls mid new
-        (sought_counted state start time old mid
+        let p = counted_after start calls mid new (sought_counted state start time old mid
         (record { at_count = at_count; seeks = step })) run in (
           p.0,
           p.1 ∙ step.source.stays.contents,
@@ -160,12 +158,10 @@ module _ {R : Type 0} (left : R → Option (List ℕ)) (state : R → MediumStat
         let start = (state first.reader).place in
         let p = counted_after start calls first old (omega (arith, fresh)) run in
         let bytes = drop start (state old.reader).contents in
-        let P : WavSpecEx → List ℕ → Type 0 =
-        λ s l. IsMeaningOf (meaning_at meaning s)
+        let P : WavSpecEx → List ℕ → Type 0 = λ s l. IsMeaningOf (meaning_at meaning s)
         (container_at s.bytes_per_sample (samples_before time s) l) next in
         let inside : time < old.num_samples / old.spec_ex.spec.channels = rw (p.2, p.3) t in
         let takes : rejection_at rejection old.spec_ex ≡ None = rw p.2 taken in
-        let there =
-        sought_item state left rejection meaning start time old mid new next (modelled mid.reader)
+        let there = sought_item state left rejection meaning start time old mid new next (modelled mid.reader)
         (record { at_count = p.0; seeks = seeks }) inside takes step in
         subst (λ l. P first.spec_ex l) (ap (drop start) p.1) (subst (λ s. P s bytes) p.2 there)

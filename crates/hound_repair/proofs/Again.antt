@@ -155,12 +155,9 @@ module _ (looks again : Bool) (old mid next new : MediumState) (found other : Re
       let start = first.start in
       let all = found_length found in
       let has = right looks old mid found first apart sound in
-      let agree =
-      heads_agree next.contents other.spec_ex s second.len has.readable.len second.start start
-      second.is.head
-      (subst (λ c. Head c s has.readable.len start) (sym same) has.readable.head) in
-      let len : second.len ≡ all = agree.1
-      ∙ sym (head_field mid.contents s has.readable.len start has.readable.head)
+      let agree = heads_agree next.contents other.spec_ex s second.len has.readable.len second.start start
+      second.is.head (subst (λ c. Head c s has.readable.len start) (sym same) has.readable.head) in
+      let len : second.len ≡ all = agree.1 ∙ sym (head_field mid.contents s has.readable.len start has.readable.head)
       ∙ has.length_says in
       let frames = frames_same looks old mid found first apart sound in
       let riff = first.riff (is_right looks found.state apart done) in

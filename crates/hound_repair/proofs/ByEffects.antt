@@ -125,12 +125,10 @@ module _ (looks keeps : Bool) (old mid new : MediumState) (d : Damage) (sound : 
   moments_as true result is replays left =
       let same = finds.puts.stays.contents in
       let span = spans (PartlyMended start n mid.contents) (mending_effects start n (held start mid.contents)) result
-      mid new
-      (allowed true start n mid.contents
+      mid new (allowed true start n mid.contents
       (head_beyond old.contents d.head.spec_ex d.head.data_length start finds.found.head)
       (omega (arith, ap length same, head_inside old.contents d.head.spec_ex d.head.data_length start finds.found.head))
-      small (fits is)) replays
-      (subst (λ h. PerformedOn true (mending_effects start n h) result mid new)
+      small (fits is)) replays (subst (λ h. PerformedOn true (mending_effects start n h) result mid new)
       (finds.held_is ∙ ap (λ c. held start c) (sym same)) left) in
       inr (
         repair_of d,
@@ -158,8 +156,7 @@ module _ (looks keeps : Bool) (old mid new : MediumState) (d : Damage) (sound : 
   lost_as true result is replays left sector contents settled wide lost =
       let same = finds.puts.stays.contents in
       let beyond = head_beyond old.contents d.head.spec_ex d.head.data_length start finds.found.head in
-      let inside : start ≤ length mid.contents =
-      omega (
+      let inside : start ≤ length mid.contents = omega (
         arith,
         ap length same,
         head_inside old.contents d.head.spec_ex d.head.data_length start finds.found.head,
@@ -184,8 +181,7 @@ module _ (looks keeps : Bool) (old mid new : MediumState) (d : Damage) (sound : 
             (finds.held_is ∙ ap (λ c. held start c) (sym same)) left) lost)),
       )
   lost_as false result is replays (ok, same) sector contents settled wide lost =
-      inl (kept_loss sector contents mid new
-      (subst (PutsNothing mid) (sym same)
+      inl (kept_loss sector contents mid new (subst (PutsNothing mid) (sym same)
       (record { stays = record { contents = refl; start = refl; past = refl }; flushed = refl }))
       replays (finds.puts.flushed ∙ settled ∙ sym (ap length finds.puts.stays.past)) lost
       ∙ finds.puts.stays.contents)

@@ -20,11 +20,9 @@ enough : (n m : ℕ) (bytes : List ℕ) → length bytes ≤ n → length bytes 
 unfolding are_at_most
 enough (suc n) (suc m) (x ∷ bytes) a b =
     ap (λ rest. has_known_tag (x ∷ bytes) || rest)
-    (by_content (chunk_content (x ∷ bytes))
-    (λ content. are_at_most n (drop (8 + content) (x ∷ bytes)))
+    (by_content (chunk_content (x ∷ bytes)) (λ content. are_at_most n (drop (8 + content) (x ∷ bytes)))
     (λ content. are_at_most m (drop (8 + content) (x ∷ bytes)))
-    (λ content. enough n m (drop (8 + content) (x ∷ bytes))
-    (omega (arith, length-drop (8 + content) (x ∷ bytes), a))
+    (λ content. enough n m (drop (8 + content) (x ∷ bytes)) (omega (arith, length-drop (8 + content) (x ∷ bytes), a))
     (omega (arith, length-drop (8 + content) (x ∷ bytes), b))))
 enough _ _ _ a b = grind (arith, common_steps)
 

@@ -29,8 +29,7 @@ two_put p riff len c x y beyond inside x_is y_is =
     let count : p ≡ length front + (p - 8) = omega (arith, long, beyond) in
     let eight : p ≡ 8 + (p - 8) = omega (arith, beyond) in
     let first : take p (take 4 c ++ (x ++ drop 8 c)) ≡ front ++ drop 8 (take p c) =
-    ap (take p) is ∙ ap (λ k. take k (front ++ drop 8 c)) count
-    ∙ take-append-add front (drop 8 c) (p - 8)
+    ap (take p) is ∙ ap (λ k. take k (front ++ drop 8 c)) count ∙ take-append-add front (drop 8 c) (p - 8)
     ∙ ap (λ l. front ++ l) (sym (drop-take 8 (p - 8) c) ∙ ap (λ k. drop 8 (take k c)) (sym eight)) in
     let last : drop (p + 4) (take 4 c ++ (x ++ drop 8 c)) ≡ drop (p + 4) c =
     ap (drop (p + 4)) is ∙ drop-append-drop 8 c front (p + 4) (omega (arith, beyond)) long in

@@ -56,8 +56,7 @@ module _ (looks : Bool) (old new : MediumState) (found : Repair)
     (list : List (List ℕ)) (sound : IsSoundSpec found.spec_ex)
     (wide : AreWide found.spec_ex.bytes_per_sample list)
     (stored : IsStored r.start (concat list) 0 (length (concat list)) old.contents)
-    (no_pad : IsNoPad found.spec_ex (shown_length r.start r.len old.contents)
-    (held r.start old.contents) list) where
+    (no_pad : IsNoPad found.spec_ex (shown_length r.start r.len old.contents) (held r.start old.contents) list) where
   abbrev s : WavSpecEx
   s = found.spec_ex
 

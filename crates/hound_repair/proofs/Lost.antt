@@ -77,8 +77,7 @@ module _ (sector : ℕ) (contents : List ℕ) where
     part_at : (j : ℕ) → new.flushed ≤ j → j ≤ length new.past → Part (moment new.start new.past j)
     part_at j from to =
         let span = span_puts (λ _. Part) 0 old new p (take puts.count bs) replays puts.start (puts.past refl)
-        (inl puts.flushed)
-        (λ k within. (
+        (inl puts.flushed) (λ k within. (
           k,
           omega (arith, within, length-take puts.count bs),
           ap (λ l. overlay old.contents (placed p l))
@@ -104,8 +103,7 @@ module _ (sector : ℕ) (contents : List ℕ) where
               (l.3 ∙ ap length el.2 ∙ overlay_long p (take el.0 bs) old.contents (part_in el.0 el.1 inside)
               ∙ sym (overlay_long p (take e.0 bs) old.contents (part_in e.0 e.1 inside)))
               (λ q few.
-              let elsewhere : (q < p) ⊎ (p + length bs ≤ q) → get_or contents q 0 ≡ get_or chosen q 0 =
-              λ out.
+              let elsewhere : (q < p) ⊎ (p + length bs ≤ q) → get_or contents q 0 ≡ get_or chosen q 0 = λ out.
               let t = lost.sectors (q / sector) in
               let et = part_at t.0 t.1 t.2 in
               let out_of : (j : ℕ) → (q < p) ⊎ (p + length (take j bs) ≤ q) =

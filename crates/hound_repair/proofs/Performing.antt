@@ -65,16 +65,14 @@ spans P (Sync ∷ effects) result old new (here, rest) replays (mid, Err e, flus
     (flushed_since (Err e) old mid flushes) here)
 spans P (Pad at ∷ effects) result old new (each, rest) replays (mid, Ok u, puts, then) =
     join (λ _. P) 0 old mid new (write_span P at 0 (0 ∷ []) (Ok u) old mid puts replays each)
-    (spans P effects result mid new
-    (subst (Allowed P effects)
+    (spans P effects result mid new (subst (Allowed P effects)
     (sym (puts.contents ∙ ap (λ k. overlay old.contents (placed at (take k (0 ∷ [])))) puts.whole)) rest)
     (replays_on at (0 ∷ []) (Ok u) old mid puts replays) then)
 spans P (Pad at ∷ effects) result old new (each, rest) replays (mid, Err e, puts, (is, same)) =
     subst (Span (λ _. P) 0 old) (sym same) (write_span P at 0 (0 ∷ []) (Err e) old mid puts replays each)
 spans P (Size at size ∷ effects) result old new (each, rest) replays (mid, Ok u, puts, then) =
     join (λ _. P) 0 old mid new (write_span P at 0 (bytes_of 4 size) (Ok u) old mid puts replays each)
-    (spans P effects result mid new
-    (subst (Allowed P effects)
+    (spans P effects result mid new (subst (Allowed P effects)
     (sym (puts.contents ∙ ap (λ k. overlay old.contents (placed at (take k (bytes_of 4 size)))) puts.whole)) rest)
     (replays_on at (bytes_of 4 size) (Ok u) old mid puts replays) then)
 spans P (Size at size ∷ effects) result old new (each, rest) replays (mid, Err e, puts, (is, same)) =
@@ -203,8 +201,7 @@ module _ (keeps : Bool) (start n : ℕ) (c : List ℕ) (beyond : 20 ≤ start) (
   at_pad [] result old new is here rest =
       grind (arith, common_steps, append-nil, x_is, partly_sizes, ends)
   at_pad (b ∷ more) result old new is here (mid, Err e, flushes, (was, last)) =
-      let same : new.contents ≡ x =
-      ap (λ (l : MediumState). l.contents) last ∙ flushes.stays.contents ∙ here in
+      let same : new.contents ≡ x = ap (λ (l : MediumState). l.contents) last ∙ flushes.stays.contents ∙ here in
       (subst (PartlyMended start n c) (sym same) partly_sizes, λ ok. absurd (cc (was, ok)))
   at_pad (b ∷ more) result old new is here (mid, Ok u, flushes, (then, Ok v, puts, rest)) =
       let zero_is : m ≡ 0 ∷ [] = m_zero (subst (λ l. 1 ≤ length l) (sym is) (omega arith)) in
@@ -240,8 +237,7 @@ module _ (keeps : Bool) (start n : ℕ) (c : List ℕ) (beyond : 20 ≤ start) (
   after_riff result old new here (mid, Ok u, flushes, rest) =
       at_length result mid new (flushes.stays.contents ∙ here) rest
   after_riff result old new here (mid, Err e, flushes, (is, last)) =
-      let same : new.contents ≡ y =
-      ap (λ (l : MediumState). l.contents) last ∙ flushes.stays.contents ∙ here in
+      let same : new.contents ≡ y = ap (λ (l : MediumState). l.contents) last ∙ flushes.stays.contents ∙ here in
       (subst (PartlyMended start n c) (sym same) (partly_riff 4 (omega arith)), λ ok. absurd (cc (is, ok)))
 
   at_riff : (result : Result (Unit {0}) IoFault) (old new : MediumState) → old.contents ≡ c
@@ -262,8 +258,7 @@ module _ (keeps : Bool) (start n : ℕ) (c : List ℕ) (beyond : 20 ≤ start) (
   mends result old new here (mid, Ok u, flushes, rest) =
       at_riff result mid new (flushes.stays.contents ∙ here) rest
   mends result old new here (mid, Err e, flushes, (is, last)) =
-      let same : new.contents ≡ c =
-      ap (λ (l : MediumState). l.contents) last ∙ flushes.stays.contents ∙ here in
+      let same : new.contents ≡ c = ap (λ (l : MediumState). l.contents) last ∙ flushes.stays.contents ∙ here in
       (subst (PartlyMended start n c) (sym same) partly_none, λ ok. absurd (cc (is, ok)))
 
   -- wherever they stop the contents are partly mended

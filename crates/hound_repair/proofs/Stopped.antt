@@ -91,6 +91,5 @@ module _ (looks : Bool) (old : List ℕ) (mid : MediumState) (found : Repair) (l
       → (IsTrue again → other.state ≡ HasChunksAfterData → ⊥)
       → (other.spec_ex ≡ s) × (other.frames ≡ found.frames)
   resumed_by_effects again new other second alone =
-      let agree =
-      heads_agree mid.contents other.spec_ex s second.len says second.start start second.is.head
+      let agree = heads_agree mid.contents other.spec_ex s second.len says second.start start second.is.head
       head_now in grind (arith, common_steps, frames_are, not_followed, frames_now)

@@ -15,8 +15,7 @@ containers_front width (suc count) a b same =
     sym (take-take width (width + count * width) a (omega arith)) ∙ ap (take width) all
     ∙ take-take width (width + count * width) b (omega arith) in
     let rest : take (count * width) (drop width a) ≡ take (count * width) (drop width b) =
-    sym (drop-take width (count * width) a) ∙ ap (drop width) all
-    ∙ drop-take width (count * width) b in
+    sym (drop-take width (count * width) a) ∙ ap (drop width) all ∙ drop-take width (count * width) b in
     λ i. first i ∷ containers_front width count (drop width a) (drop width b) rest i
 
 -- more whole containers than one
@@ -29,8 +28,7 @@ containers_append w zero more bytes =
 containers_append w (suc few) more bytes =
     ap (λ n. containers w n bytes) (let e : suc few + more ≡ suc (few + more) = omega arith in e)
     ∙ ap (λ (l : List (List ℕ)). take w bytes ∷ l)
-    (containers_append w few more (drop w bytes)
-    ∙ ap (λ l. containers w few (drop w bytes) ++ containers w more l)
+    (containers_append w few more (drop w bytes) ∙ ap (λ l. containers w few (drop w bytes) ++ containers w more l)
     (drop-drop (few * w) w bytes
     ∙ ap (λ n. drop n bytes) (let e : w + few * w ≡ suc few * w = omega arith in e)))
 

@@ -121,8 +121,7 @@ spaced a d c some lo hi is most =
     let L = 2 ^ 1074 in
     let lo' : 2 ^ (52 + 1074) * d ≤ a * L = omega (arith, mul-le-mul_right L lo) in
     let hi' : a * L < 2 ^ (53 + 1074) * d = omega (arith, mul-lt-mul_of_pos_right hi (pow_pos 1074)) in
-    let k : size (a * L / d) - 53 ≡ 1074 =
-    omega (
+    let k : size (a * L / d) - 53 ≡ 1074 = omega (
       arith,
       size-gt (a * L / d) (52 + 1074) ((le-div_iff_mul-le some).1 lo'),
       size-le (a * L / d) (53 + 1074) ((div-lt_iff_lt-mul some).1 hi'),

@@ -44,8 +44,7 @@ module _ {V : Type 0} (container : V → Result (List ℕ) Rejection) where
   ok_append (first ∷ values) value =
       and_more-ok (container first) (all_containers container (values ++ value ∷ []))
       ∙ ap (λ b. is_ok (container first) && b) (ok_append values value)
-      ∙ sym (and_assoc (is_ok (container first)) (is_ok (all_containers container values))
-      (is_ok (container value)))
+      ∙ sym (and_assoc (is_ok (container first)) (is_ok (all_containers container values)) (is_ok (container value)))
       ∙ ap (λ b. b && is_ok (container value))
       (sym (and_more-ok (container first) (all_containers container values)))
 
@@ -78,8 +77,7 @@ module _ {V : Type 0} (container : V → Result (List ℕ) Rejection) where
       → all_containers container values ≡ Err rejection
   first_rejected values i value rejection inside is have rejected =
       ap (all_containers container)
-      (parted values i inside
-      ∙ (λ j. take i values ++ sym is j ∷ drop (suc i) values))
+      (parted values i inside ∙ (λ j. take i values ++ sym is j ∷ drop (suc i) values))
       ∙ rejected_after (take i values) (drop (suc i) values) value rejection have rejected
     where
       parted : (values : List V) (i : ℕ) → i < length values
@@ -168,8 +166,7 @@ module _ {V : Type 0} (container : V → Result (List ℕ) Rejection) where
                   in e);
               count = ap suc rest.count;
               back = λ after. ap (λ l. containers width (suc (length others)) l) (append_assoc c (concat others) after)
-                  ∙ (λ i. take_at c (concat others ++ after) width wide i
-                  ∷ (containers width (length others)
+                  ∙ (λ i. take_at c (concat others ++ after) width wide i ∷ (containers width (length others)
                   (drop_at c (concat others ++ after) width wide i)))
                   ∙ ap (λ (l : List (List ℕ)). c ∷ l) (rest.back after);
             })
@@ -190,8 +187,7 @@ module _ {V : Type 0} (container : V → Result (List ℕ) Rejection) where
         ≡ joined_containers container (drop i values)
     joined_rest values i inside have =
         let front = joined_containers container (take i values) in
-        let size : length front ≡ width * i =
-        joined_size (take i values) (have_first values i have)
+        let size : length front ≡ width * i = joined_size (take i values) (have_first values i have)
         ∙ ap (λ n. width * n) (length-take-le i values inside) in
         ap (λ l. drop (width * i) (joined_containers container l)) (sym (take-append-drop i values))
         ∙ ap (drop (width * i))

@@ -122,8 +122,7 @@ module _ {A : Type 0} (meaning : List ℕ → A) (width : ℕ) where
   each_beyond at k count bytes xs values old mid new within some size taken is before =
       subst (λ items. ReadsEach None meaning width items old new)
       (sym (all_of at k count bytes xs values within is))
-      (each_append None meaning width _ _ old mid new before
-      (containers_read count bytes mid new some size taken))
+      (each_append None meaning width _ _ old mid new before (containers_read count bytes mid new some size taken))
 
   -- and so with an error that ended it
   pub each_ended : (at k count : ℕ) (bytes : List ℕ) (xs values : List A) (e : IoFault)
@@ -137,5 +136,4 @@ module _ {A : Type 0} (meaning : List ℕ → A) (width : ℕ) where
       subst (λ items. ReadsEach None meaning width items old new)
       (sym (ap (λ l. l ++ (Err (IoError e) ∷ [])) (all_of at k count bytes xs values within is)
       ∙ append_assoc (map Ok (take at xs)) (samples_of count bytes) (Err (IoError e) ∷ [])))
-      (each_append None meaning width _ _ old mid new before
-      (part_read count bytes mid new e enough few taken))
+      (each_append None meaning width _ _ old mid new before (part_read count bytes mid new e enough few taken))

@@ -22,9 +22,7 @@ store l at k byte inside = grind (arith, common_steps)
 
 pub four_stored : (l : List ℕ) (at width : ℕ) (bytes : List ℕ) → length bytes ≡ 4 → at + 4 ≤ length l → width ≤ 4
     → take (at + width)
-    (slice_set
-    (slice_set
-    (slice_set (slice_set l at (slice_index_or bytes 0 0)) (at + 1) (slice_index_or bytes 1 0))
+    (slice_set (slice_set (slice_set (slice_set l at (slice_index_or bytes 0 0)) (at + 1) (slice_index_or bytes 1 0))
     (at + 2) (slice_index_or bytes 2 0)) (at + 3) (slice_index_or bytes 3 0)) ≡ take at l
     ++ take width bytes
 four_stored l at width bytes four inside few =
@@ -36,17 +34,14 @@ four_stored l at width bytes four inside few =
     let l2 = slice_set l1 (at + 1) b in
     let l3 = slice_set l2 (at + 2) c in
     let l4 = slice_set l3 (at + 3) d in
-    let first : take (at + 1) l1 ≡ take at l ++ a ∷ [] =
-    take_more_set l at a (omega (arith, inside)) in
+    let first : take (at + 1) l1 ≡ take at l ++ a ∷ [] = take_more_set l at a (omega (arith, inside)) in
     let second : take (at + 2) l2 ≡ take at l ++ a ∷ b ∷ [] =
     store l1 at 1 b (omega (arith, inside, length-set l at a)) ∙ ap (λ p. p ++ b ∷ []) first
     ∙ append_assoc (take at l) (a ∷ []) (b ∷ []) in
     let third : take (at + 3) l3 ≡ take at l ++ a ∷ b ∷ c ∷ [] =
     store l2 at 2 c (omega (arith, inside, length-set l at a, length-set l1 (at + 1) b))
     ∙ ap (λ p. p ++ c ∷ []) second ∙ append_assoc (take at l) (a ∷ b ∷ []) (c ∷ []) in
-    let fourth : take (at + 4) l4 ≡ take at l ++ a ∷ b ∷ c ∷ d ∷ [] =
-    store l3 at 3 d
-    (omega (
+    let fourth : take (at + 4) l4 ≡ take at l ++ a ∷ b ∷ c ∷ d ∷ [] = store l3 at 3 d (omega (
       arith,
       inside,
       length-set l at a,

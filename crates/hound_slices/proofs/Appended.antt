@@ -21,8 +21,7 @@ pub sound_of : (s : WavSpecEx) (count : ℕ) → 0 < s.bytes_per_sample → coun
 sound_of s count some frames =
     let w = s.bytes_per_sample in
     let same : count * w ≡ 0 + count * w = omega arith in
-    let none : count * w % w ≡ 0 =
-    ap (λ n. n % w) same ∙ add-mul-mod_self_right 0 count w ∙ none_whole w in
+    let none : count * w % w ≡ 0 = ap (λ n. n % w) same ∙ add-mul-mod_self_right 0 count w ∙ none_whole w in
     let whole : (count * w % w == 0) ≡ true = ap (λ n. n == 0) none in
     let many : count * w / w ≡ count = mul-div_left count some in
     let even : (count * w / w % s.spec.channels == 0) ≡ true =

@@ -17,8 +17,7 @@ pub step_is : (n : ℕ) (task other : Task) (bytes read : List ℕ) (report said
     → AsksNext task n bytes report old new step → AsksNext other n read said was now step
 step_is n task other bytes read report said old was new now step t b r o w asks =
     subst (λ x. AsksNext x n read said was now step) t
-    (subst (λ x. AsksNext task n x said was now step) b
-    (subst (λ x. AsksNext task n bytes x was now step) r
+    (subst (λ x. AsksNext task n x said was now step) b (subst (λ x. AsksNext task n bytes x was now step) r
     (subst (λ x. AsksNext task n bytes report x now step) o
     (subst (λ x. AsksNext task n bytes report old x step) w asks))))
 

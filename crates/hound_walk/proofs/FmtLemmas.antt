@@ -31,8 +31,7 @@ fmt_and_rest len xs rest l = grind (arith, common_steps)
 
 -- the first sixteen bytes of a content, and those after them
 pub fmt_head : (len : ℕ) (h zs : List ℕ) → 16 ≤ len → length h ≡ 16 → fmt_of len (h ++ zs) ≡
-    (wave_format (fmt_fields h) >>= λ found.
-    by_tag (fmt_fields h).tag len found (take (fmt_len len - 16) zs))
+    (wave_format (fmt_fields h) >>= λ found. by_tag (fmt_fields h).tag len found (take (fmt_len len - 16) zs))
 unfolding fmt_said
 fmt_head len h zs big l =
     let n = fmt_len len in

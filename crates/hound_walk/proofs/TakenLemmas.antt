@@ -28,8 +28,7 @@ pub takes_after : (h : List ℕ) (o m n : Option (List ℕ)) (f g : Cause → Li
 takes_after h o m n f g P (Failed e) taken is same t = tt
 takes_after h o m n f g P (Rejected c) taken is same t =
     known_then h o m n (λ xs ys. AreTaken (f c xs) xs ys) (λ xs ys. AreTaken (g c xs) xs ys) taken t
-    (λ ys zs p. subst (λ i. AreTaken i (h ++ ys) zs) (sym (same c ys is))
-    (taken_then h ys zs (f c ys) p))
+    (λ ys zs p. subst (λ i. AreTaken i (h ++ ys) zs) (sym (same c ys is)) (taken_then h ys zs (f c ys) p))
 
 -- exactly h was taken
 pub takes_these : (h : List ℕ) (o n : Option (List ℕ)) (g : Cause → List ℕ → ℕ) (c : Cause)
@@ -80,8 +79,7 @@ walk_takes o m n found taken (Rejected c) walked fault t =
     let body = joined w.chunks in
     let front = riff_tag ++ (w.walk.size ++ (wave_tag ++ body)) in
     let k = chunk_taken taken c ys in
-    let parted : riff_tag ++ (w.walk.size ++ (wave_tag ++ (body ++ ys))) ≡ front ++ ys =
-    simp append_assoc in (
+    let parted : riff_tag ++ (w.walk.size ++ (wave_tag ++ (body ++ ys))) ≡ front ++ ys = simp append_assoc in (
       12 + taken + k,
       inr (
         w.chunks,

@@ -38,18 +38,13 @@ same_walk c i j [] [] x y cp cq e k l ex ey = (refl, e)
 same_walk c i j [] (q ∷ qs) x y cp (is, limit, cq) e k l ex ey =
     absurd (ex q (joined qs ++ y) is (omega arith) (e ∙ append_assoc (chunk_bytes q) (joined qs) y))
 same_walk c i j (p ∷ ps) [] x y (is, limit, cp) cq e k l ex ey =
-    absurd (ey p (joined ps ++ x) is (omega arith)
-    (sym e ∙ append_assoc (chunk_bytes p) (joined ps) x))
+    absurd (ey p (joined ps ++ x) is (omega arith) (sym e ∙ append_assoc (chunk_bytes p) (joined ps) x))
 same_walk c i j (p ∷ ps) (q ∷ qs) x y (isp, lp, cp) (isq, lq, cq) e k l ex ey =
-    let one =
-    same_chunk p q (joined ps ++ x) (joined qs ++ y) isp isq
-    (sym (append_assoc (chunk_bytes p) (joined ps) x) ∙ e
-    ∙ append_assoc (chunk_bytes q) (joined qs) y) in
+    let one = same_chunk p q (joined ps ++ x) (joined qs ++ y) isp isq
+    (sym (append_assoc (chunk_bytes p) (joined ps) x) ∙ e ∙ append_assoc (chunk_bytes q) (joined qs) y) in
     let cq' = subst (λ t. Chunks (c + length (chunk_bytes t)) qs) (sym one.0) cq in
-    let n : length (chunk_bytes p) ≡ length (chunk_bytes q) =
-    ap (λ t. length (chunk_bytes t)) one.0 in
-    let more =
-    same_walk (c + length (chunk_bytes p)) i j ps qs x y cp cq' one.1
+    let n : length (chunk_bytes p) ≡ length (chunk_bytes q) = ap (λ t. length (chunk_bytes t)) one.0 in
+    let more = same_walk (c + length (chunk_bytes p)) i j ps qs x y cp cq' one.1
     (omega (arith, length-append (chunk_bytes p) (joined ps)))
     (omega (arith, n, length-append (chunk_bytes q) (joined qs))) ex ey in
     (cc (one.0, more.0), more.1)
@@ -68,17 +63,14 @@ unfolding chunk_fault
 chunk_sound c found p rest is limit =
     let room = le-ltb greatest_u32 (c + 8) (omega arith) in
     let whole = spread p rest in
-    let enough =
-    le-ltb (length (p.tag ++ (p.size ++ (p.content ++ rest)))) 8
-    (omega (
+    let enough = le-ltb (length (p.tag ++ (p.size ++ (p.content ++ rest)))) 8 (omega (
       arith,
       is.tag,
       is.size,
       length-append p.tag (p.size ++ (p.content ++ rest)),
       length-append p.size (p.content ++ rest),
     )) in
-    let tag : take 4 (p.tag ++ (p.size ++ (p.content ++ rest))) ≡ p.tag =
-    take_at p.tag _ 4 is.tag in
+    let tag : take 4 (p.tag ++ (p.size ++ (p.content ++ rest))) ≡ p.tag = take_at p.tag _ 4 is.tag in
     let back : drop 4 (p.tag ++ (p.size ++ (p.content ++ rest))) ≡ p.size ++ (p.content ++ rest) =
     drop_at p.tag _ 4 is.tag in
     let size : take 4 (p.size ++ (p.content ++ rest)) ≡ p.size = take_at p.size _ 4 is.size in
@@ -106,14 +98,11 @@ data_sound c spec size rest limit four = grind (arith, common_steps)
 front_sound : (size rest : List ℕ) → length size ≡ 4 → front_fault (riff_tag ++ (size ++ (wave_tag ++ rest))) ≡ None
 unfolding front_fault
 front_sound size rest four =
-    let enough =
-    le-ltb (length (riff_tag ++ (size ++ (wave_tag ++ rest)))) 12
+    let enough = le-ltb (length (riff_tag ++ (size ++ (wave_tag ++ rest)))) 12
     (omega (arith, four, length-append size (wave_tag ++ rest))) in
-    let some =
-    le-ltb (length (riff_tag ++ (size ++ (wave_tag ++ rest)))) 4
+    let some = le-ltb (length (riff_tag ++ (size ++ (wave_tag ++ rest)))) 4
     (omega (arith, four, length-append size (wave_tag ++ rest))) in
-    let back : drop 4 (size ++ (wave_tag ++ rest)) ≡ wave_tag ++ rest =
-    drop_at size (wave_tag ++ rest) 4 four in
+    let back : drop 4 (size ++ (wave_tag ++ rest)) ≡ wave_tag ++ rest = drop_at size (wave_tag ++ rest) 4 four in
     rw (some, enough, back) refl
 
 no_front_fault : (bytes : List ℕ) (chunks : List Chunk) (rest : List ℕ) → Walk bytes chunks rest
@@ -131,8 +120,7 @@ pub heads_agree : (bytes : List ℕ) (s t : WavSpecEx) (m n h k : ℕ) → Head 
 heads_agree bytes s t m n h k a b =
     let w = same_walks bytes a.chunks b.chunks _ _ a.walk b.walk (data_ends _ a.size a.rest)
     (data_ends _ b.size b.rest) in
-    let e = same_front a.size b.size a.rest b.rest (a.four
-    ∙ sym b.four) (append_cancel_left data_tag _ _ w.1) in (
+    let e = same_front a.size b.size a.rest b.rest (a.four ∙ sym b.four) (append_cancel_left data_tag _ _ w.1) in (
       cc (w.0, a.spec_is, b.spec_is),
       cc (e.0, a.data_len, b.data_len),
       cc (w.0, a.place, b.place),

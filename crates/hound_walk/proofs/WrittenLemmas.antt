@@ -60,10 +60,8 @@ short_back : (s : WavSpecEx) → IsWritable s → s.spec.bits_per_sample ≤ 16 
 unfolding fmt_said by_tag wave_format_pcm
 short_back s w few =
     let p = pair_facts s.spec.sample_format s.spec.bits_per_sample s.bytes_per_sample w.pair in
-    let pass =
-    bytes_pass pcm s.spec.bits_per_sample s w (lit< tt) p.some_bits p.whole_bytes p.in_width in
-    let is_int =
-    short_is_int s.spec.sample_format s.spec.bits_per_sample s.bytes_per_sample w.pair few in
+    let pass = bytes_pass pcm s.spec.bits_per_sample s w (lit< tt) p.some_bits p.whole_bytes p.in_width in
+    let is_int = short_is_int s.spec.sample_format s.spec.bits_per_sample s.bytes_per_sample w.pair few in
     rw pass (ap (λ f. Ok (with_fields s s.spec.bits_per_sample f)) (sym is_int))
 
 long_back : (s : WavSpecEx) → IsWritable s → fmt_of 40 (long_fmt s) ≡ Ok s
@@ -110,8 +108,7 @@ length-joined-one len content = grind (arith, common_steps)
 
 header-parts : (s : WavSpecEx) (size len n : ℕ) (content rest : List ℕ) → sized_fmt s ≡ bytes_of 4 n ++ content
     → header s size len ++ rest ≡ riff_tag ++
-    (bytes_of 4 size ++
-    (wave_tag ++
+    (bytes_of 4 size ++ (wave_tag ++
     (fmt_tag ++ (bytes_of 4 n ++ (content ++ (data_tag ++ (bytes_of 4 len ++ rest)))))))
 unfolding header
 header-parts s size len n content rest e = grind (arith, common_steps)

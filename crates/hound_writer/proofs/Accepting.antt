@@ -42,8 +42,7 @@ pub accepts_rejected : {W : Type 0} (kind : Ghosts W)
     → Accepts kind asked (Err e) w w
 accepts_rejected kind w asked e counts replays mark faults answers =
     let old = kind.state w.medium in
-    let nothing : if_marked (mark_of {T = Unit {0}} (Err e)) asked ≡ [] =
-    ap (λ m. if_marked m asked) mark in
+    let nothing : if_marked (mark_of {T = Unit {0}} (Err e)) asked ≡ [] = ap (λ m. if_marked m asked) mark in
     let more = ap (λ l. length (concat l)) nothing in
     let none = append-nil (accepted_samples kind.state w) in
     record {
@@ -67,9 +66,7 @@ type_rejects kind w unsupported counts replays =
 pub room_fits : {W : Type 0} (w : WriterState W) (bytes : List ℕ) → HasRoom w (length bytes)
     → length bytes % w.spec_ex.bytes_per_sample ≡ 0
     → nat_le
-    (riff_size w.data_start
-    (data_length w + length
-    (concat (containers w.spec_ex.bytes_per_sample
+    (riff_size w.data_start (data_length w + length (concat (containers w.spec_ex.bytes_per_sample
     (length bytes / w.spec_ex.bytes_per_sample) bytes)))) greatest_u32 ≡ true
 room_fits w bytes room whole = grind (arith, common_steps, le-leb, joined_bytes)
 
@@ -174,10 +171,8 @@ module _ {W : Type 0} (kind : Ghosts W) (w : WriterState W) (none : w.buffered �
           let same : end ≤ length old.contents → (k : ℕ)
           → take end (overlay old.contents (placed end (take k bs))) ≡ take end old.contents =
           λ whole k. take_overlay_before (take k bs) end end old.contents (omega arith) whole in
-          let fixed : IsWhole kind.state w
-          → Span (λ _ c. take end c ≡ take end old.contents) 0 old new =
-          λ whole. span_puts
-          (λ _ c. take end c ≡ take end old.contents) 0 old new end bs replays puts.start
+          let fixed : IsWhole kind.state w → Span (λ _ c. take end c ≡ take end old.contents) 0 old new =
+          λ whole. span_puts (λ _ c. take end c ≡ take end old.contents) 0 old new end bs replays puts.start
           (puts.past kept) (inl puts.flushed) (λ k within. same whole k) in
           record {
             counts =
@@ -236,9 +231,7 @@ module _ {W : Type 0} (kind : Ghosts W) (w : WriterState W) (none : w.buffered �
           search rules;
       file = λ modelled. let p = puts modelled in
           let f = goes_beside kind.state (end + length bytes) false w m sound (whole_written kind.state w none sound)
-          p.faults
-          (around kind w at_most m bytes (all_out false) modelled p (end + length bytes) refl)
-          in
+          p.faults (around kind w at_most m bytes (all_out false) modelled p (end + length bytes) refl) in
           let none = append-nil (accepted_samples kind.state w) in
           search rules;
       moments =
@@ -262,12 +255,9 @@ module _ {W : Type 0} (kind : Ghosts W) (w : WriterState W) (none : w.buffered �
       file = λ modelled. let p = puts modelled in
           let last = after_put m (w.bytes_written + length bytes) in
           let samples = drop w.data_start (kind.state m).contents in
-          let more : IsWhole kind.state w
-          → accepted_samples kind.state last ≡ accepted_samples kind.state w ++ list =
-          λ whole.
-          samples_append kind.state w m (w.bytes_written + length bytes) w.buffered bytes sound whole
-          (omega (arith, ap length none))
-          (cc (
+          let more : IsWhole kind.state w → accepted_samples kind.state last ≡ accepted_samples kind.state w ++ list =
+          λ whole. samples_append kind.state w m (w.bytes_written + length bytes) w.buffered bytes sound whole
+          (omega (arith, ap length none)) (cc (
             take-add w.bytes_written (length bytes) samples,
             data_stays kind w at_most m bytes (all_out true) modelled p whole,
             drop-drop w.bytes_written w.data_start (kind.state m).contents,

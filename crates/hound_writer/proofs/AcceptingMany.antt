@@ -54,14 +54,10 @@ module _ {V : Type 0} (container : V → ℕ → ℕ → Result (List ℕ) Rejec
           → whole_containers s (sample_bytes container s values) ≡ containers_in container s values
       go (Err rejection) is none = cc
       go (Ok list) is one =
-          let all =
-          joined (λ v. container v s.spec.bits_per_sample s.bytes_per_sample) s.bytes_per_sample
-          (λ v c has. (sized v s.spec.bits_per_sample s.bytes_per_sample c has).0) values list is
-          in
-          let count : length (sample_bytes container s values) / s.bytes_per_sample
-          ≡ length list =
-          ap (λ n. n / s.bytes_per_sample) all.size
-          ∙ mul-div_cancel_left (length values) some ∙ sym all.count in
+          let all = joined (λ v. container v s.spec.bits_per_sample s.bytes_per_sample) s.bytes_per_sample
+          (λ v c has. (sized v s.spec.bits_per_sample s.bytes_per_sample c has).0) values list is in
+          let count : length (sample_bytes container s values) / s.bytes_per_sample ≡ length list =
+          ap (λ n. n / s.bytes_per_sample) all.size ∙ mul-div_cancel_left (length values) some ∙ sym all.count in
           ap Ok ((λ i. containers s.bytes_per_sample (count i)
           ((all.bytes ∙ sym (append-nil (concat list))) i)) ∙ all.back [])
           ∙ sym is
@@ -99,14 +95,11 @@ module _ {V : Type 0} (container : V → ℕ → ℕ → Result (List ℕ) Rejec
           (Err TooLong) w w
       many_too_long have none =
           let size = size_of w.spec_ex have in
-          let long : length (sample_bytes container w.spec_ex values)
-          ≡ length values * w.spec_ex.bytes_per_sample =
+          let long : length (sample_bytes container w.spec_ex values) ≡ length values * w.spec_ex.bytes_per_sample =
           omega (arith, size) in
           many_asked (Err TooLong) w have
-          (bytes_too_long kind w (sample_bytes container w.spec_ex values) counts
-          replays
-          (ap (λ n. n % w.spec_ex.bytes_per_sample) size
-          ∙ mul-mod_right w.spec_ex.bytes_per_sample (length values))
+          (bytes_too_long kind w (sample_bytes container w.spec_ex values) counts replays
+          (ap (λ n. n % w.spec_ex.bytes_per_sample) size ∙ mul-mod_right w.spec_ex.bytes_per_sample (length values))
           (λ room. none (subst (HasRoom w) long room)))
 
       -- a sample takes a byte at least

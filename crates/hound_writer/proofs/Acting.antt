@@ -92,8 +92,7 @@ kept_counted : (f : FoundFile) (b : Bool) (m : MediumState) (file : Begun) (fram
     → rest_follows f f.data_length ≡ b
     → Directed f.spec_ex file [] (resumed_recorder f f.data_length) m
 kept_counted f true m file frames d whole is =
-    rw is (idle f.spec_ex file frames _ m
-    (step_same f.spec_ex file [] _ m Idle true
+    rw is (idle f.spec_ex file frames _ m (step_same f.spec_ex file [] _ m Idle true
     (step_needs f.spec_ex file [] _ m d refl)) refl whole refl)
 kept_counted f false m file frames d whole is =
     rw (is, eq-eqb f.data_length f.data_length refl) (idle f.spec_ex file frames _ m d refl whole refl)

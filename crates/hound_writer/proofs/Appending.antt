@@ -27,8 +27,7 @@ sound_head medium s len h sound after none = grind (arith, common_steps)
 pub at_most_on : (s : WavSpecEx) (len h : ℕ) (contents new : List ℕ) → Head contents s len h
     → new ≡ contents → CountsAtMost s h len new
 at_most_on s len h contents new head same =
-    let says : field (h - 4) new ≡ len =
-    ap (field (h - 4)) same ∙ head_field contents s len h head in
+    let says : field (h - 4) new ≡ len = ap (field (h - 4)) same ∙ head_field contents s len h head in
     record {
       head = rw (says, same) head;
       counted = omega (arith, says);

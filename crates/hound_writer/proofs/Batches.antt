@@ -54,8 +54,7 @@ pub batch_accepted : {W : Type 0} (kind : Ghosts W)
 batch_accepted kind answer a b values memory fits bits width accepts =
     let s = a.spec_ex in
     let have : IsOk (containers_in int_container s values) = rw (bits, width) fits in
-    let bytes : sample_bytes int_container s values ≡ i16_bytes values =
-    rw (bits, width) (joined_i16s values fits) in
+    let bytes : sample_bytes int_container s values ≡ i16_bytes values = rw (bits, width) (joined_i16s values fits) in
     let some : 1 ≤ s.bytes_per_sample = omega (arith, width) in
     accepts_beside kind _ answer a b memory
     (rw (← bytes, asked_is int_container int_container-in_width values s some have) accepts)

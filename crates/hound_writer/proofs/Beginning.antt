@@ -47,8 +47,7 @@ module _ {W : Type 0} (kind : Ghosts W) (s : WavSpecEx) (old : MediumState)
     at_most_begin =
         let size = length-header s 0 0 in
         let p = length (header s 0 0) - 4 in
-        let none : field p (kind.state medium).contents ≡ 0 =
-        ap (field p) contents_begin
+        let none : field p (kind.state medium).contents ≡ 0 = ap (field p) contents_begin
         ∙ field-header s p rest (omega (arith, size, data_start_least s)) in
         record {
           head = rw (none, size, contents_begin) (header_head s 0 0 rest writable (omega arith));
@@ -60,8 +59,7 @@ module _ {W : Type 0} (kind : Ghosts W) (s : WavSpecEx) (old : MediumState)
         let h = header s 0 0 in
         let w = of_fields medium s (length h) 0 [] [] in
         let sound = sound_begin medium s (length h) writable (length-header s 0 0) in
-        let whole : IsWhole kind.state w =
-        omega (arith, ap length contents_begin, length-append h rest) in
+        let whole : IsWhole kind.state w = omega (arith, ap length contents_begin, length-append h rest) in
         let put = rw puts.whole at puts.takes in
         let has : HasHeader s (kind.state medium).contents =
         (0, 0, ap (take (length h)) contents_begin ∙ take_at h rest (length h) refl) in

@@ -122,10 +122,8 @@ module _ {W : Type 0} (kind : Ghosts W) (w : WriterState W)
           → StaysStored w.data_start (concat (accepted_samples kind.state w)) (kind.state w.medium) (kind.state m)
       stored_out modelled kept whole =
           let held = drop w.data_start old.contents in
-          let size : w.data_start + length (take w.bytes_written held) ≡ end =
-          ap (λ n. w.data_start + n)
-          (length-take-le w.bytes_written held
-          (omega (arith, whole, length-drop w.data_start old.contents))) in
+          let size : w.data_start + length (take w.bytes_written held) ≡ end = ap (λ n. w.data_start + n)
+          (length-take-le w.bytes_written held (omega (arith, whole, length-drop w.data_start old.contents))) in
           rw (joined_samples kind.state w known.sound whole)
           (puts_stored w.data_start end (take w.bytes_written held) w.buffered (puts modelled).count old (kind.state m)
           size ((puts modelled).past kept))
@@ -134,8 +132,7 @@ module _ {W : Type 0} (kind : Ghosts W) (w : WriterState W)
       moments_out modelled kept =
           goes_at_each kind w at_most m w.buffered (all_out all) modelled (puts modelled) kept
           (replays modelled kept)
-          (moments (stored_out modelled kept)
-          (at_each kind shorter refl sound_shorter at_most m w.buffered
+          (moments (stored_out modelled kept) (at_each kind shorter refl sound_shorter at_most m w.buffered
           (all_out all) modelled (puts modelled) kept (replays modelled kept)))
 
       stays_around : IsTrue kind.tells → StaysAround kind.state (data_end w) w (kind.state m)
@@ -225,6 +222,5 @@ module _ {W : Type 0} (kind : Ghosts W) (w : WriterState W)
       let both = whole_more w.bytes_written (length bytes) w.spec_ex.bytes_per_sample known.whole_written whole in
       let at_most = λ (modelled : IsTrue kind.tells).
       at_most_more w.spec_ex w.data_start w.bytes_written (w.bytes_written + length bytes) (kind.state m).contents
-      (omega arith)
-      (still kind w known.at_most m bytes (all_out true) modelled (puts modelled)) in
+      (omega arith) (still kind w known.at_most m bytes (all_out true) modelled (puts modelled)) in
       search rules

@@ -72,8 +72,7 @@ pub save_call : (clean : Bool) (r : Result (Unit {0}) IoFault) (w : WriterState 
 save_call clean r w m idle did =
     let (frames, so, back) = is_zero (sample_count w % w.spec_ex.spec.channels) in
     let modelled = is_reported r frames in
-    let (does, at_most) =
-    publishes_effects r frames (reported_of r frames) modelled.0 m clean w idle (so, back) did in
+    let (does, at_most) = publishes_effects r frames (reported_of r frames) modelled.0 m clean w idle (so, back) did in
     record {
       answer = reported_of r frames;
       does = does;
@@ -103,8 +102,7 @@ block_call bytes (Ok x) w m idle room whole puts =
           let none = idle.none in
           let sound = sound_more log_kind w idle.none idle.sound (λ _. idle.at_most) m bytes room whole in
           let at_most = at_most_more w.spec_ex w.data_start w.bytes_written (w.bytes_written + length bytes)
-          m.state.contents
-          (omega arith) (still log_kind w (λ _. idle.at_most) m bytes _ refl all) in
+          m.state.contents (omega arith) (still log_kind w (λ _. idle.at_most) m bytes _ refl all) in
           search rules;
     }
 block_call bytes (Err e) w m idle room whole puts =
@@ -351,9 +349,7 @@ ended s file known old ok m health d all clean =
     let (high, order, low) = d.order synced in
     let (top, now, small) = all_ordered (effects_of old) high (old.data_start + old.data_length) d.result w.medium d.log
     (effects_ordered (is_sound old.health) old.data_start old.data_length high
-    (omega (arith, d.idle.sound.after_head, d.is.0))
-    (λ clean. low (sound_is old.health clean)))
-    order whole in
+    (omega (arith, d.idle.sound.after_head, d.is.0)) (λ clean. low (sound_is old.health clean))) order whole in
     (top, now, λ is. small (clean is))))
 
 pub step_save : (s : WavSpecEx) (file : Begun) (known : List Known) (old new : Recorder) (ok : Bool)
@@ -405,8 +401,7 @@ step_ascends s file known r ok m d synced =
     let (high, order, low) = d.order synced in
     let (last, ordered) = taken_ordered (effects_of r) r.number high (r.data_start + r.data_length)
     (effects_ordered (is_sound r.health) r.data_start r.data_length high
-    (omega (arith, d.idle.sound.after_head, d.is.0))
-    (λ clean. low (sound_is r.health clean))) in
+    (omega (arith, d.idle.sound.after_head, d.is.0)) (λ clean. low (sound_is r.health clean))) in
     let (top, now, small) =
     all_ordered (take r.number (effects_of r)) high last d.result d.writer.medium d.log ordered order d.performed in
     subst (λ (m : MediumState). Ascends m.past m.flushed (length m.past)) d.state now.ascends

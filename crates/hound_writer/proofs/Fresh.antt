@@ -46,6 +46,5 @@ module _ {W : Type 0} (kind : Ghosts W) (modelled : IsTrue kind.tells)
       (f.header, b.start ∙ ap data_start (sym b.spec)) in
       let starts : StartsWith (kind.state end).contents (canonical s list) =
       rw (samples, spec) at (p.canonical whole begun) in
-      let nothing : data_length first ≡ 0 =
-      (λ i. b.none_out i + length (b.none_buffered i)) in
+      let nothing : data_length first ≡ 0 = (λ i. b.none_out i + length (b.none_buffered i)) in
       grind (arith, common_steps, take_all, length-canonical)

@@ -59,9 +59,7 @@ module _ {W : Type 0} (kind : Ghosts W) (far : ℕ) (a : WriterState W)
             (rw (f.accepted whole) at (at_each.counts (f.whole whole)));
         front = λ whole. join (λ _ c. take reach_out c ≡ take reach_out first) 0 (kind.state a.medium)
             (kind.state m) new (before.front whole)
-            (span_weaker
-            (λ _ c. take (a.data_start + data_length a) c ≡ take
-            (a.data_start + data_length a) then)
+            (span_weaker (λ _ c. take (a.data_start + data_length a) c ≡ take (a.data_start + data_length a) then)
             (λ _ c. take reach_out c ≡ take reach_out first) 0 (kind.state m) new
             (λ j c same. front_later modelled whole c same) (at_each.front (f.whole whole)));
         stored =
@@ -80,15 +78,13 @@ module _ {W : Type 0} (kind : Ghosts W) (far : ℕ) (a : WriterState W)
       → Accepts kind asked answer a c
   accepts_after near asked answer c failed accepts =
       let adds = accepts.adds in
-      let end : data_end a ≤ data_end c =
-      omega (arith, adds.data_start, adds.data_length, length_same) in
+      let end : data_end a ≤ data_end c = omega (arith, adds.data_start, adds.data_length, length_same) in
       record {
         adds = grind (arith, common_steps, not_rejected, accept_as, length_same);
         file = λ modelled. let f = out.file modelled in
             let g = accepts.file modelled in
             let faults = ap (faults_reported answer) f.faults in
-            let rest = drop_later far (data_end c) then first (omega (arith, near, end))
-            f.around.rest in
+            let rest = drop_later far (data_end c) then first (omega (arith, near, end)) f.around.rest in
             search (rules, unless_then);
         moments = λ modelled kept. at_each_later modelled kept (kind.state c.medium) (accepts.moments modelled kept);
       }

@@ -96,8 +96,7 @@ module _ (f : FoundFile) (r : Recorder) (old : Log) (cut : IsCutOff f r.data_len
           let count : n / s.bytes_per_sample ≡ samples =
           ap (λ n. n / s.bytes_per_sample) counted ∙ mul-div_cancel samples cut.sound.1 in
           let fine = was_ok w end c.answer c.does (ap (λ k. k % s.spec.channels) count
-          ∙ mul-mod_left frames.0 s.spec.channels) refl
-          (c.mark ∙ ok) in
+          ∙ mul-mod_left frames.0 s.spec.channels) refl (c.mark ∙ ok) in
           let published = c.does.publishes refl in
           let reads = by c.answer fine (published.read cut.held) in
           let list = accepted_samples log_kind.state w in

@@ -36,8 +36,7 @@ module _ {T E : Type 0} (keeps : Bool) (p size new : ℕ) (result : Result T E)
       → Span (IsPatched p size a.contents new) (length b.past) a b
   riff_span has puts =
       let bytes = take puts.count (bytes_of 4 size) in
-      let size_of : length bytes ≡ puts.count =
-      length-take-le puts.count (bytes_of 4 size) puts.within in
+      let size_of : length bytes ≡ puts.count = length-take-le puts.count (bytes_of 4 size) puts.within in
       let long = ap length (puts.past kept) ∙ length_put a.past 4 bytes in
       span_puts (IsPatched p size a.contents new) (length b.past) a b 4 bytes replays puts.start
       (puts.past kept) (inl puts.flushed)
@@ -52,14 +51,12 @@ module _ {T E : Type 0} (keeps : Bool) (p size new : ℕ) (result : Result T E)
       → Span (IsPatched p size base new) (length a.past) a b
   field_span base has small so_far riff puts =
       let bytes = take puts.count (bytes_of 4 new) in
-      let long : length bytes ≡ puts.count =
-      length-take-le puts.count (bytes_of 4 new) puts.within in
+      let long : length bytes ≡ puts.count = length-take-le puts.count (bytes_of 4 new) puts.within in
       span_puts (IsPatched p size base new) (length a.past) a b p bytes replays puts.start
       (puts.past kept) (inl puts.flushed)
       (λ k within. let level : length a.past + k - length a.past ≡ k = omega arith in
       rw (level, take-take k puts.count (bytes_of 4 new) (omega (arith, within, long)))
-      (patched_field p size new base has a.contents small so_far riff k
-      (omega (arith, within, long, puts.within))))
+      (patched_field p size new base has a.contents small so_far riff k (omega (arith, within, long, puts.within))))
 
 -- the byte that begins what was added
 first_added : (old new : List (ℕ × ℕ)) (p : ℕ) (bytes : List ℕ) → new ≡ old ++ placed p bytes
@@ -86,8 +83,7 @@ patches_both keeps p size new r s answer a b c kept replays then has small first
     (span_end_zero (IsPatched p size a.contents new) a b then riff)
     (riff_put keeps p size new r a b has first four fits) second in
     let bytes = take second.count (bytes_of 4 new) in
-    let long : length c.past ≡ length b.past + second.count =
-    grind (arith, common_steps, length-take-le, length_put) in
+    let long : length c.past ≡ length b.past + second.count = grind (arith, common_steps, length-take-le, length_put) in
     record {
       split = length b.past;
       span = join (IsPatched p size a.contents new) (length b.past) a b c riff field;
@@ -134,16 +130,14 @@ publishes_at_each state w none sound at_most padded small end patched are_frames
     → take w.bytes_written (drop w.data_start c) ≡ take w.bytes_written (drop w.data_start old) =
     λ c same. ap (take w.bytes_written) (rw start at same) in
     let counts : IsWhole state w → (j : ℕ) (c : List ℕ) → IsPatched p (riff_size w.data_start w.bytes_written) old
-    w.bytes_written j c
-    → Counts w.spec_ex w.data_start (accepted_samples state w) c =
+    w.bytes_written j c → Counts w.spec_ex w.data_start (accepted_samples state w) c =
     λ whole j c at. counts_at state w sound (whole_written state w none sound) c whole
     (at_most_patched w.spec_ex w.data_start w.bytes_written old c at_most j at.same at.field)
     (samples c at.same.beyond) in
     let beyond : (c : List ℕ) → drop (p + 4) c ≡ drop (p + 4) old
     → drop (data_end w) c ≡ drop (data_end w) old = grind (arith, common_steps, drop_later) in
     let half : (j : ℕ) (c : List ℕ) → IsPatched p (riff_size w.data_start w.bytes_written) old w.bytes_written j c
-    → IsHalfPublished w old j c =
-    λ j c at.
+    → IsHalfPublished w old j c = λ j c at.
     let out = samples c at.same.beyond in
     let length_is = at.field ∙ ap (mix j (field p old)) all in
     search rules in
@@ -178,8 +172,7 @@ publishes_at_each state w none sound at_most padded small end patched are_frames
             ap length (concat-samples state w none sound),
             length-take w.bytes_written (drop w.data_start old),
           ))
-          (λ k from to. samples (moment (state end).start (state end).past k)
-          (span.each k from to).same.beyond);
+          (λ k from to. samples (moment (state end).start (state end).past k) (span.each k from to).same.beyond);
     }
 
 -- a call of a writer that patches, and its result by the frames

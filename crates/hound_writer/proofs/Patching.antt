@@ -115,8 +115,7 @@ pub patched : {T E V F X Y : Type 0} (keeps : Bool) (p size data_length : ℕ) (
     → second.count ≡ 4 → size < 2 ^ 32 → c.faults ≡ a.faults → Flushes flush c d
     → Patches p size data_length flush a d
 patched keeps p size data_length r s flush a b c d has small first second all_first all_second fits faults flushes =
-    let one : b.contents ≡ overlay a.contents (placed 4 (bytes_of 4 size)) =
-    grind (arith, common_steps, take_all) in
+    let one : b.contents ≡ overlay a.contents (placed 4 (bytes_of 4 size)) = grind (arith, common_steps, take_all) in
     let both : c.contents ≡ with_sizes p size data_length a.contents =
     grind (arith, common_steps, take_all, sizes_put) in
     let same = flushes.stays.contents in

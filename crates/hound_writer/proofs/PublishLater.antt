@@ -228,8 +228,7 @@ module _ {W : Type 0} (kind : Ghosts W) (a : WriterState W) (m : W)
                 (rw (f.accepted whole) at (g.counts (f.whole whole)));
             split = g.split;
             half = join (IsHalfPublished a old) g.split (kind.state a.medium) (kind.state m) (kind.state end)
-                (half_out kind.state a sound small (kind.state m)
-                (out.file modelled).around goes g.split g.puts.later)
+                (half_out kind.state a sound small (kind.state m) (out.file modelled).around goes g.split g.puts.later)
                 (span_weaker (IsHalfPublished b mid) (IsHalfPublished a old) g.split (kind.state m)
                 (kind.state end) half_later g.half);
             puts =

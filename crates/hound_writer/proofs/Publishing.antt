@@ -40,8 +40,7 @@ module _ (s : WavSpecEx) (size length_before : ℕ) (start p : ℕ) (before : p 
   goes_on_with_fmt : drop 8 (take p c) ≡ described s
   goes_on_with_fmt =
       let front = (riff_tag ++ bytes_of 4 size) ++ described s in
-      let whole : take start c ≡ front ++ bytes_of 4 length_before =
-      begins ∙ header-parts s size length_before in
+      let whole : take start c ≡ front ++ bytes_of 4 length_before = begins ∙ header-parts s size length_before in
       let long : length front ≡ p = grind (arith, common_steps, length-append, described, described_size) in
       ap (drop 8) (sym (take-take p start c (omega arith)) ∙ ap (take p) whole
       ∙ take_at front (bytes_of 4 length_before) p long)
@@ -58,8 +57,7 @@ pub canonical_begins : (s : WavSpecEx) (containers : List (List ℕ)) (n start :
     → contents ≡ header s (riff_size start n) n ++ samples
     → StartsWith contents (canonical s containers)
 canonical_begins s containers n start samples contents is_start enough joined padded is =
-    let size : length (concat containers) ≡ n =
-    ap length joined ∙ length-take-le n samples enough in
+    let size : length (concat containers) ≡ n = ap length joined ∙ length-take-le n samples enough in
     let rest = drop (length (padding n)) (drop n samples) in
     let data_now = concat containers ++ padding (length (concat containers)) in
     let file : contents ≡ canonical s containers ++ rest =
@@ -73,8 +71,7 @@ sizes_of : (p : ℕ) (old new : List ℕ) → 8 ≤ p → p + 4 ≤ length new �
 unfolding with_sizes
 sizes_of p old new beyond inside small same =
     in_parts p new beyond
-    ∙ (λ i. same.front i ++
-    (sym (bytes_at 4 new (omega (arith, beyond, inside)) small) i ++
+    ∙ (λ i. same.front i ++ (sym (bytes_at 4 new (omega (arith, beyond, inside)) small) i ++
     (same.middle i ++ (sym (bytes_at p new inside small) i ++ same.beyond i))))
 
 -- a file that was begun with the header of a spec still has it, whatever its sizes
@@ -156,14 +153,11 @@ module _ {W : Type 0} (state : W → MediumState) (w : WriterState W) (none : w.
   publishes patched are_frames outcome is frames small patches =
       let half = patches.half.2 in
       let same = half.same in
-      let long : w.data_start ≤ length (state end).contents =
-      omega (arith, before, there, same.long) in
+      let long : w.data_start ≤ length (state end).contents = omega (arith, before, there, same.long) in
       let samples = rw before at same.beyond in
-      let still =
-      at_most_patched w.spec_ex w.data_start w.bytes_written old
+      let still = at_most_patched w.spec_ex w.data_start w.bytes_written old
       (state end).contents at_most patches.half.0 same half.field in
-      let counts : IsWhole state w
-      → Counts w.spec_ex w.data_start (accepted_samples state w) (state end).contents =
+      let counts : IsWhole state w → Counts w.spec_ex w.data_start (accepted_samples state w) (state end).contents =
       grind (arith, common_steps, counts_at, whole_written) in
       let beyond = drop_later w.data_start (data_end w) (state end).contents old (omega arith) samples in
       record {

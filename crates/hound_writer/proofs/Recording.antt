@@ -160,8 +160,7 @@ module _ {W : Type 0} (kind : Ghosts W) where
 
   pub recorded_appended : {E : Type 0} (Q : E → Type 0) (old : MediumState)
       (r : Result (WriterState W) E) → MatchResult r (Appends kind old) Q
-      → MatchResult r (λ w. WhereTells kind.tells (IsWhole kind.state w)
-      → Recorded kind w.spec_ex
+      → MatchResult r (λ w. WhereTells kind.tells (IsWhole kind.state w) → Recorded kind w.spec_ex
       (appended old w.data_start (accepted_samples kind.state w)) [] w) (λ _. ⊤)
   recorded_appended Q old r appends = grind (arith, common_steps, recorded_append)
 

@@ -30,8 +30,7 @@ same_front zero b (x ∷ xs) (y ∷ c) right here =
     cc
 same_front (suc q) b (x ∷ xs) (y ∷ c) right here =
     let t : take (length xs) c ≡ xs = cc in
-    let rest : take (length xs) (put_at q b c) ≡ xs =
-    same_front q b xs c (λ few. right (omega (arith, few))) t in
+    let rest : take (length xs) (put_at q b c) ≡ xs = same_front q b xs c (λ few. right (omega (arith, few))) t in
     cc
 
 -- and so do bytes at a place
@@ -78,37 +77,30 @@ puts_stored start at before bytes count old new is past a len within =
     let all = before ++ bytes in
     let xs = take len (drop a all) in
     let put = take count bytes in
-    let size : length xs ≡ len =
-    length-take-le len (drop a all) (omega (arith, within, length-drop a all)) in
+    let size : length xs ≡ len = length-take-le len (drop a all) (omega (arith, within, length-drop a all)) in
     steps_stay (IsStored start all a len) old new
     (λ k from to here.
     let j = k - length old.past in
-    let few : j < length put =
-    omega (
+    let few : j < length put = omega (
       arith,
       from,
       to,
       ap length past,
       length_put old.past at put,
     ) in
-    let place : place_of new.past k ≡ at + j =
-    ap (λ l. place_of l k) past
+    let place : place_of new.past k ≡ at + j = ap (λ l. place_of l k) past
     ∙ place_after old.past at put k from (omega (arith, few)) in
-    let byte : byte_of new.past k ≡ get_or bytes j 0 =
-    ap (λ l. byte_of l k) past
-    ∙ ap (λ (x : ℕ × ℕ). x.1) (get_or-append_right old.past (placed at put) k (0, 0) from)
-    ∙ byte_placed at put j few
+    let byte : byte_of new.past k ≡ get_or bytes j 0 = ap (λ l. byte_of l k) past
+    ∙ ap (λ (x : ℕ × ℕ). x.1) (get_or-append_right old.past (placed at put) k (0, 0) from) ∙ byte_placed at put j few
     ∙ get_or-take count bytes j 0 (omega (arith, few, length-take count bytes)) in
-    let right : (i : ℕ) → place_of new.past k ≡ start + a + i → i < length xs
-    → get_or xs i 0 ≡ byte_of new.past k =
+    let right : (i : ℕ) → place_of new.past k ≡ start + a + i → i < length xs → get_or xs i 0 ≡ byte_of new.past k =
     λ i here inside.
     let same : a + i ≡ length before + j = omega (arith, here, place, is) in
     get_or-take len (drop a all) i 0 (omega (arith, inside, size)) ∙ get_or-drop a all i 0
     ∙ ap (λ n. get_or all n 0) same ∙ get_or-append-add before bytes j 0 ∙ sym byte in
     subst (λ n. take n (drop (start + a)
     (put_at (place_of new.past k) (byte_of new.past k) (moment new.start new.past k))) ≡ xs) size
-    (same_at (start + a) (place_of new.past k) (byte_of new.past k) xs
-    (moment new.start new.past k) right
+    (same_at (start + a) (place_of new.past k) (byte_of new.past k) xs (moment new.start new.past k) right
     (subst (λ n. take n (drop (start + a) (moment new.start new.past k)) ≡ xs) (sym size) here)))
 
 -- bytes stay stored if the contents at their places don't change
@@ -135,17 +127,13 @@ pub stored_join : (start : ℕ) (bytes : List ℕ) (a b c : MediumState) (earlie
     → StaysStored start bytes a b → StaysStored start bytes b c → StaysStored start bytes a c
 stored_join start bytes a b c earlier later was begins past first then p len within k m from le to here =
     let P : List ℕ → Type 0 = IsStored start bytes p len in
-    let sooner : length a.past ≤ length b.past =
-    omega (arith, ap length was, length-append a.past earlier) in
+    let sooner : length a.past ≤ length b.past = omega (arith, ap length was, length-append a.past earlier) in
     let same : (j : ℕ) → j ≤ length b.past
     → moment b.start b.past j ≡ moment c.start c.past j = grind (arith, common_steps, moment_before) in
-    let late : (j : ℕ) → length b.past ≤ j → j ≤ m → P (moment c.start c.past j)
-    → P (moment c.start c.past m) =
+    let late : (j : ℕ) → length b.past ≤ j → j ≤ m → P (moment c.start c.past j) → P (moment c.start c.past m) =
     λ j low high there. then p len within j m low high to there in
-    let early : (j : ℕ) → k ≤ j → j ≤ length b.past → P (moment c.start c.past j) =
-    λ j low high. subst P (same j high)
-    (first p len within k j from low high
-    (subst P (sym (same k (omega (arith, low, high)))) here)) in
+    let early : (j : ℕ) → k ≤ j → j ≤ length b.past → P (moment c.start c.past j) = λ j low high. subst P (same j high)
+    (first p len within k j from low high (subst P (sym (same k (omega (arith, low, high)))) here)) in
     elim (cases_lt (length b.past) k) [
       | inl after ↦ late k (omega (arith, after)) le here
       | inr before ↦ elim (cases_lt (length b.past) m) [

@@ -9,8 +9,7 @@ pub returns-in-Err-clause-begun : goal.returns-in-Err-clause-begun
 returns-in-Err-clause-begun g c tells s is_new empty long =
     let W = g.M.Placed in
     let part = part_of_header W s c.args.medium c.in-Err.medium c.in-Err.error
-    tells (subst (λ b. IsNotBegunAs W b c.args.medium c.in-Err.medium
-    c.in-Err.error) is_new c.in-Err.ensures) in
+    tells (subst (λ b. IsNotBegunAs W b c.args.medium c.in-Err.medium c.in-Err.error) is_new c.in-Err.ensures) in
     absurd (omega (arith, long, part.1, part.2, c.requires.place tells, ap length empty))
 
 pub returns : goal.returns
@@ -23,8 +22,7 @@ returns g c =
     c.args.end c.args.medium end.1 finished end.0 c.in-Ok.writer c.take_steps.new.writer calls
     c.in-Ok.ensures lead asked marked finishes same (g.met.M.Medium.replays) in
     let new = λ (s : WavSpecEx) (is_new : c.args.begin ≡ New s).
-    subst (λ b. Ran W b c.args.steps.now c.take_steps.new.marks c.args.end
-    c.args.medium end.1 end.0) is_new run in
+    subst (λ b. Ran W b c.args.steps.now c.take_steps.new.marks c.args.end c.args.medium end.1 end.0) is_new run in
     record {
       size = search rules;
       session = inr run;

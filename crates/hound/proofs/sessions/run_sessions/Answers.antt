@@ -36,8 +36,7 @@ returns g c =
     let run = c.run_until_error-medium in
     let on = c.append_sessions in
     let ok = is_ok run.result.1 c.in_default-answer.not-Err in
-    let runs = subst (λ l.
-    RunsOn W (New c.args.spec_ex) l c.args.medium on.result.1 on.result.0)
+    let runs = subst (λ l. RunsOn W (New c.args.spec_ex) l c.args.medium on.result.1 on.result.0)
     (sym c.in-Some.ensures.cases.0)
     (inr (
       run.result.0,

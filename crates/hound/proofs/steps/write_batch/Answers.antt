@@ -11,8 +11,7 @@ returns-then-not-is_sixteen g c =
     let W = g.M.Placed in
     let old = c.args.writer.now in
     let other : is_sixteen old.spec_ex.spec ≡ false = search rules in
-    subst (λ b. Accepts W
-    (if b then containers_in int_container old.spec_ex c.args.values.now else Err unsupported)
+    subst (λ b. Accepts W (if b then containers_in int_container old.spec_ex c.args.values.now else Err unsupported)
     (Err Unsupported) old old) (sym other)
     (accepts_rejected W old (Err unsupported) Unsupported
     c.spec.ensures.valid.counts (g.met.M.Medium.replays old.medium) refl (λ _. refl) refl)

@@ -16,8 +16,7 @@ returns c looks again d old mid result next new other at performed some same rep
     let (partly, done) = c.effects_mend.ensures.leaves looks d old mid result at performed in
     let start = d.head.data_start in
     let s = d.head.spec_ex in
-    let length_is : d.sizes.data_length ≡ found_length (repair_of d) =
-    at.sound.sizes.length_is
+    let length_is : d.sizes.data_length ≡ found_length (repair_of d) = at.sound.sizes.length_is
     ∙ ap (λ k. k * frame_length s) (sym (held_found d.state s d.head.data_length (shown_of d.head) d.held at.apart)) in
     let left : PartlyMended start (found_length (repair_of d)) old.state.contents next.contents =
     subst (λ (x : ℕ × List ℕ). PartlyMended start x.0 old.state.contents x.1) (λ i. (length_is i, sym same i)) partly in

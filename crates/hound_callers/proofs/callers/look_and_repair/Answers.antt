@@ -100,8 +100,7 @@ returns-clause-repaired g c modelled =
     let puts = both old seen mid look.puts (record { stays = went.stays; flushed = went.flushed }) in
     let faults = went.faults ∙ no_fault c.go.result seen.faults c.in_default.not-Err ∙ look.faults in
     let done = c.in_ok-medium-2.ensures.repaired modelled in
-    let same = c.a_look_finds_what_a_repair_does.ensures.found true old seen mid _ _ _ look
-    puts.stays.contents done in
+    let same = c.a_look_finds_what_a_repair_does.ensures.found true old seen mid _ _ _ look puts.stays.contents done in
     subst (λ found. Repairs true old found (state c.in_ok-medium-2.medium)) same
     (repairs true old mid (state c.in_ok-medium-2.medium) puts faults _ done)
 

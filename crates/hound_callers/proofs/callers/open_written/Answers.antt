@@ -8,8 +8,7 @@ left : {R : Type 0} (now : R → List ℕ) (s : WavSpecEx) (list : List (List �
     (result : Result (ReaderState R) Error) → HasOneFileAnswer bytes
     → Readable bytes s (length list) start
     × (containers s.bytes_per_sample (length list) (drop start bytes) ≡ list)
-    → IfOk result (λ r. (h : ℕ) × Readable bytes r.spec_ex r.num_samples h
-    × (now r.reader ≡ drop h bytes))
+    → IfOk result (λ r. (h : ℕ) × Readable bytes r.spec_ex r.num_samples h × (now r.reader ≡ drop h bytes))
     → OpensAs result (λ r. (r.spec_ex ≡ s) × (r.num_samples ≡ length list))
     → OpensAs result (λ r. (r.spec_ex ≡ s) × (r.num_samples ≡ length list)
     × (containers s.bytes_per_sample (length list) (now r.reader) ≡ list))

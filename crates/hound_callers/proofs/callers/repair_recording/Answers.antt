@@ -64,8 +64,7 @@ done_again law old left premise found len start is state half = inr (
 pub returns-clause-stopped : goal.returns-clause-stopped
 returns-clause-stopped g c modelled =
     let old = g.N.Placed.state c.args.left in
-    of_error c.repair_to_end.result _ (c.repair_to_end.ensures.repaired modelled) (λ rejected not.
-    elim not.why [
+    of_error c.repair_to_end.result _ (c.repair_to_end.ensures.repaired modelled) (λ rejected not. elim not.why [
       | inl (fault, here, names, none, all) ↦ inl none.stays.contents
       | inr (io, inl none, one) ↦ inl none.stays.contents
       | inr (io, inr (found, len, start, is, state, half), one) ↦

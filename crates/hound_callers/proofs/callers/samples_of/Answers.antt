@@ -51,8 +51,7 @@ loop-sample-preserved g c =
     rw (c.in_ok-push.ensures.items, map-append)
     (one_more left rejection meaning (map Ok c.loop-sample.samples.items) (Ok c.in_ok-sample.field-0)
     c.args.reader old new c.loop-sample.invariant
-    (subst (λ item. IsNext left rejection meaning (Some item) old new) c.in_ok-sample.was
-    c.in-Some.ensures.steps))
+    (subst (λ item. IsNext left rejection meaning (Some item) old new) c.in_ok-sample.was c.in-Some.ensures.steps))
 
 pub returns-in_err-sample : goal.returns-in_err-sample
 returns-in_err-sample g c =
@@ -66,10 +65,8 @@ returns-in_err-sample g c =
     let e = c.in_err-sample.field-0.0 in
     IfSome_then (left c.args.reader.reader)
     (c.items_are_of_the_file.ensures.items (map Ok items ++ Err e ∷ []) c.args.reader new
-    (one_more left rejection meaning (map Ok items) (Err e) c.args.reader old new
-    c.loop-sample.invariant
-    (subst (λ item. IsNext left rejection meaning (Some item) old new) c.in_err-sample.was
-    c.in-Some.ensures.steps)))
+    (one_more left rejection meaning (map Ok items) (Err e) c.args.reader old new c.loop-sample.invariant
+    (subst (λ item. IsNext left rejection meaning (Some item) old new) c.in_err-sample.was c.in-Some.ensures.steps)))
     (λ bytes are none. failed _ c.from_residual.result e c.from_residual.ensures.1
     (last_fault (meaning_at meaning s) s.bytes_per_sample bytes items e (rw none at are)))
 

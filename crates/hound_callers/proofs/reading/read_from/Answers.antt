@@ -40,18 +40,15 @@ returns-clause-rest g c modelled bytes is =
     let sought : IsWhereCounted left bytes mid =
     law.ahead bytes c.args.time reader mid modelled first seeks (omega (arith, c.requires)) in
     let block : IsWhereCounted left bytes last =
-    law.block bytes mid last count read.result.1 c.args.block.now read.new.samples sought
-    read.ensures in
-    let long : length samples ≡ count =
-    length-take-le count read.new.samples (omega (arith, read.ensures.within)) in
+    law.block bytes mid last count read.result.1 c.args.block.now read.new.samples sought read.ensures in
+    let long : length samples ≡ count = length-take-le count read.new.samples (omega (arith, read.ensures.within)) in
     let taken = took (λ (b : Option (List ℕ)). b) g.S.Sample.rejection g.S.Sample.meaning samples _ _
     (subst (λ (r : Result (Unit {0}) Error). GivesItemsOfBytes left g.S.Sample.rejection
     g.S.Sample.meaning (items_of samples r) mid last) c.in_ok-result.was read.ensures.items) in
     let width = reader.spec_ex.bytes_per_sample in
     let before = samples_before c.args.time reader.spec_ex in
     let both : (before + count) * width ≡ before * width + count * width = omega arith in
-    let all : last.bytes_read ≡ (before + count) * width =
-    omega (
+    let all : last.bytes_read ≡ (before + count) * width = omega (
       arith,
       taken,
       seeks.counts.bytes,

@@ -49,8 +49,7 @@ module _ {M : Type 0} (state : M → MediumState) (s : WavSpecEx) (len : ℕ) (o
       let same = found.puts.stays.contents in
       let out : w.bytes_written ≡ len = omega (arith, long, ap length none) in
       let all = samples_out state w none is_sound
-      ∙ (λ i. containers (spec i).bytes_per_sample (out i / (spec i).bytes_per_sample)
-      (drop (start i) (same i))) in
+      ∙ (λ i. containers (spec i).bytes_per_sample (out i / (spec i).bytes_per_sample) (drop (start i) (same i))) in
       (spec, λ whole. omega (arith, start, out, whole, ap length same), all)
 
 pub returns-clause-begun : goal.returns-clause-begun
@@ -96,8 +95,7 @@ returns-clause-written g c modelled s list writable each fits is =
     let w = s.bytes_per_sample in
     let bytes : n ≡ length list * w = length-concat w list each.each in
     let samples = eqb-true (read.len % w) 0 (are_whole s read.len read.frames).0 in
-    let long : read.len ≡ n =
-    omega (
+    let long : read.len ≡ n = omega (
       arith,
       bytes,
       samples,
@@ -106,8 +104,7 @@ returns-clause-written g c modelled s list writable each fits is =
       ap (λ k. k * w) read.count,
     ) in
     MatchResult-weaker c.try_append.result
-    (returns-clause-begun g c modelled s size n rest writable
-    (subst (λ k. data_fault s k ≡ None) long read.frames)
+    (returns-clause-begun g c modelled s size n rest writable (subst (λ k. data_fault s k ≡ None) long read.frames)
     (subst (λ k. riff_size (data_start s) k ≤ greatest_u32) (sym bytes) fits) is)
     (λ w (spec, whole, all). (
       spec,

@@ -15,13 +15,11 @@ returns-in_err-mend-clause-rejected g c = if_err c.from_residual-in_err-mend.res
     let once = c.an_effect_may_be_repeated.ensures.once start.state (omega (arith, c.requires.synced tells keeps)) in
     let (end, result, bad, done, now) = c.in_err-mend.ensures.performed tells keeps start once in
     let failed : is_ok result ≡ false = bad in
-    let cut = is_cut_off f r start.state is_found c.in_ok-continued.ensures.resumes
-    c.in_ok-continued.ensures.counted in
+    let cut = is_cut_off f r start.state is_found c.in_ok-continued.ensures.resumes c.in_ok-continued.ensures.counted in
     let ((answer, mark, leaves), on) = c.a_recorder_directs.ensures.mended f true false start end r result
     c.in_ok-continued.ensures.resumes cut done in
     let lost = c.a_recording_is_kept.ensures.mended f true false start end r result c.in_ok-continued.ensures.resumes
-    cut
-    (c.requires.synced tells keeps) done in
+    cut (c.requires.synced tells keeps) done in
     (r, end, (start, answer, c.in_ok-continued.ensures.resumes, refl, mark ∙ failed, leaves, lost), now)))
 
 pub returns-clause-saved : goal.returns-clause-saved
@@ -36,15 +34,13 @@ returns-clause-saved g c tells keeps is_found =
     let (end, result, ok, did, now) = c.in_ok-mend.ensures.performed tells keeps start once in
     let done : Performed (effects_of r) result start end = did in
     let all_synced = effects_synced r start end result ok done in
-    let cut = is_cut_off f r start.state is_found c.in_ok-continued.ensures.resumes
-    c.in_ok-continued.ensures.counted in
+    let cut = is_cut_off f r start.state is_found c.in_ok-continued.ensures.resumes c.in_ok-continued.ensures.counted in
     let ((answer, mark, leaves), on) = c.a_recorder_directs.ensures.mended f true false start end r result
     c.in_ok-continued.ensures.resumes cut done in
     let (m, goes, moved) = at_end (end_of r) end _ now in
     let (samples, counted, directed) = on ok m goes in
     let begun = is_mended f r c.mend.new.recorder m (resumed_file s samples f.data_start end.state)
-    c.in_ok-continued.ensures.resumes
-    c.in_ok-mend.ensures.done directed in (
+    c.in_ok-continued.ensures.resumes c.in_ok-mend.ensures.done directed in (
       r,
       end,
       samples,
@@ -60,11 +56,9 @@ returns-clause-saved g c tells keeps is_found =
       ),
       counted,
       saves s (resumed_file s samples f.data_start end.state) c.args.blocks.now c.save_blocks.result
-          c.save_blocks.new.recorder _
-          c.save_blocks.ensures.within
+          c.save_blocks.new.recorder _ c.save_blocks.ensures.within
           (λ known r m d none. c.a_recording_is_kept.ensures.survives s (resumed_file s samples f.data_start end.state)
-          known r m d none
-          all_synced)
+          known r m d none all_synced)
           (c.save_blocks.ensures.saved tells keeps s (resumed_file s samples f.data_start end.state)
           (m.state, begun, moved)),
     )

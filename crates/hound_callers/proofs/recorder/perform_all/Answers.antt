@@ -44,8 +44,7 @@ loop-action-preserved g c =
           { begun = law.begun; again = law.again; written = law.written; synced = law.synced } in
           let laws = laws_of s file known asked c.args.block.now c.requires.asked c.loop-action.report before end
           (λ old mid new effect result modelled. says.performed s file known old mid new before end effect result
-          modelled)
-          (λ old new n result modelled d writing rest long. says.wrote s file known old new n before end
+          modelled) (λ old new n result modelled d writing rest long. says.wrote s file known old new n before end
           c.args.block.now result modelled d writing rest long)
           (λ known old new ok modelled. says.cut s file known old new before ok modelled)
           (λ m old new place len. says.handed s file known old new m place len)
@@ -114,16 +113,14 @@ returns-clause-directed g c tells keeps s file known d =
     let laws = laws_of s file known asked c.args.block.now c.requires.asked c.loop-action.report before end
     (λ old mid new effect result modelled. says.performed s file known old mid new before end effect result modelled)
     (λ old new n result modelled d writing rest long. says.wrote s file known old new n before end c.args.block.now
-    result modelled d writing rest long)
-    (λ known old new ok modelled. says.cut s file known old new before ok modelled)
+    result modelled d writing rest long) (λ known old new ok modelled. says.cut s file known old new before ok modelled)
     (λ m old new place len. says.handed s file known old new m place len)
     (λ old new. says.saved s file known old new end.state) still in
     let (is, k) = next_none asked (length c.args.block.now) c.requires.asked c.loop-action.report
     (λ o r. KnownAt s file known asked c.args.block.now before o r)
     (λ o r. KnownAt s file known asked c.args.block.now end.state o r)
     (λ action. DoesAction action c.args.block.now c.loop-action.report before end.state) laws
-    c.loop-action.recorder c.next.new.self over
-    within k has next in (
+    c.loop-action.recorder c.next.new.self over within k has next in (
       ap (λ (x : Recorder). x.number) is,
       (
         end.state,
@@ -143,8 +140,7 @@ returns-in_err-action-clause-directed g c tells keeps s file known d =
     let laws = laws_of s file known asked c.args.block.now c.requires.asked c.loop-action.report before end
     (λ old mid new effect result modelled. says.performed s file known old mid new before end effect result modelled)
     (λ old new n result modelled d writing rest long. says.wrote s file known old new n before end c.args.block.now
-    result modelled d writing rest long)
-    (λ known old new ok modelled. says.cut s file known old new before ok modelled)
+    result modelled d writing rest long) (λ known old new ok modelled. says.cut s file known old new before ok modelled)
     (λ m old new place len. says.handed s file known old new m place len)
     (λ old new. says.saved s file known old new end.state) still in
     let failed = not_failed s file known asked c.args.block.now c.requires.asked c.loop-action.report before end
@@ -185,8 +181,7 @@ returns-clause-performed g c tells keeps start repeats one has_data =
     let next = rw c.in_default.is at c.in_ok-action.ensures in
     let laws = effect_laws asked start one c.args.block.now c.loop-action.report before end still in
     let (is, (idle, log, here, (result, ok, done))) = next_none asked (length c.args.block.now) c.requires.asked
-    c.loop-action.report
-    (λ o r. PerformedAt asked start before o r) (λ o r. PerformedAt asked start end.state o r)
+    c.loop-action.report (λ o r. PerformedAt asked start before o r) (λ o r. PerformedAt asked start end.state o r)
     (λ action. DoesAction action c.args.block.now c.loop-action.report before end.state) laws
     c.loop-action.recorder c.next.new.self over within k has next in (
       log,
@@ -208,8 +203,7 @@ returns-in_err-action-clause-performed g c tells keeps start repeats one has_dat
     let laws = effect_laws asked start one c.args.block.now c.loop-action.report before end still in
     let failed = effects_not_failed asked start end.state c.next.new.self c.in_err-action.field-0.0 in
     let (none, (idle, log, here, (result, bad, done))) = next_err asked (length c.args.block.now) c.requires.asked
-    c.loop-action.report
-    (λ o r. PerformedAt asked start before o r) (λ o r. PerformedAt asked start end.state o r)
+    c.loop-action.report (λ o r. PerformedAt asked start before o r) (λ o r. PerformedAt asked start end.state o r)
     (λ action. DoesAction action c.args.block.now c.loop-action.report before end.state) laws
     c.loop-action.recorder c.next.new.self over c.in_err-action.field-0.0 failed within k has c.in_err-action.ensures in
     rw (not_ok c.from_residual.result c.from_residual.ensures.0) (

@@ -15,8 +15,7 @@ returns-in_err-write-clause-stopped g c =
     let r = c.args.recorder.now in
     let (end, gives, takes) = c.in_err-write.ensures in
     let (same, rejected) = not_taken r c.write.new.self c.args.block c.in_err-write.field-0.0 c.if-block-width-ne0.false
-    c.requires.ready
-    c.in_err-write.ensures in
+    c.requires.ready c.in_err-write.ensures in
     let left = (c.a_recorder_directs.ensures.asked s file known r end c.write.new.self once 0 d
     (given_up r end gives)).2 in
     let given = nothing_given r end c.requires.ready.2 gives in
@@ -52,9 +51,7 @@ returns-clause-saved g c = on_ok c.perform_all-2.result (λ ok tells keeps s fil
     let mid = c.perform_all.new.recorder in
     let (last, gave, is) = c.checkpoint.ensures in
     let second = subst (λ r. Directed s file (known ++ seen ((write (samples_of s c.args.block), true) ∷ [])) r
-    end_once)
-    (sym is)
-    (c.a_recorder_directs.ensures.asked s file _ mid last c.checkpoint.new.self end_once 0 written
+    end_once) (sym is) (c.a_recorder_directs.ensures.asked s file _ mid last c.checkpoint.new.self end_once 0 written
     (given_up mid last gave)).0 in
     let one : c.checkpoint.new.self.phase ≡ Saving = ap (λ (x : Recorder). x.phase) is in
     let (none, saved) = c.perform_all-2.ensures.directed tells keeps s file _ (end_once, second, end_repeats) in
@@ -74,9 +71,7 @@ returns-clause-stopped g c = on_err c.perform_all-2.result (λ err tells keeps s
     let mid = c.perform_all.new.recorder in
     let (last, gave, is) = c.checkpoint.ensures in
     let second = subst (λ r. Directed s file (known ++ seen ((write (samples_of s c.args.block), true) ∷ [])) r
-    end_once)
-    (sym is)
-    (c.a_recorder_directs.ensures.asked s file _ mid last c.checkpoint.new.self end_once 0 written
+    end_once) (sym is) (c.a_recorder_directs.ensures.asked s file _ mid last c.checkpoint.new.self end_once 0 written
     (given_up mid last gave)).0 in
     let one : c.checkpoint.new.self.phase ≡ Saving = ap (λ (x : Recorder). x.phase) is in
     let (none, saved) = c.perform_all-2.ensures.directed tells keeps s file _ (end_once, second, end_repeats) in (

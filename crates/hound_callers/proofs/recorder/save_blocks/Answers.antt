@@ -33,8 +33,7 @@ returns-then-is_err-clause-saved g c tells keeps s file d =
 
 pub returns-clause-saved : goal.returns-clause-saved
 returns-clause-saved g c tells keeps s file d =
-    let all : c.loop-i.i ≡ length c.args.blocks.now =
-    omega (arith, c.loop-i.invariant.within, c.loop-i-test.false) in (
+    let all : c.loop-i.i ≡ length c.args.blocks.now = omega (arith, c.loop-i.invariant.within, c.loop-i-test.false) in (
       [],
       none_left s c.loop-i.recorder c.args.blocks.now _ (omega arith),
       c.loop-i.invariant.ready.0,

@@ -55,13 +55,10 @@ returns-in_default-Ok g c =
     let end = c.finalize_into in
     let same = to_z w32 (of_z w32 c.args.value) in
     let back : same ≡ c.args.value = to_z-of_z {w = w32} (search rules) in
-    let takes : Takes W (Whole same) (Ok tt) first last =
-    subst (λ r. Takes W (Whole same) r first last)
-    (is_ok write.result c.in_default.not-Err)
-    write.ensures.accepts in
+    let takes : Takes W (Whole same) (Ok tt) first last = subst (λ r. Takes W (Whole same) r first last)
+    (is_ok write.result c.in_default.not-Err) write.ensures.accepts in
     let finishes : Finishes W last (Ok tt) end.result.0 =
-    subst (λ r. Finishes W last r end.result.0) c.in_default-Ok.is-1
-    end.ensures.finishes in
+    subst (λ r. Finishes W last r end.result.0) c.in_default-Ok.is-1 end.ensures.finishes in
     let call : Call = record {
       asked = asked_by first.spec_ex (Whole same);
       answer = Ok tt;

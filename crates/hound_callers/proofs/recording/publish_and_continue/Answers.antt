@@ -8,8 +8,7 @@ returns-clause-lasts g c modelled s file before recorded =
     let w = c.write_samples.new.self in
     let call = made (write (containers_in g.S.Sample.container s c.args.samples.now)) in
     let known = seen before ++ (marked publish true ∷ (call ∷ [])) in
-    let all : Recorded M s file known w =
-    subst (λ l. Recorded M s file l w)
+    let all : Recorded M s file known w = subst (λ l. Recorded M s file l w)
     (append_assoc (seen before) (marked publish true ∷ []) (call ∷ []))
     (c.write_samples.ensures.recorded s file _ (c.in_ok-flush.ensures.marked s file _ recorded)) in
     let holds = c.what_is_kept.ensures.at_end modelled s file known w.medium
@@ -23,8 +22,7 @@ returns-clause-reads g c modelled s file known recorded =
     let w = c.write_samples.new.self in
     let call = made (write (containers_in g.S.Sample.container s c.args.samples.now)) in
     let all : Recorded M s file (known ++ (returned publish (Ok tt) ∷ (call ∷ []))) w =
-    subst (λ l. Recorded M s file l w)
-    (append_assoc known (returned publish (Ok tt) ∷ []) (call ∷ []))
+    subst (λ l. Recorded M s file l w) (append_assoc known (returned publish (Ok tt) ∷ []) (call ∷ []))
     (c.write_samples.ensures.recorded s file _ (c.in_ok-flush.ensures.returned s file _ recorded)) in
     let (calls, later, are, later_are, holds, reads) =
     c.an_ok_flush_is_kept.ensures.now modelled s file known (call ∷ []) w all ((λ same. cc), tt) in

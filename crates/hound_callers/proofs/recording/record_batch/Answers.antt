@@ -19,8 +19,7 @@ returns-clause-same g c modelled =
     let first = c.args.writer.now in
     let batch = c.args.batch.now in
     let values = c.loop-value.values in
-    let bytes : batch_bytes values ≡ i16_bytes batch =
-    c.loop-value.invariant.written
+    let bytes : batch_bytes values ≡ i16_bytes batch = c.loop-value.invariant.written
     ∙ ap (flat_map (signed_bytes_of 2)) (take_all _ batch c.loop-value-test.false) in
     let list = λ (bytes : List ℕ). containers (batch_writer values).spec_ex.bytes_per_sample
     (length bytes / (batch_writer values).spec_ex.bytes_per_sample) bytes in
@@ -48,8 +47,7 @@ pub returns-clause-calls : goal.returns-clause-calls
 returns-clause-calls g c =
     let batch = c.args.batch.now in
     let values = c.loop-value.values in
-    let bytes : batch_bytes values ≡ i16_bytes batch =
-    c.loop-value.invariant.written
+    let bytes : batch_bytes values ≡ i16_bytes batch = c.loop-value.invariant.written
     ∙ ap (flat_map (signed_bytes_of 2)) (take_all _ batch c.loop-value-test.false) in
     calls_of g.M.Placed _ c.args.writer.now (batch_writer values) c.flush.new.self.0 (batch_bytes values)
     (i16_bytes batch) c.flush.result (search rules) bytes c.loop-value.invariant.stays c.flush.ensures.accepts

@@ -10,8 +10,7 @@ returns-clause-published g c modelled keeps =
     let s = c.args.spec_ex in
     let container = g.S.Sample.container in
     let first = take c.publish_blocks-published.result c.args.blocks.now in
-    let (more, stops, recorded) =
-    c.publish_blocks-published.ensures.published s _ c.in-Ok.ensures.recorded in
+    let (more, stops, recorded) = c.publish_blocks-published.ensures.published s _ c.in-Ok.ensures.recorded in
     let kept = c.what_a_loss_leaves.ensures modelled keeps s _ _ _
     (c.drop_into-durable.ensures.left s _ _ recorded) in (
       c.new.result,

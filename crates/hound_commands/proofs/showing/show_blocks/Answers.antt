@@ -44,8 +44,7 @@ returns-then-count-eq0 g c =
     let loop = c.loop-result.invariant in
     let block = block_shown _ _ g.S.Line.line s n _ _ _ _ _ _ _ c.read_samples-count.result.1
     _ _ c.requires.rejection c.requires.line loop.spec_ex loop.num_samples refl loop.within loop.shown
-    c.read_samples-count.ensures.items _ _ _
-    c.in_ok-result.was c.in_ok-push_lines.ensures in
+    c.read_samples-count.ensures.items _ _ _ c.in_ok-result.was c.in_ok-push_lines.ensures in
     let none = c.if-count-eq0.true in
     let few = length-take c.read_samples-count.result.0 c.read_samples-count.new.samples in
     let count : c.read_samples-count.result.0
@@ -64,8 +63,7 @@ loop-result-preserved g c =
     let loop = c.loop-result.invariant in
     let block = block_shown _ _ g.S.Line.line s n _ _ _ _ _ _ _ c.read_samples-count.result.1
     _ _ c.requires.rejection c.requires.line loop.spec_ex loop.num_samples refl loop.within loop.shown
-    c.read_samples-count.ensures.items _ _ _
-    c.in_ok-result.was c.in_ok-push_lines.ensures in
+    c.read_samples-count.ensures.items _ _ _ c.in_ok-result.was c.in_ok-push_lines.ensures in
     record {
       block = search rules;
       spec_ex = block.1;

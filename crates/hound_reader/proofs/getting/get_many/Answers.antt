@@ -145,11 +145,9 @@ loop-done-preserved g c =
     let size : length c.loop-done.piece ≡ 1024 = search rules in
     let requested : length c.get_all-taken.new.buf ≡ wanted * w =
     c.get_all-taken.auto.buf ∙ length-take-le (wanted * w) c.loop-done.piece (omega (arith, fits, size)) in
-    let room : length values ≡ wanted =
-    c.decode_many-count.auto.samples
+    let room : length values ≡ wanted = c.decode_many-count.auto.samples
     ∙ length-take-le k (drop done xs) (omega (arith, length-drop done xs, c.min-wanted.ensures)) ∙ omega arith in
-    let all : count ≡ wanted =
-    subst (λ r. OnOk r (count ≡ length values)) c.in_default-answer.is front.full ∙ room in
+    let all : count ≡ wanted = subst (λ r. OnOk r (count ≡ length values)) c.in_default-answer.is front.full ∙ room in
     let same = same_len_mid done k xs values c.decode_many-count.auto.samples in
     let came : IsTrue g.R.Placed.tells → (take (done + count) (put_mid done k xs values)
     ≡ map (meaning_at g.S.Decode.value s) (containers w (done + count) (unread old)))

@@ -40,5 +40,4 @@ returns-clause-repairs c = λ finds. let looks = looks_for_chunks c.args.task in
     finds (sym (repair_mends c.args.task c.args.damage.state c.requires.task) ∙ search rules) (search rules)
     (take_more_set all used 0 (omega (arith, inside))
     ∙ ap (λ l. l ++ (0 ∷ [])) (take_at new (drop used old) used size ∙ c.set_sizes.ensures))
-    (drop-set-lt (used + 1) all used 0 (omega arith)
-    ∙ drop-append-drop used old new (used + 1) (omega arith) size) refl
+    (drop-set-lt (used + 1) all used 0 (omega arith) ∙ drop-append-drop used old new (used + 1) (omega arith) size) refl

@@ -28,8 +28,7 @@ returns-clause-moments c = λ looks d old new result at performed. let start = d
     let n = d.sizes.data_length in
     let c = old.state.contents in
     spans (PartlyMended start n c) (mending_effects start n (held start c)) result old.state new.state
-    (allowed true start n c
-    (head_beyond c d.head.spec_ex d.head.data_length start at.found.head)
+    (allowed true start n c (head_beyond c d.head.spec_ex d.head.data_length start at.found.head)
     (head_inside c d.head.spec_ex d.head.data_length start at.found.head)
     old.small
     (subst (λ k. k < 2 ^ 32) (sym (length_is d at.sound at.apart))
@@ -46,8 +45,7 @@ returns-clause-lost c = λ looks d old new result sector left at settled wide on
     let beyond = head_beyond c d.head.spec_ex d.head.data_length start at.found.head in
     let inside = head_inside c d.head.spec_ex d.head.data_length start at.found.head in
     survives sector left (PartlyMended start n c) (mending_effects start n (held start c)) result old.state new.state
-    (allowed true start n c beyond inside old.small
-    (subst (λ k. k < 2 ^ 32) (sym (length_is d at.sound at.apart))
+    (allowed true start n c beyond inside old.small (subst (λ k. k < 2 ^ 32) (sym (length_is d at.sound at.apart))
     (length_fits looks c (repair_of d) d.head.data_length start at.found at.apart)))
     (mending_is_safe sector left start n c beyond inside
     (λ i few. same_sector (start - 4) (start - 1) i sector (omega (arith, wide)) (omega (arith, beyond, few)) one)

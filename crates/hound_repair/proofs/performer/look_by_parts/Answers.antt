@@ -31,8 +31,7 @@ parts-preserved g c = record {
 pub returns-in-Ok-Found-clause-finds : goal.returns-in-Ok-Found-clause-finds
 returns-in-Ok-Found-clause-finds g c modelled =
     let file = (g.S.Placed.state c.args.source.now).contents in
-    let found =
-    subst (λ r. LooksTo (looks_for_chunks c.args.task) file (Ok r)) c.in-Ok-Found.field-0-is
+    let found = subst (λ r. LooksTo (looks_for_chunks c.args.task) file (Ok r)) c.in-Ok-Found.field-0-is
     (c.in-Ok-Found.ensures.leads file (c.parts.invariant.size modelled) (c.parts.invariant.at modelled)
     (part_read c.in_ok-count.count c.count-asked.result _ c.place.result _ _ _ _ file _ c.part_at.auto.buf
     (grind (arith, length-take, c.count-asked.ensures.few))

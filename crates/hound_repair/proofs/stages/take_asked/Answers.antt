@@ -45,8 +45,7 @@ returns-in_ok-measured-in-Tag-clause-leads c = λ file size at is. let there = r
     let m = seen.measures file size there.0.0.head_is there.0.0.shown_is in
     c.take_tag.ensures.leads _ file m
     (subst (λ h. IsAtStage (looks_for_chunks c.args.task) file (stages.Tag h)) (sym seen.head) there)
-    (rw c.in-Tag.is at is
-    ∙ ap (λ k. take 3 (drop (k - 128) file))
+    (rw c.in-Tag.is at is ∙ ap (λ k. take 3 (drop (k - 128) file))
     (tag_length c.args.length file c.in_ok-measured-in-Tag.field-0 size m seen.inside seen.sound))
 
 pub returns-in_ok-measured-in-Tag-clause-nearer : goal.returns-in_ok-measured-in-Tag-clause-nearer

@@ -38,8 +38,7 @@ returns-in-None-clause-leads c = λ looks file m at is. let all = drop c.args.pl
     let end = end_is file c.args.damage m in
     let before : c.args.place < length file = omega (arith, end) in
     c.at_no_chunk-in-None.ensures.leads looks file m at.0
-    (none_here looks file c.args.bytes.now c.args.damage.head c.args.place c.args.padded at is
-    before (search rules)
+    (none_here looks file c.args.bytes.now c.args.damage.head c.args.place c.args.padded at is before (search rules)
     (sym (content_is all c.args.bytes.now _ 8 (omega (arith, end, length-drop c.args.place file))
     (omega (arith, end, before, ap length is, length-take 8 all, length-drop c.args.place file)) is)
     ∙ sym c.chunk_content.ensures.content ∙ c.in-None.is))

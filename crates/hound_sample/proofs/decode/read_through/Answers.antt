@@ -36,8 +36,7 @@ returns-in-Err-clause-each g c =
     let done = c.loop-done.done in
     let wanted = c.min-wanted.result in
     let room = wanted_fit wanted _ _ width c.min-wanted.ensures in
-    let piece_size : length piece ≡ wanted * width =
-    c.read_piece-taken.auto.piece
+    let piece_size : length piece ≡ wanted * width = c.read_piece-taken.auto.piece
     ∙ length-take-le (wanted * width) c.loop-done.piece (omega (arith, room, c.loop-done.invariant.room)) in
     let few = count_fits taken wanted width (omega (arith, piece_size, c.read_piece-taken.ensures.within)) in
     let end : done + count ≤ length c.loop-done.samples =

@@ -15,8 +15,7 @@ loop-sample-preserved g c =
     elim c.match-encode.branch [
       | in-Ok w ↦ let is : container c.sample-item.result ≡ Ok (take a.width c.match-encode.container) =
           subst (λ l. container c.sample-item.result ≡ Ok (take a.width l)) (sym w.container-is)
-          (encoded_bytes _ _ a.width (λ b e. (g.met.S.Sample.in_width _ _ _ b e).0)
-          w.in-Ok.ensures) in
+          (encoded_bytes _ _ a.width (λ b e. (g.met.S.Sample.in_width _ _ _ b e).0) w.in-Ok.ensures) in
           record {
             end = omega (arith, loop.invariant.end);
             size = c.store_container.ensures.size ∙ loop.invariant.size;

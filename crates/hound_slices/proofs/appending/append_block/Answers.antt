@@ -30,8 +30,7 @@ returns-clause-appends g c =
     let added = body ++ padding dl in
     let k = w * length values + dl % 2 in
     let total : length values + samples ≡ samples + length list = omega (arith, j.count) in
-    let dl_is : dl ≡ (samples + length list) * w =
-    c.in_ok-data_length.ensures.data ∙ ap (λ m. m * w) total in
+    let dl_is : dl ≡ (samples + length list) * w = c.in_ok-data_length.ensures.data ∙ ap (λ m. m * w) total in
     let size : length added ≡ k = omega (arith, length-append body (padding dl), j.size, length-padding dl) in
     let n_is : n ≡ h + samples * w + k =
     omega (arith, c.in_ok-data_length.ensures.end, c.in_ok-data_length.ensures.data) in

@@ -14,8 +14,7 @@ slice_bounds-decode_front-end g c =
     let long = length c.args.file.now - c.in_ok-head.head.data_start in
     let count = c.min-stored.result - c.args.first in
     let few : c.args.first + count ≤ long / w = search rules in
-    let there : (c.args.first + count) * w ≤ long =
-    inside w (c.args.first + count) long (search rules) few in
+    let there : (c.args.first + count) * w ≤ long = inside w (c.args.first + count) long (search rules) few in
     search rules
 
 pub returns : goal.returns
@@ -31,8 +30,7 @@ returns g c =
     let some : 0 < w = search rules in
     let few : first + count ≤ (length file - start) / w = search rules in
     let is = part_is w count first start file some few in
-    let count_is : n ≡ min (length c.args.out.now) count =
-    c.decode_front.ensures.count
+    let count_is : n ≡ min (length c.args.out.now) count = c.decode_front.ensures.count
     ∙ ap (λ k. min (length c.args.out.now) (k / w)) (ap length is ∙ part_long w count first start file some few)
     ∙ ap (min (length c.args.out.now)) (mul-div_left count some) in
     record {

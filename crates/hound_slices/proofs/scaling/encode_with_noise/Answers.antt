@@ -32,7 +32,6 @@ returns-clause-encodes g c =
     c.spec_from_c-spec_ex.ensures
     (encoded s (scaled_to bits) noisy n c.store_with_noise.new.bytes c.args.out.now
     c.in_ok-end.ensures.format c.in_ok-end.ensures.pair (λ x. clipped_fits bits (scaled bits x))
-    (c.in_ok-end.ensures.size
-    ∙ ap (λ k. k * s.bytes_per_sample)
+    (c.in_ok-end.ensures.size ∙ ap (λ k. k * s.bytes_per_sample)
     (sym (length-map noisy (scaled_to bits) ∙ with_noise-length float bits seed values)))
     c.store_with_noise.ensures.stored)

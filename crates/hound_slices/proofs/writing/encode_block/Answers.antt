@@ -9,8 +9,7 @@ use Rattle.hound_slices.proofs.writing.encode_block.Goals as goal
 
 pub returns-in_err-check_samples-clause-encodes : goal.returns-in_err-check_samples-clause-encodes
 returns-in_err-check_samples-clause-encodes g c =
-    let p = err_from_is_err_and c.from_residual.result
-    c.from_residual.ensures.1 in
+    let p = err_from_is_err_and c.from_residual.result c.from_residual.ensures.1 in
     let error = c.in_err-check_samples.field-0.0 in
     rw (p.1, p.2) (
       refl,

@@ -15,8 +15,7 @@ use Rattle.hound_slices.proofs.writing.write_file.Goals as goal
 
 pub returns-in_err-check_samples-clause-writes : goal.returns-in_err-check_samples-clause-writes
 returns-in_err-check_samples-clause-writes g c =
-    let p = err_from_is_err_and c.from_residual.result
-    c.from_residual.ensures.1 in
+    let p = err_from_is_err_and c.from_residual.result c.from_residual.ensures.1 in
     let error = c.in_err-check_samples.field-0.0 in
     rw (p.1, p.2) (
       refl,
@@ -40,8 +39,7 @@ returns-clause-writes g c =
     let (list, list_is) = passed (containers_in g.S.Sample.container s values) c.in_ok-check_samples.ensures.have in
     let j = joined container w (λ _ b e. (g.met.S.Sample.in_width _ _ _ b e).0) values list list_is in
     let head = header s (end - 8) len in
-    let head_long : length head ≡ start = length-header s (end - 8) len
-    ∙ sym c.header_length-data_start.ensures in
+    let head_long : length head ≡ start = length-header s (end - 8) len ∙ sym c.header_length-data_start.ensures in
     let begun : c.put_header.new.out ≡ head ++ drop start old =
     c.put_header.ensures ∙ ap (λ m. head ++ drop m old) (sym c.header_length-data_start.ensures) in
     let k = w * length values + len % 2 in
@@ -53,8 +51,7 @@ returns-clause-writes g c =
     omega (arith, end_is, length-append head (drop start old), head_long, length-drop start old, c.if-size-out.false) in
     let long : len ≡ length (concat list) =
     omega (arith, c.in_ok-data_length.ensures.data, j.size, ap length j.bytes) in
-    let riff : end - 8 ≡ riff_size (data_start s) (length (concat list)) =
-    omega (
+    let riff : end - 8 ≡ riff_size (data_start s) (length (concat list)) = omega (
       arith,
       long,
       c.in_ok-data_length.ensures.end,

@@ -18,10 +18,8 @@ returns-clause-ok g c =
     let k = c.fill-2.new.buf in
     let size = take 4 k in
     let e : bytes_eq h riff_tag ≡ true =
-    ne_test _ false _ h _ riff_tag c.ne.ensures c.as_slice.ensures c.as_slice-2.ensures
-    c.if-ne.false in
-    let d : bytes_eq (slice_range k 4 8) wave_tag ≡ true =
-    ne_test _ false _
+    ne_test _ false _ h _ riff_tag c.ne.ensures c.as_slice.ensures c.as_slice-2.ensures c.if-ne.false in
+    let d : bytes_eq (slice_range k 4 8) wave_tag ≡ true = ne_test _ false _
     (slice_range k 4 8) _ wave_tag c.ne-2.ensures refl c.as_slice-3.ensures c.if-ne-2.false in
     known_from (h ++ k) _ _ _
     (Consumes-trans _ _ _ _ _ c.in_ok-fill.ensures.ok c.in_ok-fill-2.ensures.ok) (λ ys. (
@@ -45,11 +43,9 @@ returns-then-ne-clause-taken g c =
 
 pub returns-in_err-fill-2-clause-taken : goal.returns-in_err-fill-2-clause-taken
 returns-in_err-fill-2-clause-taken g c =
-    let p = err_from_is_err_and c.from_residual-in_err-fill-2.result
-    c.from_residual-in_err-fill-2.ensures.1 in
+    let p = err_from_is_err_and c.from_residual-in_err-fill-2.result c.from_residual-in_err-fill-2.ensures.1 in
     rw (p.1, p.2)
-    (front_cut c.fill.new.buf
-    (length c.fill-2.new.buf) _ _ _ c.in_err-fill-2.field-0.0 c.in_ok-fill.ensures.ok
+    (front_cut c.fill.new.buf (length c.fill-2.new.buf) _ _ _ c.in_err-fill-2.field-0.0 c.in_ok-fill.ensures.ok
     (omega arith) c.in_err-fill-2.ensures.part c.in_err-fill-2.ensures.err)
 
 pub returns-then-ne-2-clause-taken : goal.returns-then-ne-2-clause-taken

@@ -33,8 +33,7 @@ more_are_taken h tag len o m n (Err e) taken sixteen same t late =
     (λ d xs. content_taken (fmt_fields xs).tag len d (length xs))
     (λ d. (k : ℕ) → 16 ≤ content_taken tag len d (16 + k)) e taken late
     (λ d ys later.
-    let is : (fmt_fields (h ++ ys)).tag ≡ tag =
-    ap number (take-append-le 2 h ys (omega (arith, sixteen))) ∙ sym same in
+    let is : (fmt_fields (h ++ ys)).tag ≡ tag = ap number (take-append-le 2 h ys (omega (arith, sixteen))) ∙ sym same in
     let more : length (h ++ ys) ≡ 16 + length ys = omega (arith, length-append h ys, sixteen) in
     rw (is, more) (omega (arith, sixteen, later (length ys)))) t
 

@@ -16,10 +16,8 @@ returns-in_err-choose_subformat g c =
     c.from_residual-in_err-choose_subformat.ensures.1 in
     let a = c.fill.new.buf in
     let b = c.fill-2.new.buf in
-    let at =
-    extensible_at c.args.chunk_len c.args.found a b (omega arith) (omega arith) (omega arith)
-    (ap number (sym (take_all 2 a (omega arith))) ∙ sym c.u16_at.ensures
-    ∙ c.if-u16_at-ne-EXTENSION_LENGTH.false) in
+    let at = extensible_at c.args.chunk_len c.args.found a b (omega arith) (omega arith) (omega arith)
+    (ap number (sym (take_all 2 a (omega arith))) ∙ sym c.u16_at.ensures ∙ c.if-u16_at-ne-EXTENSION_LENGTH.false) in
     let bad = sym c.choose_subformat.ensures.subformat ∙ c.in_err-choose_subformat.was in
     let is = subformat_fails c.args.found (extension b) c.in_err-choose_subformat.field-0.0 bad in
     let all = Consumes-trans _ _ _ _ _ c.in_ok-fill.ensures.ok c.in_ok-fill-2.ensures.ok in
@@ -37,10 +35,8 @@ pub returns : goal.returns
 returns g c =
     let a = c.fill.new.buf in
     let b = c.fill-2.new.buf in
-    let at =
-    extensible_at c.args.chunk_len c.args.found a b (omega arith) (omega arith) (omega arith)
-    (ap number (sym (take_all 2 a (omega arith))) ∙ sym c.u16_at.ensures
-    ∙ c.if-u16_at-ne-EXTENSION_LENGTH.false) in
+    let at = extensible_at c.args.chunk_len c.args.found a b (omega arith) (omega arith) (omega arith)
+    (ap number (sym (take_all 2 a (omega arith))) ∙ sym c.u16_at.ensures ∙ c.if-u16_at-ne-EXTENSION_LENGTH.false) in
     record {
       sound = search rules;
       failures = search rules;

@@ -11,6 +11,5 @@ pub returns-in-Err-clause-leads : goal.returns-in-Err-clause-leads
 returns-in-Err-clause-leads c = λ file is. let e = c.in-Err.error in
     let cause = c.cause_of.result in
     let at = caused ℕ e cause c.in-Err.ensures.failures c.cause_of.ensures in
-    inl (front_fault_of file cause
-    (subst (λ l. front_fault l ≡ Some cause) is
+    inl (front_fault_of file cause (subst (λ l. front_fault l ≡ Some cause) is
     (rejects_at e cause (λ d. front_fault c.args.bytes.now ≡ Some d) at c.in-Err.ensures.err)))

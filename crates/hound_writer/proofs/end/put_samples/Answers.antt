@@ -36,11 +36,9 @@ returns g c t =
     let W = g.M.Placed in
     let a = c.args in
     let loop = c.loop-done in
-    let size =
-    joined_size (λ (s : g.row.S.Denot). g.S.Sample.container s a.bits a.width) a.width
+    let size = joined_size (λ (s : g.row.S.Denot). g.S.Sample.container s a.bits a.width) a.width
     (λ _ b e. (g.met.S.Sample.in_width _ _ _ b e).0) a.samples.now c.requires.have in
-    let all : loop.done ≡ length a.samples.now =
-    omega (arith, loop.invariant.within, c.loop-done-test.false) in
+    let all : loop.done ≡ length a.samples.now = omega (arith, loop.invariant.within, c.loop-done-test.false) in
     record {
       count = a.width * loop.done;
       within = omega (arith, size, ap (λ n. a.width * n) all);

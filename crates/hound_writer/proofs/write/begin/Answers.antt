@@ -31,5 +31,4 @@ returns-clause-at_most g c tells =
     let s = c.args.spec_ex in
     let is = c.as_slice-bytes.ensures ∙ c.header_of-header.ensures in
     let writable : IsWritable s = search rules in
-    rw is (at_most_begin W s _ _ writable (c.requires tells)
-    (rw is at (c.in_ok-put_all.ensures tells)))
+    rw is (at_most_begin W s _ _ writable (c.requires tells) (rw is at (c.in_ok-put_all.ensures tells)))

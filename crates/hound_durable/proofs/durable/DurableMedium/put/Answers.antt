@@ -23,8 +23,7 @@ invariant_of-self-2-clause-covered g c tells keeps =
     let old = g.M.Placed.state d.inner in
     let puts = (rw c.in_ok-n.ensures.same at c.put.ensures.puts) tells in
     let bytes = take c.in_ok-n.n c.args.bytes.now in
-    let end : old.place + length bytes ≡ d.place + c.in_ok-n.n =
-    omega (
+    let end : old.place + length bytes ≡ d.place + c.in_ok-n.n = omega (
       arith,
       d.is_there tells,
       length-take-le c.in_ok-n.n c.args.bytes.now (rw c.in_ok-n.ensures.same at c.put.ensures.bound).1,

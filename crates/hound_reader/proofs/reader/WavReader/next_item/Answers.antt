@@ -13,8 +13,7 @@ returns-in-Ok-clause-answers g c =
     let rejection = g.S.Sample.rejection in
     let meaning = g.S.Sample.meaning in
     let read = c.read_item_since-given in
-    let same : c.args.spec_ex ≡ r.spec_ex =
-    c.requires ∙ sym (ap (λ (v : ReaderState _). v.spec_ex) c.self.view_is) in
+    let same : c.args.spec_ex ≡ r.spec_ex = c.requires ∙ sym (ap (λ (v : ReaderState _). v.spec_ex) c.self.view_is) in
     let new : ℕ → ReaderState _ =
     λ taken. record {
       reader = read.result.0.now.reader;
@@ -39,8 +38,7 @@ returns-in-Err-clause-answers g c =
     let meaning = g.S.Sample.meaning in
     let read = c.read_item_since-given in
     let reason = c.in-Err.no_sample in
-    let same : c.args.spec_ex ≡ r.spec_ex =
-    c.requires ∙ sym (ap (λ (v : ReaderState _). v.spec_ex) c.self.view_is) in
+    let same : c.args.spec_ex ≡ r.spec_ex = c.requires ∙ sym (ap (λ (v : ReaderState _). v.spec_ex) c.self.view_is) in
     let new : ℕ → ReaderState _ =
     λ taken. record {
       reader = read.result.0.now.reader;

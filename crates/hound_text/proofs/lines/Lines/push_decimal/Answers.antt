@@ -18,17 +18,13 @@ returns c =
     let zeros = bool_byte (nat_lt number 10) in
     let text = put_mid loop.start (loop.start + 2 - loop.start) loop.text c.copy_from_slice.new.self in
     let tail = drop (loop.start + 2) loop.text in
-    let made : drop (loop.start + zeros) text ≡ decimal number ++ tail =
-    sym (drop-drop zeros loop.start text)
-    ∙ ap (drop zeros)
-    (pair-copied (number % 100) loop.start loop.text _ (omega arith)
+    let made : drop (loop.start + zeros) text ≡ decimal number ++ tail = sym (drop-drop zeros loop.start text)
+    ∙ ap (drop zeros) (pair-copied (number % 100) loop.start loop.text _ (omega arith)
     (omega (arith, loop.invariant.within, loop.array_long)) c.copy_from_slice.ensures.after
-    ∙ ap (λ n. pair n ++ tail) (omega (arith, small)))
-    ∙ decimal_small number tail small in
+    ∙ ap (λ n. pair n ++ tail) (omega (arith, small))) ∙ decimal_small number tail small in
     c.append.ensures
     ∙ ap (λ l. c.args.self.now ++ l)
-    (take_all (10 - (loop.start + zeros)) (drop (loop.start + zeros) text)
-    (omega (
+    (take_all (10 - (loop.start + zeros)) (drop (loop.start + zeros) text) (omega (
       arith,
       length-drop (loop.start + zeros) text,
       same_len_mid _ _ loop.text _ c.copy_from_slice.ensures.len,

@@ -15,8 +15,7 @@ returns-clause-accepts g c =
     let items = g.B.BatchMemory.samples batch.memory in
     let write = c.write_samples-accepted in
     let same = c.deref.ensures.value ∙ c.into_vec-memory.ensures in
-    subst (Accepts W (whole_containers w.spec_ex (batch_bytes batch))
-    write.result (batch_writer batch))
+    subst (Accepts W (whole_containers w.spec_ex (batch_bytes batch)) write.result (batch_writer batch))
     ((λ j. record write.new.self { batch_memory = i16_bytes (sym c.into_vec-memory.ensures j) })
     ∙ ap (λ (w : WriterState _). record w { batch_memory = i16_bytes c.into_vec-memory.result.items })
     (sym c.parent.view_is ∙ sym (λ j. (c.parent-inside.view_is j).output)))

@@ -10,8 +10,7 @@ returns-in_err-put_block g c =
     let W = g.W.Placed in
     let w = c.args.self.now in
     let values = c.args.samples.now in
-    let fits = fit g.S.Sample.container g.met.S.Sample.in_width values w c.requires.have
-    c.requires.room in
+    let fits = fit g.S.Sample.container g.met.S.Sample.in_width values w c.requires.have c.requires.room in
     rw (is_error _ _ c.from_residual.ensures.1)
     (accepts_cut W _ w _ (sample_bytes g.S.Sample.container w.spec_ex values)
     _ c.in_err-put_block.ensures fits.room fits.whole)

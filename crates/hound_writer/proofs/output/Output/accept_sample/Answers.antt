@@ -21,8 +21,7 @@ returns-then-len-self g c =
     let width = sized _ is in
     rw (c.push.ensures, ← c.self.view_is)
     (sample_accepts W _ _ _ known _ _ (Ok tt) _ is width.0
-    (accepts_buffered W _ _ _ known (take s.bytes_per_sample c.in-Ok.container)
-    (omega (
+    (accepts_buffered W _ _ _ known (take s.bytes_per_sample c.in-Ok.container) (omega (
       arith,
       width,
       c.len.ensures.length,

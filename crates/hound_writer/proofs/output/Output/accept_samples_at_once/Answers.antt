@@ -12,8 +12,7 @@ invariant_of-self g c =
     let i = c.self.inside in
     let none : i.block ≡ [] = search rules in
     rw (c.clear.ensures, ← none, c.put_samples_at_end-result.ensures.moved, (ap is_ok c.in_err-result.was))
-    (cut_at_once W _ _ _ c.self.invariant none _
-    (sample_bytes g.S.Sample.container i.spec_ex c.args.samples.now) false
+    (cut_at_once W _ _ _ c.self.invariant none _ (sample_bytes g.S.Sample.container i.spec_ex c.args.samples.now) false
     (rw (ap is_ok c.in_err-result.was) at c.put_samples_at_end-result.ensures.puts))
 
 pub returns-in_err-result : goal.returns-in_err-result
@@ -39,8 +38,7 @@ invariant_of-self-2 g c =
     let fits = rw (← c.self.view_is) at (fit g.S.Sample.container g.met.S.Sample.in_width values
     c.args.self.now c.requires.have c.requires.room) in
     let bytes = sample_bytes g.S.Sample.container i.spec_ex values in
-    let more : length values * i.spec_ex.bytes_per_sample ≡ length bytes = omega
-    (arith, fits.size) in
+    let more : length values * i.spec_ex.bytes_per_sample ≡ length bytes = omega (arith, fits.size) in
     rw (c.clear.ensures, ← none, more, c.put_samples_at_end-result.ensures.moved, (ap is_ok c.in_ok-result.was))
     (kept_at_once W _ _ _ c.self.invariant none _ bytes _
     (rw more at c.fast_path_limit_of-self-inside.ensures.room) fits.room fits.whole
@@ -56,8 +54,7 @@ returns g c =
     let fits = rw (← c.self.view_is) at (fit g.S.Sample.container g.met.S.Sample.in_width values
     c.args.self.now c.requires.have c.requires.room) in
     let bytes = sample_bytes g.S.Sample.container i.spec_ex values in
-    let more : length values * i.spec_ex.bytes_per_sample ≡ length bytes = omega
-    (arith, fits.size) in
+    let more : length values * i.spec_ex.bytes_per_sample ≡ length bytes = omega (arith, fits.size) in
     rw (c.clear.ensures, ← none, more, ← c.self.view_is)
     (accepts_all W _ none known.sound known.at_most _ bytes
     fits.room fits.whole (rw (ap is_ok c.in_ok-result.was) at c.put_samples_at_end-result.ensures.puts)

@@ -25,6 +25,5 @@ returns g c =
     let fits = rw (← c.self.view_is) at (fit g.S.Sample.container g.met.S.Sample.in_width values
     c.args.self.now c.requires.have c.requires.room) in
     rw (c.extend_by.ensures, ← c.self.view_is)
-    (accepts_buffered W _ _ _ c.self.invariant
-    (sample_bytes g.S.Sample.container i.spec_ex values) fits.room fits.whole
+    (accepts_buffered W _ _ _ c.self.invariant (sample_bytes g.S.Sample.container i.spec_ex values) fits.room fits.whole
     (g.met.W.Medium.replays i.writer))

@@ -15,8 +15,7 @@ returns-then-not-has_room g c =
     let size : length (take wide c.args.container) ≡ wide = search rules in
     bytes_too_long W w (take wide c.args.container) c.has_room.ensures.valid.counts
     (g.met.W.Medium.replays w.medium) (one_whole _ _ size)
-    (λ room.
-    absurd (false≢true (sym c.if-not-has_room.true
+    (λ room. absurd (false≢true (sym c.if-not-has_room.true
     ∙ c.has_room.ensures.room.1 (omega (arith, room, size, same)))))
 
 pub returns-in-Err : goal.returns-in-Err
@@ -34,5 +33,4 @@ returns-in-Ok g c =
     let W = g.W.Placed in
     let out = rw (← c.self.view_is) at c.in-Ok.ensures in
     rw (← c.self.view_is)
-    (accepts_later W _ _ _ _ (Ok tt) out tt
-    (rw out.value at c.accept_in_block-in-Ok.ensures))
+    (accepts_later W _ _ _ _ (Ok tt) out tt (rw out.value at c.accept_in_block-in-Ok.ensures))

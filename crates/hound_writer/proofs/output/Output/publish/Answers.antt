@@ -40,8 +40,7 @@ pub returns-clause-moments : goal.returns-clause-moments
 returns-clause-moments g c tells keeps =
     let go = c.in_ok-go.ensures tells in
     rw (← c.self.view_is)
-    (patches_still _ _ _ _ (Ok tt) _ _ _ (g.met.W.Medium.replays _ tells keeps) go.stays
-    (inl go.flushed) refl
+    (patches_still _ _ _ _ (Ok tt) _ _ _ (g.met.W.Medium.replays _ tells keeps) go.stays (inl go.flushed) refl
     (rw c.riff_size-riff_size.ensures at (c.in_ok-patch.ensures.moments tells keeps)))
 
 pub patch-requires-clause-inside : goal.patch-requires-clause-inside

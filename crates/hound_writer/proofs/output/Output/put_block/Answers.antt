@@ -7,8 +7,7 @@ pub returns-then-len-eq0 : goal.returns-then-len-eq0
 returns-then-len-eq0 g c =
     let W = g.W.Placed in
     rw (← c.self.view_is)
-    (goes_out_nothing W _ _ _ _ c.self.invariant
-    (g.met.W.Medium.replays _) (search rules))
+    (goes_out_nothing W _ _ _ _ c.self.invariant (g.met.W.Medium.replays _) (search rules))
 
 pub invariant_of-self : goal.invariant_of-self
 invariant_of-self g c =

@@ -8,8 +8,7 @@ pub returns-then-self-eq0-clause-goes : goal.returns-then-self-eq0-clause-goes
 returns-then-self-eq0-clause-goes g c =
     let W = g.W.Placed in
     rw (← c.self.view_is)
-    (goes_out_nothing W _ _ _ _ c.self.invariant
-    (g.met.W.Medium.replays c.self.inside.writer) (search rules))
+    (goes_out_nothing W _ _ _ _ c.self.invariant (g.met.W.Medium.replays c.self.inside.writer) (search rules))
 
 pub invariant_of-self : goal.invariant_of-self
 invariant_of-self g c =
