@@ -99,8 +99,7 @@ module _ (s : WavSpecEx) (start : ℕ) (found : List (List ℕ)) (calls : List C
       (count : ℕ → ℕ) × (count patch.began ≡ 0)
       × ((k m : ℕ) → k ≤ m → (count k ≤ count m) × (count m ≤ 4))
       × (HasPublished patch → count (begins_at after medium.past) ≡ 4)
-      × ((k : ℕ) → patch.began ≤ k → k ≤ begins_at after medium.past →
-      (field (start - 4) (contents_at k)
+      × ((k : ℕ) → patch.began ≤ k → k ≤ begins_at after medium.past → (field (start - 4) (contents_at k)
       ≡ mix (count k) (field (start - 4) (contents_at patch.began)) new)
       × (1 ≤ count k → start + new ≤ length (contents_at k)))
 
@@ -160,8 +159,7 @@ module _ (s : WavSpecEx) (start : ℕ) (found : List (List ℕ)) (calls : List C
       (start - 4) / sector ≡ (start - 1) / sector →
       SurvivesLoss sector medium.start medium.past f k contents →
       Counts s start (accepted before) contents
-      × ((j : ℕ) × (f ≤ j) × (j ≤ k)
-      × (field (start - 4) contents ≡ field (start - 4) (contents_at j)))
+      × ((j : ℕ) × (f ≤ j) × (j ≤ k) × (field (start - 4) contents ≡ field (start - 4) (contents_at j)))
       × Head contents s (field (start - 4) contents) start
 
   -- The length field is that of a state since the medium was last flushed in which no write of it by these calls is
@@ -293,8 +291,7 @@ pub record SurvivesAtEnd (s : WavSpecEx) (start : ℕ) (found : List (List ℕ))
 abbrev pub IsLeftAfter : ℕ → ℕ → MediumState → List ℕ → Type 0
 IsLeftAfter start from medium contents =
     (contents ≡ medium.contents)
-    ⊎ ((k : ℕ) × (from ≤ k) × (k ≤ length medium.past)
-    × (contents ≡ moment medium.start medium.past k))
+    ⊎ ((k : ℕ) × (from ≤ k) × (k ≤ length medium.past) × (contents ≡ moment medium.start medium.past k))
     ⊎ ((f : ℕ) × (k : ℕ) × (sector : ℕ) × (from ≤ f) × (f ≤ k) × (k ≤ length medium.past)
     × Ascends medium.past f k × (1 ≤ sector) × ((start - 4) / sector ≡ (start - 1) / sector)
     × SurvivesLoss sector medium.start medium.past f k contents)

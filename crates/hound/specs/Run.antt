@@ -117,6 +117,5 @@ pub record Ran {M : Type 0} (kind : Ghosts M) (begin : Begin)
 abbrev pub IsSession : {M : Type 0} → Ghosts M → Begin → List Step →
     List Bool → End → M → Result (Unit {0}) Error → M → Type 0
 IsSession kind begin steps marks end old answer medium =
-    ((e : Error) × (answer ≡ Err e) × IsNotBegunAs kind begin old medium e
-    × (marks ≡ replicate (length steps) false))
+    ((e : Error) × (answer ≡ Err e) × IsNotBegunAs kind begin old medium e × (marks ≡ replicate (length steps) false))
     ⊎ Ran kind begin steps marks end old answer medium

@@ -41,8 +41,7 @@ abbrev pub AnswersSession : WavSpecEx → List (List ℕ) → List Step → Resu
 AnswersSession s list [] answer = IsPublishing answer (writer_after s list)
 AnswersSession s list (step ∷ steps) answer =
     ((e : Error) × (answer ≡ Err e) × AnswersStep s list step (Err e))
-    ⊎ (AnswersStep s list step (Ok tt)
-    × AnswersSession s (list ++ accepted_by s step true) steps answer)
+    ⊎ (AnswersStep s list step (Ok tt) × AnswersSession s (list ++ accepted_by s step true) steps answer)
 
 -- what sessions return after a file of these samples: the error of the first that isn't Ok, which is that of the
 -- session or an `IoError` before it began
@@ -50,8 +49,7 @@ abbrev pub AnswersAll : WavSpecEx → List (List ℕ) → List (Bor (List Step))
 AnswersAll s list [] answer = answer ≡ Ok tt
 AnswersAll s list (session ∷ sessions) answer =
     ((e : Error) × (answer ≡ Err e) × (IsIoError e ⊎ AnswersSession s list session.now (Err e)))
-    ⊎ (AnswersSession s list session.now (Ok tt)
-    × AnswersAll s (list ++ containers_of s session.now) sessions answer)
+    ⊎ (AnswersSession s list session.now (Ok tt) × AnswersAll s (list ++ containers_of s session.now) sessions answer)
 
 -- What the result of sessions shows: over every medium, that the spec can't be written; else the first error; and at an
 -- Ok, that no call of the medium failed.
@@ -69,15 +67,13 @@ RunsUntil kind [] w answer medium = Finishes kind w answer medium
 RunsUntil {M} kind (step ∷ steps) w answer medium =
     ((e : Error) × (new : WriterState M) × (dropped : Result (Unit {0}) Error) × (answer ≡ Err e)
     × Takes kind step (Err e) w new × Finishes kind new dropped medium)
-    ⊎ ((new : WriterState M) × Takes kind step (Ok tt) w new
-    × RunsUntil kind steps new answer medium)
+    ⊎ ((new : WriterState M) × Takes kind step (Ok tt) w new × RunsUntil kind steps new answer medium)
 
 -- one session, up to its first error: it isn't begun, or its steps are taken
 abbrev pub RunsFrom : {M : Type 0} → Ghosts M → Begin → List Step → M → Result (Unit {0}) Error → M → Type 0
 RunsFrom {M} kind begin steps old answer medium =
     ((e : Error) × (answer ≡ Err e) × IsNotBegunAs kind begin old medium e)
-    ⊎ ((w : WriterState M) × BeginsAs kind begin old w
-    × RunsUntil kind steps w answer medium)
+    ⊎ ((w : WriterState M) × BeginsAs kind begin old w × RunsUntil kind steps w answer medium)
 
 -- the same after the medium went to its beginning, if the session appends to the file
 abbrev pub RunsOnce : {M : Type 0} → Ghosts M → Begin → List Step → M → Result (Unit {0}) Error → M → Type 0
@@ -94,10 +90,8 @@ RunsOnce {M} kind Append steps old answer medium =
 abbrev pub RunsOn : {M : Type 0} → Ghosts M → Begin → List (Bor (List Step)) → M → Result (Unit {0}) Error → M → Type 0
 RunsOn kind begin [] old answer medium = (answer ≡ Ok tt) × (medium ≡ old)
 RunsOn {M} kind begin (session ∷ sessions) old answer medium =
-    ((e : Error) × (answer ≡ Err e)
-    × RunsOnce kind begin session.now old (Err e) medium)
-    ⊎ ((mid : M) × RunsOnce kind begin session.now old (Ok tt) mid
-    × RunsOn kind Append sessions mid answer medium)
+    ((e : Error) × (answer ≡ Err e) × RunsOnce kind begin session.now old (Err e) medium)
+    ⊎ ((mid : M) × RunsOnce kind begin session.now old (Ok tt) mid × RunsOn kind Append sessions mid answer medium)
 
 -- all steps of sessions, in order
 abbrev pub all_steps : List (Bor (List Step)) → List Step

@@ -78,8 +78,7 @@ once_done r = record r { data_length = length_after r.phase r; number = 0; healt
 -- of its beginning has failed, by a fault that the medium counted.
 abbrev pub IsNotBegunBy : {M : Type 0} → Ghosts M → WavSpecEx → M → M → Error → Type 0
 IsNotBegunBy kind s old new e = ((IsWritable s → ⊥) × (e ≡ Unsupported) × (new ≡ old))
-    ⊎ (IsWritable s × IsIoError e × WhereTells kind.tells
-    (((kind.state new).faults ≡ one_more (kind.state old).faults)
+    ⊎ (IsWritable s × IsIoError e × WhereTells kind.tells (((kind.state new).faults ≡ one_more (kind.state old).faults)
     × (fault : IoFault) × DoesBeginnings kind.keeps s beginning (Err fault) (kind.state old) (kind.state new)))
 
 -- a loss of power leaves no sample of a file without bytes that is being begun, and no length of one

@@ -67,8 +67,7 @@ abbrev pub WritesAndFlushes : {M : Type 0} → Ghosts M →
     Result (List (List ℕ)) Rejection → Result (Unit {0}) Error → WriterState M → WriterState M → Type 0
 WritesAndFlushes {M} kind asked answer old new =
     ((e : Error) × (answer ≡ Err e) × Accepts kind asked (Err e) old new)
-    ⊎ ((mid : WriterState M) × Accepts kind asked (Ok tt) old mid
-    × Checkpoints kind answer mid new)
+    ⊎ ((mid : WriterState M) × Accepts kind asked (Ok tt) old mid × Checkpoints kind answer mid new)
 
 -- why a batch of so many samples isn't made: it has no room in the file, or needs more memory than the writer has
 abbrev pub IsNoBatch : {M : Type 0} → WriterState M → ℕ → Error → Type 0

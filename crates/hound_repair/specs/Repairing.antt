@@ -148,8 +148,7 @@ pub record ReadsFrames (found : Repair) (start : ℕ) (list : List (List ℕ)) (
   pub readable : Readable contents found.spec_ex (found.frames * found.spec_ex.spec.channels) start
   pub among : length (whole_frames found.spec_ex list) ≤ found.frames * found.spec_ex.spec.channels
   pub first : take (length (whole_frames found.spec_ex list))
-      (containers found.spec_ex.bytes_per_sample (found.frames * found.spec_ex.spec.channels)
-      (drop start contents))
+      (containers found.spec_ex.bytes_per_sample (found.frames * found.spec_ex.spec.channels) (drop start contents))
       ≡ whole_frames found.spec_ex list
 
 -- No byte of these samples is taken for a pad byte: where a frame has one byte, and the data length that is shown is

@@ -287,8 +287,7 @@ PerformsRepair keeps looks state old result =
     × PerformedOn keeps (effects_where (is_mended (not looks) d.state) d) (Ok tt) mid (state done.0)
     × (done.1 ≡ repair_of d))
     (λ rejected. PutsNothing (state old) (state rejected.0)
-    ⊎ ((d : Damage) × (mid : MediumState) × (fault : IoFault) × IsSoundDamage d
-    × FindsDamage looks (state old) d mid
+    ⊎ ((d : Damage) × (mid : MediumState) × (fault : IoFault) × IsSoundDamage d × FindsDamage looks (state old) d mid
     × PerformedOn keeps (effects_where (is_mended (not looks) d.state) d) (Err fault) mid (state rejected.0)))
 
 -- In each intermediate state nothing was written, or the file is partly mended, for the frames that were found in it.
@@ -408,8 +407,7 @@ AsksPart task n bytes stage new (Ok ask) = AreEnough stage bytes
     × (((next : Stage) × (new ≡ states.Looks next) × (ask ≡ Asks (asks_for next n))
     × (steps_left n next < steps_left n stage)
     × WhereRead task n bytes stage (λ file. IsAtStage (looks_for_chunks task) file next))
-    ⊎ ((d : Damage) × IsSoundDamage d × AsksEffect task d 0 ask new
-    × WhereRead task n bytes stage (λ file.
+    ⊎ ((d : Damage) × IsSoundDamage d × AsksEffect task d 0 ask new × WhereRead task n bytes stage (λ file.
     IsFoundAt (looks_for_chunks task) file (repair_of d) d.head.data_length d.head.data_start
     × (d.held ≡ held d.head.data_start file) × IsShown file d.head)))
 AsksPart task n bytes stage new (Err (errors.Rejected why)) = (new ≡ states.Looks stage)

@@ -54,7 +54,6 @@ unfolding pattern_container
 pattern_container-in_width pattern bits width c is =
     let (pair, here) = met (is_pair Float bits width) (Ok (bytes_of 4 pattern)) unsupported c is in
     let same : c ≡ bytes_of 4 pattern = cc in
-    let (size, some, few) =
-    of_pair (λ b w. InWidth (bytes_of 4 pattern) w) Float bits width
+    let (size, some, few) = of_pair (λ b w. InWidth (bytes_of 4 pattern) w) Float bits width
     ((refl, lit≤ tt, lit≤ tt), tt) pair in
     (ap length same ∙ size, some, few)

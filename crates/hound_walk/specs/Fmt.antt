@@ -51,8 +51,7 @@ wave_format_pcm len found after =
     else if not (len == 18 || len == 40) then Err (Format UnexpectedFmtSize)
     else if nat_lt (length after) 2 then Err Ended
     else if not
-    (found.spec.bits_per_sample == 8 || found.spec.bits_per_sample == 16 ||
-    found.spec.bits_per_sample == 24)
+    (found.spec.bits_per_sample == 8 || found.spec.bits_per_sample == 16 || found.spec.bits_per_sample == 24)
     then Err (Format BitsNot8Or16)
     else if nat_lt (length after) (len - 16) then Err Ended
     else Ok found

@@ -32,8 +32,7 @@ head_fault s len h =
 abbrev pub IsAppendFault : List ℕ → AppendFault → Type 0
 IsAppendFault bytes fault =
     ((cause : Cause) × (fault ≡ by_bytes cause) × Rejected bytes cause)
-    ⊎ ((s : WavSpecEx) × (len : ℕ) × (h : ℕ) × Head bytes s len h
-    × (head_fault s len h ≡ Some fault))
+    ⊎ ((s : WavSpecEx) × (len : ℕ) × (h : ℕ) × Head bytes s len h × (head_fault s len h ≡ Some fault))
 
 -- the spec, the data's length and the place of the data, if the bytes can be appended to; or the fault
 pub data AppendAnswer : Type 0 where

@@ -52,8 +52,7 @@ pub record Begins {W : Type 0} (kind : Ghosts W) (spec_ex : WavSpecEx) (old : Me
 abbrev pub IsNotBegun : {W : Type 0} → Ghosts W → WavSpecEx → W → W → Error → Type 0
 IsNotBegun kind spec_ex old new e =
     ((IsWritable spec_ex → ⊥) × (e ≡ Unsupported) × (new ≡ old))
-    ⊎ (IsWritable spec_ex × IsIoError e
-    × WhereTells kind.tells
+    ⊎ (IsWritable spec_ex × IsIoError e × WhereTells kind.tells
     (PutsAll {T = Unit {0}} kind.keeps (header spec_ex 0 0) (Err e) (kind.state old) (kind.state new)))
 
 -- How a caller begins a file: its name is synced, it is emptied and synced, and the header is written, whose 44 or 68
