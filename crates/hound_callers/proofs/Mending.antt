@@ -74,7 +74,8 @@ module _ (asked : Recorder) (start : Log) (one : asked.phase ≡ Saving) (block 
       ended in
       let number : suc r.number ≡ mid.number = omega (arith, ap (λ (x : Recorder). x.number) is_mid) in
       let all = performed_more (effects_of asked) r.number effect result start log end
-      (next.3 ∙ ap (λ l. nth l r.number) same) done (subst (λ m. Performs effect result m end.state) (sym here) did) in (
+      (next.3 ∙ ap (λ l. nth l r.number) same)
+      done (subst (λ m. Performs effect result m end.state) (sym here) did) in (
         ap (λ (x : Recorder). x.phase) is_mid ∙ task,
         subst (λ (r : Recorder). HasData r r.data_length) (sym is_mid) has,
         ap effects_of is_mid ∙ same,
@@ -91,7 +92,8 @@ module _ (asked : Recorder) (start : Log) (one : asked.phase ≡ Saving) (block 
       let failed : is_ok result ≡ false =
       sym (ended_as (is_ok result) r mid effect (Err error) task rest goes ended).0 in
       let all = performed_more (effects_of asked) r.number effect result start log end
-      (next.3 ∙ ap (λ l. nth l r.number) same) done (subst (λ m. Performs effect result m end.state) (sym here) did) in (
+      (next.3 ∙ ap (λ l. nth l r.number) same)
+      done (subst (λ m. Performs effect result m end.state) (sym here) did) in (
         (ended_as (is_ok result) r mid effect (Err error) task rest goes ended).1 refl,
         end,
         refl,
