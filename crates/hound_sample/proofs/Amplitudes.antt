@@ -4,8 +4,10 @@ use Prim.Native.Nat.{ℕ, zero, suc, ◌+◌, ◌<◌}
 use native.Mathlib.Omega.{arith}
 use Rattle.std.proofs.Common.{ℤ, Bool, true, false, cond, List, [], ◌∷◌, ◌++◌, length, drop, get_or, map, rules, slice_index_or, take, Ok, Err, is_ok}
 use Rattle.std.proofs.lemmas.List.{append-nil, drop_more, map-append, take_more}
+use Rattle.std.proofs.lemmas.List.Sums.{count_by_more_no, count_by_more_yes}
 use Rattle.std.proofs.lemmas.Grind.{flat_map-append}
-use Rattle.std.specs.List.{flat_map}
+use Rattle.std.specs.List.{count_by, flat_map}
+use mir.Val.{bool_byte}
 use Rattle.std.specs.Float.{Float, binary64}
 use lib.Ieee.{add, nan}
 use Rattle.hound_spec.specs.{IsPair}
@@ -82,3 +84,10 @@ joined_next bits width floats i c less is =
     (scaled_to bits (slice_index_or floats i nan) ∷ [])
     ∙ ap (λ xs. flat_map container (map (scaled_to bits) (take i floats)) ++ xs)
     (append-nil (container (scaled_to bits (slice_index_or floats i nan))) ∙ ap bytes_in is)
+
+-- so many of the floats meet a condition, and one more may
+pub counted : (p : Float → Bool) (xs : List Float) (i n : ℕ) (b : Bool) → i < length xs
+    → n ≡ count_by p (take i xs) → b ≡ p (slice_index_or xs i nan)
+    → n + bool_byte b ≡ count_by p (take (i + 1) xs)
+counted p xs i n true less count is = search (rules, count_by_more_yes p xs i nan less (sym is), count)
+counted p xs i n false less count is = search (rules, count_by_more_no p xs i nan less (sym is), count)

@@ -113,7 +113,7 @@ fn container_of(sample: i32, bits: u16, width: u16) -> [u8; 4]
 {
     match encode_integer(sample, bits, width) {
         Ok(container) => container,
-        Err(_) => unreachable!(),
+        Err(_) => [0; 4],
     }
 }
 
@@ -135,9 +135,7 @@ fn scale_each<S: Amplitude>(bytes: &mut [u8], amplitudes: &[S], bits: u16, width
             container_of(sample, bits, width),
             width as usize,
         );
-        if is_clipped {
-            count += 1;
-        }
+        count += is_clipped as u64;
     }
     count
 }
@@ -243,9 +241,7 @@ fn scale_each_with_noise<S: Amplitude>(
             container_of(sample, bits, width),
             width as usize,
         );
-        if is_clipped {
-            count += 1;
-        }
+        count += is_clipped as u64;
     }
     *state = next;
     count

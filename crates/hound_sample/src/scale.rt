@@ -30,7 +30,7 @@ pub fn int_to_float(sample: i32, bits: u16) -> f32
 
 /// The same of an integer that is a float itself, which takes less time.
 #[inline]
-pub(crate) fn small_int_to_float(sample: i32, bits: u16) -> f32
+pub fn small_int_to_float(sample: i32, bits: u16) -> f32
     requires some { 0 < bits }
     requires most { bits ≤ 32 }
     requires small { nat_abs sample ≤ 2 ^ 24 }
@@ -42,7 +42,7 @@ pub(crate) fn small_int_to_float(sample: i32, bits: u16) -> f32
 
 /// The same as a float of 64 bits, which is the quotient itself.
 #[inline]
-pub(crate) fn int_to_double(sample: i32, bits: u16) -> f64
+pub fn int_to_double(sample: i32, bits: u16) -> f64
     requires some { 0 < bits }
     requires most { bits ≤ 32 }
     ensures { result ≡ double_of_int bits sample }
@@ -70,7 +70,7 @@ pub fn float_to_int(number: f32, bits: u16) -> (i32, bool)
 
 /// The same of a float of 64 bits.
 #[inline]
-pub(crate) fn double_to_int(number: f64, bits: u16) -> (i32, bool)
+pub fn double_to_int(number: f64, bits: u16) -> (i32, bool)
     requires some { 0 < bits }
     requires most { bits ≤ 32 }
     ensures value { result.0 ≡ clipped bits (scaled bits number) }

@@ -1,15 +1,12 @@
 use mathlib.Core.Path.{ap, refl, sym, ◌∙◌}
-use Rattle.std.proofs.Common.{Bool, arith, drop, false, length, map, not, rules, slice_index_or, of_z, take, to_z, to_z-of_z, true, w32, ◌+◌, ◌++◌, ◌*◌, ◌<◌, ◌≡◌}
+use Rattle.std.proofs.Common.{arith, drop, length, map, not, rules, slice_index_or, of_z, take, to_z, to_z-of_z, w32, ◌+◌, ◌++◌, ◌*◌, ◌<◌, ◌≡◌}
 use Rattle.std.proofs.lemmas.List.{take_all}
-use Rattle.std.proofs.lemmas.List.Sums.{count_by_more_no, count_by_more_yes}
 use Rattle.std.specs.List.{count_by}
-use Rattle.std.specs.Float.{Float}
 use lib.Ieee.{add, binary64, nan}
 use Rattle.hound_sample.specs.Container.{fits, int_container, joined_containers}
 use Rattle.hound_sample.specs.Dithering.{next_state, noise, with_noise}
 use Rattle.hound_sample.specs.Scale.{scaled, scaled_to}
-use Rattle.hound_sample.proofs.Amplitudes.{joined_next, next_with_noise, none_more, one_more, with_noise-length}
-use Rattle.hound_sample.proofs.amplitude.scale_each_with_noise.Goals.{then-is_clipped, else-is_clipped}
+use Rattle.hound_sample.proofs.Amplitudes.{counted, joined_next, next_with_noise, none_more, one_more, with_noise-length}
 use Rattle.hound_sample.proofs.amplitude.scale_each_with_noise.Goals as goal
 
 pub loop-i-preserved : goal.loop-i-preserved
@@ -29,8 +26,6 @@ loop-i-preserved g c =
     let sample = c.double_to_int-sample.ensures.value ∙ ap (scaled_to bits) sum in
     let value : to_z w32 (of_z w32 c.double_to_int-sample.result.0) ≡ scaled_to bits (slice_index_or noisy i nan) =
     search (rules, to_z-of_z, sample) in
-    let clips : Float → Bool = λ x. not (fits bits (scaled bits x)) in
-    let is = c.double_to_int-sample.ensures.is_clipped ∙ ap clips sum in
     record {
       size = c.store_container.ensures.size ∙ c.loop-i.invariant.size;
       state = c.next_state-next.ensures ∙ ap next_state c.loop-i.invariant.state ∙ one_more i c.args.state.now;
@@ -41,20 +36,8 @@ loop-i-preserved g c =
           ∙ ap (λ l. l ++ take width c.container_of.result) c.loop-i.invariant.stored
           ∙ sym (joined_next bits width noisy i _ some
           (ap (λ v. int_container v bits width) (sym value) ∙ c.container_of.ensures));
-      count = elim c.if-is_clipped.branch [
-        | then-is_clipped w ↦ search (
-          rules,
-          w.count-is,
-          c.loop-i.invariant.count,
-          count_by_more_yes clips noisy i nan some (sym is ∙ w.if-is_clipped.true),
-        )
-        | else-is_clipped w ↦ search (
-          rules,
-          w.count-is,
-          c.loop-i.invariant.count,
-          count_by_more_no clips noisy i nan some (sym is ∙ w.if-is_clipped.false),
-        )
-      ];
+      count = counted (λ x. not (fits bits (scaled bits x))) noisy i c.loop-i.count _ some c.loop-i.invariant.count
+          (c.double_to_int-sample.ensures.is_clipped ∙ ap (λ x. not (fits bits (scaled bits x))) sum);
       few = search rules;
     }
 
