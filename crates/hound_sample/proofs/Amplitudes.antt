@@ -2,12 +2,11 @@
 use mathlib.Core.Path.{◌≡◌, refl, sym, ap, ◌∙◌}
 use Prim.Native.Nat.{ℕ, zero, suc, ◌+◌, ◌<◌}
 use native.Mathlib.Omega.{arith}
-use Rattle.std.proofs.Common.{ℤ, Bool, true, false, cond, List, [], ◌∷◌, ◌++◌, length, drop, get_or, map, rules, slice_index_or, take, Ok, Err, is_ok}
+use Rattle.std.proofs.Common.{ℤ, Bool, true, false, cond, List, [], ◌∷◌, ◌++◌, length, drop, get_or, map, not, rules, slice_index_or, take, Ok, Err, is_ok}
 use Rattle.std.proofs.lemmas.List.{append-nil, drop_more, map-append, take_more}
 use Rattle.std.proofs.lemmas.List.Sums.{count_by_more_no, count_by_more_yes}
 use Rattle.std.proofs.lemmas.Grind.{flat_map-append}
 use Rattle.std.specs.List.{count_by, flat_map}
-use mir.Val.{bool_byte}
 use Rattle.std.specs.Float.{Float, binary64}
 use lib.Ieee.{add, nan}
 use Rattle.hound_spec.specs.{IsPair}
@@ -85,9 +84,15 @@ joined_next bits width floats i c less is =
     ∙ ap (λ xs. flat_map container (map (scaled_to bits) (take i floats)) ++ xs)
     (append-nil (container (scaled_to bits (slice_index_or floats i nan))) ∙ ap bytes_in is)
 
--- so many of the floats meet a condition, and one more may
-pub counted : (p : Float → Bool) (xs : List Float) (i n : ℕ) (b : Bool) → i < length xs
-    → n ≡ count_by p (take i xs) → b ≡ p (slice_index_or xs i nan)
-    → n + bool_byte b ≡ count_by p (take (i + 1) xs)
-counted p xs i n true less count is = search (rules, count_by_more_yes p xs i nan less (sym is), count)
-counted p xs i n false less count is = search (rules, count_by_more_no p xs i nan less (sym is), count)
+-- so many of the floats don't meet a condition, and the next one is counted where it doesn't, too
+pub counted : (p : Float → Bool) (xs : List Float) (i n m : ℕ) (x : Float) → i < length xs
+    → n ≡ count_by (λ y. not (p y)) (take i xs)
+    → x ≡ slice_index_or xs i nan
+    → m ≡ cond (p x) n (n + 1)
+    → m ≡ count_by (λ y. not (p y)) (take (i + 1) xs)
+counted p xs i n m x less count same is = by (p x) (ap p (sym same)) is
+  where
+    by : (b : Bool) → p (slice_index_or xs i nan) ≡ b → m ≡ cond b n (n + 1)
+        → m ≡ count_by (λ y. not (p y)) (take (i + 1) xs)
+    by true fit is = search (rules, is, count, count_by_more_no (λ y. not (p y)) xs i nan less (ap not fit))
+    by false other is = search (rules, is, count, count_by_more_yes (λ y. not (p y)) xs i nan less (ap not other))

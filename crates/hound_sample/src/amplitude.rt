@@ -128,14 +128,13 @@ fn scale_each<S: Amplitude>(bytes: &mut [u8], amplitudes: &[S], bits: u16, width
 {
     let mut count = 0;
     for i in 0..amplitudes.len() {
-        let (sample, is_clipped) = double_to_int(amplitudes[i].to_f64(), bits);
+        let sample = double_to_int(amplitudes[i].to_f64(), bits, &mut count);
         store_container(
             bytes,
             i * width as usize,
             container_of(sample, bits, width),
             width as usize,
         );
-        count += is_clipped as u64;
     }
     count
 }
@@ -234,14 +233,13 @@ fn scale_each_with_noise<S: Amplitude>(
     for i in 0..amplitudes.len() {
         next = next_state(next);
         let number = amplitudes[i].to_f64() + noise_of(next, bits, step);
-        let (sample, is_clipped) = double_to_int(number, bits);
+        let sample = double_to_int(number, bits, &mut count);
         store_container(
             bytes,
             i * width as usize,
             container_of(sample, bits, width),
             width as usize,
         );
-        count += is_clipped as u64;
     }
     *state = next;
     count

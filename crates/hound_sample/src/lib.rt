@@ -17,7 +17,5 @@ pub use float::FloatBits;
 pub use item::{ContainerReader, SampleError, error_of_sample, reason_of};
 pub use laws::{i16s_are_kept, integers_come_back};
 pub use sample::Sample;
-pub use scale::{
-    change_bits, double_to_int, float_to_int, int_to_double, int_to_float, small_int_to_float,
-};
+pub use scale::{change_bits, float_to_int, int_to_float};
 pub use slices::{check_containers, decode_containers, have_containers, store_containers};

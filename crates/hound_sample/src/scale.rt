@@ -1,5 +1,5 @@
 // Samples as floats whose full scale is 1, and as integers of other bits.
-ghost use Rattle.std.specs.Prelude.{◌≡◌, ◌<◌, ◌≤◌, ◌-◌, ◌+ℤ◌, ◌*ℤ◌, ◌^◌, nat_abs, not, pos, true};
+ghost use Rattle.std.specs.Prelude.{◌≡◌, ◌<◌, ◌≤◌, ◌-◌, ◌+◌, ◌+ℤ◌, ◌*ℤ◌, ◌^◌, if◌then◌else◌, nat_abs, not, pos, true};
 ghost use lib.Ieee.{binary32, binary64, lt, neg, of_int};
 ghost use Rattle.std.specs.Float.{float_to_signed, round_ties_even};
 ghost use Rattle.std.specs.Int.{int_shr, w64};
@@ -30,7 +30,7 @@ pub fn int_to_float(sample: i32, bits: u16) -> f32
 
 /// The same of an integer that is a float itself, which takes less time.
 #[inline]
-pub fn small_int_to_float(sample: i32, bits: u16) -> f32
+pub(crate) fn small_int_to_float(sample: i32, bits: u16) -> f32
     requires some { 0 < bits }
     requires most { bits ≤ 32 }
     requires small { nat_abs sample ≤ 2 ^ 24 }
@@ -42,7 +42,7 @@ pub fn small_int_to_float(sample: i32, bits: u16) -> f32
 
 /// The same as a float of 64 bits, which is the quotient itself.
 #[inline]
-pub fn int_to_double(sample: i32, bits: u16) -> f64
+pub(crate) fn int_to_double(sample: i32, bits: u16) -> f64
     requires some { 0 < bits }
     requires most { bits ≤ 32 }
     ensures { result ≡ double_of_int bits sample }
@@ -65,23 +65,26 @@ pub fn float_to_int(number: f32, bits: u16) -> (i32, bool)
     ensures value { result.0 ≡ clipped bits (scaled bits number) }
     ensures is_clipped { result.1 ≡ not (fits bits (scaled bits number)) }
 {
-    double_to_int(f32_to_f64_with_nan(number), bits)
+    let mut count = 0;
+    let sample = double_to_int(f32_to_f64_with_nan(number), bits, &mut count);
+    (sample, count == 1)
 }
 
-/// The same of a float of 64 bits.
-#[inline]
-pub fn double_to_int(number: f64, bits: u16) -> (i32, bool)
+/// The same of a float of 64 bits, which is counted where it is clipped.
+#[inline(always)]
+pub(crate) fn double_to_int(number: f64, bits: u16, count: &mut u64) -> i32
     requires some { 0 < bits }
     requires most { bits ≤ 32 }
-    ensures value { result.0 ≡ clipped bits (scaled bits number) }
-    ensures is_clipped { result.1 ≡ not (fits bits (scaled bits number)) }
+    requires room { count.old + 1 < 2 ^ 64 }
+    ensures value { result ≡ clipped bits (scaled bits number) }
+    ensures count { count.new ≡ (if fits bits (scaled bits number) then count.old else (count.old + 1)) }
 {
     let scaled = number * f64::from(two_to(bits - 1));
     let limit = two_to(bits - 1) - 1;
     if -f64::from(limit) < scaled && scaled < f64::from(limit) {
-        return (nearest_within(scaled, limit), false);
+        return nearest_within(scaled, limit);
     }
-    clip_distant(scaled, bits)
+    clip_distant(scaled, bits, count)
 }
 
 // The nearest integer, of two the even one, to a number within a limit.
@@ -97,16 +100,23 @@ fn nearest_within(number: f64, limit: u32) -> i32
     ((number + 6755399441055744.0) as i64 - 6755399441055744) as i32
 }
 
-// The integer of so many bits that is nearest to any number, and whether another integer is nearer. It is a call of its
-// own, so that the loops over it stay short.
+// The integer of so many bits that is nearest to any number, which is counted where another one is nearer. It is a call
+// of its own that is seldom made, so that the loops over it stay short.
+#[cold]
 #[inline(never)]
-fn clip_distant(number: f64, bits: u16) -> (i32, bool)
+fn clip_distant(number: f64, bits: u16, count: &mut u64) -> i32
     requires some { 0 < bits }
     requires most { bits ≤ 32 }
-    ensures value { result.0 ≡ clipped bits (float_to_signed w64 (round_ties_even binary64 number)) }
-    ensures is_clipped { result.1 ≡ not (fits bits (float_to_signed w64 (round_ties_even binary64 number))) }
+    requires room { count.old + 1 < 2 ^ 64 }
+    ensures value { result ≡ clipped bits (float_to_signed w64 (round_ties_even binary64 number)) }
+    ensures count { count.new ≡
+        (if fits bits (float_to_signed w64 (round_ties_even binary64 number)) then count.old else (count.old + 1)) }
 {
-    clip(saturating_f64_to_i64(number.round_ties_even()), bits)
+    let (sample, is_clipped) = clip(saturating_f64_to_i64(number.round_ties_even()), bits);
+    if is_clipped {
+        *count += 1;
+    }
+    sample
 }
 
 /// An integer of so many bits as one of others, and whether it was clipped.

@@ -24,7 +24,7 @@ loop-i-preserved g c =
     let given = c.noise_of.ensures ∙ ap (noise bits) c.next_state-next.ensures in
     let sum = (λ j. add binary64 (c.to_f64.ensures j) (given j)) ∙ sym next.0 in
     let sample = c.double_to_int-sample.ensures.value ∙ ap (scaled_to bits) sum in
-    let value : to_z w32 (of_z w32 c.double_to_int-sample.result.0) ≡ scaled_to bits (slice_index_or noisy i nan) =
+    let value : to_z w32 (of_z w32 c.double_to_int-sample.result) ≡ scaled_to bits (slice_index_or noisy i nan) =
     search (rules, to_z-of_z, sample) in
     record {
       size = c.store_container.ensures.size ∙ c.loop-i.invariant.size;
@@ -36,8 +36,8 @@ loop-i-preserved g c =
           ∙ ap (λ l. l ++ take width c.container_of.result) c.loop-i.invariant.stored
           ∙ sym (joined_next bits width noisy i _ some
           (ap (λ v. int_container v bits width) (sym value) ∙ c.container_of.ensures));
-      count = counted (λ x. not (fits bits (scaled bits x))) noisy i c.loop-i.count _ some c.loop-i.invariant.count
-          (c.double_to_int-sample.ensures.is_clipped ∙ ap (λ x. not (fits bits (scaled bits x))) sum);
+      count = counted (λ x. fits bits (scaled bits x)) noisy i c.loop-i.count _ _ some c.loop-i.invariant.count sum
+          c.double_to_int-sample.ensures.count;
       few = search rules;
     }
 
