@@ -11,10 +11,11 @@ ghost use Rattle.hound_spec.specs.{IsPair};
 ghost use Rattle.hound_spec.specs.declared.spec.SampleFormat.TheVariants.{Int};
 
 use crate::decode::{Decode, check_type};
-use crate::integer::encode_integer;
 use crate::scale::{double_to_int, int_to_double, int_to_float, small_int_to_float};
 use crate::slices::store_container;
-use hound_number::{i16_from_le, i24_from_le, i32_from_le, signed_from_u8};
+use hound_number::{
+    i16_from_le, i24_from_le, i32_from_le, le_i16, le_i32, signed_from_u8, u8_from_signed,
+};
 use hound_spec::{Result, SampleFormat};
 use std::num::{f32_to_f64_with_nan, nearest_u64_to_f64};
 
@@ -106,15 +107,24 @@ impl Amplitude for f64 {
 
 // The container of an integer that has no more than so many bits, in the first bytes.
 #[inline(always)]
+#[tactic(auto, unfolding(crate::specs::Container::int_container))]
 fn container_of(sample: i32, bits: u16, width: u16) -> [u8; 4]
     requires pair { IsPair Int bits width }
     requires fits { fits bits sample ≡ true }
     ensures { int_container sample bits width ≡ Ok (take width result) }
 {
-    match encode_integer(sample, bits, width) {
-        Ok(container) => container,
-        Err(_) => [0; 4],
+    if bits == 16 && width == 2 {
+        let [low, high] = le_i16(sample as i16);
+        return [low, high, 0, 0];
     }
+    if bits == 24 && (width == 3 || width == 4) {
+        let [low, middle, high, _] = le_i32(sample);
+        return [low, middle, high, 0];
+    }
+    if bits == 32 && width == 4 {
+        return le_i32(sample);
+    }
+    [u8_from_signed(sample as i8), 0, 0, 0]
 }
 
 // Stores floats as integers in containers, one after the other, and returns how many were clipped.
