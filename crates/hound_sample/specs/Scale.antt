@@ -1,8 +1,8 @@
 -- Samples in another scale: integers of other bits, and floats whose full scale is 1.
-use Rattle.std.specs.Prelude.{ℕ, ℤ, pos, ◌-◌, ◌^◌, ◌+ℤ◌, ◌*ℤ◌, nat_lt, if◌then◌else◌}
+use Rattle.std.specs.Prelude.{ℕ, ℤ, Option, None, Some, pos, ◌-◌, ◌^◌, ◌+ℤ◌, ◌*ℤ◌, nat_lt, if◌then◌else◌}
 use Rattle.std.specs.Float.{Float, float_to_signed, round_ties_even}
 use Rattle.std.specs.Int.{int_shr, saturate_to_bits, w64}
-use lib.Ieee.{binary32, binary64, div, mul, of_int}
+use lib.Ieee.{binary32, binary64, div, mul, nan, of_int}
 
 -- the full scale of integers of so many bits: they are from minus this to one less
 abbrev pub full_scale : ℕ → ℤ
@@ -11,6 +11,11 @@ full_scale bits = pos (2 ^ (bits - 1))
 -- the integer of so many bits that is nearest to a number
 abbrev pub clipped : ℕ → ℤ → ℤ
 clipped bits v = saturate_to_bits (bits - 1) v
+
+-- a number, where none is a NaN
+abbrev pub float_of : Option Float → Float
+float_of None = nan
+float_of (Some x) = x
 
 -- an integer of so many bits in full scale 1: as the nearest `f32`, over full scale, which is exact
 abbrev pub float_of_int : ℕ → ℤ → Float

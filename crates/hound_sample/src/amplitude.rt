@@ -1,12 +1,12 @@
 // Floats whose full scale is 1: decoded from containers of integers, and stored in them, with or without noise.
-ghost use Rattle.std.specs.Prelude.{◌≡◌, ◌+◌, ◌*◌, ◌≤◌, Ok, length, map, not, pos, take, true};
+ghost use Rattle.std.specs.Prelude.{◌≡◌, ◌+◌, ◌*◌, ◌≤◌, ◌<◌, ◌^◌, Ok, if◌then◌else◌, length, map, not, pos, take, true};
 ghost use Rattle.std.specs.Float.{Float};
 ghost use Rattle.std.specs.List.{count_by};
-ghost use lib.Ieee.{binary64, div, of_int};
+ghost use lib.Ieee.{add, binary64, div, of_int};
 ghost use Rattle.hound_sample.specs.Container.{fits, int_container, joined_containers};
 ghost use Rattle.hound_sample.specs.Dithering.{difference, next_state, noise, state_after, with_noise};
 ghost use Rattle.hound_sample.specs.Reading.{int_meaning, int_rejection};
-ghost use Rattle.hound_sample.specs.Scale.{double_of_int, float_of_int, full_scale, scaled, scaled_to};
+ghost use Rattle.hound_sample.specs.Scale.{double_of_int, float_of, float_of_int, full_scale, scaled, scaled_to};
 ghost use Rattle.hound_spec.specs.{IsPair};
 ghost use Rattle.hound_spec.specs.declared.spec.SampleFormat.TheVariants.{Int};
 
@@ -82,17 +82,20 @@ pub trait Amplitude: Copy {
     /// The number.
     ghost amplitude: { Self → Float };
 
-    /// The same as a float of 64 bits.
-    fn to_f64(self) -> f64
-        ensures { result ≡ amplitude self };
+    /// The same as a float of 64 bits, or none for a NaN.
+    fn number(self) -> Option<f64>
+        ensures { float_of result ≡ amplitude self };
 }
 
 impl Amplitude for f32 {
     ghost amplitude = { λ x. x };
 
     #[inline(always)]
-    fn to_f64(self) -> f64 {
-        f32_to_f64_with_nan(self)
+    fn number(self) -> Option<f64> {
+        if self.is_nan() {
+            return None;
+        }
+        Some(f32_to_f64_with_nan(self))
     }
 }
 
@@ -100,8 +103,8 @@ impl Amplitude for f64 {
     ghost amplitude = { λ x. x };
 
     #[inline(always)]
-    fn to_f64(self) -> f64 {
-        self
+    fn number(self) -> Option<f64> {
+        Some(self)
     }
 }
 
@@ -127,6 +130,33 @@ fn container_of(sample: i32, bits: u16, width: u16) -> [u8; 4]
     [u8_from_signed(sample as i8), 0, 0, 0]
 }
 
+// The integer that is nearest to a number, which is counted where it is clipped. The constant of a NaN leaves the loop no
+// more than one test for it.
+#[inline(always)]
+fn int_of(number: Option<f64>, bits: u16, count: &mut u64) -> i32
+    requires some { 1 ≤ bits }
+    requires most { bits ≤ 32 }
+    requires room { count.old + 1 < 2 ^ 64 }
+    ensures value { result ≡ scaled_to bits (float_of number) }
+    ensures count { count.new ≡ (if fits bits (scaled bits (float_of number)) then count.old else (count.old + 1)) }
+{
+    match number {
+        Some(number) => double_to_int(number, bits, count),
+        None => double_to_int(f64::NAN, bits, count),
+    }
+}
+
+// The sum of a number and its noise.
+#[inline(always)]
+fn sum_with(number: Option<f64>, noise: f64) -> Option<f64>
+    ensures { float_of result ≡ add binary64 (float_of number) noise }
+{
+    match number {
+        Some(number) => Some(number + noise),
+        None => None,
+    }
+}
+
 // Stores floats as integers in containers, one after the other, and returns how many were clipped.
 #[inline(always)]
 fn scale_each<S: Amplitude>(bytes: &mut [u8], amplitudes: &[S], bits: u16, width: u16) -> u64
@@ -138,7 +168,7 @@ fn scale_each<S: Amplitude>(bytes: &mut [u8], amplitudes: &[S], bits: u16, width
 {
     let mut count = 0;
     for i in 0..amplitudes.len() {
-        let sample = double_to_int(amplitudes[i].to_f64(), bits, &mut count);
+        let sample = int_of(amplitudes[i].number(), bits, &mut count);
         store_container(
             bytes,
             i * width as usize,
@@ -242,8 +272,8 @@ fn scale_each_with_noise<S: Amplitude>(
     let mut count = 0;
     for i in 0..amplitudes.len() {
         next = next_state(next);
-        let number = amplitudes[i].to_f64() + noise_of(next, bits, step);
-        let sample = double_to_int(number, bits, &mut count);
+        let noisy = sum_with(amplitudes[i].number(), noise_of(next, bits, step));
+        let sample = int_of(noisy, bits, &mut count);
         store_container(
             bytes,
             i * width as usize,

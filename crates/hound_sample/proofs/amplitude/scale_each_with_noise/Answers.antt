@@ -22,9 +22,9 @@ loop-i-preserved g c =
     let next = next_with_noise float bits c.args.state.now c.loop-i.next i values c.index-amplitudes-i.result less
     c.index-amplitudes-i.is c.loop-i.invariant.left in
     let given = c.noise_of.ensures ∙ ap (noise bits) c.next_state-next.ensures in
-    let sum = (λ j. add binary64 (c.to_f64.ensures j) (given j)) ∙ sym next.0 in
-    let sample = c.double_to_int-sample.ensures.value ∙ ap (scaled_to bits) sum in
-    let value : to_z w32 (of_z w32 c.double_to_int-sample.result) ≡ scaled_to bits (slice_index_or noisy i nan) =
+    let sum = c.sum_with-noisy.ensures ∙ (λ j. add binary64 (c.number.ensures j) (given j)) ∙ sym next.0 in
+    let sample = c.int_of-sample.ensures.value ∙ ap (scaled_to bits) sum in
+    let value : to_z w32 (of_z w32 c.int_of-sample.result) ≡ scaled_to bits (slice_index_or noisy i nan) =
     search (rules, to_z-of_z, sample) in
     record {
       size = c.store_container.ensures.size ∙ c.loop-i.invariant.size;
@@ -37,7 +37,7 @@ loop-i-preserved g c =
           ∙ sym (joined_next bits width noisy i _ some
           (ap (λ v. int_container v bits width) (sym value) ∙ c.container_of.ensures));
       count = counted (λ x. fits bits (scaled bits x)) noisy i c.loop-i.count _ _ some c.loop-i.invariant.count sum
-          c.double_to_int-sample.ensures.count;
+          c.int_of-sample.ensures.count;
       few = search rules;
     }
 
