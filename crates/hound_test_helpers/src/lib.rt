@@ -11,6 +11,7 @@ use hound::{
 };
 use std::alloc::Global;
 use std::io;
+use std::io::ErrorKind;
 use std::test::Fail;
 
 // Integers with these bits and bytes of a sample.
@@ -115,51 +116,39 @@ pub fn read_all<S: Sample, R: io::Read + Drop>(
 }
 
 // Whether the next item is this number.
-pub fn gives<S: Sample + PartialEq, R: io::Read + Drop>(
-    reader: &mut WavReader<R>,
-    number: S,
-) -> bool {
+fn gives<S: Sample + PartialEq, R: io::Read + Drop>(reader: &mut WavReader<R>, number: S) -> bool {
     match reader.samples::<S>().next() {
         Some(Ok(value)) => value == number,
         _ => false,
     }
 }
 
-// Whether the first item of this frame is the number at its place.
-fn seeks_to<R: Source>(
-    reader: &mut WavReader<R>,
-    time: u32,
-    numbers: &[i32],
-) -> hound::Result<bool> {
-    let channels = reader.spec().channels as usize;
-    reader.seek(time)?;
-    match numbers.get((time as usize).saturating_mul(channels)) {
-        Some(number) => Ok(gives(reader, *number)),
-        None => Ok(false),
-    }
-}
-
-// From each frame to each other one, and back to the first.
-pub fn seeks_everywhere<R: Source>(reader: WavReader<R>, numbers: &[i32]) -> hound::Result<bool> {
+// Whether a reader of one channel goes from each of these samples to each other one.
+pub fn seeks_everywhere<R: Source>(reader: WavReader<R>, numbers: &[i16]) -> hound::Result<bool> {
     let mut reader = reader;
     for from in 0..reader.duration() {
         for to in 0..reader.duration() {
-            if !seeks_to(&mut reader, from, numbers)? || !seeks_to(&mut reader, to, numbers)? {
-                return Ok(false);
+            for time in [from, to] {
+                reader.seek(time)?;
+                match numbers.get(time as usize) {
+                    Some(number) if gives(&mut reader, *number) => {}
+                    _ => return Ok(false),
+                }
             }
-        }
-        if !seeks_to(&mut reader, 0, numbers)? {
-            return Ok(false);
         }
     }
     Ok(true)
 }
 
+// The name of an `IoError` for want of memory.
+pub const NO_MEMORY: &str = "IoError of kind OutOfMemory";
+
 // The name of an error, or of an ill-formed file the reason.
-pub fn name_of(error: Error) -> &'static str {
+pub fn name_of(error: &Error) -> &'static str {
     match error {
+        Error::IoError(fault) if fault.kind() == ErrorKind::OutOfMemory => NO_MEMORY,
         Error::IoError(_) => "IoError",
-        Error::FormatError(reason) => reason,
+        Error::FormatError(reason) => *reason,
         Error::TooWide => "TooWide",
         Error::UnfinishedSample => "UnfinishedSample",
         Error::Unsupported => "Unsupported",
@@ -169,11 +158,10 @@ pub fn name_of(error: Error) -> &'static str {
     }
 }
 
-// "done" if a call did what it should, "not so" if it found something else.
-pub fn answer_of(returned: hound::Result<bool>) -> &'static str {
-    match returned {
-        Ok(true) => "done",
-        Ok(false) => "not so",
+// The name of the error that a call returned, or "ok".
+pub fn name_of_answer<T>(answer: &hound::Result<T>) -> &'static str {
+    match answer {
+        Ok(_) => "ok",
         Err(error) => name_of(error),
     }
 }
