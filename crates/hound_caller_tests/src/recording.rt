@@ -36,26 +36,23 @@ fn holds(alloc: Global, bytes: &[u8], samples: &[i16]) -> bool {
     }
 }
 
-fn records(alloc: Global, blocks: &[&[Twelve]]) -> bool {
-    match record(empty_tape(alloc), integers(1, 44100, 16, 2), blocks) {
-        Ok(tape) => holds(alloc, tape.bytes(), &ACCEPTED),
-        Err(_) => false,
-    }
+fn records(alloc: Global, blocks: &[&[Twelve]]) -> hound::Result<bool> {
+    let recorded = record(empty_tape(alloc), integers(1, 44100, 16, 2), blocks);
+    let tape = recorded.map_err(|(_, error)| error)?;
+    Ok(holds(alloc, tape.bytes(), &ACCEPTED))
 }
 
 // A file with a chunk before its two samples, and the same file with those of the blocks after them.
-const TAGGED: &[u8; 60] = b"RIFF\x34\0\0\0WAVEfmt \x10\0\0\0\x01\0\x01\0\x44\xac\0\0\
+const TAGGED: &[u8] = b"RIFF\x34\0\0\0WAVEfmt \x10\0\0\0\x01\0\x01\0\x44\xac\0\0\
     \x88\x58\x01\0\x02\0\x10\0LIST\x04\0\0\0INFOdata\x04\0\0\0\x02\0\xfd\xff";
 
-const APPENDED: &[u8; 72] = b"RIFF\x40\0\0\0WAVEfmt \x10\0\0\0\x01\0\x01\0\x44\xac\0\0\
+const APPENDED: &[u8] = b"RIFF\x40\0\0\0WAVEfmt \x10\0\0\0\x01\0\x01\0\x44\xac\0\0\
     \x88\x58\x01\0\x02\0\x10\0LIST\x04\0\0\0INFOdata\x10\0\0\0\x02\0\xfd\xff\
     \x01\0\xfe\xff\x03\0\xff\x07\0\xf8\x05\0";
 
 fn appends(alloc: Global, blocks: &[&[Twelve]]) -> Result<bool, Fail> {
-    match append_blocks(tape_of(alloc, TAGGED)?, blocks) {
-        Ok(tape) => Ok(tape.bytes() == APPENDED.as_slice()),
-        Err((_, error)) => Err(Fail::from(error)),
-    }
+    let tape = append_blocks(tape_of(alloc, TAGGED)?, blocks).map_err(|(_, error)| error)?;
+    Ok(tape.bytes() == APPENDED)
 }
 
 // How many samples the first blocks have.
@@ -100,31 +97,24 @@ const CONTAINERS: [&[u8]; 3] = [&[2, 0], &[0xfd, 0xff, 5, 0], &[0xf9, 0xff]];
 // Three samples of 8 bits, and the file that sox makes of them.
 const ODD: [&[u8]; 2] = [&[0x80, 0x81], &[0x7f]];
 
-const ODD_FILE: &[u8; 48] = b"RIFF\x28\0\0\0WAVEfmt \x10\0\0\0\x01\0\x01\0\x44\xac\0\0\
+const ODD_FILE: &[u8] = b"RIFF\x28\0\0\0WAVEfmt \x10\0\0\0\x01\0\x01\0\x44\xac\0\0\
     \x44\xac\0\0\x01\0\x08\0data\x03\0\0\0\x80\x81\x7f\0";
 
-// Whether all blocks are saved, synced, and are this file.
-fn saves(alloc: Global, spec_ex: WavSpecEx, blocks: &[&[u8]], file: &[u8]) -> hound::Result<bool> {
-    let mut journal = Journal::new(alloc, Vec::new(alloc))?;
-    let count = record_by_effects(&mut journal, spec_ex, blocks, &[])?;
-    let taken = journal.taken();
-    let bytes = journal.bytes_after(alloc, taken)?;
-    Ok(count == blocks.len() && journal.flushed() == taken && bytes.as_slice() == file)
-}
-
-// Whether that file is left where the reports of these effects are lost, and so many bytes were written.
-fn repeats(
+// Whether all blocks are saved and synced where the reports of these effects are lost, and are this file, for which so
+// many bytes were written.
+fn saves(
     alloc: Global,
+    spec_ex: WavSpecEx,
     blocks: &[&[u8]],
     lost: &[bool],
-    file: &[u8],
-    written: usize,
+    wanted: (&[u8], usize),
 ) -> hound::Result<bool> {
     let mut journal = Journal::new(alloc, Vec::new(alloc))?;
-    let count = record_by_effects(&mut journal, integers(1, 44100, 16, 2), blocks, lost)?;
+    let count = record_by_effects(&mut journal, spec_ex, blocks, lost)?;
     let taken = journal.taken();
     let bytes = journal.bytes_after(alloc, taken)?;
-    Ok(count == blocks.len() && bytes.as_slice() == file && taken == written)
+    let is_saved = count == blocks.len() && journal.flushed() == taken;
+    Ok(is_saved && (bytes.as_slice(), taken) == wanted)
 }
 
 // The samples of three parts of a recording, of four bytes at most each, and how many blocks were saved. The calls of
@@ -182,7 +172,7 @@ fn continues_in_parts(alloc: Global) -> hound::Result<bool> {
 }
 
 // The header of a new file, as hound writes it.
-const HEADER: &[u8; 44] = b"RIFF\0\0\0\0WAVEfmt \x10\0\0\0\x01\0\x01\0\x44\xac\0\0\
+const HEADER: &[u8] = b"RIFF\0\0\0\0WAVEfmt \x10\0\0\0\x01\0\x01\0\x44\xac\0\0\
     \x88\x58\x01\0\x02\0\x10\0data\0\0\0\0";
 
 // Whether a file begins with its header, and has less of it where one of the calls fails.
@@ -264,7 +254,7 @@ fn resumes(alloc: Global, file: &[u8], blocks: &[&[u8]]) -> hound::Result<bool> 
 }
 
 // A recording of four samples of 16 bits that was cut off within the fifth, whose header counts none.
-const CUT_OFF: &[u8; 53] = b"RIFF\0\0\0\0WAVEfmt \x10\0\0\0\x01\0\x01\0\x44\xac\0\0\
+const CUT_OFF: &[u8] = b"RIFF\0\0\0\0WAVEfmt \x10\0\0\0\x01\0\x01\0\x44\xac\0\0\
     \x88\x58\x01\0\x02\0\x10\0data\0\0\0\0\x02\0\xfd\xff\x05\0\xf9\xff\x09";
 
 // Whether it is continued by these blocks.
@@ -325,27 +315,19 @@ fn ends_durably(alloc: Global) -> hound::Result<bool> {
     Ok(journal.flushed() == taken && bytes.as_slice() == FOUR_SAMPLES.as_slice())
 }
 
-fn packs(alloc: Global) -> bool {
-    match pack_one(Tape::new(Vec::new(alloc)), integers(1, 44100, 16, 2), -301) {
-        Ok(tape) => holds(alloc, tape.bytes(), &[-301]),
-        Err(_) => false,
-    }
+fn packs(alloc: Global) -> hound::Result<bool> {
+    let packed = pack_one(Tape::new(Vec::new(alloc)), integers(1, 44100, 16, 2), -301);
+    let tape = packed.map_err(|(_, error)| error)?;
+    Ok(holds(alloc, tape.bytes(), &[-301]))
 }
 
-fn takes_steps(alloc: Global) -> bool {
+fn takes_steps(alloc: Global) -> hound::Result<bool> {
     let steps = [Step::Whole(7), Step::Flush, Step::Batch(&[300, -301])];
     let mut marks = [false; 3];
-    let recorded = record_steps(
-        alloc,
-        empty_tape(alloc),
-        integers(1, 44100, 16, 2),
-        &steps,
-        &mut marks,
-    );
-    match recorded {
-        Ok(tape) => marks == [true; 3] && holds(alloc, tape.bytes(), &[7, 300, -301]),
-        Err(_) => false,
-    }
+    let spec_ex = integers(1, 44100, 16, 2);
+    let recorded = record_steps(alloc, empty_tape(alloc), spec_ex, &steps, &mut marks);
+    let tape = recorded.map_err(|(_, error)| error)?;
+    Ok(marks == [true; 3] && holds(alloc, tape.bytes(), &[7, 300, -301]))
 }
 
 // Publishes two samples and continues with a third. Who opens the file just before the sizes of the end are
@@ -367,15 +349,9 @@ fn continues(alloc: Global) -> hound::Result<bool> {
 fn recorders_leave_what_they_accepted(rt: HostRuntime) -> Result<(), Fail> {
     let alloc = rt.alloc();
     let blocks: &[&[Twelve]] = &BLOCKS;
-    assert!(rt; records(alloc, blocks));
+    assert!(rt; records(alloc, blocks)?);
     assert!(rt; appends(alloc, blocks)?);
-    Ok(())
-}
-
-#[test]
-fn a_recorder_counts_what_it_published(rt: HostRuntime) -> Result<(), Fail> {
-    let blocks: &[&[Twelve]] = &BLOCKS;
-    assert!(rt; publishes(rt.alloc(), blocks)?);
+    assert!(rt; publishes(alloc, blocks)?);
     Ok(())
 }
 
@@ -384,17 +360,23 @@ fn effects_leave_what_was_saved(rt: HostRuntime) -> Result<(), Fail> {
     let alloc = rt.alloc();
     let blocks: &[&[u8]] = &CONTAINERS;
     let odd: &[&[u8]] = &ODD;
-    assert!(rt; saves(alloc, integers(1, 44100, 16, 2), blocks, &FOUR_SAMPLES)?);
-    assert!(rt; saves(alloc, integers(1, 44100, 8, 1), odd, ODD_FILE)?);
-    // The header, the blocks, two sizes for each, and again the first block twice and a size three times.
+    let mono = integers(1, 44100, 16, 2);
+    // The header, the blocks, and two sizes for each.
+    let written = 44 + 8 + 3 * 8;
+    assert!(rt; saves(alloc, mono, blocks, &[], (&FOUR_SAMPLES, written))?);
+    // Again the first block twice and a size three times.
     let lost = [true, true, false, false, true, true, true];
+    let repeated = written + 2 * 2 + 3 * 4;
+    assert!(rt; saves(alloc, mono, blocks, &lost, (&FOUR_SAMPLES, repeated))?);
+    // And a pad byte.
+    let written = 44 + 3 + 2 * 8 + 1;
     assert!(rt;
-        repeats(
+        saves(
             alloc,
-            blocks,
-            &lost,
-            &FOUR_SAMPLES,
-            44 + 8 + 3 * 8 + 2 * 2 + 3 * 4
+            integers(1, 44100, 8, 1),
+            odd,
+            &[],
+            (ODD_FILE, written)
         )?
     );
     assert!(rt; begins(alloc)?);
@@ -410,14 +392,11 @@ fn effects_leave_what_was_saved(rt: HostRuntime) -> Result<(), Fail> {
 #[test]
 fn batches_steps_and_single_calls_are_recorded(rt: HostRuntime) -> Result<(), Fail> {
     let alloc = rt.alloc();
-    let found = (
-        takes_a_batch(alloc)?,
-        takes_i16s(alloc)?,
-        packs(alloc),
-        takes_steps(alloc),
-        continues(alloc)?,
-    );
-    assert_eq!(rt; found, (true, true, true, true, true));
+    assert!(rt; takes_a_batch(alloc)?);
+    assert!(rt; takes_i16s(alloc)?);
+    assert!(rt; packs(alloc)?);
+    assert!(rt; takes_steps(alloc)?);
+    assert!(rt; continues(alloc)?);
     assert!(rt; ends_durably(alloc)?);
     Ok(())
 }

@@ -6,8 +6,7 @@ ghost use Rattle.hound.specs.{IsSixteen, MediumState};
 ghost use Rattle.hound.specs.declared.SampleFormat.TheVariants.{Int};
 
 use hound::{
-    Error, Medium, Placed, Sample, SampleFormat, Source, Tape, WavReader, WavSpec, WavSpecEx,
-    WavWriter,
+    Error, Medium, Placed, Sample, SampleFormat, Tape, WavReader, WavSpec, WavSpecEx, WavWriter,
 };
 use std::alloc::Global;
 use std::io;
@@ -40,19 +39,14 @@ pub fn sixteen(channels: u16) -> WavSpec
 }
 
 // Mono, 44100 Hz, 16 bits: 2, -3, 5, -7.
-pub const FOUR_SAMPLES: [u8; 52] = [
-    0x52, 0x49, 0x46, 0x46, 0x2c, 0x00, 0x00, 0x00, 0x57, 0x41, 0x56, 0x45, 0x66, 0x6d, 0x74, 0x20,
-    0x10, 0x00, 0x00, 0x00, 0x01, 0x00, 0x01, 0x00, 0x44, 0xac, 0x00, 0x00, 0x88, 0x58, 0x01, 0x00,
-    0x02, 0x00, 0x10, 0x00, 0x64, 0x61, 0x74, 0x61, 0x08, 0x00, 0x00, 0x00, 0x02, 0x00, 0xfd, 0xff,
-    0x05, 0x00, 0xf9, 0xff,
-];
+pub const FOUR_SAMPLES: [u8; 52] =
+    *b"RIFF\x2c\0\0\0WAVEfmt \x10\0\0\0\x01\0\x01\0\x44\xac\0\0\x88\x58\x01\0\
+    \x02\0\x10\0data\x08\0\0\0\x02\0\xfd\xff\x05\0\xf9\xff";
 
 // The same without samples.
-pub const NO_SAMPLES: [u8; 44] = [
-    0x52, 0x49, 0x46, 0x46, 0x24, 0x00, 0x00, 0x00, 0x57, 0x41, 0x56, 0x45, 0x66, 0x6d, 0x74, 0x20,
-    0x10, 0x00, 0x00, 0x00, 0x01, 0x00, 0x01, 0x00, 0x44, 0xac, 0x00, 0x00, 0x88, 0x58, 0x01, 0x00,
-    0x02, 0x00, 0x10, 0x00, 0x64, 0x61, 0x74, 0x61, 0x00, 0x00, 0x00, 0x00,
-];
+pub const NO_SAMPLES: [u8; 44] =
+    *b"RIFF\x24\0\0\0WAVEfmt \x10\0\0\0\x01\0\x01\0\x44\xac\0\0\x88\x58\x01\0\
+    \x02\0\x10\0data\0\0\0\0";
 
 // A tape without bytes.
 pub fn empty_tape(alloc: Global) -> Tape
@@ -113,31 +107,6 @@ pub fn read_all<S: Sample, R: io::Read + Drop>(
         samples.push(sample?)?;
     }
     Ok(samples)
-}
-
-// Whether the next item is this number.
-fn gives<S: Sample + PartialEq, R: io::Read + Drop>(reader: &mut WavReader<R>, number: S) -> bool {
-    match reader.samples::<S>().next() {
-        Some(Ok(value)) => value == number,
-        _ => false,
-    }
-}
-
-// Whether a reader of one channel goes from each of these samples to each other one.
-pub fn seeks_everywhere<R: Source>(reader: WavReader<R>, numbers: &[i16]) -> hound::Result<bool> {
-    let mut reader = reader;
-    for from in 0..reader.duration() {
-        for to in 0..reader.duration() {
-            for time in [from, to] {
-                reader.seek(time)?;
-                match numbers.get(time as usize) {
-                    Some(number) if gives(&mut reader, *number) => {}
-                    _ => return Ok(false),
-                }
-            }
-        }
-    }
-    Ok(true)
 }
 
 // The name of an `IoError` for want of memory.
