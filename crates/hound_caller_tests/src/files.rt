@@ -3,11 +3,9 @@ use hound::RepairState::{self, CutOff, HasChunksAfterData, Whole};
 use hound::{
     Medium, SyncedFile, WavReader, WavWriter, find_damage_in_file, repair_file, repair_file_to_end,
 };
-use hound_callers::record_and_read;
+use hound_callers::{record_and_read, samples_of};
 use hound_commands::run_append;
-use hound_test_helpers::{
-    FOUR_SAMPLES, NO_SAMPLES, integers, name_of, read_all, sixteen, write_all,
-};
+use hound_test_helpers::{FOUR_SAMPLES, NO_SAMPLES, integers, name_of, sixteen};
 use std::io::ErrorKind;
 use std::path::{Path, PathBuf};
 use std::test::Fail;
@@ -20,7 +18,7 @@ enum Deed {
     Put(&'static [u8]),
     // A writer creates it, with this many channels, and is finalized after these samples.
     Create(u16, &'static [i16]),
-    // A writer appends these samples by one call and is finalized.
+    // A writer appends these samples and is finalized.
     Append(&'static [i16]),
     // A writer appends this sample and is dropped.
     AppendOne(i16),
@@ -194,30 +192,17 @@ const ROWS: &[Row] = &[
     },
 ];
 
-// Whether a writer takes these samples, each by a call of its own, and is finalized.
+// Whether a writer takes these samples by one call and is finalized.
 fn finish<M: Medium>(writer: WavWriter<M>, samples: &[i16]) -> hound::Result<bool> {
     let mut writer = writer;
-    write_all(&mut writer, samples)?;
-    writer.finalize()?;
-    Ok(true)
-}
-
-fn append(rt: &HostRuntime, path: Path<'_>, samples: &[i16]) -> hound::Result<bool> {
-    let mut writer = WavWriter::append(rt, rt.alloc(), path)?;
     writer.write_samples(samples)?;
     writer.finalize()?;
     Ok(true)
 }
 
-fn append_one(rt: &HostRuntime, path: Path<'_>, sample: i16) -> hound::Result<bool> {
-    let mut writer = WavWriter::append(rt, rt.alloc(), path)?;
-    writer.write_sample(sample)?;
-    Ok(true)
-}
-
 fn append_durable(rt: &HostRuntime, path: Path<'_>, samples: &[i16]) -> hound::Result<bool> {
     let mut writer = WavWriter::append_durable(rt, rt.alloc(), path)?;
-    write_all(&mut writer, samples)?;
+    writer.write_samples(samples)?;
     writer.flush()?;
     Ok(true)
 }
@@ -241,7 +226,7 @@ fn append_text(rt: &HostRuntime, path: Path<'_>, text: &[u8], status: u8, line: 
 }
 
 fn has_samples(rt: &HostRuntime, path: Path<'_>, samples: &[i16]) -> hound::Result<bool> {
-    let read: Vec<i16> = read_all(rt.alloc(), WavReader::open(rt, rt.alloc(), path)?)?;
+    let read: Vec<i16> = samples_of(rt.alloc(), WavReader::open(rt, rt.alloc(), path)?)?;
     Ok(read.as_slice() == samples)
 }
 
@@ -252,10 +237,10 @@ fn checkpoint(
     second: &[i16],
 ) -> hound::Result<bool> {
     let mut writer = WavWriter::create(rt, rt.alloc(), path, sixteen(1))?;
-    write_all(&mut writer, first)?;
+    writer.write_samples(first)?;
     writer.flush()?;
     let is_read = has_samples(rt, path, first)?;
-    write_all(&mut writer, second)?;
+    writer.write_samples(second)?;
     writer.finalize()?;
     Ok(is_read)
 }
@@ -284,18 +269,17 @@ fn does(rt: &HostRuntime, path: Path<'_>, deed: Deed) -> hound::Result<bool> {
             Ok(true)
         }
         Deed::Create(channels, samples) => {
-            finish(
-                WavWriter::create(rt, alloc, path, sixteen(channels))?,
-                samples,
-            )
+            let writer = WavWriter::create(rt, alloc, path, sixteen(channels))?;
+            finish(writer, samples)
         }
-        Deed::Append(samples) => append(rt, path, samples),
-        Deed::AppendOne(sample) => append_one(rt, path, sample),
+        Deed::Append(samples) => finish(WavWriter::append(rt, alloc, path)?, samples),
+        Deed::AppendOne(sample) => {
+            WavWriter::append(rt, alloc, path)?.write_sample(sample)?;
+            Ok(true)
+        }
         Deed::CreateDurable(samples) => {
-            finish(
-                WavWriter::create_durable(rt, alloc, path, sixteen(1))?,
-                samples,
-            )
+            let writer = WavWriter::create_durable(rt, alloc, path, sixteen(1))?;
+            finish(writer, samples)
         }
         Deed::AppendDurable(samples) => append_durable(rt, path, samples),
         Deed::Repair(state, frames, left_over) => repair(rt, path, (state, frames, left_over)),

@@ -5,10 +5,10 @@ use hound::{
 use hound_callers::{
     Twelve, append_blocks, append_by_effects, begin_by_effects, continue_by_effects, finish,
     finish_durable, opened_meanwhile, pack_one, publish_and_continue, record, record_at_once,
-    record_batch, record_by_effects, record_checkpoints, record_in_parts, record_steps,
+    record_batch, record_by_effects, record_checkpoints, record_in_parts, record_steps, samples_of,
     write_if_short,
 };
-use hound_test_helpers::{FOUR_SAMPLES, empty_tape, integers, read_all, sixteen, tape_of};
+use hound_test_helpers::{FOUR_SAMPLES, empty_tape, integers, sixteen, tape_of};
 use std::alloc::Global;
 use std::test::Fail;
 
@@ -26,20 +26,21 @@ const BLOCKS: [&[Twelve]; 5] = [
 const ACCEPTED: [i16; 6] = [1, -2, 3, 2047, -2048, 5];
 
 // Whether a file of 16 bits has these samples.
-fn holds(alloc: Global, bytes: &[u8], samples: &[i16]) -> bool {
-    let Ok(reader) = WavReader::new(bytes) else {
-        return false;
-    };
-    match read_all::<i16, _>(alloc, reader) {
-        Ok(found) => found.as_slice() == samples,
-        Err(_) => false,
-    }
+fn holds(alloc: Global, bytes: &[u8], samples: &[i16]) -> hound::Result<bool> {
+    let found: Vec<i16> = samples_of(alloc, WavReader::new(bytes)?)?;
+    Ok(found.as_slice() == samples)
+}
+
+// The samples of 16 bits that are read of what a journal holds.
+fn read_back(alloc: Global, journal: &Journal) -> hound::Result<Vec<i16>> {
+    let bytes = journal.bytes_after(alloc, journal.taken())?;
+    samples_of(alloc, WavReader::new(&bytes[..])?)
 }
 
 fn records(alloc: Global, blocks: &[&[Twelve]]) -> hound::Result<bool> {
     let recorded = record(empty_tape(alloc), integers(1, 44100, 16, 2), blocks);
     let tape = recorded.map_err(|(_, error)| error)?;
-    Ok(holds(alloc, tape.bytes(), &ACCEPTED))
+    holds(alloc, tape.bytes(), &ACCEPTED)
 }
 
 // A file with a chunk before its two samples, and the same file with those of the blocks after them.
@@ -70,8 +71,7 @@ fn published(
     let Ok((journal, count)) = record_checkpoints(journal, integers(1, 44100, 16, 2), blocks) else {
         return Ok(None);
     };
-    let bytes = journal.bytes_after(alloc, journal.taken())?;
-    let found = read_all::<i16, _>(alloc, WavReader::new(&bytes[..])?)?;
+    let found = read_back(alloc, &journal)?;
     let is_prefix = ACCEPTED.starts_with(found.as_slice());
     Ok(Some((count, is_prefix && found.len() >= SIZES[count.min(2)])))
 }
@@ -133,11 +133,7 @@ fn in_parts(
     let count = record_in_parts(&mut media, integers(1, 44100, 16, 2), blocks, 4, &[]);
     let mut parts = Vec::new(alloc);
     for medium in &media {
-        let bytes = medium.bytes_after(alloc, medium.taken())?;
-        parts.push(match WavReader::new(&bytes[..]) {
-            Ok(reader) => read_all::<i16, _>(alloc, reader)?,
-            Err(_) => Vec::new(alloc),
-        })?;
+        parts.push(read_back(alloc, medium).unwrap_or(Vec::new(alloc)))?;
     }
     Ok((parts, count))
 }
@@ -205,8 +201,7 @@ fn keeps(alloc: Global, blocks: &[&[u8]]) -> hound::Result<bool> {
             }
             continue;
         };
-        let bytes = journal.bytes_after(alloc, journal.taken())?;
-        let found = read_all::<i16, _>(alloc, WavReader::new(&bytes[..])?)?;
+        let found = read_back(alloc, &journal)?;
         let least = [0, 1, 3, 4][count.min(3)];
         if ![2i16, -3, 5, -7].starts_with(found.as_slice()) || found.len() < least || count < last {
             return Ok(false);
@@ -227,11 +222,7 @@ fn appended(
     let mut journal = Journal::new(alloc, file.to_vec(alloc)?)?;
     journal.fail(fail_from, u64::MAX);
     let count = append_by_effects(&mut journal, file, blocks, &[]).unwrap_or(0);
-    let bytes = journal.bytes_after(alloc, journal.taken())?;
-    Ok((
-        read_all::<i16, _>(alloc, WavReader::new(&bytes[..])?)?,
-        count,
-    ))
+    Ok((read_back(alloc, &journal)?, count))
 }
 
 // Whether the samples of the file stay, and those of the blocks that were saved follow, wherever the
@@ -269,8 +260,7 @@ fn mends(alloc: Global, blocks: &[&[u8]], lost: &[bool]) -> hound::Result<bool> 
     };
     let mut journal = Journal::new(alloc, CUT_OFF.to_vec(alloc)?)?;
     let count = continue_by_effects(&mut journal, found, blocks, lost);
-    let bytes = journal.bytes_after(alloc, journal.taken())?;
-    let all = read_all::<i16, _>(alloc, WavReader::new(&bytes[..])?)?;
+    let all = read_back(alloc, &journal)?;
     Ok(count == Ok(3) && all.as_slice() == [2i16, -3, 5, -7, 2, -3, 5, -7].as_slice())
 }
 
@@ -281,7 +271,7 @@ fn takes_a_batch(alloc: Global) -> hound::Result<bool> {
     record_batch(alloc, &mut writer, &[300, -301])?;
     let (tape, result) = writer.finalize_into();
     result?;
-    Ok(holds(alloc, tape.bytes(), &[-8, 300, -301]))
+    holds(alloc, tape.bytes(), &[-8, 300, -301])
 }
 
 // 40000 needs more than sixteen bits.
@@ -299,7 +289,7 @@ fn takes_i16s(alloc: Global) -> hound::Result<bool> {
     batch.flush()?;
     let (tape, result) = writer.finalize_into();
     result?;
-    Ok(marks == [false, true, true] && holds(alloc, tape.bytes(), &[32_767, -32_768]))
+    Ok(marks == [false, true, true] && holds(alloc, tape.bytes(), &[32_767, -32_768])?)
 }
 
 fn ends_durably(alloc: Global) -> hound::Result<bool> {
@@ -318,7 +308,7 @@ fn ends_durably(alloc: Global) -> hound::Result<bool> {
 fn packs(alloc: Global) -> hound::Result<bool> {
     let packed = pack_one(Tape::new(Vec::new(alloc)), integers(1, 44100, 16, 2), -301);
     let tape = packed.map_err(|(_, error)| error)?;
-    Ok(holds(alloc, tape.bytes(), &[-301]))
+    holds(alloc, tape.bytes(), &[-301])
 }
 
 fn takes_steps(alloc: Global) -> hound::Result<bool> {
@@ -327,7 +317,7 @@ fn takes_steps(alloc: Global) -> hound::Result<bool> {
     let spec_ex = integers(1, 44100, 16, 2);
     let recorded = record_steps(alloc, empty_tape(alloc), spec_ex, &steps, &mut marks);
     let tape = recorded.map_err(|(_, error)| error)?;
-    Ok(marks == [true; 3] && holds(alloc, tape.bytes(), &[7, 300, -301]))
+    Ok(marks == [true; 3] && holds(alloc, tape.bytes(), &[7, 300, -301])?)
 }
 
 // Publishes two samples and continues with a third. Who opens the file just before the sizes of the end are
@@ -342,7 +332,7 @@ fn continues(alloc: Global) -> hound::Result<bool> {
     let taken = journal.taken();
     let before = opened_meanwhile(alloc, &journal, taken.saturating_sub(8))?;
     let after = opened_meanwhile(alloc, &journal, taken)?;
-    Ok(holds(alloc, &before, &[300, -301]) && holds(alloc, &after, &[300, -301, 7]))
+    Ok(holds(alloc, &before, &[300, -301])? && holds(alloc, &after, &[300, -301, 7])?)
 }
 
 #[test]

@@ -2,14 +2,11 @@
 #![tactic(auto)]
 
 ghost use Rattle.std.specs.Prelude.{◌≡◌, IfOk};
-ghost use Rattle.hound.specs.{IsSixteen, MediumState};
+ghost use Rattle.hound.specs.{MediumState};
 ghost use Rattle.hound.specs.declared.SampleFormat.TheVariants.{Int};
 
-use hound::{
-    Error, Medium, Placed, Sample, SampleFormat, Tape, WavReader, WavSpec, WavSpecEx, WavWriter,
-};
+use hound::{Error, Placed, SampleFormat, Tape, WavSpec, WavSpecEx};
 use std::alloc::Global;
-use std::io;
 use std::io::ErrorKind;
 use std::test::Fail;
 
@@ -62,54 +59,7 @@ pub fn tape_of(alloc: Global, bytes: &[u8]) -> Result<Tape, Fail>
     Ok(Tape::new(bytes.to_vec(alloc)?))
 }
 
-// Writes these samples, up to the first error.
-pub fn write_all<S: Sample + Copy, W: Medium>(
-    writer: &mut WavWriter<W>,
-    samples: &[S],
-) -> hound::Result<()> {
-    for sample in samples {
-        writer.write_sample(*sample)?;
-    }
-    Ok(())
-}
-
-// Writes as many samples by one batch, which count up from the first.
-pub fn write_up<W: Medium>(
-    writer: &mut WavWriter<W>,
-    alloc: Global,
-    first: i16,
-    count: u32,
-) -> hound::Result<()>
-    requires { IsSixteen writer.old.spec_ex }
-    ensures { writer.new.spec_ex ≡ writer.old.spec_ex }
-{
-    let mut batch = writer.get_i16_writer(alloc, count)?;
-    let mut sample = first;
-    for _ in 0..count {
-        if batch.remaining() >= 1 {
-            batch.write_sample(sample);
-            sample = sample.wrapping_add(1);
-        }
-    }
-    if batch.remaining() != 0 {
-        return Err(Error::UnfinishedSample);
-    }
-    batch.flush()
-}
-
-// The samples that a reader gives, up to the first error.
-pub fn read_all<S: Sample, R: io::Read + Drop>(
-    alloc: Global,
-    reader: WavReader<R>,
-) -> hound::Result<Vec<S>> {
-    let mut samples = Vec::new(alloc);
-    for sample in reader.into_samples::<S>() {
-        samples.push(sample?)?;
-    }
-    Ok(samples)
-}
-
-// The name of an `IoError` for want of memory.
+// The name of an `IoError` where there was no memory.
 pub const NO_MEMORY: &str = "IoError of kind OutOfMemory";
 
 // The name of an error, or of an ill-formed file the reason.

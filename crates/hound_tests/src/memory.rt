@@ -5,11 +5,11 @@ use hound::{
     run_session,
 };
 use hound_test_helpers::{
-    FOUR_SAMPLES, NO_MEMORY, empty_tape, integers, name_of_answer, sixteen, tape_of, write_up,
+    FOUR_SAMPLES, NO_MEMORY, empty_tape, integers, name_of_answer, sixteen, tape_of,
 };
 use std::alloc::Global;
 use std::io::ErrorKind;
-use std::path::{Path, PathBuf};
+use std::path::Path;
 use std::test::Fail;
 use std::{env, fs, io, process};
 
@@ -88,8 +88,8 @@ const PLENTY: usize = 1 << 30;
 enum Act {
     // A batch of this many samples is begun, and dropped.
     Begin(u32),
-    // A batch of this many samples that count up from 2.
-    Batch(u32),
+    // A batch of these samples.
+    Batch(&'static [i16]),
     Sample(i16),
     Block(&'static [i16]),
     Flush,
@@ -124,7 +124,7 @@ const SCRIPTS: [Script; 4] = [
     Script {
         name: "a batch uses memory that is kept",
         acts: &[
-            (PLENTY, Act::Batch(4), "ok", 4),
+            (PLENTY, Act::Batch(&[2, 3, 4, 5]), "ok", 4),
             (0, Act::Begin(2), "ok", 4),
             (0, Act::Begin(100_000), "OutOfMemory", 4),
         ],
@@ -167,7 +167,18 @@ fn take(writer: &mut WavWriter<Tape>, alloc: Global, act: Act) -> hound::Result<
             true => Ok(()),
             false => Err(Error::UnfinishedSample),
         },
-        Act::Batch(count) => write_up(writer, alloc, 2, count),
+        Act::Batch(samples) => {
+            let mut batch = writer.get_i16_writer(alloc, samples.len() as u32)?;
+            for sample in samples {
+                if batch.remaining() > 0 {
+                    batch.write_sample(*sample);
+                }
+            }
+            if batch.remaining() != 0 {
+                return Err(Error::UnfinishedSample);
+            }
+            batch.flush()
+        }
         Act::Sample(sample) => writer.write_sample(sample),
         Act::Block(samples) => writer.write_samples(samples),
         Act::Flush => writer.flush(),
@@ -251,32 +262,21 @@ fn bytes_of_now(journal: &Journal, alloc: Global) -> hound::Result<Vec<u8>> {
     journal.bytes_after(alloc, journal.taken())
 }
 
-// Whether a journal of the four samples is an error, and one of no bytes is still there. Both
-// with the same blocks taken: with further blocks taken in between, 52 bytes are at times not
-// enough for the four samples.
-fn begins_without(alloc: Global) -> Result<bool, Fail> {
-    let bytes = FOUR_SAMPLES.to_vec(alloc)?;
-    let (rejected, empty) = without(
-        alloc,
-        0,
-        || (
-            Journal::new(alloc, bytes),
-            Journal::new(alloc, Vec::new(alloc)),
-        ),
-    )?;
-    Ok(matches!(rejected, Err(Error::OutOfMemory)) && empty.is_ok())
-}
-
+// One of the four samples is an error, and one of no bytes is still there. Both with the same blocks
+// taken: with further blocks taken in between, 52 bytes are at times not enough for the four samples.
 #[test]
 fn a_journal_that_begins(rt: HostRuntime) -> Result<(), Fail> {
     let alloc = rt.alloc();
-    assert!(rt; begins_without(alloc)?);
+    let bytes = FOUR_SAMPLES.to_vec(alloc)?;
+    let both = || (
+        Journal::new(alloc, bytes),
+        Journal::new(alloc, Vec::new(alloc)),
+    );
+    let (rejected, empty) = without(alloc, 0, both)?;
+    assert!(rt; matches!(rejected, Err(Error::OutOfMemory)) && empty.is_ok());
     let bytes = FOUR_SAMPLES.to_vec(alloc)?;
     let journal = without(alloc, 52, || Journal::new(alloc, bytes))??;
-    assert_eq!(rt;
-        bytes_of_now(&journal, alloc)?.as_slice(),
-        FOUR_SAMPLES.as_slice()
-    );
+    assert!(rt; bytes_of_now(&journal, alloc)?.as_slice() == FOUR_SAMPLES.as_slice());
     Ok(())
 }
 
@@ -363,13 +363,6 @@ fn a_batch_of_a_session(rt: HostRuntime) -> Result<(), Fail> {
     Ok(())
 }
 
-// A file that no other test names.
-fn path_of(rt: &HostRuntime) -> Result<PathBuf, Fail> {
-    let id = process::id(rt.process());
-    let name = format!(in rt.alloc(); "hound_tests_memory_{id}.wav")?;
-    Ok(env::temp_dir(rt)?.join(rt.alloc(), name.as_str())?)
-}
-
 // A call that opens a file.
 #[derive(Clone, Copy, Debug)]
 enum Opening {
@@ -417,7 +410,9 @@ fn opens_as_said(
 #[test]
 fn files_that_are_opened(rt: HostRuntime) -> Result<(), Fail> {
     let _taken = take_most(rt.alloc())?;
-    let path = path_of(&rt)?;
+    let id = process::id(rt.process());
+    let name = format!(in rt.alloc(); "hound_tests_memory_{id}.wav")?;
+    let path = env::temp_dir(&rt)?.join(rt.alloc(), name.as_str())?;
     for (opening, buffer) in [
         (Opening::Open, 8192),
         (Opening::Create, 65536),
