@@ -89,7 +89,7 @@ enum Act {
     // A batch of this many samples is begun, and dropped.
     Begin(u32),
     // A batch of these samples.
-    Batch(&'static [i16]),
+    Batch([i16; 4]),
     Sample(i16),
     Block(&'static [i16]),
     Flush,
@@ -124,7 +124,7 @@ const SCRIPTS: [Script; 4] = [
     Script {
         name: "a batch uses memory that is kept",
         acts: &[
-            (PLENTY, Act::Batch(&[2, 3, 4, 5]), "ok", 4),
+            (PLENTY, Act::Batch([2, 3, 4, 5]), "ok", 4),
             (0, Act::Begin(2), "ok", 4),
             (0, Act::Begin(100_000), "OutOfMemory", 4),
         ],
@@ -168,10 +168,10 @@ fn take(writer: &mut WavWriter<Tape>, alloc: Global, act: Act) -> hound::Result<
             false => Err(Error::UnfinishedSample),
         },
         Act::Batch(samples) => {
-            let mut batch = writer.get_i16_writer(alloc, samples.len() as u32)?;
+            let mut batch = writer.get_i16_writer(alloc, 4)?;
             for sample in samples {
                 if batch.remaining() > 0 {
-                    batch.write_sample(*sample);
+                    batch.write_sample(sample);
                 }
             }
             if batch.remaining() != 0 {
