@@ -4,7 +4,7 @@ use hound_callers::{
     look_and_repair, open_written, publish, read_block, read_from, read_memory, record_at_once,
     reopen, sample_at, samples_of, written_and_read,
 };
-use hound_test_helpers::{FOUR_SAMPLES, NO_SAMPLES, empty_tape, name_of, sixteen, tape_of};
+use hound_test_helpers::{FOUR_SAMPLES, NO_SAMPLES, empty_tape, name_of_answer, sixteen, tape_of};
 use std::alloc::Global;
 use std::test::Fail;
 
@@ -42,10 +42,7 @@ fn a_written_file_is_opened(rt: HostRuntime) -> Result<(), Fail> {
 
 // The name of the error for which a file in memory isn't read.
 fn why_not_read<S: Decode + Copy>(alloc: Global, bytes: &[u8], silence: S) -> &'static str {
-    match read_memory(alloc, bytes, silence) {
-        Ok(_) => "none",
-        Err(error) => name_of(error),
-    }
+    name_of_answer(&read_memory(alloc, bytes, silence))
 }
 
 #[test]
@@ -79,17 +76,11 @@ fn an_integer_comes_back(rt: HostRuntime) -> Result<(), Fail> {
     Ok(())
 }
 
-// Whether it is repaired, with its two frames.
-fn is_mended(alloc: Global) -> Result<bool, Fail> {
-    match look_and_repair(tape_of(alloc, CUT_OFF)?) {
-        Ok((tape, found)) => Ok(found.frames == 2 && tape.bytes() == STEREO),
-        Err((_, error)) => Err(Fail::from(error)),
-    }
-}
-
 #[test]
 fn a_file_is_looked_at_and_repaired(rt: HostRuntime) -> Result<(), Fail> {
-    assert!(rt; is_mended(rt.alloc())?);
+    let tape = tape_of(rt.alloc(), CUT_OFF)?;
+    let (tape, found) = look_and_repair(tape).map_err(|(_, error)| error)?;
+    assert!(rt; found.frames == 2 && tape.bytes() == STEREO);
     Ok(())
 }
 

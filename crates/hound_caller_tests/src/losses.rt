@@ -79,34 +79,8 @@ fn mixture(alloc: Global, states: &[Vec<u8>], seed: &mut u32) -> Result<Vec<u8>,
     Ok(contents)
 }
 
-// Whether a reader finds the first samples, at least the published ones and no more than were
-// accepted.
-fn has_the_first(contents: &[u8], accepted: u32, published: u32) -> bool {
-    let Ok(reader) = WavReader::new(contents) else {
-        return false;
-    };
-    let length = reader.len();
-    let mut found = 0u32;
-    for sample in reader.into_samples::<i16>() {
-        match sample {
-            Ok(sample) if i64::from(sample) == i64::from(found) + 1 => {
-                found = found.wrapping_add(1);
-            }
-            _ => return false,
-        }
-    }
-    found == length && published <= found && found <= accepted
-}
-
-// Whether a reader finds the published samples first, once the contents are repaired.
-fn has_published_once_repaired(contents: Vec<u8>, published: u32) -> bool {
-    let Ok((tape, _)) = repair_recording(Tape::new(contents)) else {
-        return false;
-    };
-    let bytes = tape.into_bytes();
-    let Ok(reader) = WavReader::new(bytes.as_slice()) else {
-        return false;
-    };
+// How many of a reader's samples count up from 1, before the first that doesn't.
+fn count_up(reader: WavReader<&[u8]>) -> u32 {
     let mut found = 0u32;
     for sample in reader.into_samples::<i32>() {
         match sample {
@@ -116,7 +90,29 @@ fn has_published_once_repaired(contents: Vec<u8>, published: u32) -> bool {
             _ => break,
         }
     }
-    published <= found
+    found
+}
+
+// Whether a reader finds the first samples, at least the published ones and no more than were
+// accepted.
+fn has_the_first(contents: &[u8], accepted: u32, published: u32) -> bool {
+    let Ok(reader) = WavReader::new(contents) else {
+        return false;
+    };
+    let length = reader.len();
+    count_up(reader) == length && published <= length && length <= accepted
+}
+
+// Whether a reader finds the published samples first, once the contents are repaired.
+fn has_published_once_repaired(contents: Vec<u8>, published: u32) -> bool {
+    let Ok((tape, _)) = repair_recording(Tape::new(contents)) else {
+        return false;
+    };
+    let bytes = tape.into_bytes();
+    match WavReader::new(bytes.as_slice()) {
+        Ok(reader) => published <= count_up(reader),
+        Err(_) => false,
+    }
 }
 
 #[test]

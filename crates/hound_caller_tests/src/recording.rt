@@ -5,10 +5,10 @@ use hound::{
 use hound_callers::{
     Twelve, append_blocks, append_by_effects, begin_by_effects, continue_by_effects, finish,
     finish_durable, opened_meanwhile, pack_one, publish_and_continue, record, record_at_once,
-    record_batch, record_by_effects, record_checkpoints, record_in_parts, record_steps,
+    record_batch, record_by_effects, record_checkpoints, record_in_parts, record_steps, samples_of,
     write_if_short,
 };
-use hound_test_helpers::{FOUR_SAMPLES, empty_tape, integers, read_all, sixteen, tape_of};
+use hound_test_helpers::{FOUR_SAMPLES, empty_tape, integers, sixteen, tape_of};
 use std::alloc::Global;
 use std::test::Fail;
 
@@ -26,36 +26,34 @@ const BLOCKS: [&[Twelve]; 5] = [
 const ACCEPTED: [i16; 6] = [1, -2, 3, 2047, -2048, 5];
 
 // Whether a file of 16 bits has these samples.
-fn holds(alloc: Global, bytes: &[u8], samples: &[i16]) -> bool {
-    let Ok(reader) = WavReader::new(bytes) else {
-        return false;
-    };
-    match read_all::<i16, _>(alloc, reader) {
-        Ok(found) => found.as_slice() == samples,
-        Err(_) => false,
-    }
+fn holds(alloc: Global, bytes: &[u8], samples: &[i16]) -> hound::Result<bool> {
+    let found: Vec<i16> = samples_of(alloc, WavReader::new(bytes)?)?;
+    Ok(found.as_slice() == samples)
 }
 
-fn records(alloc: Global, blocks: &[&[Twelve]]) -> bool {
-    match record(empty_tape(alloc), integers(1, 44100, 16, 2), blocks) {
-        Ok(tape) => holds(alloc, tape.bytes(), &ACCEPTED),
-        Err(_) => false,
-    }
+// The samples of 16 bits that are read of what a journal holds.
+fn read_back(alloc: Global, journal: &Journal) -> hound::Result<Vec<i16>> {
+    let bytes = journal.bytes_after(alloc, journal.taken())?;
+    samples_of(alloc, WavReader::new(&bytes[..])?)
+}
+
+fn records(alloc: Global, blocks: &[&[Twelve]]) -> hound::Result<bool> {
+    let recorded = record(empty_tape(alloc), integers(1, 44100, 16, 2), blocks);
+    let tape = recorded.map_err(|(_, error)| error)?;
+    holds(alloc, tape.bytes(), &ACCEPTED)
 }
 
 // A file with a chunk before its two samples, and the same file with those of the blocks after them.
-const TAGGED: &[u8; 60] = b"RIFF\x34\0\0\0WAVEfmt \x10\0\0\0\x01\0\x01\0\x44\xac\0\0\
+const TAGGED: &[u8] = b"RIFF\x34\0\0\0WAVEfmt \x10\0\0\0\x01\0\x01\0\x44\xac\0\0\
     \x88\x58\x01\0\x02\0\x10\0LIST\x04\0\0\0INFOdata\x04\0\0\0\x02\0\xfd\xff";
 
-const APPENDED: &[u8; 72] = b"RIFF\x40\0\0\0WAVEfmt \x10\0\0\0\x01\0\x01\0\x44\xac\0\0\
+const APPENDED: &[u8] = b"RIFF\x40\0\0\0WAVEfmt \x10\0\0\0\x01\0\x01\0\x44\xac\0\0\
     \x88\x58\x01\0\x02\0\x10\0LIST\x04\0\0\0INFOdata\x10\0\0\0\x02\0\xfd\xff\
     \x01\0\xfe\xff\x03\0\xff\x07\0\xf8\x05\0";
 
 fn appends(alloc: Global, blocks: &[&[Twelve]]) -> Result<bool, Fail> {
-    match append_blocks(tape_of(alloc, TAGGED)?, blocks) {
-        Ok(tape) => Ok(tape.bytes() == APPENDED.as_slice()),
-        Err((_, error)) => Err(Fail::from(error)),
-    }
+    let tape = append_blocks(tape_of(alloc, TAGGED)?, blocks).map_err(|(_, error)| error)?;
+    Ok(tape.bytes() == APPENDED)
 }
 
 // How many samples the first blocks have.
@@ -73,8 +71,7 @@ fn published(
     let Ok((journal, count)) = record_checkpoints(journal, integers(1, 44100, 16, 2), blocks) else {
         return Ok(None);
     };
-    let bytes = journal.bytes_after(alloc, journal.taken())?;
-    let found = read_all::<i16, _>(alloc, WavReader::new(&bytes[..])?)?;
+    let found = read_back(alloc, &journal)?;
     let is_prefix = ACCEPTED.starts_with(found.as_slice());
     Ok(Some((count, is_prefix && found.len() >= SIZES[count.min(2)])))
 }
@@ -100,31 +97,24 @@ const CONTAINERS: [&[u8]; 3] = [&[2, 0], &[0xfd, 0xff, 5, 0], &[0xf9, 0xff]];
 // Three samples of 8 bits, and the file that sox makes of them.
 const ODD: [&[u8]; 2] = [&[0x80, 0x81], &[0x7f]];
 
-const ODD_FILE: &[u8; 48] = b"RIFF\x28\0\0\0WAVEfmt \x10\0\0\0\x01\0\x01\0\x44\xac\0\0\
+const ODD_FILE: &[u8] = b"RIFF\x28\0\0\0WAVEfmt \x10\0\0\0\x01\0\x01\0\x44\xac\0\0\
     \x44\xac\0\0\x01\0\x08\0data\x03\0\0\0\x80\x81\x7f\0";
 
-// Whether all blocks are saved, synced, and are this file.
-fn saves(alloc: Global, spec_ex: WavSpecEx, blocks: &[&[u8]], file: &[u8]) -> hound::Result<bool> {
-    let mut journal = Journal::new(alloc, Vec::new(alloc))?;
-    let count = record_by_effects(&mut journal, spec_ex, blocks, &[])?;
-    let taken = journal.taken();
-    let bytes = journal.bytes_after(alloc, taken)?;
-    Ok(count == blocks.len() && journal.flushed() == taken && bytes.as_slice() == file)
-}
-
-// Whether that file is left where the reports of these effects are lost, and so many bytes were written.
-fn repeats(
+// Whether all blocks are saved and synced where the reports of these effects are lost, and are this file, for which so
+// many bytes were written.
+fn saves(
     alloc: Global,
+    spec_ex: WavSpecEx,
     blocks: &[&[u8]],
     lost: &[bool],
-    file: &[u8],
-    written: usize,
+    wanted: (&[u8], usize),
 ) -> hound::Result<bool> {
     let mut journal = Journal::new(alloc, Vec::new(alloc))?;
-    let count = record_by_effects(&mut journal, integers(1, 44100, 16, 2), blocks, lost)?;
+    let count = record_by_effects(&mut journal, spec_ex, blocks, lost)?;
     let taken = journal.taken();
     let bytes = journal.bytes_after(alloc, taken)?;
-    Ok(count == blocks.len() && bytes.as_slice() == file && taken == written)
+    let is_saved = count == blocks.len() && journal.flushed() == taken;
+    Ok(is_saved && (bytes.as_slice(), taken) == wanted)
 }
 
 // The samples of three parts of a recording, of four bytes at most each, and how many blocks were saved. The calls of
@@ -143,11 +133,7 @@ fn in_parts(
     let count = record_in_parts(&mut media, integers(1, 44100, 16, 2), blocks, 4, &[]);
     let mut parts = Vec::new(alloc);
     for medium in &media {
-        let bytes = medium.bytes_after(alloc, medium.taken())?;
-        parts.push(match WavReader::new(&bytes[..]) {
-            Ok(reader) => read_all::<i16, _>(alloc, reader)?,
-            Err(_) => Vec::new(alloc),
-        })?;
+        parts.push(read_back(alloc, medium).unwrap_or(Vec::new(alloc)))?;
     }
     Ok((parts, count))
 }
@@ -182,7 +168,7 @@ fn continues_in_parts(alloc: Global) -> hound::Result<bool> {
 }
 
 // The header of a new file, as hound writes it.
-const HEADER: &[u8; 44] = b"RIFF\0\0\0\0WAVEfmt \x10\0\0\0\x01\0\x01\0\x44\xac\0\0\
+const HEADER: &[u8] = b"RIFF\0\0\0\0WAVEfmt \x10\0\0\0\x01\0\x01\0\x44\xac\0\0\
     \x88\x58\x01\0\x02\0\x10\0data\0\0\0\0";
 
 // Whether a file begins with its header, and has less of it where one of the calls fails.
@@ -215,8 +201,7 @@ fn keeps(alloc: Global, blocks: &[&[u8]]) -> hound::Result<bool> {
             }
             continue;
         };
-        let bytes = journal.bytes_after(alloc, journal.taken())?;
-        let found = read_all::<i16, _>(alloc, WavReader::new(&bytes[..])?)?;
+        let found = read_back(alloc, &journal)?;
         let least = [0, 1, 3, 4][count.min(3)];
         if ![2i16, -3, 5, -7].starts_with(found.as_slice()) || found.len() < least || count < last {
             return Ok(false);
@@ -237,11 +222,7 @@ fn appended(
     let mut journal = Journal::new(alloc, file.to_vec(alloc)?)?;
     journal.fail(fail_from, u64::MAX);
     let count = append_by_effects(&mut journal, file, blocks, &[]).unwrap_or(0);
-    let bytes = journal.bytes_after(alloc, journal.taken())?;
-    Ok((
-        read_all::<i16, _>(alloc, WavReader::new(&bytes[..])?)?,
-        count,
-    ))
+    Ok((read_back(alloc, &journal)?, count))
 }
 
 // Whether the samples of the file stay, and those of the blocks that were saved follow, wherever the
@@ -264,7 +245,7 @@ fn resumes(alloc: Global, file: &[u8], blocks: &[&[u8]]) -> hound::Result<bool> 
 }
 
 // A recording of four samples of 16 bits that was cut off within the fifth, whose header counts none.
-const CUT_OFF: &[u8; 53] = b"RIFF\0\0\0\0WAVEfmt \x10\0\0\0\x01\0\x01\0\x44\xac\0\0\
+const CUT_OFF: &[u8] = b"RIFF\0\0\0\0WAVEfmt \x10\0\0\0\x01\0\x01\0\x44\xac\0\0\
     \x88\x58\x01\0\x02\0\x10\0data\0\0\0\0\x02\0\xfd\xff\x05\0\xf9\xff\x09";
 
 // Whether it is continued by these blocks.
@@ -279,8 +260,7 @@ fn mends(alloc: Global, blocks: &[&[u8]], lost: &[bool]) -> hound::Result<bool> 
     };
     let mut journal = Journal::new(alloc, CUT_OFF.to_vec(alloc)?)?;
     let count = continue_by_effects(&mut journal, found, blocks, lost);
-    let bytes = journal.bytes_after(alloc, journal.taken())?;
-    let all = read_all::<i16, _>(alloc, WavReader::new(&bytes[..])?)?;
+    let all = read_back(alloc, &journal)?;
     Ok(count == Ok(3) && all.as_slice() == [2i16, -3, 5, -7, 2, -3, 5, -7].as_slice())
 }
 
@@ -291,7 +271,7 @@ fn takes_a_batch(alloc: Global) -> hound::Result<bool> {
     record_batch(alloc, &mut writer, &[300, -301])?;
     let (tape, result) = writer.finalize_into();
     result?;
-    Ok(holds(alloc, tape.bytes(), &[-8, 300, -301]))
+    holds(alloc, tape.bytes(), &[-8, 300, -301])
 }
 
 // 40000 needs more than sixteen bits.
@@ -309,7 +289,7 @@ fn takes_i16s(alloc: Global) -> hound::Result<bool> {
     batch.flush()?;
     let (tape, result) = writer.finalize_into();
     result?;
-    Ok(marks == [false, true, true] && holds(alloc, tape.bytes(), &[32_767, -32_768]))
+    Ok(marks == [false, true, true] && holds(alloc, tape.bytes(), &[32_767, -32_768])?)
 }
 
 fn ends_durably(alloc: Global) -> hound::Result<bool> {
@@ -325,27 +305,19 @@ fn ends_durably(alloc: Global) -> hound::Result<bool> {
     Ok(journal.flushed() == taken && bytes.as_slice() == FOUR_SAMPLES.as_slice())
 }
 
-fn packs(alloc: Global) -> bool {
-    match pack_one(Tape::new(Vec::new(alloc)), integers(1, 44100, 16, 2), -301) {
-        Ok(tape) => holds(alloc, tape.bytes(), &[-301]),
-        Err(_) => false,
-    }
+fn packs(alloc: Global) -> hound::Result<bool> {
+    let packed = pack_one(Tape::new(Vec::new(alloc)), integers(1, 44100, 16, 2), -301);
+    let tape = packed.map_err(|(_, error)| error)?;
+    holds(alloc, tape.bytes(), &[-301])
 }
 
-fn takes_steps(alloc: Global) -> bool {
+fn takes_steps(alloc: Global) -> hound::Result<bool> {
     let steps = [Step::Whole(7), Step::Flush, Step::Batch(&[300, -301])];
     let mut marks = [false; 3];
-    let recorded = record_steps(
-        alloc,
-        empty_tape(alloc),
-        integers(1, 44100, 16, 2),
-        &steps,
-        &mut marks,
-    );
-    match recorded {
-        Ok(tape) => marks == [true; 3] && holds(alloc, tape.bytes(), &[7, 300, -301]),
-        Err(_) => false,
-    }
+    let spec_ex = integers(1, 44100, 16, 2);
+    let recorded = record_steps(alloc, empty_tape(alloc), spec_ex, &steps, &mut marks);
+    let tape = recorded.map_err(|(_, error)| error)?;
+    Ok(marks == [true; 3] && holds(alloc, tape.bytes(), &[7, 300, -301])?)
 }
 
 // Publishes two samples and continues with a third. Who opens the file just before the sizes of the end are
@@ -360,22 +332,16 @@ fn continues(alloc: Global) -> hound::Result<bool> {
     let taken = journal.taken();
     let before = opened_meanwhile(alloc, &journal, taken.saturating_sub(8))?;
     let after = opened_meanwhile(alloc, &journal, taken)?;
-    Ok(holds(alloc, &before, &[300, -301]) && holds(alloc, &after, &[300, -301, 7]))
+    Ok(holds(alloc, &before, &[300, -301])? && holds(alloc, &after, &[300, -301, 7])?)
 }
 
 #[test]
 fn recorders_leave_what_they_accepted(rt: HostRuntime) -> Result<(), Fail> {
     let alloc = rt.alloc();
     let blocks: &[&[Twelve]] = &BLOCKS;
-    assert!(rt; records(alloc, blocks));
+    assert!(rt; records(alloc, blocks)?);
     assert!(rt; appends(alloc, blocks)?);
-    Ok(())
-}
-
-#[test]
-fn a_recorder_counts_what_it_published(rt: HostRuntime) -> Result<(), Fail> {
-    let blocks: &[&[Twelve]] = &BLOCKS;
-    assert!(rt; publishes(rt.alloc(), blocks)?);
+    assert!(rt; publishes(alloc, blocks)?);
     Ok(())
 }
 
@@ -384,17 +350,23 @@ fn effects_leave_what_was_saved(rt: HostRuntime) -> Result<(), Fail> {
     let alloc = rt.alloc();
     let blocks: &[&[u8]] = &CONTAINERS;
     let odd: &[&[u8]] = &ODD;
-    assert!(rt; saves(alloc, integers(1, 44100, 16, 2), blocks, &FOUR_SAMPLES)?);
-    assert!(rt; saves(alloc, integers(1, 44100, 8, 1), odd, ODD_FILE)?);
-    // The header, the blocks, two sizes for each, and again the first block twice and a size three times.
+    let mono = integers(1, 44100, 16, 2);
+    // The header, the blocks, and two sizes for each.
+    let written = 44 + 8 + 3 * 8;
+    assert!(rt; saves(alloc, mono, blocks, &[], (&FOUR_SAMPLES, written))?);
+    // Again the first block twice and a size three times.
     let lost = [true, true, false, false, true, true, true];
+    let repeated = written + 2 * 2 + 3 * 4;
+    assert!(rt; saves(alloc, mono, blocks, &lost, (&FOUR_SAMPLES, repeated))?);
+    // And a pad byte.
+    let written = 44 + 3 + 2 * 8 + 1;
     assert!(rt;
-        repeats(
+        saves(
             alloc,
-            blocks,
-            &lost,
-            &FOUR_SAMPLES,
-            44 + 8 + 3 * 8 + 2 * 2 + 3 * 4
+            integers(1, 44100, 8, 1),
+            odd,
+            &[],
+            (ODD_FILE, written)
         )?
     );
     assert!(rt; begins(alloc)?);
@@ -410,14 +382,11 @@ fn effects_leave_what_was_saved(rt: HostRuntime) -> Result<(), Fail> {
 #[test]
 fn batches_steps_and_single_calls_are_recorded(rt: HostRuntime) -> Result<(), Fail> {
     let alloc = rt.alloc();
-    let found = (
-        takes_a_batch(alloc)?,
-        takes_i16s(alloc)?,
-        packs(alloc),
-        takes_steps(alloc),
-        continues(alloc)?,
-    );
-    assert_eq!(rt; found, (true, true, true, true, true));
+    assert!(rt; takes_a_batch(alloc)?);
+    assert!(rt; takes_i16s(alloc)?);
+    assert!(rt; packs(alloc)?);
+    assert!(rt; takes_steps(alloc)?);
+    assert!(rt; continues(alloc)?);
     assert!(rt; ends_durably(alloc)?);
     Ok(())
 }

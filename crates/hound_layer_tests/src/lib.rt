@@ -9,8 +9,6 @@ mod definitions;
 #[cfg(test)]
 mod errors;
 #[cfg(test)]
-mod head;
-#[cfg(test)]
 mod losses;
 #[cfg(test)]
 mod media;

@@ -2,27 +2,11 @@
 ghost use Rattle.std.specs.Prelude.{◌+◌, [], true};
 ghost use Rattle.std.proofs.Common.{rules};
 
-use hound_medium::{Medium, Placed, Source, put_all};
+use hound_medium::{Placed, Source, put_all};
 use std::io::{BufReader, BufWriter, ErrorKind};
-use std::path::{Path, PathBuf};
+use std::path::Path;
 use std::test::Fail;
 use std::{env, fs, io, process};
-
-// Writes "abc" at a place, and flushes.
-fn put_letters<M: Medium>(mut medium: M, to: u64) -> io::Result<M> {
-    medium.go(to)?;
-    put_all(&mut medium, b"abc")?;
-    medium.flush()?;
-    Ok(medium)
-}
-
-// The two bytes after the next one, if they are there.
-fn skip_and_get<S: Source>(mut source: S) -> io::Result<([u8; 2], usize)> {
-    let mut two = [0; 2];
-    source.shift(1)?;
-    let n = source.get(&mut two)?;
-    Ok((two, n))
-}
 
 // No bytes, and a place that is counted from a start.
 #[derive(Drop)]
@@ -86,63 +70,9 @@ fn a_medium_of_ones_own_rejects_places_above_all(rt: HostRuntime) {
     );
 }
 
-#[test]
-fn files_serve_through_the_bounds(rt: HostRuntime) -> Result<(), Fail> {
-    let path = path_of(&rt, "bounds")?;
-    let writer = put_letters(make(&rt, path.as_path())?, 1)?;
-    let _ = put_letters(writer, 3)?;
-    let mut reader = open(&rt, path.as_path())?;
-    reader.go(2)?;
-    let read = skip_and_get(reader);
-    let bytes = fs::read(&rt, path.as_path())?;
-    fs::remove_file(&rt, path.as_path())?;
-    assert_eq!(rt; read?, (*b"ab", 2));
-    assert_eq!(rt; bytes.as_slice(), b"\0ababc".as_slice());
-    Ok(())
-}
-
-// A file that no other test names.
-fn path_of(rt: &HostRuntime, name: &str) -> Result<PathBuf, Fail> {
-    let id = process::id(rt.process());
-    let name = format!(in rt.alloc(); "hound_medium_{id}_{name}")?;
-    Ok(env::temp_dir(rt)?.join(rt.alloc(), name.as_str())?)
-}
-
-fn make(rt: &HostRuntime, path: Path<'_>) -> io::Result<BufWriter<fs::File>> {
-    BufWriter::new(rt.alloc(), fs::File::create(rt, path)?)
-}
-
-fn open(rt: &HostRuntime, path: Path<'_>) -> io::Result<BufReader<fs::File>> {
-    BufReader::new(rt.alloc(), fs::File::open(rt, path)?)
-}
-
-// The bytes that another handle finds after each of two flushes, while the writer lives.
-fn flushed_twice(rt: &HostRuntime, path: Path<'_>) -> io::Result<(Vec<u8>, Vec<u8>)> {
-    let mut writer = make(rt, path)?;
-    put_all(&mut writer, b"wave")?;
-    Medium::flush(&mut writer)?;
-    let first = fs::read(rt, path)?;
-    put_all(&mut writer, b"form")?;
-    Medium::flush(&mut writer)?;
-    let second = fs::read(rt, path)?;
-    Ok((first, second))
-}
-
-#[test]
-fn a_flush_of_a_file_hands_its_bytes_on(rt: HostRuntime) -> Result<(), Fail> {
-    let path = path_of(&rt, "flush")?;
-    let found = flushed_twice(&rt, path.as_path());
-    fs::remove_file(&rt, path.as_path())?;
-    let (first, second) = found?;
-    assert_eq!(rt; first.as_slice(), b"wave".as_slice());
-    assert_eq!(rt; second.as_slice(), b"waveform".as_slice());
-    Ok(())
-}
-
-// Where a shift leads to, shown by the letter that is written there, and whether one below 0 is an
-// error.
-fn put_at_shifts(rt: &HostRuntime, path: Path<'_>) -> io::Result<(Vec<u8>, bool)> {
-    let mut writer = make(rt, path)?;
+// Where a shift and a go lead to, shown by the letter that is written there, and whether a shift below 0 is an error.
+fn put_at_places(rt: &HostRuntime, path: Path<'_>) -> io::Result<(Vec<u8>, bool)> {
+    let mut writer = BufWriter::new(rt.alloc(), fs::File::create(rt, path)?)?;
     put_all(&mut writer, b"waveform")?;
     writer.shift(-6)?;
     put_all(&mut writer, b"V")?;
@@ -151,17 +81,20 @@ fn put_at_shifts(rt: &HostRuntime, path: Path<'_>) -> io::Result<(Vec<u8>, bool)
     writer.shift(4)?;
     put_all(&mut writer, b"!")?;
     let below = writer.shift(-13).is_err();
+    writer.go(1)?;
+    put_all(&mut writer, b"A")?;
     drop(writer);
     Ok((fs::read(rt, path)?, below))
 }
 
 // Where a shift leads to, shown by the byte that is read there: some within the bytes that are read
 // ahead, some beyond. Each step is a shift and the byte that it leads to, if there is one.
-fn gets_at_shifts(source: BufReader<fs::File>) -> io::Result<bool> {
-    let mut source = source;
+fn gets_at_places(rt: &HostRuntime, path: Path<'_>) -> io::Result<bool> {
+    let mut source = BufReader::new(rt.alloc(), fs::File::open(rt, path)?)?;
     let mut byte = [0];
+    source.go(1)?;
     for (by, want) in [
-        (0, Some(0)),
+        (-1, Some(0)),
         (6, Some(7)),
         (-8, Some(0)),
         (40_000, Some(65)),
@@ -181,17 +114,19 @@ fn gets_at_shifts(source: BufReader<fs::File>) -> io::Result<bool> {
 
 #[test]
 fn a_shift_of_a_file_goes_as_far_as_it_says(rt: HostRuntime) -> Result<(), Fail> {
-    let path = path_of(&rt, "shift")?;
-    let put = put_at_shifts(&rt, path.as_path());
+    let id = process::id(rt.process());
+    let name = format!(in rt.alloc(); "hound_medium_{id}")?;
+    let path = env::temp_dir(&rt)?.join(rt.alloc(), name.as_str())?;
+    let put = put_at_places(&rt, path.as_path());
     // The byte at each place is the place's lowest eight bits.
     let counting: Vec<u8> = (0..60_000u32)
         .map(|place| (place % 256) as u8)
         .collect(rt.alloc())?;
     fs::write(&rt, path.as_path(), counting.as_slice())?;
-    let got = gets_at_shifts(open(&rt, path.as_path())?);
+    let got = gets_at_places(&rt, path.as_path());
     fs::remove_file(&rt, path.as_path())?;
     let (bytes, below) = put?;
-    assert_eq!(rt; bytes.as_slice(), b"waVefoRm\0\0\0!".as_slice());
+    assert_eq!(rt; bytes.as_slice(), b"wAVefoRm\0\0\0!".as_slice());
     assert_eq!(rt; (below, got?), (true, true));
     Ok(())
 }

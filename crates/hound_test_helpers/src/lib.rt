@@ -2,15 +2,12 @@
 #![tactic(auto)]
 
 ghost use Rattle.std.specs.Prelude.{◌≡◌, IfOk};
-ghost use Rattle.hound.specs.{IsSixteen, MediumState};
+ghost use Rattle.hound.specs.{MediumState};
 ghost use Rattle.hound.specs.declared.SampleFormat.TheVariants.{Int};
 
-use hound::{
-    Error, Medium, Placed, Sample, SampleFormat, Source, Tape, WavReader, WavSpec, WavSpecEx,
-    WavWriter,
-};
+use hound::{Error, Placed, SampleFormat, Tape, WavSpec, WavSpecEx};
 use std::alloc::Global;
-use std::io;
+use std::io::ErrorKind;
 use std::test::Fail;
 
 // Integers with these bits and bytes of a sample.
@@ -39,19 +36,14 @@ pub fn sixteen(channels: u16) -> WavSpec
 }
 
 // Mono, 44100 Hz, 16 bits: 2, -3, 5, -7.
-pub const FOUR_SAMPLES: [u8; 52] = [
-    0x52, 0x49, 0x46, 0x46, 0x2c, 0x00, 0x00, 0x00, 0x57, 0x41, 0x56, 0x45, 0x66, 0x6d, 0x74, 0x20,
-    0x10, 0x00, 0x00, 0x00, 0x01, 0x00, 0x01, 0x00, 0x44, 0xac, 0x00, 0x00, 0x88, 0x58, 0x01, 0x00,
-    0x02, 0x00, 0x10, 0x00, 0x64, 0x61, 0x74, 0x61, 0x08, 0x00, 0x00, 0x00, 0x02, 0x00, 0xfd, 0xff,
-    0x05, 0x00, 0xf9, 0xff,
-];
+pub const FOUR_SAMPLES: [u8; 52] =
+    *b"RIFF\x2c\0\0\0WAVEfmt \x10\0\0\0\x01\0\x01\0\x44\xac\0\0\x88\x58\x01\0\
+    \x02\0\x10\0data\x08\0\0\0\x02\0\xfd\xff\x05\0\xf9\xff";
 
 // The same without samples.
-pub const NO_SAMPLES: [u8; 44] = [
-    0x52, 0x49, 0x46, 0x46, 0x24, 0x00, 0x00, 0x00, 0x57, 0x41, 0x56, 0x45, 0x66, 0x6d, 0x74, 0x20,
-    0x10, 0x00, 0x00, 0x00, 0x01, 0x00, 0x01, 0x00, 0x44, 0xac, 0x00, 0x00, 0x88, 0x58, 0x01, 0x00,
-    0x02, 0x00, 0x10, 0x00, 0x64, 0x61, 0x74, 0x61, 0x00, 0x00, 0x00, 0x00,
-];
+pub const NO_SAMPLES: [u8; 44] =
+    *b"RIFF\x24\0\0\0WAVEfmt \x10\0\0\0\x01\0\x01\0\x44\xac\0\0\x88\x58\x01\0\
+    \x02\0\x10\0data\0\0\0\0";
 
 // A tape without bytes.
 pub fn empty_tape(alloc: Global) -> Tape
@@ -67,99 +59,15 @@ pub fn tape_of(alloc: Global, bytes: &[u8]) -> Result<Tape, Fail>
     Ok(Tape::new(bytes.to_vec(alloc)?))
 }
 
-// Writes these samples, up to the first error.
-pub fn write_all<S: Sample + Copy, W: Medium>(
-    writer: &mut WavWriter<W>,
-    samples: &[S],
-) -> hound::Result<()> {
-    for sample in samples {
-        writer.write_sample(*sample)?;
-    }
-    Ok(())
-}
-
-// Writes as many samples by one batch, which count up from the first.
-pub fn write_up<W: Medium>(
-    writer: &mut WavWriter<W>,
-    alloc: Global,
-    first: i16,
-    count: u32,
-) -> hound::Result<()>
-    requires { IsSixteen writer.old.spec_ex }
-    ensures { writer.new.spec_ex ≡ writer.old.spec_ex }
-{
-    let mut batch = writer.get_i16_writer(alloc, count)?;
-    let mut sample = first;
-    for _ in 0..count {
-        if batch.remaining() >= 1 {
-            batch.write_sample(sample);
-            sample = sample.wrapping_add(1);
-        }
-    }
-    if batch.remaining() != 0 {
-        return Err(Error::UnfinishedSample);
-    }
-    batch.flush()
-}
-
-// The samples that a reader gives, up to the first error.
-pub fn read_all<S: Sample, R: io::Read + Drop>(
-    alloc: Global,
-    reader: WavReader<R>,
-) -> hound::Result<Vec<S>> {
-    let mut samples = Vec::new(alloc);
-    for sample in reader.into_samples::<S>() {
-        samples.push(sample?)?;
-    }
-    Ok(samples)
-}
-
-// Whether the next item is this number.
-pub fn gives<S: Sample + PartialEq, R: io::Read + Drop>(
-    reader: &mut WavReader<R>,
-    number: S,
-) -> bool {
-    match reader.samples::<S>().next() {
-        Some(Ok(value)) => value == number,
-        _ => false,
-    }
-}
-
-// Whether the first item of this frame is the number at its place.
-fn seeks_to<R: Source>(
-    reader: &mut WavReader<R>,
-    time: u32,
-    numbers: &[i32],
-) -> hound::Result<bool> {
-    let channels = reader.spec().channels as usize;
-    reader.seek(time)?;
-    match numbers.get((time as usize).saturating_mul(channels)) {
-        Some(number) => Ok(gives(reader, *number)),
-        None => Ok(false),
-    }
-}
-
-// From each frame to each other one, and back to the first.
-pub fn seeks_everywhere<R: Source>(reader: WavReader<R>, numbers: &[i32]) -> hound::Result<bool> {
-    let mut reader = reader;
-    for from in 0..reader.duration() {
-        for to in 0..reader.duration() {
-            if !seeks_to(&mut reader, from, numbers)? || !seeks_to(&mut reader, to, numbers)? {
-                return Ok(false);
-            }
-        }
-        if !seeks_to(&mut reader, 0, numbers)? {
-            return Ok(false);
-        }
-    }
-    Ok(true)
-}
+// The name of an `IoError` where there was no memory.
+pub const NO_MEMORY: &str = "IoError of kind OutOfMemory";
 
 // The name of an error, or of an ill-formed file the reason.
-pub fn name_of(error: Error) -> &'static str {
+pub fn name_of(error: &Error) -> &'static str {
     match error {
+        Error::IoError(fault) if fault.kind() == ErrorKind::OutOfMemory => NO_MEMORY,
         Error::IoError(_) => "IoError",
-        Error::FormatError(reason) => reason,
+        Error::FormatError(reason) => *reason,
         Error::TooWide => "TooWide",
         Error::UnfinishedSample => "UnfinishedSample",
         Error::Unsupported => "Unsupported",
@@ -169,11 +77,10 @@ pub fn name_of(error: Error) -> &'static str {
     }
 }
 
-// "done" if a call did what it should, "not so" if it found something else.
-pub fn answer_of(returned: hound::Result<bool>) -> &'static str {
-    match returned {
-        Ok(true) => "done",
-        Ok(false) => "not so",
+// The name of the error that a call returned, or "ok".
+pub fn name_of_answer<T>(answer: &hound::Result<T>) -> &'static str {
+    match answer {
+        Ok(_) => "ok",
         Err(error) => name_of(error),
     }
 }

@@ -4,28 +4,14 @@ use hound::{
     Begin, End, Error, Journal, Medium, Placed, SampleFormat, Step, Tape, WavReader, WavWriter,
     run_session,
 };
-use hound_test_helpers::{FOUR_SAMPLES, empty_tape, integers, sixteen, tape_of, write_up};
+use hound_test_helpers::{
+    FOUR_SAMPLES, NO_MEMORY, empty_tape, integers, name_of_answer, sixteen, tape_of,
+};
 use std::alloc::Global;
 use std::io::ErrorKind;
-use std::path::{Path, PathBuf};
+use std::path::Path;
 use std::test::Fail;
 use std::{env, fs, io, process};
-
-// The words of a medium without memory.
-const NO_MEMORY: &str = "IoError of kind OutOfMemory";
-
-// The words of an error: the reason of an ill-formed file, or the name of the variant.
-fn words_of(error: &Error) -> &'static str {
-    match error {
-        Error::IoError(fault) if fault.kind() == ErrorKind::OutOfMemory => NO_MEMORY,
-        Error::Unsupported => "Unsupported",
-        Error::InvalidSampleFormat => "InvalidSampleFormat",
-        Error::UnfinishedSample => "UnfinishedSample",
-        Error::TooLong => "TooLong",
-        Error::OutOfMemory => "OutOfMemory",
-        _ => "another error",
-    }
-}
 
 // Takes the memory there is in blocks of at most this many bytes, and in ever smaller ones down to
 // the least.
@@ -60,43 +46,36 @@ fn take_all_but(alloc: Global, room: usize) -> Result<Vec<Vec<u8>>, Fail> {
     Ok(blocks)
 }
 
-// The words of an error, and none for an Ok.
-fn words_of_answer<T>(answer: &hound::Result<T>) -> &'static str {
-    match answer {
-        Ok(_) => "",
-        Err(error) => words_of(error),
-    }
-}
-
-// The header of a file of unknown length, with only this much memory.
-fn header_without(
-    alloc: Global,
-    channels: u16,
-    room: usize,
-) -> Result<hound::Result<Vec<u8>>, Fail> {
-    let spec = integers(channels, 16000, 16, 2).spec;
+// What a call returns with only this much memory.
+fn without<T, F: FnOnce() -> T>(alloc: Global, room: usize, call: F) -> Result<T, Fail>
+    requires { F.IsAlwaysCallable call }
+{
     let blocks = take_all_but(alloc, room)?;
-    let header = spec.into_header_for_infinite_file(alloc);
+    let answer = call();
     drop(blocks);
-    Ok(header)
+    Ok(answer)
 }
 
-// Whether a header fails with these words, or is the one that is made with all memory.
-fn header_has_words(alloc: Global, channels: u16, room: usize, words: &str) -> Result<bool, Fail> {
-    match header_without(alloc, channels, room)? {
-        Ok(header) => {
-            let whole = header_without(alloc, channels, PLENTY)??;
-            Ok(words.is_empty() && header.as_slice() == whole.as_slice())
-        }
-        Err(error) => Ok(words_of(&error) == words),
-    }
-}
-
+// With enough memory it is the header that is made with all of it.
 #[test]
 fn a_header_of_unknown_length(rt: HostRuntime) -> Result<(), Fail> {
-    for (channels, room, words) in [(10, 0, "OutOfMemory"), (0, 0, "Unsupported"), (10, 68, "")] {
-        let has_words = header_has_words(rt.alloc(), channels, room, words)?;
-        assert!(rt; has_words, "{channels} channels with {room}");
+    let alloc = rt.alloc();
+    for (channels, room, name) in [
+        (10, 0, "OutOfMemory"),
+        (0, 0, "Unsupported"),
+        (10, 68, "ok"),
+    ] {
+        let spec = integers(channels, 16000, 16, 2).spec;
+        let header = without(alloc, room, || spec.into_header_for_infinite_file(alloc))?;
+        assert_eq!(rt;
+            name_of_answer(&header),
+            name,
+            "{channels} channels with {room}"
+        );
+        if let Ok(header) = header {
+            let whole = spec.into_header_for_infinite_file(alloc)?;
+            assert_eq!(rt; header.as_slice(), whole.as_slice());
+        }
     }
     Ok(())
 }
@@ -109,8 +88,8 @@ const PLENTY: usize = 1 << 30;
 enum Act {
     // A batch of this many samples is begun, and dropped.
     Begin(u32),
-    // A batch of this many samples that count up from 2.
-    Batch(u32),
+    // A batch of these samples.
+    Batch([i16; 4]),
     Sample(i16),
     Block(&'static [i16]),
     Flush,
@@ -131,22 +110,22 @@ const SCRIPTS: [Script; 4] = [
         name: "the first batch",
         acts: &[
             (0, Act::Begin(1), "OutOfMemory", 0),
-            (0, Act::Begin(0), "", 0),
+            (0, Act::Begin(0), "ok", 0),
             (0, Act::Begin(2_147_483_630), "TooLong", 0),
-            (2000, Act::Begin(1000), "", 0),
+            (2000, Act::Begin(1000), "ok", 0),
             (0, Act::Begin(2000), "OutOfMemory", 0),
-            (PLENTY, Act::Sample(2), "", 1),
-            (PLENTY, Act::Sample(-3), "", 2),
-            (PLENTY, Act::Sample(5), "", 3),
-            (PLENTY, Act::Sample(-7), "", 4),
+            (PLENTY, Act::Sample(2), "ok", 1),
+            (PLENTY, Act::Sample(-3), "ok", 2),
+            (PLENTY, Act::Sample(5), "ok", 3),
+            (PLENTY, Act::Sample(-7), "ok", 4),
         ],
         file: &FOUR_SAMPLES,
     },
     Script {
         name: "a batch uses memory that is kept",
         acts: &[
-            (PLENTY, Act::Batch(4), "", 4),
-            (0, Act::Begin(2), "", 4),
+            (PLENTY, Act::Batch([2, 3, 4, 5]), "ok", 4),
+            (0, Act::Begin(2), "ok", 4),
             (0, Act::Begin(100_000), "OutOfMemory", 4),
         ],
         file: b"RIFF\x2c\0\0\0WAVEfmt \x10\0\0\0\x01\0\x01\0\x44\xac\0\0\x88\x58\x01\0\x02\0\x10\0\
@@ -156,23 +135,23 @@ const SCRIPTS: [Script; 4] = [
     Script {
         name: "a writer over a tape that can't grow keeps its samples",
         acts: &[
-            (0, Act::Sample(2), "", 1),
-            (0, Act::Sample(-3), "", 2),
-            (0, Act::Sample(5), "", 3),
-            (0, Act::Sample(-7), "", 4),
+            (0, Act::Sample(2), "ok", 1),
+            (0, Act::Sample(-3), "ok", 2),
+            (0, Act::Sample(5), "ok", 3),
+            (0, Act::Sample(-7), "ok", 4),
             (0, Act::Flush, NO_MEMORY, 4),
-            (PLENTY, Act::Flush, "", 4),
+            (PLENTY, Act::Flush, "ok", 4),
         ],
         file: &FOUR_SAMPLES,
     },
     Script {
         name: "a block takes no memory",
         acts: &[
-            (0, Act::Block(&[2, -3]), "", 2),
-            (0, Act::Block(&[]), "", 2),
+            (0, Act::Block(&[2, -3]), "ok", 2),
+            (0, Act::Block(&[]), "ok", 2),
             (0, Act::Flush, NO_MEMORY, 2),
-            (0, Act::Block(&[5, -7]), "", 4),
-            (PLENTY, Act::Flush, "", 4),
+            (0, Act::Block(&[5, -7]), "ok", 4),
+            (PLENTY, Act::Flush, "ok", 4),
         ],
         file: &FOUR_SAMPLES,
     },
@@ -188,32 +167,31 @@ fn take(writer: &mut WavWriter<Tape>, alloc: Global, act: Act) -> hound::Result<
             true => Ok(()),
             false => Err(Error::UnfinishedSample),
         },
-        Act::Batch(count) => write_up(writer, alloc, 2, count),
+        Act::Batch(samples) => {
+            let mut batch = writer.get_i16_writer(alloc, 4)?;
+            for sample in samples {
+                if batch.remaining() > 0 {
+                    batch.write_sample(sample);
+                }
+            }
+            if batch.remaining() != 0 {
+                return Err(Error::UnfinishedSample);
+            }
+            batch.flush()
+        }
         Act::Sample(sample) => writer.write_sample(sample),
         Act::Block(samples) => writer.write_samples(samples),
         Act::Flush => writer.flush(),
     }
 }
 
-fn take_without(
-    writer: &mut WavWriter<Tape>,
-    alloc: Global,
-    act: Act,
-    room: usize,
-) -> Result<hound::Result<()>, Fail> {
-    let blocks = take_all_but(alloc, room)?;
-    let answer = take(writer, alloc, act);
-    drop(blocks);
-    Ok(answer)
-}
-
 impl Script {
     // Whether every call has its result.
     fn holds(&self, alloc: Global) -> Result<bool, Fail> {
         let mut writer = WavWriter::new(empty_tape(alloc), sixteen(1))?;
-        for (room, next, words, len) in self.acts {
-            let answer = take_without(&mut writer, alloc, *next, *room)?;
-            if words_of_answer(&answer) != *words || writer.len() != *len {
+        for (room, next, name, len) in self.acts {
+            let answer = without(alloc, *room, || take(&mut writer, alloc, *next))?;
+            if name_of_answer(&answer) != *name || writer.len() != *len {
                 return Ok(false);
             }
         }
@@ -233,9 +211,7 @@ fn a_writer_without_memory(rt: HostRuntime) -> Result<(), Fail> {
 fn a_block_is_read_without_memory(rt: HostRuntime) -> Result<(), Fail> {
     let mut reader = WavReader::new(FOUR_SAMPLES.as_slice())?;
     let mut samples = [0i16; 5];
-    let blocks = take_all_but(rt.alloc(), 0)?;
-    let answer = reader.read_samples(&mut samples);
-    drop(blocks);
+    let answer = without(rt.alloc(), 0, || reader.read_samples(&mut samples))?;
     let is_read = matches!(answer, (4, Ok(())));
     assert!(rt; is_read && samples == [2, -3, 5, -7, 0]);
     Ok(())
@@ -243,10 +219,9 @@ fn a_block_is_read_without_memory(rt: HostRuntime) -> Result<(), Fail> {
 
 #[test]
 fn a_writer_begins_over_a_tape_that_cannot_grow(rt: HostRuntime) -> Result<(), Fail> {
-    let blocks = take_all_but(rt.alloc(), 0)?;
-    let rejected = WavWriter::new(empty_tape(rt.alloc()), sixteen(1));
-    drop(blocks);
-    assert!(rt; words_of_answer(&rejected) == NO_MEMORY);
+    let alloc = rt.alloc();
+    let rejected = without(alloc, 0, || WavWriter::new(empty_tape(alloc), sixteen(1)))?;
+    assert_eq!(rt; name_of_answer(&rejected), NO_MEMORY);
     Ok(())
 }
 
@@ -254,25 +229,17 @@ fn is_out_of_memory<T>(answer: &io::Result<T>) -> bool {
     matches!(answer, Err(e) if e.kind() == ErrorKind::OutOfMemory)
 }
 
-// The result for 3000 bytes more, with only this much memory.
-fn put_without<M: Medium>(
-    medium: &mut M,
-    alloc: Global,
-    room: usize,
-) -> Result<io::Result<usize>, Fail> {
-    let blocks = take_all_but(alloc, room)?;
-    let answer = medium.put(&[7; 3000]);
-    drop(blocks);
-    Ok(answer)
+fn put_more<M: Medium>(medium: &mut M) -> io::Result<usize> {
+    medium.put(&[7; 3000])
 }
 
 // Whether a tape that can't grow stays as it was, at its place.
 fn tape_grows(alloc: Global, place: u32) -> Result<bool, Fail> {
     let mut tape = tape_of(alloc, &FOUR_SAMPLES)?;
     tape.go(place as u64)?;
-    let answer = put_without(&mut tape, alloc, 0)?;
+    let answer = without(alloc, 0, || put_more(&mut tape))?;
     let stays = tape.bytes() == FOUR_SAMPLES.as_slice();
-    let count = tape.put(&[7; 3000])?;
+    let count = put_more(&mut tape)?;
     Ok(
         is_out_of_memory(&answer)
             && stays
@@ -295,37 +262,21 @@ fn bytes_of_now(journal: &Journal, alloc: Global) -> hound::Result<Vec<u8>> {
     journal.bytes_after(alloc, journal.taken())
 }
 
-// A journal of these bytes, with only this much memory.
-fn journal_without(
-    alloc: Global,
-    bytes: &[u8],
-    room: usize,
-) -> Result<hound::Result<Journal>, Fail> {
-    let bytes = bytes.to_vec(alloc)?;
-    let blocks = take_all_but(alloc, room)?;
-    let journal = Journal::new(alloc, bytes);
-    drop(blocks);
-    Ok(journal)
-}
-
-// Whether a journal of the four samples is an error, and one of no bytes is still there. Both
-// with the same blocks taken: with further blocks taken in between, 52 bytes are at times not
-// enough for the four samples.
-fn begins_without(alloc: Global) -> Result<bool, Fail> {
-    let bytes = FOUR_SAMPLES.to_vec(alloc)?;
-    let blocks = take_all_but(alloc, 0)?;
-    let rejected = Journal::new(alloc, bytes);
-    let empty = Journal::new(alloc, Vec::new(alloc));
-    drop(blocks);
-    Ok(matches!(rejected, Err(Error::OutOfMemory)) && empty.is_ok())
-}
-
+// One of the four samples is an error, and one of no bytes is still there. Both with the same blocks
+// taken: with further blocks taken in between, 52 bytes are at times not enough for the four samples.
 #[test]
 fn a_journal_that_begins(rt: HostRuntime) -> Result<(), Fail> {
-    assert!(rt; begins_without(rt.alloc())?);
-    let journal = journal_without(rt.alloc(), &FOUR_SAMPLES, 52)??;
-    let bytes = bytes_of_now(&journal, rt.alloc())?;
-    assert!(rt; bytes.as_slice() == FOUR_SAMPLES.as_slice());
+    let alloc = rt.alloc();
+    let bytes = FOUR_SAMPLES.to_vec(alloc)?;
+    let both = || (
+        Journal::new(alloc, bytes),
+        Journal::new(alloc, Vec::new(alloc)),
+    );
+    let (rejected, empty) = without(alloc, 0, both)?;
+    assert!(rt; matches!(rejected, Err(Error::OutOfMemory)) && empty.is_ok());
+    let bytes = FOUR_SAMPLES.to_vec(alloc)?;
+    let journal = without(alloc, 52, || Journal::new(alloc, bytes))??;
+    assert!(rt; bytes_of_now(&journal, alloc)?.as_slice() == FOUR_SAMPLES.as_slice());
     Ok(())
 }
 
@@ -334,14 +285,14 @@ fn a_journal_that_begins(rt: HostRuntime) -> Result<(), Fail> {
 fn journal_grows(alloc: Global, room: usize, rejections: &mut u32) -> Result<bool, Fail> {
     let mut journal = Journal::new(alloc, FOUR_SAMPLES.to_vec(alloc)?)?;
     journal.go(52)?;
-    let answer = put_without(&mut journal, alloc, room)?;
+    let answer = without(alloc, room, || put_more(&mut journal))?;
     if answer.is_err() {
         *rejections = rejections.saturating_add(1);
         let stays = bytes_of_now(&journal, alloc)?.as_slice() == FOUR_SAMPLES.as_slice();
         if !is_out_of_memory(&answer) || journal.taken() != 0 || !stays {
             return Ok(false);
         }
-        journal.put(&[7; 3000])?;
+        put_more(&mut journal)?;
     }
     Ok(journal.taken() == 3000 && bytes_of_now(&journal, alloc)?.len() == 3052)
 }
@@ -362,25 +313,13 @@ fn a_journal_that_grows(rt: HostRuntime) -> Result<(), Fail> {
 // The beginning of a journal, which then takes 10000 bytes.
 const BEGINNING: [u8; 2000] = [1; 2000];
 
-// All bytes of a journal, with only this much memory.
-fn moment_without(
-    journal: &Journal,
-    alloc: Global,
-    room: usize,
-) -> Result<hound::Result<Vec<u8>>, Fail> {
-    let blocks = take_all_but(alloc, room)?;
-    let answer = bytes_of_now(journal, alloc);
-    drop(blocks);
-    Ok(answer)
-}
-
 // How often a state of the journal is complete, lacks memory, and is something else, each
 // time with a kibibyte more.
 fn moments_of(journal: &Journal, alloc: Global) -> Result<[u32; 3], Fail> {
     let whole = bytes_of_now(journal, alloc)?;
     let mut counts = [0u32; 3];
     for kibibytes in 0..48 {
-        let at = match moment_without(journal, alloc, kibibytes * 1024)? {
+        let at = match without(alloc, kibibytes * 1024, || bytes_of_now(journal, alloc))? {
             Ok(bytes) => if bytes == whole { 0 } else { 2 },
             Err(Error::OutOfMemory) => 1,
             Err(_) => 2,
@@ -393,7 +332,7 @@ fn moments_of(journal: &Journal, alloc: Global) -> Result<[u32; 3], Fail> {
 // The bytes of a state are those of the beginning, whose list grows several times.
 #[test]
 fn a_moment_of_a_journal(rt: HostRuntime) -> Result<(), Fail> {
-    let mut journal = journal_without(rt.alloc(), &BEGINNING, PLENTY)??;
+    let mut journal = Journal::new(rt.alloc(), BEGINNING.to_vec(rt.alloc())?)?;
     journal.go(2000)?;
     journal.put(&[7; 10_000])?;
     let _taken = take_most(rt.alloc())?;
@@ -424,22 +363,15 @@ fn a_batch_of_a_session(rt: HostRuntime) -> Result<(), Fail> {
     Ok(())
 }
 
-// A file that no other test names.
-fn path_of(rt: &HostRuntime, name: &str) -> Result<PathBuf, Fail> {
-    let id = process::id(rt.process());
-    let name = format!(in rt.alloc(); "hound_tests_memory_{id}_{name}.wav")?;
-    Ok(env::temp_dir(rt)?.join(rt.alloc(), name.as_str())?)
-}
-
 // A call that opens a file.
-#[derive(Clone, Copy)]
+#[derive(Clone, Copy, Debug)]
 enum Opening {
     Open,
     Create,
     Append,
 }
 
-// The error of the call with only this much memory.
+// The name of the call's answer with only this much memory.
 fn open_without(
     rt: &HostRuntime,
     path: Path<'_>,
@@ -447,14 +379,11 @@ fn open_without(
     room: usize,
 ) -> Result<&'static str, Fail> {
     let alloc = rt.alloc();
-    let blocks = take_all_but(alloc, room)?;
-    let words = match opening {
-        Opening::Open => words_of_answer(&WavReader::open(rt, alloc, path)),
-        Opening::Create => words_of_answer(&WavWriter::create(rt, alloc, path, sixteen(1))),
-        Opening::Append => words_of_answer(&WavWriter::append(rt, alloc, path)),
-    };
-    drop(blocks);
-    Ok(words)
+    without(alloc, room, || match opening {
+        Opening::Open => name_of_answer(&WavReader::open(rt, alloc, path)),
+        Opening::Create => name_of_answer(&WavWriter::create(rt, alloc, path, sixteen(1))),
+        Opening::Append => name_of_answer(&WavWriter::append(rt, alloc, path)),
+    })
 }
 
 // Whether the call over the four samples lacks memory, and the file stays or is empty if it was to
@@ -467,30 +396,31 @@ fn opens_as_said(
     buffer: usize,
 ) -> Result<bool, Fail> {
     fs::write(rt, path, FOUR_SAMPLES.as_slice())?;
-    let words = open_without(rt, path, opening, room)?;
+    let name = open_without(rt, path, opening, room)?;
     let bytes = fs::read(rt, path)?;
     if room == buffer {
-        return Ok(words.is_empty());
+        return Ok(name == "ok");
     }
     let stays = bytes.as_slice() == FOUR_SAMPLES.as_slice();
-    let is_rejected = words == "OutOfMemory" || words == NO_MEMORY;
     let is_made = matches!(opening, Opening::Create);
-    Ok(is_rejected && (stays || is_made && bytes.is_empty()))
+    Ok((name == "OutOfMemory" || name == NO_MEMORY) && (stays || is_made && bytes.is_empty()))
 }
 
 // Only the buffer is allocated.
 #[test]
 fn files_that_are_opened(rt: HostRuntime) -> Result<(), Fail> {
     let _taken = take_most(rt.alloc())?;
-    let path = path_of(&rt, "opened")?;
-    for (name, opening, buffer) in [
-        ("open", Opening::Open, 8192),
-        ("create", Opening::Create, 65536),
-        ("append", Opening::Append, 65536),
+    let id = process::id(rt.process());
+    let name = format!(in rt.alloc(); "hound_tests_memory_{id}.wav")?;
+    let path = env::temp_dir(&rt)?.join(rt.alloc(), name.as_str())?;
+    for (opening, buffer) in [
+        (Opening::Open, 8192),
+        (Opening::Create, 65536),
+        (Opening::Append, 65536),
     ] {
         for room in [0, 16, 1024, buffer - 64, buffer] {
             let is_as_said = opens_as_said(&rt, path.as_path(), opening, room, buffer)?;
-            assert!(rt; is_as_said, "{name} with {room}");
+            assert!(rt; is_as_said, "{opening:?} with {room}");
         }
     }
     fs::remove_file(&rt, path.as_path())?;
