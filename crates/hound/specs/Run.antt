@@ -28,8 +28,7 @@ is_sixteen spec = is_int spec.sample_format && spec.bits_per_sample == 16
 
 -- the containers of a batch, those of its values by their table, or why it has none
 abbrev pub batch_containers : WavSpecEx → List ℤ → Result (List (List ℕ)) Rejection
-batch_containers s values =
-    if is_sixteen s.spec then containers_in int_container s values else Err unsupported
+batch_containers s values = if is_sixteen s.spec then containers_in int_container s values else Err unsupported
 
 -- what a step asks of a writer: to accept its containers, one for each value of a batch, or to publish
 abbrev pub asked_by : WavSpecEx → Step → Asked
@@ -50,8 +49,7 @@ accepted_by s step mark = accepted_of (asked_by s step) mark
 abbrev pub accepted_by_steps : WavSpecEx → List Step → List Bool → List (List ℕ)
 accepted_by_steps s [] marks = []
 accepted_by_steps s (step ∷ steps) [] = []
-accepted_by_steps s (step ∷ steps) (mark ∷ marks) =
-    accepted_by s step mark ++ accepted_by_steps s steps marks
+accepted_by_steps s (step ∷ steps) (mark ∷ marks) = accepted_by s step mark ++ accepted_by_steps s steps marks
 
 -- the containers of steps that were all accepted
 abbrev pub containers_of : WavSpecEx → List Step → List (List ℕ)
@@ -65,8 +63,7 @@ BeginsAs kind Append medium w = Appends kind (kind.state medium) w
 -- why it doesn't begin, with the medium as it is then
 abbrev pub IsNotBegunAs : {M : Type 0} → Ghosts M → Begin → M → M → Error → Type 0
 IsNotBegunAs kind (New spec_ex) medium back e = IsNotBegun kind spec_ex medium back e
-IsNotBegunAs kind Append medium back e =
-    WhereTells kind.tells (IsNotAppended (kind.state medium) (kind.state back) e)
+IsNotBegunAs kind Append medium back e = WhereTells kind.tells (IsNotAppended (kind.state medium) (kind.state back) e)
 
 -- the result of a run by that of its end: Ok at a drop, which publishes too
 abbrev pub EndsAs : End → Result (Unit {0}) Error → Result (Unit {0}) Error → Type 0
@@ -80,13 +77,11 @@ begun_spec Append first = first.spec_ex
 
 abbrev pub file_of : {M : Type 0} → (M → MediumState) → Begin → M → WriterState M → Begun
 file_of state (New spec_ex) old first = new_file (state old)
-file_of state Append old first =
-    appended (state old) first.data_start (accepted_samples state first)
+file_of state Append old first = appended (state old) first.data_start (accepted_samples state first)
 
 -- the call of an end
 abbrev pub end_call : {M : Type 0} → (M → MediumState) → WriterState M → Result (Unit {0}) Error → Call
-end_call state last finished =
-    record { asked = publish; answer = finished; began = length (state last.medium).past }
+end_call state last finished = record { asked = publish; answer = finished; began = length (state last.medium).past }
 
 -- A run that began, made the call of every step, and then that of its end: before the data only the two sizes changed,
 -- and if all the data were there the medium has what any list of these calls promises.

@@ -28,8 +28,7 @@ all_asked container s blocks = recorder_asks (containers_by container s) 0 block
 
 -- the marks of the calls of blocks that were published: a write and a flush of each
 abbrev pub published_calls : {V : Type 0} → (V → Result (List (List ℕ)) Rejection) → List V → List (Asked × Bool)
-published_calls containers blocks =
-    flat_map (λ block. (write (containers block), true) ∷ (publish, true) ∷ []) blocks
+published_calls containers blocks = flat_map (λ block. (write (containers block), true) ∷ (publish, true) ∷ []) blocks
 
 -- The calls of a block at which a recorder stops: a write that accepted nothing, or a write that accepted the block and
 -- a flush that didn't publish it.

@@ -1,8 +1,7 @@
 // Functions of a user of the library, whose contracts follow from its public ones.
 ghost use Rattle.std.specs.Prelude.{◌≡◌, ℕ, ◌/◌, ◌<◌, ◌≤◌, ◌++◌, Bool, ◌⊎◌, false, true, ⊤, List, length, map, ◌∷◌, None, Some, Ok, Err, Result, IfErr, IfOk, IfSome, IsTrue, MatchResult, OnOk};
 ghost use Rattle.std.specs.List.{AllByRecursion, concat};
-ghost use Rattle.hound.specs.{AreKnown, accepted_samples, Begun, Call, Checkpoints, Finishes, Known, ReadsAs, Recorded, found_in, start_of, IsSameFile, ReaderState, RepairsMedium, Seeks, Repair, Repairs, IsFoundAt, Head, IsSoundSpec, IsStored, IsNoPad, shown_length, held, frame_length, containers, AreContainers, canonical, HasPublished, IsLeftAfter, Keeps, accepted_by_all, begins_at, one_more, samples_left, OpensAs, ReadsFrames, IsIoError, IsNext, IsSixteen, MediumState, WhereKeeps, WhereTells, Error, IsWritable, sample_count, WavSpecEx, container_at, meaning_at, rejection_at, samples_before, unread};
-ghost use Rattle.hound.specs.{Damage, IsLookedAt, Log, Performed, mending, repair_of};
+ghost use Rattle.hound.specs.{AreContainers, AreKnown, Begun, Call, Checkpoints, Damage, Error, Finishes, HasPublished, Head, IsFoundAt, IsIoError, IsLeftAfter, IsLookedAt, IsNext, IsNoPad, IsSameFile, IsSixteen, IsSoundSpec, IsStored, IsWritable, Keeps, Known, Log, MediumState, OpensAs, Performed, ReaderState, ReadsAs, ReadsFrames, Recorded, Repair, Repairs, RepairsMedium, Seeks, WavSpecEx, WhereKeeps, WhereTells, accepted_by_all, accepted_samples, begins_at, canonical, container_at, containers, found_in, frame_length, held, meaning_at, mending, one_more, rejection_at, repair_of, sample_count, samples_before, samples_left, shown_length, start_of, unread};
 ghost use Rattle.std.specs.declared.io.Error.{Error as IoFault};
 ghost use Rattle.hound.specs.declared.Error.TheVariants.{OutOfMemory};
 ghost use Rattle.hound.specs.declared.RepairState.TheVariants.{HasChunksAfterData, Whole};

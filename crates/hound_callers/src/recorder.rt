@@ -1,10 +1,9 @@
 // Recorders whose caller performs the effects, on a medium.
 ghost use Rattle.std.specs.Prelude.{◌≡◌, ◌⊎◌, ◌≤◌, ◌+◌, ℕ, List, [], ◌++◌, ◌∷◌, Bool, Ok, true, false, if◌then◌else◌, IfErr, IfOk, OnErr, OnOk, Result, drop, is_ok, length, slice_index_or, take};
 ghost use Rattle.std.specs.declared.io.Error.{Error as IoFault};
-ghost use Rattle.hound.specs.{Asked, Begun, DoesBeginning, DoesBeginnings, Flushes, IsIoError, IsSaid, IsWritable, at_beginning, beginning, faults_after, HasData, IsSynced, Known, Log, Repeats, Readable, Recorder, WavSpecEx, one_more, WhereKeeps, WhereTells, new_file, resumed_file, seen};
+ghost use Rattle.hound.specs.{Asked, Begun, Directed, DoesBeginning, DoesBeginnings, Flushes, HasData, IsIoError, IsSaid, IsSynced, IsWritable, Known, Log, MediumState, PutsAt, Readable, Recorder, Repeats, WavSpecEx, WhereKeeps, WhereTells, at_beginning, beginning, end_of, faults_after, new_file, one_more, overlay, placed, resumed_file, seen};
 ghost use Rattle.hound.specs.declared.Phase.TheVariants.{Saving};
 ghost use Rattle.hound.specs.declared.Report.TheVariants.{Pending};
-ghost use Rattle.hound.specs.{Directed, MediumState, PutsAt, end_of, overlay, placed};
 ghost use Rattle.hound_callers.specs.Recorder.{CountsDirected, Continues, IsFound, IsNotContinued, IsNotMended, IsResumed, once_mended, IsAsked, IsDirected, IsErrorOf, IsNotBegunBy, IsNotResumed, IsReady, LeavesNoSample, PerformsAll, Saves, Stops, StopsAt, TriesAction, asked_as, once_done, report_for, samples_of};
 ghost use Rattle.hound_callers.specs.Recording.{published_calls};
 

@@ -22,8 +22,7 @@ GetsBeginning old new text = (part : List ℕ) × StartsWith text part × Append
 
 -- the output got a text but for its end, which is buffered
 abbrev pub GetsBuffered : Option (List ℕ) → Option (List ℕ) → List ℕ → List ℕ → Type 0
-GetsBuffered old new buffered text =
-    (written : List ℕ) × (text ≡ written ++ buffered) × Appends old new written
+GetsBuffered old new buffered text = (written : List ℕ) × (text ≡ written ++ buffered) × Appends old new written
 
 -- What lines that were pushed or written leave: the output got a text but for its end, which is buffered; or at an
 -- error a beginning of it, and nothing is buffered.
@@ -50,8 +49,7 @@ line_for Float width bits container = pattern_line (pattern container)
 
 -- the line of a container in a file of this spec
 abbrev pub sample_line : WavSpecEx → List ℕ → List ℕ
-sample_line s container =
-    line_for s.spec.sample_format s.bytes_per_sample s.spec.bits_per_sample container
+sample_line s container = line_for s.spec.sample_format s.bytes_per_sample s.spec.bits_per_sample container
 
 -- the lines of the first samples of data, so many, in order
 abbrev pub sample_lines : WavSpecEx → ℕ → List ℕ → List ℕ
@@ -78,8 +76,7 @@ ShowsSamples s count left old new first buffered = IfSome left (λ bytes. AreSho
 
 -- no sample of the spec is shown, and this is the error for it
 abbrev pub RejectsSamples : WavSpecEx → Error → Type 0
-RejectsSamples s e =
-    (rejection : ReadRejection) × (show_rejection s ≡ Some rejection) × (e ≡ error_of_read rejection)
+RejectsSamples s e = (rejection : ReadRejection) × (show_rejection s ≡ Some rejection) × (e ≡ error_of_read rejection)
 
 -- What is written where the samples are not all shown, after the text `first`: at a fault, a beginning of the lines of
 -- samples that are there; at any other error, no line of a sample.
@@ -87,8 +84,7 @@ abbrev pub StopsAt : WavSpecEx → ℕ → CommandError → List ℕ → List �
 StopsAt s count BadNumber bytes first text = ⊥
 StopsAt s count InputOrOutput bytes first text = (shown : ℕ) × (shown ≤ count)
     × AreShowable s shown bytes × StartsWith (first ++ sample_lines s shown bytes) text
-StopsAt s count (Rejected e) bytes first text =
-    (0 < count) × RejectsSamples s e × (text ≡ first)
+StopsAt s count (Rejected e) bytes first text = (0 < count) × RejectsSamples s e × (text ≡ first)
 
 -- the same of the output and the buffer, which held `first`
 abbrev pub StopsSamples : WavSpecEx → ℕ → CommandError → Option (List ℕ) → Option (List ℕ)

@@ -48,8 +48,7 @@ LeadsBack to past f = (i : ℕ) × (f ≤ i) × (i < length past) × (to ≤ pla
 
 -- the last byte written is right before the end, unless that is 0, and not among the first f
 abbrev pub IsLastBefore : ℕ → List (ℕ × ℕ) → ℕ → Type 0
-IsLastBefore end past f =
-    0 < end → (f < length past) × (place_of past (length past - 1) + 1 ≡ end)
+IsLastBefore end past f = 0 < end → (f < length past) × (place_of past (length past - 1) + 1 ≡ end)
 
 -- a later state of the medium within: it has been flushed no further, or up to all that was written
 pub record OnlySyncs (old new : MediumState) : Type 0 where
@@ -64,8 +63,7 @@ IsItsFault result old new = new.faults ≡ faults_after result old.faults
 pub replays_own : (keeps : Bool) (s : MediumState) (faults flushed : ℕ) → IsTrue keeps
     → s.contents ≡ overlay s.start s.past
     → let o = own keeps s faults flushed in o.contents ≡ overlay o.start o.past
-replays_own keeps s faults flushed is law =
-    law ∙ ap (overlay s.start) (sym (cond-true keeps s.past _ is))
+replays_own keeps s faults flushed is law = law ∙ ap (overlay s.start) (sym (cond-true keeps s.past _ is))
 
 -- a law of what is left to be read
 pub left_own : (tells : Bool) (s : MediumState) → IsTrue tells → left_of tells s ≡ Some (drop s.place s.contents)

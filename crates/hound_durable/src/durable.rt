@@ -32,15 +32,12 @@ pub struct Durable<M: Medium> {
     ghost is_there: { WhereTells M.tells ((M.state inner).place ≡ place) },
     ghost counts: { WhereKeeps M.tells M.keeps (length (M.state inner).past ≡ taken) },
     ghost after: { end ≤ place },
-    ghost covered: { WhereKeeps M.tells M.keeps
-        (IsBelow end (M.state inner).past (M.state inner).flushed) },
-    ghost last: { WhereKeeps M.tells M.keeps
-        (IsLastBefore end (M.state inner).past (M.state inner).flushed) },
+    ghost covered: { WhereKeeps M.tells M.keeps (IsBelow end (M.state inner).past (M.state inner).flushed) },
+    ghost last: { WhereKeeps M.tells M.keeps (IsLastBefore end (M.state inner).past (M.state inner).flushed) },
     ghost ascends: { WhereKeeps M.tells M.keeps
         (Ascends (M.state inner).past (M.state inner).flushed (length (M.state inner).past)) },
     ghost marked: { WhereKeeps M.tells M.keeps (flushed ≤ (M.state inner).flushed) },
-    ghost known: { WhereKeeps M.tells M.keeps
-        ((M.state inner).flushed ≤ length (M.state inner).past) },
+    ghost known: { WhereKeeps M.tells M.keeps ((M.state inner).flushed ≤ length (M.state inner).past) },
 }
 
 impl<M: Medium> Durable<M> {

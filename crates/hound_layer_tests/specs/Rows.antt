@@ -50,8 +50,7 @@ padded_containers = 0xa0 ∷ 0xff ∷ 0xff ∷ 0x00 ∷ 0x0c ∷ 0x5a ∷ 0x00 �
 
 -- the file of the mono samples, with other chunks before the data
 abbrev pub before_data : List ℕ → List ℕ
-before_data chunks =
-    mono_front ++ chunks ++ data_tag ++ (0x08 ∷ 0x00 ∷ 0x00 ∷ 0x00 ∷ []) ++ four_containers
+before_data chunks = mono_front ++ chunks ++ data_tag ++ (0x08 ∷ 0x00 ∷ 0x00 ∷ 0x00 ∷ []) ++ four_containers
 
 -- the file of the mono samples
 abbrev pub four_samples : List ℕ
@@ -117,5 +116,4 @@ fmt_at_the_limit = front ++ fmt_tag ++ (0xff ∷ 0xff ∷ 0xff ∷ 0xff ∷ []) 
 
 -- the containers with these bytes and bits are these numbers
 abbrev pub AreRead : ℕ → ℕ → List ℕ → List ℤ → Type 0
-AreRead width bits bytes numbers =
-    map (int_meaning width bits) (containers width (length numbers) bytes) ≡ numbers
+AreRead width bits bytes numbers = map (int_meaning width bits) (containers width (length numbers) bytes) ≡ numbers

@@ -35,14 +35,7 @@ pub record MediumState : Type 0 where
 
 -- the record of a medium whose bytes are not known
 abbrev pub unknown : MediumState
-unknown = record {
-  contents = [];
-  place = 0;
-  faults = 0;
-  start = [];
-  past = [];
-  flushed = 0;
-}
+unknown = record { contents = []; place = 0; faults = 0; start = []; past = []; flushed = 0 }
 
 -- P, if the bytes of a medium are known
 abbrev pub WhereTells : Bool → Type 0 → Type 0

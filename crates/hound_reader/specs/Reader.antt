@@ -30,8 +30,7 @@ samples_left reading = reading.num_samples - reading.samples_read
 
 -- a spec that can be divided by, and whole frames
 abbrev pub HasWholeFrames : {R : Type 0} → ReaderState R → Type 0
-HasWholeFrames reading =
-    IsSoundSpec reading.spec_ex × (reading.num_samples % reading.spec_ex.spec.channels ≡ 0)
+HasWholeFrames reading = IsSoundSpec reading.spec_ex × (reading.num_samples % reading.spec_ex.spec.channels ≡ 0)
 
 -- the counts of a reader, after any reads and seeks: whole frames, and no more bytes than the requested samples have
 pub record HasSoundCounts (spec_ex : WavSpecEx) (num_samples samples_read bytes_read : ℕ) : Type 0
@@ -118,8 +117,7 @@ abbrev pub AnswersNext : {R A : Type 0} → (R → Option (List ℕ))
     → (SampleFormat → ℕ → ℕ → Option ReadRejection) → (SampleFormat → ℕ → ℕ → List ℕ → A)
     → Option (Result A SampleError) → ReaderState R → ReaderState R → Type 0
 AnswersNext left rejection meaning None old new = IsNext left rejection meaning None old new
-AnswersNext left rejection meaning (Some (Ok value)) old new =
-    IsNext left rejection meaning (Some (Ok value)) old new
+AnswersNext left rejection meaning (Some (Ok value)) old new = IsNext left rejection meaning (Some (Ok value)) old new
 AnswersNext left rejection meaning (Some (Err no_sample)) old new = (fault : IoFault)
     → IsNext left rejection meaning (Some (Err (error_of_sample no_sample fault))) old new
 
@@ -154,8 +152,7 @@ requested count (Err error) = count + 1
 -- how many bytes a block took: its containers, and what was taken for an item without a sample
 abbrev pub block_bytes : {T : Type 0} → ℕ → ℕ → ℕ → Result T SampleError → ℕ
 block_bytes count width given (Ok done) = count * width
-block_bytes count width given (Err reason) =
-    count * width + taken_without reason (given - count * width) width
+block_bytes count width given (Err reason) = count * width + taken_without reason (given - count * width) width
 
 -- this many samples and bytes further
 abbrev pub further : {R : Type 0} → ReaderState R → ℕ → ℕ → R → ReaderState R

@@ -51,8 +51,7 @@ counts_all s len shown n = len == right_length s shown n
 
 -- both sizes are right: the data length, and the RIFF size with it
 abbrev pub are_right : WavSpecEx → ℕ → ℕ → ℕ → ℕ → ℕ → Bool
-are_right s start len riff shown n =
-    (riff == riff_size start (right_length s shown n)) && counts_all s len shown n
+are_right s start len riff shown n = (riff == riff_size start (right_length s shown n)) && counts_all s len shown n
 
 -- the pad byte that is missing, where data of an odd length end with the file
 abbrev pub missing_pad : ℕ → ℕ → List ℕ
@@ -66,8 +65,7 @@ mended start data_length contents =
 
 -- tags of RIFF ("Multimedia Programming Interface and Data Specifications 1.0")
 abbrev pub riff_tags : List (List ℕ)
-riff_tags =
-    codes "LIST" ∷ codes "INFO" ∷ codes "fact" ∷ codes "cue " ∷ codes "plst" ∷ codes "JUNK" ∷ []
+riff_tags = codes "LIST" ∷ codes "INFO" ∷ codes "fact" ∷ codes "cue " ∷ codes "plst" ∷ codes "JUNK" ∷ []
 
 -- tags of its update ("New Multimedia Data Types and Data Techniques")
 abbrev pub update_tags : List (List ℕ)
@@ -75,8 +73,7 @@ update_tags = codes "PAD " ∷ codes "DISP" ∷ codes "inst" ∷ codes "smpl" �
 
 -- tags of broadcasts: bext and levl (EBU Tech 3285), cart (AES46), axml and chna (ITU-R BS.2088), iXML
 abbrev pub broadcast_tags : List (List ℕ)
-broadcast_tags =
-    codes "bext" ∷ codes "levl" ∷ codes "cart" ∷ codes "axml" ∷ codes "chna" ∷ codes "iXML" ∷ []
+broadcast_tags = codes "bext" ∷ codes "levl" ∷ codes "cart" ∷ codes "axml" ∷ codes "chna" ∷ codes "iXML" ∷ []
 
 -- tags of metadata: XMP (Adobe), and ID3v2, for which taggers use two tags
 abbrev pub metadata_tags : List (List ℕ)
@@ -84,8 +81,7 @@ metadata_tags = codes "_PMX" ∷ codes "id3 " ∷ codes "ID3 " ∷ []
 
 -- tags of programs: acid and strc (Sonic Foundry), afsp (AFsp), PEAK (libsndfile), FLLR (Apple)
 abbrev pub program_tags : List (List ℕ)
-program_tags =
-    codes "acid" ∷ codes "strc" ∷ codes "afsp" ∷ codes "PEAK" ∷ codes "FLLR" ∷ []
+program_tags = codes "acid" ∷ codes "strc" ∷ codes "afsp" ∷ codes "PEAK" ∷ codes "FLLR" ∷ []
 
 -- the tags that show that a chunk begins, whatever follows them
 abbrev pub known_tags : List (List ℕ)

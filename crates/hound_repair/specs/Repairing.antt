@@ -17,8 +17,7 @@ use Rattle.hound_writer.specs.declared.resuming.RepairState.TheVariants.{Whole, 
 -- the fault of a head that holds so many bytes, of samples that are written: the RIFF size of its whole frames doesn't
 -- fit
 unfoldable pub size_fault : WavSpecEx → ℕ → ℕ → ℕ → Option AppendFault
-size_fault s len start n =
-    if nat_lt greatest_u32 (riff_size start (right_length s len n)) then Some too_long else None
+size_fault s len start n = if nat_lt greatest_u32 (riff_size start (right_length s len n)) then Some too_long else None
 
 -- The first check that a head fails which holds so many bytes: samples that are written, a RIFF size that fits.
 unfoldable pub repair_fault : WavSpecEx → ℕ → ℕ → ℕ → Option AppendFault

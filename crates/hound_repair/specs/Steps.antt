@@ -8,7 +8,7 @@ use Rattle.std.specs.declared.io.Error.{Error as IoFault}
 use Rattle.hound_number.specs.{bytes_of, mix}
 use Rattle.hound_durable.specs.{SurvivesLoss}
 use Rattle.hound_medium.specs.{Flushes, MediumState, moment, one_more}
-use Rattle.hound_writer.specs.{AppendFault, IsIoError, NamesFault, PutsAt, PutsNothing, SameButSizes, by_bytes, field, too_long}
+use Rattle.hound_writer.specs.{AppendFault, IsIoError, NamesFault, PutsAt, PutsNothing, SameButSizes, by_bytes, field, nth, too_long}
 use Rattle.hound_writer.specs.declared.effects.Effect.{Effect}
 use Rattle.hound_writer.specs.declared.effects.Effect.TheVariants.{Sync, Pad, Size}
 use Rattle.hound_repair.specs.Damages.{FindsDamage, IsSoundDamage, repair_of, shown_of}
@@ -23,7 +23,6 @@ use Rattle.hound_repair.specs.declared.stages.Unrepairable.TheVariants as reason
 use Rattle.hound_repair.specs.declared.stages.Stage.{Stage}
 use Rattle.hound_repair.specs.declared.stages.Stage.TheVariants as stages
 use Rattle.hound_spec.specs.declared.error.Error.{Error}
-use Rattle.hound_writer.specs.{nth}
 use Rattle.hound_writer.specs.declared.effects.Action.{Action}
 use Rattle.hound_writer.specs.declared.effects.Action.TheVariants.{Read, Perform}
 use Rattle.hound_writer.specs.declared.effects.Report.{Report}
@@ -108,8 +107,7 @@ IsAtEnd looks file head = IsNotWhole looks file head × (followed file head ≡ 
 
 -- what decides if the bytes from a place on are no chunks: those without a pad byte before them, too
 abbrev pub else_followed : Bool → List ℕ → SeenHead → Bool
-else_followed true file head =
-    begins_chunk (drop head.data_length (drop head.data_start file)) || tagged file head
+else_followed true file head = begins_chunk (drop head.data_length (drop head.data_start file)) || tagged file head
 else_followed false file head = tagged file head
 
 -- something follows the data if the bytes from a place on are chunks, or else what decides then
@@ -380,8 +378,7 @@ AsksAfter task d number Done (Some effect) new result =
     MatchResult result (λ ask. AsksEffect task d (number + 1) ask new) (λ _. ⊥)
 AsksAfter task d number reports.Failed (Some effect) new result =
     (result ≡ Err (errors.Failed (failure_of effect))) × (new ≡ states.Failed (failure_of effect))
-AsksAfter task d number report None new result =
-    MatchResult result (λ ask. AsksEffect task d number ask new) (λ _. ⊥)
+AsksAfter task d number report None new result = MatchResult result (λ ask. AsksEffect task d number ask new) (λ _. ⊥)
 
 abbrev pub AsksMore : Task → Damage → ℕ → Report → Repairing → Result RepairStep RepairError → Type 0
 AsksMore task d number report new result =
@@ -445,8 +442,7 @@ AsksOfLook task n bytes stage new result reports.Failed =
 -- | Found | any | what was found again |
 -- | Failed | any | the same error again |
 abbrev pub AsksNext : Task → ℕ → List ℕ → Report → Repairing → Repairing → Result RepairStep RepairError → Type 0
-AsksNext task n bytes report (states.Looks stage) new result =
-    AsksOfLook task n bytes stage new result report
+AsksNext task n bytes report (states.Looks stage) new result = AsksOfLook task n bytes stage new result report
 AsksNext task n bytes report (states.Mends head number) new result =
     Remeasures n head (states.Mends head number) new result (λ d. AsksMore task d number report new result)
 AsksNext task n bytes report (states.Found head state) new result = (new ≡ states.Found head state)

@@ -46,13 +46,11 @@ int_bytes v bits width =
 
 -- the container of an integer, by the used bits and the bytes, which are checked before the value
 unfoldable pub int_container : ℤ → ℕ → ℕ → Result (List ℕ) Rejection
-int_container v bits width =
-    if is_pair Int bits width then if_fits bits v (int_bytes v bits width) else Err unsupported
+int_container v bits width = if is_pair Int bits width then if_fits bits v (int_bytes v bits width) else Err unsupported
 
 -- the container of a pattern of 32 bits, by the used bits and the bytes
 unfoldable pub pattern_container : ℕ → ℕ → ℕ → Result (List ℕ) Rejection
-pattern_container pattern bits width =
-    if is_pair Float bits width then Ok (bytes_of 4 pattern) else Err unsupported
+pattern_container pattern bits width = if is_pair Float bits width then Ok (bytes_of 4 pattern) else Err unsupported
 
 -- the first containers of data, so many of this width
 abbrev pub containers : ℕ → ℕ → List ℕ → List (List ℕ)
@@ -88,8 +86,7 @@ and_more (Ok container) (Ok list) = Ok (container ∷ list)
 -- the containers of values, in their order, or the error of the first value that has none
 abbrev pub all_containers : {V : Type 0} → (V → Result (List ℕ) Rejection) → List V → Result (List (List ℕ)) Rejection
 all_containers container [] = Ok []
-all_containers container (value ∷ values) =
-    and_more (container value) (all_containers container values)
+all_containers container (value ∷ values) = and_more (container value) (all_containers container values)
 
 -- the bytes of a container, if there is one
 abbrev pub bytes_in : Result (List ℕ) Rejection → List ℕ

@@ -5,7 +5,7 @@ pub use Rattle.hound_sample.specs.ContainerLaws.{contained, int_container-in_wid
 pub use Rattle.hound_sample.specs.Dithering.{difference, next_state, noise}
 unfoldable pub use Rattle.hound_sample.specs.Dithering.{state_after, with_noise}
 pub use Rattle.hound_sample.specs.Reading.{FillsFront, ReadRejection, Reads, ReadsContainer, ReadsEach, ReadsItem, TakesContainer, TakesPart, answer_of, error_of_read, error_of_sample, first_reason, float_rejection, int_meaning, int_rejection, items_of, low_i16, misfit, other_format, pattern, read_error, reason_of}
-pub use Rattle.hound_sample.specs.Scale.{clipped, double_of_int, float_of_int, full_scale, scaled, scaled_to, with_bits}
+pub use Rattle.hound_sample.specs.Scale.{clipped, double_of_int, float_of, float_of_int, full_scale, scaled, scaled_to, with_bits}
 pub mod Container
 pub mod ContainerLaws
 pub mod Dithering

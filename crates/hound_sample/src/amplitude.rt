@@ -32,8 +32,7 @@ pub struct UnitDouble(pub f64);
 impl Decode for UnitFloat {
     ghost decode_rejection = { int_rejection 4 };
 
-    ghost value = { λ fmt width bits container.
-        record { 0 = float_of_int bits (int_meaning width bits container) } };
+    ghost value = { λ fmt width bits container. record { 0 = float_of_int bits (int_meaning width bits container) } };
 
     #[inline(always)]
     fn check(fmt: SampleFormat, width: u16, bits: u16) -> Result<()> {
@@ -63,8 +62,7 @@ impl Decode for UnitFloat {
 impl Decode for UnitDouble {
     ghost decode_rejection = { int_rejection 4 };
 
-    ghost value = { λ fmt width bits container.
-        record { 0 = double_of_int bits (int_meaning width bits container) } };
+    ghost value = { λ fmt width bits container. record { 0 = double_of_int bits (int_meaning width bits container) } };
 
     #[inline(always)]
     fn check(fmt: SampleFormat, width: u16, bits: u16) -> Result<()> {
@@ -130,8 +128,8 @@ fn container_of(sample: i32, bits: u16, width: u16) -> [u8; 4]
     [u8_from_signed(sample as i8), 0, 0, 0]
 }
 
-// The integer that is nearest to a number, which is counted where it is clipped. The constant of a NaN leaves the loop no
-// more than one test for it.
+// The integer that is nearest to a number, which is counted where it is clipped. With a constant for a NaN the compiler
+// leaves one test for it in a loop.
 #[inline(always)]
 fn int_of(number: Option<f64>, bits: u16, count: &mut u64) -> i32
     requires some { 1 ≤ bits }

@@ -15,8 +15,7 @@ use Rattle.hound_slices.specs.declared.effect.HoundEffect.{HoundEffect}
 
 -- an effect of this kind, which isn't reported and has these bytes
 abbrev pub effect_with : ℕ → ℕ → ℕ → List ℕ → HoundEffect
-effect_with kind at len bytes =
-    record { place = at; length = len; kind = kind; report = 0; bytes = bytes }
+effect_with kind at len bytes = record { place = at; length = len; kind = kind; report = 0; bytes = bytes }
 
 -- what is requested, as C has it
 abbrev pub effect_of : Option Action → HoundEffect

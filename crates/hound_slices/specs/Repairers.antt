@@ -41,12 +41,7 @@ head_with c None = None
 head_with c (Some s) =
     if nat_lt c.data_start 20 then None
     else if nat_lt (20 + greatest_u32) c.data_start then None
-    else Some (record {
-      spec_ex = s;
-      data_length = c.data_length;
-      data_start = c.data_start;
-      has_more = c.taken == 1;
-    })
+    else Some (record { spec_ex = s; data_length = c.data_length; data_start = c.data_start; has_more = c.taken == 1 })
 
 -- the head that was found, if C's is one of a file
 abbrev pub head_of : HoundRepairer → Option SeenHead
@@ -120,8 +115,4 @@ pub record BeginsRepairer (length mode : ℕ) (new : HoundRepairer) : Type 0 whe
   pub effect : new.effect ≡ effect_of None
   pub length_is : new.length ≡ length
   pub mode_is : new.mode ≡ mode
-  pub state : repairing_of new ≡ states.Looks (stages.Head (record {
-    found = None;
-    taken = 0;
-    part = part_of 0 0;
-  }))
+  pub state : repairing_of new ≡ states.Looks (stages.Head (record { found = None; taken = 0; part = part_of 0 0 }))

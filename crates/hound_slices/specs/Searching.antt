@@ -37,8 +37,7 @@ GuessesData bytes (Err _) = ⊥
 
 -- MPEG audio begins with an ID3v2 tag, or with a frame, whose first eleven bits are ones (ISO/IEC 11172-3)
 abbrev pub is_mpeg : List ℕ → Bool
-is_mpeg tag =
-    bytes_eq (take 3 tag) (codes "ID3") || ((slice_index tag 0 == 255) && nat_le 224 (slice_index tag 1))
+is_mpeg tag = bytes_eq (take 3 tag) (codes "ID3") || ((slice_index tag 0 == 255) && nat_le 224 (slice_index tag 1))
 
 -- The kinds of files that begin with other tags, by the number that hound.h gives them: RIFX (RIFF, "Motorola byte
 -- order"), RF64 (EBU Tech 3306), BW64 (ITU-R BS.2088), Wave64 (Sony), AIFF, FLAC, Ogg and MPEG audio. All others have

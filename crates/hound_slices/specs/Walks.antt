@@ -34,8 +34,7 @@ found_of c =
 -- | Fmt | as many as the content of a fmt chunk has, at most 40 | after its header |
 -- the part that C's walk asks for, by its number
 abbrev pub part_of : ℕ → ℕ → Part
-part_of part length =
-    if part == 0 then Front else if part == 1 then Header else if part == 2 then Last else Fmt length
+part_of part length = if part == 0 then Front else if part == 1 then Header else if part == 2 then Last else Fmt length
 
 -- the walk with C's numbers
 abbrev pub walk_with : HoundSpec → ℕ → ℕ → ℕ → HeadWalk
@@ -89,8 +88,7 @@ pub record Steps (is_counted : Bool) (file : List ℕ) (number : ℤ) (new : Hou
 
 -- the bytes that were read of the part that a walk asks for
 abbrev pub bytes_of_part : HoundWalk → List ℕ
-bytes_of_part c =
-    take (min (min c.effect.length 40) (part_length (walk_of c).part)) c.effect.bytes
+bytes_of_part c = take (min (min c.effect.length 40) (part_length (walk_of c).part)) c.effect.bytes
 
 -- they are the part of the file that it asks for
 abbrev pub AreAsked : HoundWalk → List ℕ → Type 0

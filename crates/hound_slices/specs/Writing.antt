@@ -134,16 +134,14 @@ pub record AppendsSamples {V : Type 0} (format : SampleFormat) (container : V �
 -- why values aren't appended to a file of so many samples
 abbrev pub IsRejectedBy : {V : Type 0} → SampleFormat → (V → ℕ → ℕ → Result (List ℕ) Rejection)
     → WavSpecEx → ℕ → ℕ → List V → ℕ → ℕ → CallError → Type 0
-IsRejectedBy format container s samples start values used room Truncated =
-    used < start + samples * s.bytes_per_sample
+IsRejectedBy format container s samples start values used room Truncated = used < start + samples * s.bytes_per_sample
 IsRejectedBy format container s samples start values used room NoRoom =
     room < start + padded ((length values + samples) * s.bytes_per_sample)
 IsRejectedBy format container s samples start values used room TooLong =
     IsSizeError s start (length values + samples) TooLong
 IsRejectedBy format container s samples start values used room UnfinishedFrame =
     IsSizeError s start (length values + samples) UnfinishedFrame
-IsRejectedBy format container s samples start values used room error =
-    IsUnencoded format container s values error
+IsRejectedBy format container s samples start values used room error = IsUnencoded format container s values error
 
 abbrev pub IsAppendingError : {V : Type 0} → SampleFormat → (V → ℕ → ℕ → Result (List ℕ) Rejection)
     → List V → ℕ → List ℕ → CallError → Type 0
@@ -154,8 +152,7 @@ IsAppendingError format container values used old error = ((error ≡ NoRoom) ×
 
 abbrev pub AppendsInPlace : {V : Type 0} → SampleFormat → (V → ℕ → ℕ → Result (List ℕ) Rejection) → List V
     → ℕ → List ℕ → List ℕ → Result ℕ CallError → Type 0
-AppendsInPlace format container values used old new (Ok n) =
-    AppendsSamples format container values used n old new
+AppendsInPlace format container values used old new (Ok n) = AppendsSamples format container values used n old new
 AppendsInPlace format container values used old new (Err error) = (new ≡ old)
     × IsAppendingError format container values used old error
 

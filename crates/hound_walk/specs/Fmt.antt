@@ -23,12 +23,7 @@ width_of f = f.align / f.channels
 -- the spec that the fields give
 abbrev pub spec_of : FmtFields → SampleFormat → WavSpecEx
 spec_of f format = record {
-  spec = record {
-    channels = f.channels;
-    sample_rate = f.rate;
-    bits_per_sample = f.bits;
-    sample_format = format;
-  };
+  spec = record { channels = f.channels; sample_rate = f.rate; bits_per_sample = f.bits; sample_format = format };
   bytes_per_sample = width_of f;
 }
 

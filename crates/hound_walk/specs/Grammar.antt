@@ -54,8 +54,7 @@ Chunks taken (p ∷ ps) = IsChunk p × (taken + 8 + padded (number p.size) ≤ g
 
 -- the spec after a chunk, and after chunks: that of the last fmt chunk
 unfoldable pub spec_after : Option WavSpecEx → List ℕ → ℕ → List ℕ → Option WavSpecEx
-spec_after found tag len content =
-    if bytes_eq tag fmt_tag then ok_of (fmt_of len content) else found
+spec_after found tag len content = if bytes_eq tag fmt_tag then ok_of (fmt_of len content) else found
 
 abbrev pub last_spec : Option WavSpecEx → List Chunk → Option WavSpecEx
 last_spec found [] = found
@@ -166,5 +165,4 @@ AnswersFile bytes (unreadable cause) = Unreadable bytes cause
 
 -- the bytes can be read with exactly one spec, count and place, or not for exactly one cause
 abbrev pub HasOneFileAnswer : List ℕ → Type 0
-HasOneFileAnswer bytes =
-    (a : Answer) × AnswersFile bytes a × ((b : Answer) → AnswersFile bytes b → b ≡ a)
+HasOneFileAnswer bytes = (a : Answer) × AnswersFile bytes a × ((b : Answer) → AnswersFile bytes b → b ≡ a)

@@ -32,8 +32,7 @@ Rejects (Rejected c) P = P c
 -- A call that takes n bytes returns `read` of the bytes, unless a read failed.
 abbrev pub Gives : {A : Type 0} → Option (List ℕ) → Option (List ℕ) → ℕ → Result A HeadError
     → (List ℕ → Result A Cause) → Type 0
-Gives old new n (Ok x) read =
-    WhereKnown old new (λ xs ys. (read xs ≡ Ok x) × (n ≤ length xs) × (ys ≡ drop n xs))
+Gives old new n (Ok x) read = WhereKnown old new (λ xs ys. (read xs ≡ Ok x) × (n ≤ length xs) × (ys ≡ drop n xs))
 Gives old new n (Err e) read = Rejects e (λ c. WhereKnown old new (λ xs ys. read xs ≡ Err c))
 
 -- a failed read is counted, and nothing else is
@@ -76,8 +75,7 @@ IsSoundOption (Some spec) = IsSoundSpec spec
 -- A chunk before the data takes at least its header's eight bytes, and stays within the limit.
 abbrev pub IsSoundChunk : ℕ → ChunkRead → Type 0
 IsSoundChunk c (Data spec len) = IsSoundSpec spec
-IsSoundChunk c (Other next taken) =
-    IsSoundOption next × (c + 8 ≤ taken) × (taken ≤ greatest_u32)
+IsSoundChunk c (Other next taken) = IsSoundOption next × (c + 8 ≤ taken) × (taken ≤ greatest_u32)
 
 -- how many of these bytes are taken for a fault of the first twelve: those up to the end of a wrong tag, or all at an
 -- early end
@@ -88,8 +86,7 @@ front_taken cause bytes = length bytes
 
 -- the first twelve bytes have this fault, and this many were taken for it
 abbrev pub RejectsFront : Cause → List ℕ → List ℕ → Type 0
-RejectsFront cause old new =
-    (front_fault old ≡ Some cause) × AreTaken (front_taken cause old) old new
+RejectsFront cause old new = (front_fault old ≡ Some cause) × AreTaken (front_taken cause old) old new
 
 -- fewer than twelve bytes were taken
 abbrev pub TakesLess : List ℕ → List ℕ → Type 0

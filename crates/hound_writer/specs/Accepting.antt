@@ -83,13 +83,11 @@ StaysTrue P old new = (k m : ℕ) → length old.past ≤ k → k ≤ m → m �
 -- of these bytes, whose first has its place at `start`, the part of length `len` from the a-th on is stored at its
 -- place
 abbrev pub IsStored : ℕ → List ℕ → ℕ → ℕ → List ℕ → Type 0
-IsStored start bytes a len contents =
-    take len (drop (start + a) contents) ≡ take len (drop a bytes)
+IsStored start bytes a len contents = take len (drop (start + a) contents) ≡ take len (drop a bytes)
 
 -- each part of these bytes, once stored at its place, stays stored
 abbrev pub StaysStored : ℕ → List ℕ → MediumState → MediumState → Type 0
-StaysStored start bytes old new =
-    (a len : ℕ) → a + len ≤ length bytes → StaysTrue (IsStored start bytes a len) old new
+StaysStored start bytes old new = (a len : ℕ) → a + len ≤ length bytes → StaysTrue (IsStored start bytes a len) old new
 
 -- What a call with these containers did to its writer, by its result, over every medium: it accepts all of them or
 -- none, and an error of the type or the size leaves the writer and its medium as they were.
@@ -138,14 +136,12 @@ pub record Accepts {W : Type 0} (kind : Ghosts W)
 
 -- the containers in these bytes, in a file of this spec
 abbrev pub whole_containers : WavSpecEx → List ℕ → Result (List (List ℕ)) Rejection
-whole_containers s bytes =
-    Ok (containers s.bytes_per_sample (length bytes / s.bytes_per_sample) bytes)
+whole_containers s bytes = Ok (containers s.bytes_per_sample (length bytes / s.bytes_per_sample) bytes)
 
 -- what a call with the containers in these bytes does, by its result
 abbrev pub AcceptsBytes : {W : Type 0} → Ghosts W → List ℕ →
     Result (Unit {0}) Error → WriterState W → WriterState W → Type 0
-AcceptsBytes kind bytes answer old new =
-    Accepts kind (whole_containers old.spec_ex bytes) answer old new
+AcceptsBytes kind bytes answer old new = Accepts kind (whole_containers old.spec_ex bytes) answer old new
 
 -- the container of a sample in a file of this spec, by its type's table, or the error
 abbrev pub container_in : {V : Type 0} → (V → ℕ → ℕ → Result (List ℕ) Rejection) → WavSpecEx → V →
@@ -155,13 +151,11 @@ container_in container s value = one (container value s.spec.bits_per_sample s.b
 -- the containers of samples in a file of this spec, by their type's table, or the first error
 abbrev pub containers_in : {V : Type 0} → (V → ℕ → ℕ → Result (List ℕ) Rejection) → WavSpecEx → List V →
     Result (List (List ℕ)) Rejection
-containers_in container s values =
-    all_containers (λ v. container v s.spec.bits_per_sample s.bytes_per_sample) values
+containers_in container s values = all_containers (λ v. container v s.spec.bits_per_sample s.bytes_per_sample) values
 
 -- the bytes of samples in a file of this spec
 abbrev pub sample_bytes : {V : Type 0} → (V → ℕ → ℕ → Result (List ℕ) Rejection) → WavSpecEx → List V → List ℕ
-sample_bytes container s values =
-    joined_containers (λ v. container v s.spec.bits_per_sample s.bytes_per_sample) values
+sample_bytes container s values = joined_containers (λ v. container v s.spec.bits_per_sample s.bytes_per_sample) values
 
 -- these integers have sixteen bits each
 abbrev pub AreI16 : List ℤ → Type 0

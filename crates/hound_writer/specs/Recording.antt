@@ -45,8 +45,7 @@ writer_of s r m = of_fields m s r.data_start r.data_length [] []
 
 -- the file of a recording that was resumed
 abbrev pub resumed_file : WavSpecEx → ℕ → ℕ → MediumState → Begun
-resumed_file s samples start old =
-    appended old start (containers s.bytes_per_sample samples (drop start old.contents))
+resumed_file s samples start old = appended old start (containers s.bytes_per_sample samples (drop start old.contents))
 
 -- two files agree up to a place: what follows may differ, or be cut off
 abbrev pub AgreeTo : ℕ → List ℕ → List ℕ → Type 0

@@ -110,8 +110,7 @@ accepted_bytes state w = take w.bytes_written (drop w.data_start (state w.medium
 
 -- the accepted samples, as their containers
 abbrev pub accepted_samples : {W : Type 0} → (W → MediumState) → WriterState W → List (List ℕ)
-accepted_samples state w =
-    containers w.spec_ex.bytes_per_sample (sample_count w) (accepted_bytes state w)
+accepted_samples state w = containers w.spec_ex.bytes_per_sample (sample_count w) (accepted_bytes state w)
 
 -- the medium has all accepted bytes that were written
 abbrev pub IsWhole : {W : Type 0} → (W → MediumState) → WriterState W → Type 0
@@ -119,8 +118,7 @@ IsWhole state w = w.data_start + w.bytes_written ≤ length (state w.medium).con
 
 -- the data length counts no more than the accepted samples, and reading gives the first of them
 abbrev pub IsCounted : {W : Type 0} → (W → MediumState) → WriterState W → Type 0
-IsCounted state w =
-    Counts w.spec_ex w.data_start (accepted_samples state w) (state w.medium).contents
+IsCounted state w = Counts w.spec_ex w.data_start (accepted_samples state w) (state w.medium).contents
 
 -- how many bytes a block holds
 abbrev pub block_length : ℕ
@@ -135,13 +133,11 @@ pub record IsValid {W : Type 0} (kind : Ghosts W) (w : WriterState W) : Type 0 w
 
 -- the contents begin with the header of this spec, with any two sizes
 abbrev pub HasHeader : WavSpecEx → List ℕ → Type 0
-HasHeader spec_ex contents =
-    (size : ℕ) × (data_length : ℕ) × StartsWith contents (header spec_ex size data_length)
+HasHeader spec_ex contents = (size : ℕ) × (data_length : ℕ) × StartsWith contents (header spec_ex size data_length)
 
 -- a file that was begun with the header of its spec, by this writer or by one before it
 abbrev pub IsBegun : {W : Type 0} → (W → MediumState) → WriterState W → Type 0
-IsBegun state w =
-    HasHeader w.spec_ex (state w.medium).contents × (w.data_start ≡ data_start w.spec_ex)
+IsBegun state w = HasHeader w.spec_ex (state w.medium).contents × (w.data_start ≡ data_start w.spec_ex)
 
 -- A writer of the same samples: of its value only the medium has changed, and the buffered samples may have been
 -- written.

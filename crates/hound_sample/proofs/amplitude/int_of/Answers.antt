@@ -12,7 +12,8 @@ the_constant = refl
 pub returns-in-None-clause-value : goal.returns-in-None-clause-value
 returns-in-None-clause-value c =
     let is : c.double_to_int-in-None.result ≡ scaled_to c.args.bits (float_of c.args.number) =
-    c.double_to_int-in-None.ensures.value ∙ ap (scaled_to c.args.bits) (the_constant ∙ ap float_of (sym c.in-None.is)) in
+    c.double_to_int-in-None.ensures.value
+    ∙ ap (scaled_to c.args.bits) (the_constant ∙ ap float_of (sym c.in-None.is)) in
     search (rules, to_z-of_z, is)
 
 pub returns-in-None-clause-count : goal.returns-in-None-clause-count
