@@ -153,13 +153,10 @@ impl<'a> Cursor<'a> {
     fn name(&mut self) -> &'a [u8] {
         self.next();
         let rest = self.rest;
-        let mut count = 0usize;
-        for byte in rest {
-            if !byte.is_ascii_alphanumeric() && *byte != b'_' {
-                break;
-            }
-            count = count.saturating_add(1);
-        }
+        let count = rest
+            .iter()
+            .position(|byte| !byte.is_ascii_alphanumeric() && *byte != b'_')
+            .unwrap_or(rest.len());
         self.rest = rest.get(count..).unwrap_or(&[]);
         rest.get(..count).unwrap_or(&[])
     }
@@ -200,10 +197,8 @@ impl<'a> Cursor<'a> {
         let end = bytes.len();
         for _ in 1..count {
             for at in start..end {
-                if let Some(byte) = bytes.get(at) {
-                    let byte = *byte;
-                    row.push(bytes, byte);
-                }
+                let byte = bytes.get(at).copied().unwrap_or(0);
+                row.push(bytes, byte);
             }
         }
         if count == 0 {

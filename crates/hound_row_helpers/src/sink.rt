@@ -5,8 +5,7 @@ use crate::row::{Row, find};
 use std::io;
 use std::io::{Error, ErrorKind};
 
-/// A writer that takes at most this many bytes a call, and none once it is full: then it has a
-/// fault, or takes 0 bytes.
+/// A writer that takes at most this many bytes a call, and none once it is full: then it fails, or takes 0 bytes.
 #[derive(Drop)]
 pub struct Sink {
     taken: Vec<u8>,
@@ -39,13 +38,13 @@ impl Sink {
 
 impl io::Write for Sink {
     fn write(&mut self, buf: &[u8]) -> io::Result<usize> {
-        if self.taken.len() >= self.room {
-            return match self.fault {
-                Some(kind) => Err(Error::from(kind)),
-                None => Ok(0),
-            };
+        let room = self.room.saturating_sub(self.taken.len());
+        if let (0, Some(kind)) = (room, self.fault)
+            && !buf.is_empty()
+        {
+            return Err(Error::from(kind));
         }
-        let count = buf.len().min(self.most);
+        let count = buf.len().min(self.most).min(room);
         self.taken.extend_from_slice(&buf[..count])?;
         Ok(count)
     }

@@ -2,17 +2,10 @@
 ghost use Rattle.std.specs.Prelude.{◌≡◌, ◌≤◌};
 ghost use Rattle.hound.specs.{WhereTells};
 
-use crate::blocks::write_block;
-use crate::kept::{Kept, recorded_of, tape_of};
-use crate::sessions::{first_moment, has_moments, has_repaired};
-use crate::values::{Kind, Value, at_type};
-use hound::{
-    Begin, Error, FloatBits, Medium, Result, SampleFormat, SampleWriter16, Source, WavWriter,
-};
-use hound_callers::Twelve;
-use hound_row_helpers::counting::Counted;
+use crate::kept::{Kept, recorded_of, show_medium, tape_of};
+use crate::values::{Value, at_type, push_values, values_of};
+use hound::{Begin, Error, Medium, Result, SampleFormat, Source, WavWriter};
 use hound_row_helpers::row::{Row, find, name_and_value, parts};
-use hound_row_helpers::sweep::Sweep;
 use std::result;
 
 // What is done with a writer.
@@ -29,56 +22,26 @@ struct Script<'a> {
 }
 
 /// `write HOW SPEC OPTION.. : ACT.. : END`
-pub fn write(row: &mut Row, words: &[&str]) {
-    let (words, others) = parts(words);
-    let (acts, end) = parts(others);
-    let [constructor, spec, options @ ..] = words else {
-        return row.reject();
-    };
+pub fn write(row: &mut Row, constructor: &str, spec: &str, options: &[&str], words: &[&str]) {
+    let (acts, end) = parts(words);
     row.allow(
         options,
-        &["over", "most", "fail", "tape", "lent", "moments", "calls"],
+        &["over", "most", "fail", "tape", "lent", "moments"],
     );
     let script = Script {
         constructor,
         spec,
         acts,
         is_finalized: is_finalized(row, end),
-        is_lent: find(options, "lent").is_some(),
+        is_lent: row.is_swept || find(options, "lent").is_some(),
         options,
     };
-    if find(options, "calls").is_some() {
-        sweep(row, script);
-    } else if find(options, "tape").is_some() {
+    if find(options, "tape").is_some() {
         let tape = tape_of(row, options);
         write_over(row, script, tape);
     } else if let Some(recorded) = recorded_of(row, options) {
         write_over(row, script, recorded);
     }
-}
-
-// Runs a script while each range of this many calls fails in turn, over a `&mut` of the medium. A
-// run has begun if the whole header was taken.
-fn sweep(row: &mut Row, script: Script<'_>) {
-    let calls = row.option(script.options, "calls", 0u64);
-    let script = Script {
-        is_lent: true,
-        ..script
-    };
-    let mut sweep = Sweep::new();
-    for from in 1..calls.saturating_add(1) {
-        for to in from..calls.saturating_add(1) {
-            let Some(mut recorded) = recorded_of(row, script.options) else {
-                return;
-            };
-            recorded.journal.fail(from, to);
-            let _ = run(row, script, &mut recorded);
-            show(row, script, &recorded);
-            let first = first_moment(begin_of(row, script));
-            sweep.add(row, recorded.journal.taken() >= first);
-        }
-    }
-    sweep.show(row);
 }
 
 // A new file of its spec, or one that is appended to.
@@ -114,13 +77,8 @@ fn write_over<M: Kept>(row: &mut Row, script: Script<'_>, medium: M)
 }
 
 fn show<M: Kept>(row: &mut Row, script: Script<'_>, medium: &M) {
-    row.line.word(":");
-    medium.show(row);
-    if has_moments(script.options) {
-        row.line.word(":");
-        let first = first_moment(begin_of(row, script));
-        medium.show_past(row, first, has_repaired(script.options));
-    }
+    let begin = begin_of(row, script);
+    show_medium(row, medium, begin, script.options);
 }
 
 // Runs a script, and returns the medium if it can.
@@ -152,36 +110,26 @@ fn begin<M: Source + Medium>(
 ) -> result::Result<WavWriter<M>, (Option<M>, Error)>
     requires { WhereTells M.tells ((M.state medium).place ≡ 0) }
 {
-    match script.constructor {
-        "new" => dropping(WavWriter::new(medium, row.spec(script.spec).spec)),
-        "ex" => dropping(WavWriter::new_with_spec_ex(medium, row.spec(script.spec))),
-        "try" => handing_back(WavWriter::try_new(medium, row.spec(script.spec))),
-        "append" => dropping(WavWriter::new_append(medium)),
-        _ => handing_back(WavWriter::try_append(medium)),
-    }
+    let (how, spec) = (script.constructor, script.spec);
+    let made = match how {
+        "new" => WavWriter::new(medium, row.spec(spec).spec),
+        "ex" => WavWriter::new_with_spec_ex(medium, row.spec(spec)),
+        "append" => WavWriter::new_append(medium),
+        "try" => return returning(WavWriter::try_new(medium, row.spec(spec))),
+        _ => return returning(WavWriter::try_append(medium)),
+    };
+    made.map_err(|error| (None, error))
 }
 
-fn dropping<M: Medium>(
-    writer: Result<WavWriter<M>>,
+fn returning<M: Medium>(
+    made: result::Result<WavWriter<M>, (M, Error)>,
 ) -> result::Result<WavWriter<M>, (Option<M>, Error)> {
-    match writer {
-        Ok(writer) => Ok(writer),
-        Err(error) => Err((None, error)),
-    }
-}
-
-fn handing_back<M: Medium>(
-    writer: result::Result<WavWriter<M>, (M, Error)>,
-) -> result::Result<WavWriter<M>, (Option<M>, Error)> {
-    match writer {
-        Ok(writer) => Ok(writer),
-        Err((medium, error)) => Err((Some(medium), error)),
-    }
+    made.map_err(|(medium, error)| (Some(medium), error))
 }
 
 fn end<M: Medium>(row: &mut Row, script: Script<'_>, writer: WavWriter<M>) -> Option<M> {
-    if script.is_lent {
-        end_lent(row, script, writer);
+    if script.is_finalized && script.is_lent {
+        row.line.answer(writer.finalize());
         return None;
     }
     if script.is_finalized {
@@ -190,47 +138,58 @@ fn end<M: Medium>(row: &mut Row, script: Script<'_>, writer: WavWriter<M>) -> Op
         return Some(medium);
     }
     row.line.word("dropped");
-    Some(writer.drop_into())
-}
-
-fn end_lent<M: Medium>(row: &mut Row, script: Script<'_>, writer: WavWriter<M>) {
-    if script.is_finalized {
-        row.line.answer(writer.finalize());
-    } else {
-        row.line.word("dropped");
+    if script.is_lent {
         drop(writer);
+        return None;
     }
+    Some(writer.drop_into())
 }
 
 // An act, its result and the writer's length then.
 fn take<M: Medium>(row: &mut Row, writer: &mut WavWriter<M>, act: &str) {
     let (name, value) = name_and_value(act);
-    let block = name.strip_prefix("block:");
-    let answer = match (Kind::of(name), block.and_then(Kind::of)) {
-        (Some(kind), _) => at_type!(kind, write_values(row, writer, value)),
-        (None, Some(kind)) => at_type!(kind, write_block(row, writer, value)),
-        (None, None) => take_other(row, writer, name, value),
+    let answer = match name.strip_prefix("block:") {
+        Some(kind) => at_type!(kind, write_block(row, writer, value), else rejected(row)),
+        None => {
+            at_type!(name, write_values(row, writer, value), else take_other(row, writer, name, value))
+        }
     };
     row.line.answer(answer);
     row.line.put(":");
     row.line.put_shown(writer.len());
 }
 
+// There is no such act.
+fn rejected(row: &mut Row) -> Result<()> {
+    row.reject();
+    Ok(())
+}
+
 // `TYPE=VALUE`, `TYPE=VALUE*N` or `TYPE=VALUE+N`, up to the first error.
 fn write_values<T: Value>(
     row: &mut Row,
     writer: &mut WavWriter<impl Medium>,
-    values: &str,
+    word: &str,
 ) -> Result<()> {
-    let values = Counted::of(row, values);
-    let mut value = T::of(row, values.first);
-    for _ in 0..values.count {
-        writer.write_sample(value)?;
-        if values.counts_up {
-            value = value.next();
-        }
+    let mut values = Vec::new(row.alloc);
+    push_values::<T>(row, &mut values, word);
+    for value in &values {
+        writer.write_sample(*value)?;
     }
     Ok(())
+}
+
+// `block:TYPE=V,V,..`; `-` is an empty one.
+fn write_block<T: Value>(
+    row: &mut Row,
+    writer: &mut WavWriter<impl Medium>,
+    words: &str,
+) -> Result<()> {
+    let values = match words {
+        "-" => Vec::new(row.alloc),
+        _ => values_of::<T>(row, words),
+    };
+    writer.write_samples(&values)
 }
 
 fn take_other<M: Medium>(
@@ -242,41 +201,30 @@ fn take_other<M: Medium>(
     match name {
         "flush" => writer.flush(),
         "batch" => {
-            let count = count_of(row, value);
-            write_batch(row, writer, count, value, true)
+            let values = values_of(row, value);
+            let count = u32::try_from(values.len()).unwrap_or(u32::MAX);
+            write_batch(row, writer, count, &values, true)
         }
         "dropped" => {
             let (values, count) = row.split(value, "/");
-            let count = row.number(count);
-            write_batch(row, writer, count, values, false)
+            let (values, count) = (values_of(row, values), row.number(count));
+            write_batch(row, writer, count, &values, false)
         }
         "begin" => {
             let count = row.number(value);
-            write_batch(row, writer, count, "", false)
+            write_batch(row, writer, count, &[], false)
         }
-        _ => {
-            row.reject();
-            Ok(())
-        }
+        _ => rejected(row),
     }
-}
-
-// How many samples `V,V,..` or `V+N` are.
-fn count_of(row: &mut Row, values: &str) -> u32 {
-    let mut count = 0u32;
-    for word in values.split(',') {
-        count = count.saturating_add(Counted::of(row, word).count);
-    }
-    count
 }
 
 // Begins a batch for this many samples, writes these, if any, and flushes or drops it. Files of
 // other samples than integers of 16 bits have no batches.
 fn write_batch<M: Medium>(
-    row: &mut Row,
+    row: &Row,
     writer: &mut WavWriter<M>,
     count: u32,
-    values: &str,
+    values: &[i16],
     is_flushed: bool,
 ) -> Result<()> {
     let spec = writer.spec();
@@ -284,10 +232,13 @@ fn write_batch<M: Medium>(
         return Err(Error::Unsupported);
     }
     let mut batch = writer.get_i16_writer(row.alloc, count)?;
-    if !values.is_empty() {
-        fill(row, &mut batch, values);
-    } else if batch.remaining() != count {
+    if batch.remaining() != count {
         return Err(Error::UnfinishedSample);
+    }
+    for value in values {
+        if batch.remaining() >= 1 {
+            batch.write_sample(*value);
+        }
     }
     if !is_flushed {
         return Ok(());
@@ -296,18 +247,4 @@ fn write_batch<M: Medium>(
         return Err(Error::UnfinishedSample);
     }
     batch.flush()
-}
-
-// Writes samples while there is room for them.
-fn fill<M: Medium>(row: &mut Row, batch: &mut SampleWriter16<'_, M>, values: &str) {
-    for word in values.split(',') {
-        let values = Counted::of(row, word);
-        let mut value = i16::of(row, values.first);
-        for _ in 0..values.count {
-            if batch.remaining() >= 1 {
-                batch.write_sample(value);
-            }
-            value = value.wrapping_add(1);
-        }
-    }
 }
