@@ -8,7 +8,16 @@ impl Row {
         let mut cursor = Cursor {
             rest: word.as_bytes(),
         };
-        cursor.terms(self, &mut bytes);
+        cursor.term(self, &mut bytes);
+        for _ in 0..word.len() {
+            if !cursor.takes(b'+') {
+                break;
+            }
+            cursor.term(self, &mut bytes);
+        }
+        if !cursor.rest.is_empty() {
+            self.reject();
+        }
         bytes
     }
 }
@@ -82,20 +91,6 @@ impl<'a> Cursor<'a> {
     // Takes this byte, which must be the next.
     fn expect(&mut self, byte: u8, row: &mut Row) {
         if !self.takes(byte) {
-            row.reject();
-        }
-    }
-
-    // All terms, and nothing else.
-    fn terms(&mut self, row: &mut Row, bytes: &mut Vec<u8>) {
-        self.term(row, bytes);
-        for _ in 0..self.rest.len() {
-            if !self.takes(b'+') {
-                break;
-            }
-            self.term(row, bytes);
-        }
-        if !self.rest.is_empty() {
             row.reject();
         }
     }

@@ -118,8 +118,7 @@ impl Line {
             self.shown(bytes.len());
             self.put(":");
             self.put_hex(first);
-            self.put(":");
-            self.put_hex(&Crc::of(bytes).value().to_be_bytes());
+            self.put_shown(format_args!(":{:08x}", Crc::of(bytes).value()));
         }
     }
 

@@ -6,6 +6,7 @@ ghost use Rattle.hound_medium.specs.{MediumState, unknown};
 use crate::line::Line;
 use hound_medium::{Journal, Medium, Placed, Source};
 use std::alloc::Global;
+use std::fmt::Display;
 use std::io;
 
 /// A journal that lists the calls that a writer makes, also failing ones.
@@ -31,8 +32,8 @@ impl Recorded {
         }
     }
 
-    fn record(&mut self, call: &str) {
-        self.calls.word(call);
+    fn record<T: Display + Drop>(&mut self, call: T) {
+        self.calls.shown(call);
         self.count = self.count.saturating_add(1);
     }
 }
@@ -45,8 +46,7 @@ impl Placed for Recorded {
     ghost bytes = { λ _ tells. Prim.absurd (false≢true tells) };
 
     fn go(&mut self, to: u64) -> io::Result<()> {
-        self.record("go");
-        self.calls.put_shown(to);
+        self.record(format_args!("go{to}"));
         self.journal.go(to)
     }
 
@@ -59,8 +59,7 @@ impl Medium for Recorded {
     ghost replays = { λ _ tells. Prim.absurd (false≢true tells) };
 
     fn put(&mut self, bytes: &[u8]) -> io::Result<usize> {
-        self.record("put");
-        self.calls.put_shown(bytes.len());
+        self.record(format_args!("put{}", bytes.len()));
         Medium::put(&mut self.journal, bytes)
     }
 

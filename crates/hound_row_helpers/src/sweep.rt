@@ -36,7 +36,7 @@ impl Sweep {
     pub fn show(self, row: &mut Row) {
         row.line.count("runs", self.runs);
         row.line.count("begun", self.begun);
-        row.line.word("crc");
-        row.line.hex(&self.crc.value().to_be_bytes());
+        row.line
+            .count("crc", format_args!("{:08x}", self.crc.value()));
     }
 }

@@ -81,7 +81,11 @@ fn answer_sample(row: &mut Row, name: &str, words: &[&str]) {
             at_type!(*kind, samples::write(row, value, bits, options), else row.reject());
         }
         ("write_padded", [kind, value, bits, width, options @ ..]) => {
-            at_type!(*kind, samples::write_padded(row, value, bits, width, options), else row.reject());
+            at_type!(
+                *kind,
+                samples::write_padded(row, value, bits, width, options),
+                else row.reject()
+            );
         }
         ("decode", [kind, format, width, bits, bytes]) => {
             at_type!(*kind, samples::decode(row, format, width, bits, bytes), else row.reject());

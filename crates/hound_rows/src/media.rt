@@ -58,10 +58,7 @@ fn put<M: Medium>(row: &mut Row, medium: &mut M, bytes: &str) {
         return row.reject();
     }
     match medium.put(bytes.as_slice()) {
-        Ok(count) => {
-            row.line.word("put:");
-            row.line.put_shown(count);
-        }
+        Ok(count) => row.line.shown(format_args!("put:{count}")),
         Err(fault) => row.line.error(Error::IoError(fault)),
     }
 }
@@ -140,9 +137,8 @@ fn call_journal(row: &mut Row, journal: &mut Journal, word: &str) {
             show_contents(row, journal, k);
         }
         "counts" => {
-            row.line.shown(journal.taken());
-            row.line.put("/");
-            row.line.put_shown(journal.flushed());
+            let (taken, flushed) = (journal.taken(), journal.flushed());
+            row.line.shown(format_args!("{taken}/{flushed}"));
         }
         "lent" => {}
         _ => row.reject(),

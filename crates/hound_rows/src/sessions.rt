@@ -4,7 +4,6 @@ ghost use Rattle.hound.specs.{WhereTells};
 
 use crate::kept::{Kept, recorded_of, show_medium, tape_of};
 use crate::values::{Value, push_values, values_of};
-use crate::writers::is_finalized;
 use hound::{Begin, End, FloatBits, Step, WavSpecEx, run_session, run_sessions};
 use hound_row_helpers::row::{Row, find, name_and_value, parts};
 
@@ -30,7 +29,10 @@ pub fn session(row: &mut Row, spec: &str, options: &[&str], words: &[&str]) {
         return row.line.fail();
     };
     let script = Script {
-        begin: begin_of(row, spec),
+        begin: match spec {
+            "append" => Begin::Append,
+            _ => Begin::New(row.spec(spec)),
+        },
         steps: steps.as_slice(),
         end: end_of(row, end),
         options,
@@ -43,19 +45,15 @@ pub fn session(row: &mut Row, spec: &str, options: &[&str], words: &[&str]) {
     }
 }
 
-// A new file of this spec, or `append`.
-fn begin_of(row: &mut Row, spec: &str) -> Begin {
-    match spec {
-        "append" => Begin::Append,
-        _ => Begin::New(row.spec(spec)),
-    }
-}
-
-fn end_of(row: &mut Row, end: &[&str]) -> End {
-    if is_finalized(row, end) {
-        End::Finalize
-    } else {
-        End::Drop
+/// `finalize` or `drop`
+pub fn end_of(row: &mut Row, end: &[&str]) -> End {
+    match end {
+        ["finalize"] => End::Finalize,
+        ["drop"] => End::Drop,
+        _ => {
+            row.reject();
+            End::Drop
+        }
     }
 }
 

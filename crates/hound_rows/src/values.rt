@@ -88,18 +88,22 @@ impl Value for Twelve {
     }
 }
 
+// The value and the count of `VALUE`, `VALUE*N` or `VALUE+N`.
+fn counted<'a>(row: &mut Row, word: &'a str) -> (&'a str, u32) {
+    let mark = if word.contains('+') { "+" } else { "*" };
+    let (first, count) = word.split_once(mark).unwrap_or((word, "1"));
+    (first, row.number(count))
+}
+
 /// Adds the values of a word: `VALUE`, `VALUE*N` for N times the same, or `VALUE+N` for N that count up; after the
 /// last of the type comes its first.
 pub fn push_values<T: Value>(row: &mut Row, values: &mut Vec<T>, word: &str) {
-    let counts_up = word.contains('+');
-    let mark = if counts_up { "+" } else { "*" };
-    let (first, count) = word.split_once(mark).unwrap_or((word, "1"));
+    let (first, count) = counted(row, word);
+    let step = if word.contains('+') { 1 } else { 0 };
     let mut value = T::of(row, first);
-    for _ in 0..row.number::<u32>(count) {
+    for _ in 0..count {
         row.push(values, value);
-        if counts_up {
-            value = T::of_number(value.number().saturating_add(1));
-        }
+        value = T::of_number(value.number().saturating_add(step));
     }
 }
 
@@ -110,6 +114,15 @@ pub fn values_of<T: Value>(row: &mut Row, words: &str) -> Vec<T> {
         push_values(row, &mut values, word);
     }
     values
+}
+
+/// How many these are; there may be more of them than memory has room for.
+pub fn count_of(row: &mut Row, words: &str) -> u32 {
+    let mut count = 0u32;
+    for word in words.split(',') {
+        count = count.saturating_add(counted(row, word).1);
+    }
+    count
 }
 
 /// A value, or why there is none, as a word.

@@ -3,8 +3,9 @@ ghost use Rattle.std.specs.Prelude.{◌≡◌, ◌≤◌};
 ghost use Rattle.hound.specs.{WhereTells};
 
 use crate::kept::{Kept, recorded_of, show_medium, tape_of};
-use crate::values::{Value, at_type, push_values, values_of};
-use hound::{Begin, Error, Medium, Result, SampleFormat, Source, WavWriter};
+use crate::sessions::end_of;
+use crate::values::{Value, at_type, count_of, push_values, values_of};
+use hound::{Begin, End, Error, Medium, Result, SampleFormat, Source, WavWriter};
 use hound_row_helpers::row::{Row, find, name_and_value, parts};
 use std::result;
 
@@ -12,10 +13,9 @@ use std::result;
 #[derive(Clone, Copy)]
 struct Script<'a> {
     constructor: &'a str,
-    spec: &'a str,
+    begin: Begin,
     acts: &'a [&'a str],
-    // It ends by `finalize` and not by a drop.
-    is_finalized: bool,
+    end: End,
     // It is over a `&mut` of its medium.
     is_lent: bool,
     options: &'a [&'a str],
@@ -28,11 +28,15 @@ pub fn write(row: &mut Row, constructor: &str, spec: &str, options: &[&str], wor
         options,
         &["over", "most", "fail", "tape", "lent", "moments"],
     );
+    let begin = match constructor {
+        "append" | "try_append" => Begin::Append,
+        _ => Begin::New(row.spec(spec)),
+    };
     let script = Script {
         constructor,
-        spec,
+        begin,
         acts,
-        is_finalized: is_finalized(row, end),
+        end: end_of(row, end),
         is_lent: row.is_swept || find(options, "lent").is_some(),
         options,
     };
@@ -44,48 +48,23 @@ pub fn write(row: &mut Row, constructor: &str, spec: &str, options: &[&str], wor
     }
 }
 
-// A new file of its spec, or one that is appended to.
-fn begin_of(row: &mut Row, script: Script<'_>) -> Begin {
-    match script.constructor {
-        "append" | "try_append" => Begin::Append,
-        _ => Begin::New(row.spec(script.spec)),
-    }
-}
-
-/// `finalize` and not `drop`.
-pub fn is_finalized(row: &mut Row, end: &[&str]) -> bool {
-    match end {
-        ["finalize"] => true,
-        ["drop"] => false,
-        _ => {
-            row.reject();
-            false
-        }
-    }
-}
-
 fn write_over<M: Kept>(row: &mut Row, script: Script<'_>, medium: M)
     requires { WhereTells M.tells ((M.state medium).place ≡ 0) }
 {
     if script.is_lent {
         let mut medium = medium;
         let _ = run(row, script, &mut medium);
-        show(row, script, &medium);
+        show_medium(row, &medium, script.begin, script.options);
     } else if let Some(medium) = run(row, script, medium) {
-        show(row, script, &medium);
+        show_medium(row, &medium, script.begin, script.options);
     }
-}
-
-fn show<M: Kept>(row: &mut Row, script: Script<'_>, medium: &M) {
-    let begin = begin_of(row, script);
-    show_medium(row, medium, begin, script.options);
 }
 
 // Runs a script, and returns the medium if it can.
 fn run<M: Source + Medium>(row: &mut Row, script: Script<'_>, medium: M) -> Option<M>
     requires { WhereTells M.tells ((M.state medium).place ≡ 0) }
 {
-    let mut writer = match begin(row, script, medium) {
+    let mut writer = match begin(script, medium) {
         Ok(writer) => writer,
         Err((medium, error)) => {
             row.line.error(error);
@@ -104,19 +83,17 @@ fn run<M: Source + Medium>(row: &mut Row, script: Script<'_>, medium: M) -> Opti
 
 // A constructor that returns an error drops its medium or returns it.
 fn begin<M: Source + Medium>(
-    row: &mut Row,
     script: Script<'_>,
     medium: M,
 ) -> result::Result<WavWriter<M>, (Option<M>, Error)>
     requires { WhereTells M.tells ((M.state medium).place ≡ 0) }
 {
-    let (how, spec) = (script.constructor, script.spec);
-    let made = match how {
-        "new" => WavWriter::new(medium, row.spec(spec).spec),
-        "ex" => WavWriter::new_with_spec_ex(medium, row.spec(spec)),
-        "append" => WavWriter::new_append(medium),
-        "try" => return returning(WavWriter::try_new(medium, row.spec(spec))),
-        _ => return returning(WavWriter::try_append(medium)),
+    let made = match (script.constructor, script.begin) {
+        ("new", Begin::New(spec_ex)) => WavWriter::new(medium, spec_ex.spec),
+        ("ex", Begin::New(spec_ex)) => WavWriter::new_with_spec_ex(medium, spec_ex),
+        ("append", _) => WavWriter::new_append(medium),
+        (_, Begin::New(spec_ex)) => return returning(WavWriter::try_new(medium, spec_ex)),
+        (_, Begin::Append) => return returning(WavWriter::try_append(medium)),
     };
     made.map_err(|error| (None, error))
 }
@@ -128,21 +105,26 @@ fn returning<M: Medium>(
 }
 
 fn end<M: Medium>(row: &mut Row, script: Script<'_>, writer: WavWriter<M>) -> Option<M> {
-    if script.is_finalized && script.is_lent {
-        row.line.answer(writer.finalize());
-        return None;
+    match (script.end, script.is_lent) {
+        (End::Finalize, true) => {
+            row.line.answer(writer.finalize());
+            None
+        }
+        (End::Finalize, false) => {
+            let (medium, answer) = writer.finalize_into();
+            row.line.answer(answer);
+            Some(medium)
+        }
+        (End::Drop, true) => {
+            row.line.word("dropped");
+            drop(writer);
+            None
+        }
+        (End::Drop, false) => {
+            row.line.word("dropped");
+            Some(writer.drop_into())
+        }
     }
-    if script.is_finalized {
-        let (medium, answer) = writer.finalize_into();
-        row.line.answer(answer);
-        return Some(medium);
-    }
-    row.line.word("dropped");
-    if script.is_lent {
-        drop(writer);
-        return None;
-    }
-    Some(writer.drop_into())
 }
 
 // An act, its result and the writer's length then.
@@ -201,18 +183,17 @@ fn take_other<M: Medium>(
     match name {
         "flush" => writer.flush(),
         "batch" => {
-            let values = values_of(row, value);
-            let count = u32::try_from(values.len()).unwrap_or(u32::MAX);
-            write_batch(row, writer, count, &values, true)
+            let count = count_of(row, value);
+            write_batch(row, writer, count, value, true)
         }
         "dropped" => {
             let (values, count) = row.split(value, "/");
-            let (values, count) = (values_of(row, values), row.number(count));
-            write_batch(row, writer, count, &values, false)
+            let count = row.number(count);
+            write_batch(row, writer, count, values, false)
         }
         "begin" => {
             let count = row.number(value);
-            write_batch(row, writer, count, &[], false)
+            write_batch(row, writer, count, "", false)
         }
         _ => rejected(row),
     }
@@ -221,10 +202,10 @@ fn take_other<M: Medium>(
 // Begins a batch for this many samples, writes these, if any, and flushes or drops it. Files of
 // other samples than integers of 16 bits have no batches.
 fn write_batch<M: Medium>(
-    row: &Row,
+    row: &mut Row,
     writer: &mut WavWriter<M>,
     count: u32,
-    values: &[i16],
+    words: &str,
     is_flushed: bool,
 ) -> Result<()> {
     let spec = writer.spec();
@@ -235,9 +216,11 @@ fn write_batch<M: Medium>(
     if batch.remaining() != count {
         return Err(Error::UnfinishedSample);
     }
-    for value in values {
-        if batch.remaining() >= 1 {
-            batch.write_sample(*value);
+    if !words.is_empty() {
+        for value in &values_of::<i16>(row, words) {
+            if batch.remaining() >= 1 {
+                batch.write_sample(*value);
+            }
         }
     }
     if !is_flushed {
