@@ -29,8 +29,9 @@ pub fn write(row: &mut Row, constructor: &str, spec: &str, options: &[&str], wor
         &["over", "most", "fail", "tape", "lent", "moments"],
     );
     let begin = match constructor {
+        "new" | "ex" | "try" => Begin::New(row.spec(spec)),
         "append" | "try_append" => Begin::Append,
-        _ => Begin::New(row.spec(spec)),
+        _ => return row.reject(),
     };
     let script = Script {
         constructor,
@@ -98,6 +99,7 @@ fn begin<M: Source + Medium>(
     made.map_err(|error| (None, error))
 }
 
+// The medium comes back with an error.
 fn returning<M: Medium>(
     made: result::Result<WavWriter<M>, (M, Error)>,
 ) -> result::Result<WavWriter<M>, (Option<M>, Error)> {
@@ -133,7 +135,11 @@ fn take<M: Medium>(row: &mut Row, writer: &mut WavWriter<M>, act: &str) {
     let answer = match name.strip_prefix("block:") {
         Some(kind) => at_type!(kind, write_block(row, writer, value), else rejected(row)),
         None => {
-            at_type!(name, write_values(row, writer, value), else take_other(row, writer, name, value))
+            at_type!(
+                name,
+                write_values(row, writer, value),
+                else take_other(row, writer, name, value)
+            )
         }
     };
     row.line.answer(answer);
@@ -217,7 +223,8 @@ fn write_batch<M: Medium>(
         return Err(Error::UnfinishedSample);
     }
     if !words.is_empty() {
-        for value in &values_of::<i16>(row, words) {
+        let values: Vec<i16> = values_of(row, words);
+        for value in &values {
             if batch.remaining() >= 1 {
                 batch.write_sample(*value);
             }
