@@ -39,10 +39,11 @@ impl Sink {
 impl io::Write for Sink {
     fn write(&mut self, buf: &[u8]) -> io::Result<usize> {
         let room = self.room.saturating_sub(self.taken.len());
-        if let (0, Some(kind)) = (room, self.fault)
-            && !buf.is_empty()
-        {
-            return Err(Error::from(kind));
+        if room == 0 && !buf.is_empty() {
+            return match self.fault {
+                Some(kind) => Err(Error::from(kind)),
+                None => Ok(0),
+            };
         }
         let count = buf.len().min(self.most).min(room);
         self.taken.extend_from_slice(&buf[..count])?;
