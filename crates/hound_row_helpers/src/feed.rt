@@ -33,8 +33,9 @@ pub struct Feed {
     most: usize,
     // The first read after this many bytes fails, or gives none.
     stumbles: Option<(u64, Option<ErrorKind>)>,
-    // How many bytes it gave.
-    taken: u64,
+
+    /// How many bytes it gave.
+    pub taken: u64,
 }
 
 // Copies as much as both have.
@@ -96,11 +97,6 @@ impl Feed {
             stumbles,
             taken: 0,
         }
-    }
-
-    /// How many bytes it gave.
-    pub fn taken(&self) -> u64 {
-        self.taken
     }
 
     /// How many of its first bytes it didn't give.

@@ -19,7 +19,9 @@ const MOST_TEXT: usize = 400;
 #[derive(Drop)]
 pub struct Line {
     bytes: Vec<u8>,
-    has_failed: bool,
+
+    /// Whether memory failed.
+    pub has_failed: bool,
 }
 
 impl Line {
@@ -34,11 +36,6 @@ impl Line {
     /// What it has so far.
     pub fn bytes(&self) -> &[u8] {
         self.bytes.as_slice()
-    }
-
-    /// Whether memory failed.
-    pub fn has_failed(&self) -> bool {
-        self.has_failed
     }
 
     /// Records that memory failed elsewhere.

@@ -27,7 +27,9 @@ pub struct Row {
 
     /// Whether there was a reader, a writer's whole header or a repair.
     pub has_begun: bool,
-    is_rejected: bool,
+
+    /// Whether it is an error.
+    pub is_rejected: bool,
     names: Vec<Named>,
 }
 
@@ -55,11 +57,6 @@ impl Row {
     /// Marks the row as an error.
     pub fn reject(&mut self) {
         self.is_rejected = true;
-    }
-
-    /// Whether the row is an error.
-    pub fn is_rejected(&self) -> bool {
-        self.is_rejected
     }
 
     /// Adds to a list.

@@ -8,7 +8,8 @@ use std::io::{Error, ErrorKind};
 /// A writer that takes at most this many bytes a call, and none once it is full: then it fails, or takes 0 bytes.
 #[derive(Drop)]
 pub struct Sink {
-    taken: Vec<u8>,
+    /// What it took.
+    pub taken: Vec<u8>,
     most: usize,
     room: usize,
     fault: Option<ErrorKind>,
@@ -28,11 +29,6 @@ impl Sink {
             room: row.option(options, "room", usize::MAX),
             fault,
         }
-    }
-
-    /// What it took.
-    pub fn taken(&self) -> &[u8] {
-        self.taken.as_slice()
     }
 }
 

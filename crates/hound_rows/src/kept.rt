@@ -39,7 +39,7 @@ impl Kept for Recorded {
             row.line.word("");
             row.line.put_bytes(self.calls.bytes());
         }
-        if self.calls.has_failed() {
+        if self.calls.has_failed {
             row.line.fail();
         }
         show_counts(row, &self.journal);

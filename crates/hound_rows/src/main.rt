@@ -137,7 +137,7 @@ fn answer_line(row: &mut Row, text: &str) {
             _ => answer(row, name, words),
         }
     }
-    if row.is_rejected() {
+    if row.is_rejected {
         row.line.clear();
         row.line.put("not a row");
     }
@@ -152,10 +152,10 @@ fn main(rt: HostRuntime) -> io::Result<ExitCode> {
     for line in text.lines() {
         answer_line(&mut row, line);
         row.line.put("\n");
-        if row.is_rejected() {
+        if row.is_rejected {
             status = ExitCode::FAILURE;
         }
-        if row.line.has_failed() {
+        if row.line.has_failed {
             return Err(io::Error::from(ErrorKind::OutOfMemory));
         }
         output.write_all(row.line.bytes())?;

@@ -79,5 +79,5 @@ pub fn write(row: &mut Row, bytes: &str, options: &[&str]) {
     let bytes = row.bytes(bytes);
     let mut sink = Sink::of(row, options);
     row.line.io_answer(write_bytes(&mut sink, bytes.as_slice()));
-    row.line.contents(sink.taken());
+    row.line.contents(&sink.taken);
 }

@@ -17,7 +17,7 @@ pub fn riff(row: &mut Row, bytes: &str, options: &[&str]) {
         Ok(size) => row.line.shown(size),
         Err(error) => row.line.error(error),
     }
-    row.line.count("took", feed.taken());
+    row.line.count("took", feed.taken);
 }
 
 /// `read BYTES OPTION.. : ASK..`
@@ -27,7 +27,7 @@ pub fn read(row: &mut Row, bytes: &str, options: &[&str], asks: &[&str]) {
             let mut feed = Feed::of(row, bytes, options);
             ask_all(row, &mut feed, asks);
             row.line.word(":");
-            row.line.count("took", feed.taken());
+            row.line.count("took", feed.taken);
         }
         Some("tape") => {
             let mut tape = Tape::new(row.bytes(bytes));

@@ -21,7 +21,7 @@ pub fn write<T: Value>(row: &mut Row, value: &str, bits: &str, options: &[&str])
     let bits = row.number(bits);
     let mut sink = Sink::of(row, options);
     row.line.answer(value.write(&mut sink, bits));
-    row.line.contents(sink.taken());
+    row.line.contents(&sink.taken);
 }
 
 /// `write_padded TYPE VALUE BITS WIDTH SINK`
@@ -36,7 +36,7 @@ pub fn write_padded<T: Value>(
     let (bits, width) = (row.number(bits), row.number(width));
     let mut sink = Sink::of(row, options);
     row.line.answer(value.write_padded(&mut sink, bits, width));
-    row.line.contents(sink.taken());
+    row.line.contents(&sink.taken);
 }
 
 /// `decode TYPE FORMAT WIDTH BITS BYTES`

@@ -30,7 +30,7 @@ pub fn tool(row: &mut Row, words: &[&str], input: &[&str]) {
     let status = run(row.alloc, &said, &mut input, &mut output, &mut errors);
     row.line.shown(status);
     row.line.word(":");
-    row.line.text(output.taken());
+    row.line.text(&output.taken);
     row.line.word(":");
     row.line.text(&errors);
 }

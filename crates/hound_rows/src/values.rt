@@ -37,7 +37,8 @@ pub trait Value: Sample + Copy {
 }
 
 impl Value for i8 {
-    fn of_bytes([low, _, _, _]: [u8; 4]) -> i8 {
+    fn of_bytes(bytes: [u8; 4]) -> i8 {
+        let [low, _, _, _] = bytes;
         low.cast_signed()
     }
 
@@ -47,7 +48,8 @@ impl Value for i8 {
 }
 
 impl Value for i16 {
-    fn of_bytes([low, high, _, _]: [u8; 4]) -> i16 {
+    fn of_bytes(bytes: [u8; 4]) -> i16 {
+        let [low, high, _, _] = bytes;
         i16::from_le_bytes([low, high])
     }
 
@@ -79,7 +81,8 @@ impl Value for FloatBits {
 }
 
 impl Value for Twelve {
-    fn of_bytes([low, high, _, _]: [u8; 4]) -> Twelve {
+    fn of_bytes(bytes: [u8; 4]) -> Twelve {
+        let [low, high, _, _] = bytes;
         Twelve(i16::from_le_bytes([low, high]))
     }
 
