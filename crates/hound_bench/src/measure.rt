@@ -1,8 +1,8 @@
 // Cases from end to end: what is made before, what is timed, and what is checked after it.
 ghost use Rattle.std.specs.Prelude.{◌≡◌, IfOk};
 
-use crate::case::{Call, Case, Kind, Place, Samples};
-use crate::pattern::{Eight, Float, Pattern, Sixteen, Summed, ThirtyTwo, TwentyFour};
+use crate::case::{Call, Case, Kind, Place, Samples, Work};
+use crate::pattern::{Eight, Float, Pattern, Sixteen, ThirtyTwo, TwentyFour};
 use crate::sessions::{SESSION, write_sessions};
 use crate::workloads::{open_often, read_all, seek_often, write_all};
 use hound::{FloatBits, Placed, Result, Step, Tape, WavReader, WavSpec, WavWriter};
@@ -27,36 +27,40 @@ pub struct Measured {
 
 /// Runs a case with this many samples; the path is that of its file on disk, if it has one.
 pub fn measure(rt: &HostRuntime, case: Case, count: u32, path: Path<'_>) -> Result<Measured> {
-    match case {
-        Case::Write(samples) => match samples.kind {
-            Kind::Eight => write::<Eight>(rt, samples, count, path),
-            Kind::Sixteen => write::<Sixteen>(rt, samples, count, path),
-            Kind::TwentyFour => write::<TwentyFour>(rt, samples, count, path),
-            Kind::ThirtyTwo => write::<ThirtyTwo>(rt, samples, count, path),
-            Kind::Float => write::<Float>(rt, samples, count, path),
+    let place = case.place;
+    match case.work {
+        Work::Write(samples) => match samples.kind {
+            Kind::Eight => write::<Eight>(rt, samples, place, count, path),
+            Kind::Sixteen => write::<Sixteen>(rt, samples, place, count, path),
+            Kind::TwentyFour => write::<TwentyFour>(rt, samples, place, count, path),
+            Kind::ThirtyTwo => write::<ThirtyTwo>(rt, samples, place, count, path),
+            Kind::Float => write::<Float>(rt, samples, place, count, path),
         },
-        Case::Read(samples) => match samples.kind {
-            Kind::Eight => read::<Eight>(rt, samples, count, path),
-            Kind::Sixteen => read::<Sixteen>(rt, samples, count, path),
-            Kind::TwentyFour => read::<TwentyFour>(rt, samples, count, path),
-            Kind::ThirtyTwo => read::<ThirtyTwo>(rt, samples, count, path),
-            Kind::Float => read::<Float>(rt, samples, count, path),
+        Work::Read(samples) => match samples.kind {
+            Kind::Eight => read::<Eight>(rt, samples, place, count, path),
+            Kind::Sixteen => read::<Sixteen>(rt, samples, place, count, path),
+            Kind::TwentyFour => read::<TwentyFour>(rt, samples, place, count, path),
+            Kind::ThirtyTwo => read::<ThirtyTwo>(rt, samples, place, count, path),
+            Kind::Float => read::<Float>(rt, samples, place, count, path),
         },
-        Case::Seek(place) => seek(rt, place, count, path),
-        Case::Session => write_by_sessions(rt, count),
-        Case::Open => open(rt, count),
+        Work::Seek => seek(rt, place, count, path),
+        Work::Session => write_by_sessions(rt, count),
+        Work::Open => open(rt, count),
     }
 }
 
-// A tape of zeros, as long as the file of this many samples will be.
-fn full_tape(alloc: Global, spec: WavSpec, count: u32) -> Result<Tape>
+// An empty tape, or in memory of its full size one of zeros, as long as the file of this many samples
+// will be.
+fn tape_of(alloc: Global, place: Place, spec: WavSpec, count: u32) -> Result<Tape>
     ensures { IfOk result (λ t. (⟦<Tape as Placed>⟧.state t).place ≡ 0) }
 {
-    let header = spec.into_header_for_infinite_file(alloc)?;
-    let width = spec.bits_per_sample.div_ceil(8) as usize;
-    let data_length = count as usize * width;
     let mut bytes = Vec::new(alloc);
-    bytes.resize(header.len() + data_length + data_length % 2, 0)?;
+    if matches!(place, Place::Memory) {
+        let header = spec.into_header_for_infinite_file(alloc)?;
+        let width = spec.bits_per_sample.div_ceil(8) as usize;
+        let data_length = count as usize * width;
+        bytes.resize(header.len() + data_length + data_length % 2, 0)?;
+    }
     Ok(Tape::new(bytes))
 }
 
@@ -93,64 +97,46 @@ fn written(file: &[u8], nanoseconds: u128) -> Measured {
 fn write<P: Pattern>(
     rt: &HostRuntime,
     file: Samples,
+    place: Place,
     count: u32,
     path: Path<'_>,
 ) -> Result<Measured> {
+    let (alloc, call) = (rt.alloc(), file.call);
     // Blocks are made before they are written.
-    let length = if matches!(file.call, Call::Block(_)) {
+    let length = if matches!(call, Call::Block(_)) {
         count
     } else {
         0
     };
-    let samples = samples_of::<P>(rt.alloc(), length)?;
+    let samples = samples_of::<P>(alloc, length)?;
     let spec = P::spec(file.channels);
-    let tape = match file.place {
-        Place::Memory => full_tape(rt.alloc(), spec, count)?,
-        Place::Growing => Tape::new(Vec::new(rt.alloc())),
-        Place::Disk | Place::Durable => return write_file::<P>(rt, file, count, &samples, path),
-    };
-    write_tape::<P>(rt, tape, file, count, &samples)
-}
-
-fn write_tape<P: Pattern>(
-    rt: &HostRuntime,
-    mut tape: Tape,
-    file: Samples,
-    count: u32,
-    samples: &[P::Sample],
-) -> Result<Measured>
-    requires { (⟦<Tape as Placed>⟧.state tape).place ≡ 0 }
-{
+    let mut tape = tape_of(alloc, place, spec, count)?;
     let start = Instant::now(rt)?;
-    let writer = WavWriter::new(&mut tape, P::spec(file.channels))?;
-    write_all::<P, _>(writer, rt.alloc(), file.call, count, samples)?;
-    let time = start.elapsed(rt)?;
-    Ok(written(tape.bytes(), time.as_nanos()))
-}
-
-fn write_file<P: Pattern>(
-    rt: &HostRuntime,
-    file: Samples,
-    count: u32,
-    samples: &[P::Sample],
-    path: Path<'_>,
-) -> Result<Measured> {
-    let spec = P::spec(file.channels);
-    let start = Instant::now(rt)?;
-    if matches!(file.place, Place::Durable) {
-        let writer = WavWriter::create_durable(rt, rt.alloc(), path, spec)?;
-        write_all::<P, _>(writer, rt.alloc(), file.call, count, samples)?;
-    } else {
-        let writer = WavWriter::create(rt, rt.alloc(), path, spec)?;
-        write_all::<P, _>(writer, rt.alloc(), file.call, count, samples)?;
+    match place {
+        Place::Memory | Place::Growing => {
+            let writer = WavWriter::new(&mut tape, spec)?;
+            write_all::<P, _>(writer, alloc, call, count, &samples)?;
+        }
+        Place::Disk => {
+            let writer = WavWriter::create(rt, alloc, path, spec)?;
+            write_all::<P, _>(writer, alloc, call, count, &samples)?;
+        }
+        Place::Durable => {
+            let writer = WavWriter::create_durable(rt, alloc, path, spec)?;
+            write_all::<P, _>(writer, alloc, call, count, &samples)?;
+        }
     }
-    let time = start.elapsed(rt)?;
-    Ok(written(&fs::read(rt, path)?, time.as_nanos()))
+    let nanoseconds = start.elapsed(rt)?.as_nanos();
+    if place.is_on_disk() {
+        return Ok(written(&fs::read(rt, path)?, nanoseconds));
+    }
+    Ok(written(tape.bytes(), nanoseconds))
 }
 
 fn read<P: Pattern>(
     rt: &HostRuntime,
     file: Samples,
+    place: Place,
     count: u32,
     path: Path<'_>,
 ) -> Result<Measured> {
@@ -161,68 +147,51 @@ fn read<P: Pattern>(
         0
     };
     let mut block = samples_of::<P>(rt.alloc(), length as u32)?;
-    let (check, nanoseconds) = match file.place {
-        Place::Memory | Place::Growing => read_memory(rt, &bytes, &mut block)?,
-        Place::Disk | Place::Durable => {
-            fs::write(rt, path, bytes.as_slice())?;
-            read_file(rt, path, &mut block)?
-        }
+    if place.is_on_disk() {
+        fs::write(rt, path, bytes.as_slice())?;
+    }
+    let start = Instant::now(rt)?;
+    let check = if place.is_on_disk() {
+        read_all(WavReader::open(rt, rt.alloc(), path)?, &mut block)?
+    } else {
+        read_all(WavReader::new(bytes.as_slice())?, &mut block)?
     };
     Ok(Measured {
         bytes: bytes.len() as u64,
-        nanoseconds,
+        nanoseconds: start.elapsed(rt)?.as_nanos(),
         check,
     })
-}
-
-// The sum of all samples of a file in memory, and how long it took.
-fn read_memory<S: Summed>(rt: &HostRuntime, file: &[u8], block: &mut [S]) -> Result<(i64, u128)> {
-    let start = Instant::now(rt)?;
-    let check = read_all(WavReader::new(file)?, block)?;
-    Ok((check, start.elapsed(rt)?.as_nanos()))
-}
-
-// The same of one on disk.
-fn read_file<S: Summed>(rt: &HostRuntime, path: Path<'_>, block: &mut [S]) -> Result<(i64, u128)> {
-    let start = Instant::now(rt)?;
-    let check = read_all(WavReader::open(rt, rt.alloc(), path)?, block)?;
-    Ok((check, start.elapsed(rt)?.as_nanos()))
 }
 
 // A sample of four bytes is read at each place.
 fn seek(rt: &HostRuntime, place: Place, count: u32, path: Path<'_>) -> Result<Measured> {
     let file = file_of::<Float>(rt.alloc(), 1, SOUGHT)?;
-    let (check, nanoseconds) = match place {
-        Place::Memory | Place::Growing => seek_memory(rt, Tape::new(file), count)?,
-        Place::Disk | Place::Durable => {
-            fs::write(rt, path, file.as_slice())?;
-            seek_file(rt, path, count)?
-        }
+    if place.is_on_disk() {
+        fs::write(rt, path, file.as_slice())?;
+    }
+    let start = Instant::now(rt)?;
+    let check = if place.is_on_disk() {
+        seek_often::<FloatBits, _>(WavReader::open(rt, rt.alloc(), path)?, count)?
+    } else {
+        seek_often::<FloatBits, _>(WavReader::new(Tape::new(file))?, count)?
     };
     Ok(Measured {
         bytes: 4 * count as u64,
-        nanoseconds,
+        nanoseconds: start.elapsed(rt)?.as_nanos(),
         check,
     })
-}
-
-fn seek_memory(rt: &HostRuntime, tape: Tape, count: u32) -> Result<(i64, u128)> {
-    let start = Instant::now(rt)?;
-    let check = seek_often::<FloatBits, _>(WavReader::new(tape)?, count)?;
-    Ok((check, start.elapsed(rt)?.as_nanos()))
-}
-
-fn seek_file(rt: &HostRuntime, path: Path<'_>, count: u32) -> Result<(i64, u128)> {
-    let start = Instant::now(rt)?;
-    let check = seek_often::<FloatBits, _>(WavReader::open(rt, rt.alloc(), path)?, count)?;
-    Ok((check, start.elapsed(rt)?.as_nanos()))
 }
 
 fn write_by_sessions(rt: &HostRuntime, count: u32) -> Result<Measured> {
     let steps: Vec<Step> = (0..SESSION)
         .map(|index| Step::Whole(Sixteen::sample(index) as i32))
         .collect(rt.alloc())?;
-    let mut tape = full_tape(rt.alloc(), Sixteen::spec(1), count.min(SESSION))?;
+    let mut tape = tape_of(
+        rt.alloc(),
+        Place::Memory,
+        Sixteen::spec(1),
+        count.min(SESSION),
+    )?;
     let start = Instant::now(rt)?;
     write_sessions(rt.alloc(), &mut tape, &steps, count)?;
     let time = start.elapsed(rt)?;

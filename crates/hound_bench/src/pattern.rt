@@ -12,42 +12,41 @@ pub trait Pattern {
     /// The type that they are written and read as.
     type Sample: Summed;
 
-    /// A file of them with this many channels.
-    fn spec(channels: u16) -> WavSpec;
+    /// How many bits they have.
+    const BITS: u16;
+
+    /// Whether they are integers or floats.
+    const FORMAT: SampleFormat = SampleFormat::Int;
 
     /// The sample with this number.
     fn sample(index: u32) -> Self::Sample;
+
+    /// A file of them with this many channels.
+    fn spec(channels: u16) -> WavSpec {
+        WavSpec {
+            channels,
+            sample_rate: 44100,
+            bits_per_sample: Self::BITS,
+            sample_format: Self::FORMAT,
+        }
+    }
 }
 
-/// Samples of eight bits.
+/// Samples of so many bits, and floats of thirty-two bits of a magnitude below 2.
 pub struct Eight;
 
-/// Samples of sixteen bits.
 pub struct Sixteen;
 
-/// Samples of twenty-four bits.
 pub struct TwentyFour;
 
-/// Samples of thirty-two bits.
 pub struct ThirtyTwo;
 
-/// Floats of thirty-two bits, of a magnitude below 2.
 pub struct Float;
 
 // The bits of a sample, of which a narrower one has the upper ones.
 #[inline(always)]
 fn mixed(index: u32) -> u32 {
     index.wrapping_mul(2_654_435_761)
-}
-
-// A file of such samples.
-fn spec_of(channels: u16, bits: u16, sample_format: SampleFormat) -> WavSpec {
-    WavSpec {
-        channels,
-        sample_rate: 44100,
-        bits_per_sample: bits,
-        sample_format,
-    }
 }
 
 impl Summed for i8 {
@@ -82,9 +81,7 @@ impl Summed for FloatBits {
 impl Pattern for Eight {
     type Sample = i8;
 
-    fn spec(channels: u16) -> WavSpec {
-        spec_of(channels, 8, SampleFormat::Int)
-    }
+    const BITS: u16 = 8;
 
     #[inline(always)]
     fn sample(index: u32) -> i8 {
@@ -95,9 +92,7 @@ impl Pattern for Eight {
 impl Pattern for Sixteen {
     type Sample = i16;
 
-    fn spec(channels: u16) -> WavSpec {
-        spec_of(channels, 16, SampleFormat::Int)
-    }
+    const BITS: u16 = 16;
 
     #[inline(always)]
     fn sample(index: u32) -> i16 {
@@ -108,9 +103,7 @@ impl Pattern for Sixteen {
 impl Pattern for TwentyFour {
     type Sample = i32;
 
-    fn spec(channels: u16) -> WavSpec {
-        spec_of(channels, 24, SampleFormat::Int)
-    }
+    const BITS: u16 = 24;
 
     #[inline(always)]
     fn sample(index: u32) -> i32 {
@@ -121,9 +114,7 @@ impl Pattern for TwentyFour {
 impl Pattern for ThirtyTwo {
     type Sample = i32;
 
-    fn spec(channels: u16) -> WavSpec {
-        spec_of(channels, 32, SampleFormat::Int)
-    }
+    const BITS: u16 = 32;
 
     #[inline(always)]
     fn sample(index: u32) -> i32 {
@@ -134,9 +125,9 @@ impl Pattern for ThirtyTwo {
 impl Pattern for Float {
     type Sample = FloatBits;
 
-    fn spec(channels: u16) -> WavSpec {
-        spec_of(channels, 32, SampleFormat::Float)
-    }
+    const BITS: u16 = 32;
+
+    const FORMAT: SampleFormat = SampleFormat::Float;
 
     #[inline(always)]
     fn sample(index: u32) -> FloatBits {

@@ -2,7 +2,8 @@
 ghost use Rattle.std.specs.Prelude.{◌≡◌, ◌≤◌};
 
 use crate::case::Case;
-use crate::measure::{Measured, measure};
+use crate::measure::measure;
+use hound::Result;
 use std::io;
 use std::path::Path;
 
@@ -37,14 +38,7 @@ pub fn run<O: io::Write, E: io::Write>(
     let Some(request) = request_of(words, errors) else {
         return 2;
     };
-    let measured = match measure(rt, request.case, request.count, Path::new(request.file)) {
-        Ok(measured) => measured,
-        Err(error) => {
-            let _ = writeln!(errors, "{error}");
-            return 1;
-        }
-    };
-    match print(request, measured, output) {
+    match carry_out(rt, request, output) {
         Ok(()) => 0,
         Err(error) => {
             let _ = writeln!(errors, "{error}");
@@ -71,7 +65,7 @@ fn request_of<'a, E: io::Write>(words: &[&'a str], errors: &mut E) -> Option<Req
         let _ = writeln!(errors, "bad number: {count}");
         return None;
     };
-    if case.needs_file() && file == "-" {
+    if case.place.is_on_disk() && file == "-" {
         let _ = writeln!(errors, "{name} needs a file");
         return None;
     }
@@ -84,16 +78,17 @@ fn request_of<'a, E: io::Write>(words: &[&'a str], errors: &mut E) -> Option<Req
     })
 }
 
-fn print<O: io::Write>(request: Request<'_>, measured: Measured, output: &mut O) -> io::Result<()> {
-    let name = request.name;
-    let count = request.count;
-    let bytes = measured.bytes;
+// Measures the case, and prints its line.
+fn carry_out<O: io::Write>(rt: &HostRuntime, request: Request<'_>, output: &mut O) -> Result<()> {
+    let (name, count) = (request.name, request.count);
+    let measured = measure(rt, request.case, count, Path::new(request.file))?;
+    let (bytes, check) = (measured.bytes, measured.check);
     let nanoseconds = measured.nanoseconds;
-    let check = measured.check;
     if request.is_timed {
         writeln!(output, "{name} {count} {bytes} {nanoseconds} {check}")?;
     } else {
         writeln!(output, "{name} {count} {bytes} {check}")?;
     }
-    output.flush()
+    output.flush()?;
+    Ok(())
 }

@@ -58,29 +58,16 @@ fn write_blocks<S: Summed, W: Medium>(
 
 /// The sum of all samples, by blocks of as many as the slice has, or one at a time if it has none.
 pub fn read_all<S: Summed, R: io::Read + Drop>(
-    reader: WavReader<R>,
-    block: &mut [S],
-) -> Result<i64> {
-    if block.is_empty() {
-        read_samples::<S, R>(reader)
-    } else {
-        read_blocks(reader, block)
-    }
-}
-
-fn read_samples<S: Summed, R: io::Read + Drop>(mut reader: WavReader<R>) -> Result<i64> {
-    let mut sum = 0i64;
-    for sample in reader.samples::<S>() {
-        sum = sum.wrapping_add(sample?.value());
-    }
-    Ok(sum)
-}
-
-fn read_blocks<S: Summed, R: io::Read + Drop>(
     mut reader: WavReader<R>,
     block: &mut [S],
 ) -> Result<i64> {
     let mut sum = 0i64;
+    if block.is_empty() {
+        for sample in reader.samples::<S>() {
+            sum = sum.wrapping_add(sample?.value());
+        }
+        return Ok(sum);
+    }
     for _ in 0..u64::MAX {
         let (count, result) = reader.read_samples(block);
         result?;

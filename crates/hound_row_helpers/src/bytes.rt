@@ -8,7 +8,16 @@ impl Row {
         let mut cursor = Cursor {
             rest: word.as_bytes(),
         };
-        cursor.terms(self, &mut bytes);
+        cursor.term(self, &mut bytes);
+        for _ in 0..word.len() {
+            if !cursor.takes(b'+') {
+                break;
+            }
+            cursor.term(self, &mut bytes);
+        }
+        if !cursor.rest.is_empty() {
+            self.reject();
+        }
         bytes
     }
 }
@@ -86,20 +95,6 @@ impl<'a> Cursor<'a> {
         }
     }
 
-    // All terms, and nothing else.
-    fn terms(&mut self, row: &mut Row, bytes: &mut Vec<u8>) {
-        self.term(row, bytes);
-        for _ in 0..self.rest.len() {
-            if !self.takes(b'+') {
-                break;
-            }
-            self.term(row, bytes);
-        }
-        if !self.rest.is_empty() {
-            row.reject();
-        }
-    }
-
     // A term, with its suffixes.
     fn term(&mut self, row: &mut Row, bytes: &mut Vec<u8>) {
         let start = bytes.len();
@@ -153,13 +148,10 @@ impl<'a> Cursor<'a> {
     fn name(&mut self) -> &'a [u8] {
         self.next();
         let rest = self.rest;
-        let mut count = 0usize;
-        for byte in rest {
-            if !byte.is_ascii_alphanumeric() && *byte != b'_' {
-                break;
-            }
-            count = count.saturating_add(1);
-        }
+        let count = rest
+            .iter()
+            .position(|byte| !byte.is_ascii_alphanumeric() && *byte != b'_')
+            .unwrap_or(rest.len());
         self.rest = rest.get(count..).unwrap_or(&[]);
         rest.get(..count).unwrap_or(&[])
     }
@@ -200,10 +192,8 @@ impl<'a> Cursor<'a> {
         let end = bytes.len();
         for _ in 1..count {
             for at in start..end {
-                if let Some(byte) = bytes.get(at) {
-                    let byte = *byte;
-                    row.push(bytes, byte);
-                }
+                let byte = bytes.get(at).copied().unwrap_or(0);
+                row.push(bytes, byte);
             }
         }
         if count == 0 {

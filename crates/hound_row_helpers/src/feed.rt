@@ -22,13 +22,6 @@ enum Then {
     Boasts,
 }
 
-// What one read does instead of giving bytes.
-#[derive(Clone, Copy)]
-enum Stumble {
-    GivesNone,
-    Fails(ErrorKind),
-}
-
 /// A reader of bytes in memory, then of zeros, and then of further bytes, which counts what it gave.
 #[derive(Drop)]
 pub struct Feed {
@@ -38,10 +31,11 @@ pub struct Feed {
     then: Then,
     // The most bytes a read.
     most: usize,
-    // The first read after this many bytes does this.
-    stumbles: Option<(u64, Stumble)>,
-    // How many bytes it gave.
-    taken: u64,
+    // The first read after this many bytes fails, or gives none.
+    stumbles: Option<(u64, Option<ErrorKind>)>,
+
+    /// How many bytes it gave.
+    pub taken: u64,
 }
 
 // Copies as much as both have.
@@ -72,13 +66,13 @@ fn then_of(row: &mut Row, word: &str) -> Then {
 }
 
 // `AT:none` or `AT:KIND`
-fn stumble_of(row: &mut Row, word: &str) -> (u64, Stumble) {
+fn stumble_of(row: &mut Row, word: &str) -> (u64, Option<ErrorKind>) {
     let (at, how) = row.split(word, ":");
-    let stumble = match how {
-        "none" => Stumble::GivesNone,
-        kind => Stumble::Fails(row.kind(kind)),
+    let fault = match how {
+        "none" => None,
+        kind => Some(row.kind(kind)),
     };
-    (row.number(at), stumble)
+    (row.number(at), fault)
 }
 
 impl Feed {
@@ -105,22 +99,9 @@ impl Feed {
         }
     }
 
-    /// How many bytes it gave.
-    pub fn taken(&self) -> u64 {
-        self.taken
-    }
-
     /// How many of its first bytes it didn't give.
     pub fn left(&self) -> usize {
         rest(&self.bytes, self.taken).len()
-    }
-
-    // The most bytes that it gives before the read that stumbles.
-    fn before_stumble(&self) -> usize {
-        match self.stumbles {
-            Some((at, _)) if at > self.taken => (at - self.taken) as usize,
-            _ => usize::MAX,
-        }
     }
 
     // What it gives into a buffer.
@@ -158,16 +139,18 @@ impl Feed {
 
 impl io::Read for Feed {
     fn read(&mut self, buf: &mut [u8]) -> io::Result<usize> {
-        if let Some((at, stumble)) = self.stumbles
-            && at == self.taken
-        {
-            self.stumbles = None;
-            return match stumble {
-                Stumble::GivesNone => Ok(0),
-                Stumble::Fails(kind) => Err(io::Error::from(kind)),
-            };
-        }
-        let room = buf.len().min(self.most).min(self.before_stumble());
+        let before_stumble = match self.stumbles {
+            Some((at, fault)) if at == self.taken => {
+                self.stumbles = None;
+                return match fault {
+                    Some(kind) => Err(io::Error::from(kind)),
+                    None => Ok(0),
+                };
+            }
+            Some((at, _)) if at > self.taken => (at - self.taken) as usize,
+            _ => usize::MAX,
+        };
+        let room = buf.len().min(self.most).min(before_stumble);
         let count = self.give(&mut buf[..room])?;
         // No reader can claim more than the buffer has.
         let count = count.min(room);

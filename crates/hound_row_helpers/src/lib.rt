@@ -3,7 +3,6 @@
 #![tactic(auto)]
 
 mod bytes;
-pub mod counting;
 mod crc;
 pub mod feed;
 pub mod line;

@@ -4,7 +4,7 @@ use hound_spec::Error;
 use std::alloc::Global;
 use std::fmt::Display;
 use std::io;
-use std::io::{ErrorKind, Write};
+use std::io::Write;
 
 // Longer contents are shortened to this many bytes.
 const MOST_BYTES: usize = 160;
@@ -14,14 +14,14 @@ const FIRST_BYTES: usize = 80;
 // Longer text is shown as contents.
 const MOST_TEXT: usize = 400;
 
-const DIGITS: [u8; 16] = *b"0123456789abcdef";
-
 /// A line that is built word by word. What begins with `put` adds to the last word, all else
 /// begins a new word. If memory fails the line records that.
 #[derive(Drop)]
 pub struct Line {
     bytes: Vec<u8>,
-    has_failed: bool,
+
+    /// Whether memory failed.
+    pub has_failed: bool,
 }
 
 impl Line {
@@ -36,11 +36,6 @@ impl Line {
     /// What it has so far.
     pub fn bytes(&self) -> &[u8] {
         self.bytes.as_slice()
-    }
-
-    /// Whether memory failed.
-    pub fn has_failed(&self) -> bool {
-        self.has_failed
     }
 
     /// Records that memory failed elsewhere.
@@ -72,32 +67,16 @@ impl Line {
     /// Two hex digits for each byte.
     pub fn put_hex(&mut self, bytes: &[u8]) {
         for byte in bytes {
-            let high = DIGITS[(*byte / 16) as usize];
-            let low = DIGITS[(*byte % 16) as usize];
-            self.put_bytes(&[high, low]);
+            self.put_shown(format_args!("{byte:02x}"));
         }
     }
 
     pub fn put_error(&mut self, error: Error) {
-        let name = match error {
-            Error::IoError(fault) => {
-                self.put("IoError(");
-                self.put(name_of(fault.kind()));
-                ")"
-            }
-            Error::FormatError(reason) => {
-                self.put("FormatError(");
-                self.put(reason);
-                ")"
-            }
-            Error::TooWide => "TooWide",
-            Error::UnfinishedSample => "UnfinishedSample",
-            Error::Unsupported => "Unsupported",
-            Error::InvalidSampleFormat => "InvalidSampleFormat",
-            Error::TooLong => "TooLong",
-            Error::OutOfMemory => "OutOfMemory",
-        };
-        self.put(name);
+        match error {
+            Error::IoError(fault) => self.put_shown(format_args!("IoError({:?})", fault.kind())),
+            Error::FormatError(reason) => self.put_shown(format_args!("FormatError({reason})")),
+            other => self.put_shown(format_args!("{other:?}")),
+        }
     }
 
     /// This word.
@@ -136,8 +115,7 @@ impl Line {
             self.shown(bytes.len());
             self.put(":");
             self.put_hex(first);
-            self.put(":");
-            self.put_hex(&Crc::of(bytes).value().to_be_bytes());
+            self.put_shown(format_args!(":{:08x}", Crc::of(bytes).value()));
         }
     }
 
@@ -172,26 +150,11 @@ impl Line {
 
     /// The result of a call of a medium.
     pub fn io_answer(&mut self, answer: io::Result<()>) {
-        match answer {
-            Ok(()) => self.word("ok"),
-            Err(fault) => self.error(Error::IoError(fault)),
-        }
+        self.answer(answer.map_err(Error::IoError));
     }
 }
 
 // Printable ASCII, or the end of a line.
 fn is_plain(byte: u8) -> bool {
     byte == b'\n' || byte == b' ' || byte.is_ascii_graphic()
-}
-
-fn name_of(kind: ErrorKind) -> &'static str {
-    match kind {
-        ErrorKind::Other => "Other",
-        ErrorKind::Interrupted => "Interrupted",
-        ErrorKind::InvalidData => "InvalidData",
-        ErrorKind::WriteZero => "WriteZero",
-        ErrorKind::OutOfMemory => "OutOfMemory",
-        ErrorKind::InvalidInput => "InvalidInput",
-        _ => "?",
-    }
 }

@@ -1,50 +1,40 @@
-// A journal that records the calls made of it.
+// A journal that lists the calls made of it.
 ghost use Rattle.std.specs.Prelude.{◌≡◌, false};
 ghost use Rattle.std.proofs.lemmas.Bool.{false≢true};
 ghost use Rattle.hound_medium.specs.{MediumState, unknown};
 
+use crate::line::Line;
 use hound_medium::{Journal, Medium, Placed, Source};
 use std::alloc::Global;
+use std::fmt::Display;
 use std::io;
-use std::io::ErrorKind;
 
-/// A call of a medium.
-#[derive(Clone, Copy, Debug, PartialEq, Eq)]
-pub enum Call {
-    /// A put of this many bytes.
-    Put(usize),
-
-    /// A go to this place.
-    Go(u64),
-
-    /// A flush.
-    Flush,
-}
-
-/// A journal that records the calls that a writer makes, also failing ones.
+/// A journal that lists the calls that a writer makes, also failing ones.
 #[derive(Drop)]
 pub struct Recorded {
     /// The place of the next put.
     pub journal: Journal,
 
-    /// The calls, except for a shift.
-    pub calls: Vec<Call>,
+    /// A word for each call, except for a shift.
+    pub calls: Line,
+
+    /// How many these are.
+    pub count: usize,
 }
 
 impl Recorded {
-    /// Over these bytes.
-    pub fn over(alloc: Global, bytes: Vec<u8>) -> hound_spec::Result<Recorded> {
-        Ok(Recorded {
-            journal: Journal::new(alloc, bytes)?,
-            calls: Vec::new(alloc),
-        })
+    /// Over this journal.
+    pub fn over(alloc: Global, journal: Journal) -> Recorded {
+        Recorded {
+            journal,
+            calls: Line::new(alloc),
+            count: 0,
+        }
     }
 
-    fn record(&mut self, call: Call) -> io::Result<()> {
-        match self.calls.push(call) {
-            Ok(()) => Ok(()),
-            Err(_) => Err(io::Error::from(ErrorKind::OutOfMemory)),
-        }
+    fn record<T: Display + Drop>(&mut self, call: T) {
+        self.calls.shown(call);
+        self.count = self.count.saturating_add(1);
     }
 }
 
@@ -56,7 +46,7 @@ impl Placed for Recorded {
     ghost bytes = { λ _ tells. Prim.absurd (false≢true tells) };
 
     fn go(&mut self, to: u64) -> io::Result<()> {
-        self.record(Call::Go(to))?;
+        self.record(format_args!("go{to}"));
         self.journal.go(to)
     }
 
@@ -69,12 +59,12 @@ impl Medium for Recorded {
     ghost replays = { λ _ tells. Prim.absurd (false≢true tells) };
 
     fn put(&mut self, bytes: &[u8]) -> io::Result<usize> {
-        self.record(Call::Put(bytes.len()))?;
+        self.record(format_args!("put{}", bytes.len()));
         Medium::put(&mut self.journal, bytes)
     }
 
     fn flush(&mut self) -> io::Result<()> {
-        self.record(Call::Flush)?;
+        self.record("flush");
         Medium::flush(&mut self.journal)
     }
 }

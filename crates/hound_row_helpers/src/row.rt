@@ -21,7 +21,15 @@ pub struct Row {
 
     /// The result.
     pub line: Line,
-    is_rejected: bool,
+
+    /// Whether it is a run of a sweep.
+    pub is_swept: bool,
+
+    /// Whether there was a reader, a writer's whole header or a repair.
+    pub has_begun: bool,
+
+    /// Whether it is an error.
+    pub is_rejected: bool,
     names: Vec<Named>,
 }
 
@@ -31,6 +39,8 @@ impl Row {
         Row {
             alloc,
             line: Line::new(alloc),
+            is_swept: false,
+            has_begun: false,
             is_rejected: false,
             names: Vec::new(alloc),
         }
@@ -39,17 +49,14 @@ impl Row {
     /// The next row begins.
     pub fn begin(&mut self) {
         self.line.clear();
+        self.is_swept = false;
+        self.has_begun = false;
         self.is_rejected = false;
     }
 
     /// Marks the row as an error.
     pub fn reject(&mut self) {
         self.is_rejected = true;
-    }
-
-    /// Whether the row is an error.
-    pub fn is_rejected(&self) -> bool {
-        self.is_rejected
     }
 
     /// Adds to a list.
@@ -60,20 +67,15 @@ impl Row {
     }
 
     /// `let NAME BYTES`
-    pub fn define(&mut self, words: &[&str]) {
-        let [name, bytes] = words else {
-            return self.reject();
-        };
+    pub fn define(&mut self, name: &str, bytes: &str) {
         let bytes = self.bytes(bytes);
         self.line.shown(bytes.len());
         self.line.word("bytes");
-        match name.as_bytes().to_vec(self.alloc) {
-            Ok(name) => {
-                if self.names.push(Named { name, bytes }).is_err() {
-                    self.line.fail();
-                }
-            }
-            Err(_) => self.line.fail(),
+        let Ok(name) = name.as_bytes().to_vec(self.alloc) else {
+            return self.line.fail();
+        };
+        if self.names.push(Named { name, bytes }).is_err() {
+            self.line.fail();
         }
     }
 
@@ -229,13 +231,10 @@ pub fn find<'a>(options: &[&'a str], wanted: &str) -> Option<&'a str> {
 
 /// The words before the first `:`, and those after it.
 pub fn parts<'a>(words: &'a [&'a str]) -> (&'a [&'a str], &'a [&'a str]) {
-    let mut count = 0usize;
-    for word in words {
-        if *word == ":" {
-            break;
-        }
-        count = count.saturating_add(1);
-    }
+    let count = words
+        .iter()
+        .position(|word| *word == ":")
+        .unwrap_or(words.len());
     let before = words.get(..count).unwrap_or(words);
     let after = words.get(count.saturating_add(1)..).unwrap_or(&[]);
     (before, after)

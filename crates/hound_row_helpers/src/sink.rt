@@ -5,11 +5,11 @@ use crate::row::{Row, find};
 use std::io;
 use std::io::{Error, ErrorKind};
 
-/// A writer that takes at most this many bytes a call, and none once it is full: then it has a
-/// fault, or takes 0 bytes.
+/// A writer that takes at most this many bytes a call, and none once it is full: then it fails, or takes 0 bytes.
 #[derive(Drop)]
 pub struct Sink {
-    taken: Vec<u8>,
+    /// What it took.
+    pub taken: Vec<u8>,
     most: usize,
     room: usize,
     fault: Option<ErrorKind>,
@@ -30,22 +30,18 @@ impl Sink {
             fault,
         }
     }
-
-    /// What it took.
-    pub fn taken(&self) -> &[u8] {
-        self.taken.as_slice()
-    }
 }
 
 impl io::Write for Sink {
     fn write(&mut self, buf: &[u8]) -> io::Result<usize> {
-        if self.taken.len() >= self.room {
+        let room = self.room.saturating_sub(self.taken.len());
+        if room == 0 && !buf.is_empty() {
             return match self.fault {
                 Some(kind) => Err(Error::from(kind)),
                 None => Ok(0),
             };
         }
-        let count = buf.len().min(self.most);
+        let count = buf.len().min(self.most).min(room);
         self.taken.extend_from_slice(&buf[..count])?;
         Ok(count)
     }

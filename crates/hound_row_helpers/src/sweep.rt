@@ -21,11 +21,12 @@ impl Sweep {
     }
 
     /// Takes the line of a run out of the row.
-    pub fn add(&mut self, row: &mut Row, has_begun: bool) {
+    pub fn add(&mut self, row: &mut Row) {
         self.runs = self.runs.saturating_add(1);
-        if has_begun {
+        if row.has_begun {
             self.begun = self.begun.saturating_add(1);
         }
+        row.has_begun = false;
         row.line.put("\n");
         self.crc.add(row.line.bytes());
         row.line.clear();
@@ -35,7 +36,7 @@ impl Sweep {
     pub fn show(self, row: &mut Row) {
         row.line.count("runs", self.runs);
         row.line.count("begun", self.begun);
-        row.line.word("crc");
-        row.line.hex(&self.crc.value().to_be_bytes());
+        row.line
+            .count("crc", format_args!("{:08x}", self.crc.value()));
     }
 }

@@ -1,9 +1,7 @@
-// Blocks: many samples that are read or written by one call.
+// Blocks: many samples that are read by one call.
 use crate::readers::Sum;
-use crate::values::{Kind, Value, at_type, put_value};
-use hound::{FloatBits, Medium, Result, WavReader, WavWriter};
-use hound_callers::Twelve;
-use hound_row_helpers::counting::Counted;
+use crate::values::{Value, at_type, put_value};
+use hound::WavReader;
 use hound_row_helpers::line::Line;
 use hound_row_helpers::row::Row;
 use std::io;
@@ -14,10 +12,7 @@ const MOST_SHOWN: usize = 8;
 /// `TYPE=N`, `TYPE=N*M` or `TYPE=N#`
 pub fn read_blocks(row: &mut Row, reader: &mut WavReader<impl io::Read + Drop>, ask: &str) {
     let (kind, extent) = row.split(ask, "=");
-    match Kind::of(kind) {
-        Some(kind) => at_type!(kind, read_as(row, reader, extent)),
-        None => row.reject(),
-    }
+    at_type!(kind, read_as(row, reader, extent), else row.reject());
 }
 
 fn read_as<T: Value>(row: &mut Row, reader: &mut WavReader<impl io::Read + Drop>, extent: &str) {
@@ -26,17 +21,20 @@ fn read_as<T: Value>(row: &mut Row, reader: &mut WavReader<impl io::Read + Drop>
         row.line.word("#");
         return Sum::of_blocks(reader, &mut samples).put(&mut row.line, ":");
     }
-    let blocks = Counted::of(row, extent);
-    for _ in 0..blocks.count {
-        let mut samples = unread::<T>(row, blocks.first);
+    let (length, count) = extent.split_once("*").unwrap_or((extent, "1"));
+    for _ in 0..row.number::<u32>(count) {
+        let mut samples = unread::<T>(row, length);
         read_block(&mut row.line, reader, &mut samples);
     }
 }
 
-// This many places, none of them read yet.
+// This many places, none of them read yet: each holds 85.
 fn unread<T: Value>(row: &mut Row, length: &str) -> Vec<T> {
     let mut samples = Vec::new(row.alloc);
-    if samples.resize(row.number(length), T::FILLER).is_err() {
+    if samples
+        .resize(row.number(length), T::of_number(85))
+        .is_err()
+    {
         row.line.fail();
     }
     samples
@@ -64,7 +62,9 @@ fn read_block<T: Value>(
 fn put_samples<T: Value>(line: &mut Line, samples: &[T]) {
     if samples.len() > MOST_SHOWN {
         line.put("#");
-        return line.put_shown(Sum::of_slice(samples).sum());
+        let mut sum = Sum::none();
+        sum.add_first(samples, samples.len());
+        return line.put_shown(sum.sum);
     }
     if samples.is_empty() {
         line.put("-");
@@ -74,31 +74,5 @@ fn put_samples<T: Value>(line: &mut Line, samples: &[T]) {
             line.put(",");
         }
         put_value(line, *sample);
-    }
-}
-
-/// Writes `V,V,..` as a block, each of which may be `V*N` or `V+N`; `-` is an empty one.
-pub fn write_block<T: Value>(
-    row: &mut Row,
-    writer: &mut WavWriter<impl Medium>,
-    values: &str,
-) -> Result<()> {
-    let mut samples = Vec::new(row.alloc);
-    if values != "-" {
-        for word in values.split(',') {
-            push_values::<T>(row, &mut samples, word);
-        }
-    }
-    writer.write_samples(&samples)
-}
-
-fn push_values<T: Value>(row: &mut Row, samples: &mut Vec<T>, word: &str) {
-    let values = Counted::of(row, word);
-    let mut value = T::of(row, values.first);
-    for _ in 0..values.count {
-        row.push(samples, value);
-        if values.counts_up {
-            value = value.next();
-        }
     }
 }

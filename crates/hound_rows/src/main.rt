@@ -17,80 +17,106 @@ mod tool;
 mod values;
 mod writers;
 
-use hound_row_helpers::row::Row;
+use hound_row_helpers::row::{Row, find, parts};
+use hound_row_helpers::sweep::Sweep;
 use std::io;
 use std::io::{BufWriter, ErrorKind, Write};
 use std::process::ExitCode;
-use values::Kind;
+use values::at_type;
 
-// Runs a row: its first word names the kind.
+// Runs a row: its first word names the kind. README.md has them all.
 fn answer(row: &mut Row, name: &str, words: &[&str]) {
-    match name {
-        // let NAME BYTES
-        "let" => row.define(words),
-        // riff BYTES OPTION..
-        "riff" => readers::riff(row, words),
-        // read BYTES OPTION.. : ASK..
-        "read" => readers::read(row, words),
-        // tape BYTES CALL..
-        "tape" => media::tape(row, words),
-        // journal BYTES CALL..
-        "journal" => media::journal(row, words),
-        // write HOW SPEC OPTION.. : ACT.. : END
-        "write" if is_of_writer(words) => writers::write(row, words),
-        // session SPEC OPTION.. : STEP.. : END
-        "session" | "sweep" => sessions::session(row, words),
-        // sessions SPEC OPTION.. : STEP.. | STEP.. | ..
-        "sessions" => sessions::sessions(row, words),
-        // repair HOW BYTES
-        "repair" => repairs::answer(row, words),
-        // tool WORD.. : BYTES OPTION..
-        "tool" => tool::tool(row, words),
-        _ => answer_small(row, name, words),
+    let (before, after) = parts(words);
+    match (name, before) {
+        ("read", [bytes, options @ ..]) => readers::read(row, bytes, options, after),
+        ("write", ["i8" | "i16" | "i32" | "f" | "own", ..]) => answer_sample(row, name, words),
+        ("write", [how, spec, options @ ..]) => writers::write(row, how, spec, options, after),
+        ("session" | "sweep", [spec, options @ ..]) => {
+            sessions::session(row, spec, options, after);
+        }
+        ("sessions", [spec, options @ ..]) => sessions::sessions(row, spec, options, after),
+        ("tool", words) => tool::tool(row, words, after),
+        _ => answer_bytes(row, name, words),
     }
 }
 
-// Runs a row of a number, a spec or a sample.
-fn answer_small(row: &mut Row, name: &str, words: &[&str]) {
-    match name {
-        // le TYPE VALUE
-        "le" => numbers::le(row, words),
-        // from TYPE HEX
-        "from" => numbers::from(row, words),
-        // at TYPE BYTES AT
-        "at" => numbers::at(row, words),
-        // signed BYTE, unsigned NUMBER
-        "signed" | "unsigned" => numbers::sign(row, name, words),
-        // fill BYTES OPTION..
-        "fill" => numbers::fill(row, words),
-        // write_bytes BYTES SINK
-        "write_bytes" => numbers::write(row, words),
-        // writable SPEC
-        "writable" => specs::writable(row, words),
-        // header SPEC RIFF_SIZE DATA_LENGTH
-        "header" => specs::header(row, words),
-        // infinite SPEC
-        "infinite" => specs::infinite(row, words),
-        // width BITS
-        "width" => specs::width(row, words),
-        // text NAME
-        "text" => specs::text(row, words),
-        // encode, write, write_padded, decode and short, of a TYPE
-        "encode" | "write" | "write_padded" | "decode" | "short" => {
-            samples::answer(row, name, words);
+// Runs a row over bytes.
+fn answer_bytes(row: &mut Row, name: &str, words: &[&str]) {
+    match (name, words) {
+        ("let", [name, bytes]) => row.define(name, bytes),
+        ("riff", [bytes, options @ ..]) => readers::riff(row, bytes, options),
+        ("tape", [bytes, calls @ ..]) => media::tape(row, bytes, calls),
+        ("journal", [bytes, calls @ ..]) => media::journal(row, bytes, calls),
+        ("repair", [how, bytes, options @ ..]) => repairs::answer(row, how, bytes, options),
+        ("from", [kind, hex]) => numbers::from(row, kind, hex),
+        ("at", [kind, bytes, at]) => numbers::at(row, kind, bytes, at),
+        ("fill", [bytes, options @ ..]) => numbers::fill(row, bytes, options),
+        ("write_bytes", [bytes, options @ ..]) => numbers::write(row, bytes, options),
+        _ => answer_number(row, name, words),
+    }
+}
+
+// Runs a row of a number, a spec or an error.
+fn answer_number(row: &mut Row, name: &str, words: &[&str]) {
+    match (name, words) {
+        ("le", [kind, number]) => numbers::le(row, kind, number),
+        ("signed", [byte]) => numbers::signed(row, byte),
+        ("unsigned", [number]) => numbers::unsigned(row, number),
+        ("writable", [spec]) => specs::writable(row, spec),
+        ("header", [spec, size, length]) => specs::header(row, spec, size, length),
+        ("infinite", [spec]) => specs::infinite(row, spec),
+        ("width", [bits]) => specs::width(row, bits),
+        ("text", [name]) => specs::text(row, name),
+        _ => answer_sample(row, name, words),
+    }
+}
+
+// Runs a row of a sample.
+fn answer_sample(row: &mut Row, name: &str, words: &[&str]) {
+    match (name, words) {
+        ("encode", [kind, value, bits, width]) => {
+            at_type!(*kind, samples::encode(row, value, bits, width), else row.reject());
         }
-        // to_float VALUE BITS, to_int PATTERN BITS, change VALUE OLD_BITS NEW_BITS
-        "to_float" | "to_int" | "change" => scales::answer(row, name, words),
+        ("write", [kind, value, bits, options @ ..]) => {
+            at_type!(*kind, samples::write(row, value, bits, options), else row.reject());
+        }
+        ("write_padded", [kind, value, bits, width, options @ ..]) => {
+            at_type!(
+                *kind,
+                samples::write_padded(row, value, bits, width, options),
+                else row.reject()
+            );
+        }
+        ("decode", [kind, format, width, bits, bytes]) => {
+            at_type!(*kind, samples::decode(row, format, width, bits, bytes), else row.reject());
+        }
+        ("short", [kind, value]) => samples::short(row, kind, value),
+        ("to_float" | "to_int" | "change", [value, bits @ ..]) => {
+            scales::answer(row, name, value, bits);
+        }
         _ => row.reject(),
     }
 }
 
-// Whether no type of samples comes after `write`.
-fn is_of_writer(words: &[&str]) -> bool {
-    match words.first() {
-        Some(first) => Kind::of(first).is_none(),
-        None => false,
+// Runs a row while each range of its first calls fails in turn.
+fn answer_swept(row: &mut Row, name: &str, words: &[&str], calls: u64) {
+    let mut sweep = Sweep::new();
+    row.is_swept = true;
+    for from in 1..calls.saturating_add(1) {
+        for to in from..calls.saturating_add(1) {
+            let Ok(fault) = format!(in row.alloc; "fail={from}..{to}") else {
+                return row.line.fail();
+            };
+            let mut run = Vec::new(row.alloc);
+            for word in words {
+                let is_range = word.starts_with("calls=");
+                row.push(&mut run, if is_range { fault.as_str() } else { *word });
+            }
+            answer(row, name, &run);
+            sweep.add(row);
+        }
     }
+    sweep.show(row);
 }
 
 // Handles a line of the input.
@@ -103,9 +129,15 @@ fn answer_line(row: &mut Row, text: &str) {
         return row.line.fail();
     };
     if let Some((name, words)) = words.as_slice().split_first() {
-        answer(row, name, words);
+        match find(words, "calls") {
+            Some(calls) if matches!(*name, "read" | "write" | "session" | "sweep") => {
+                let calls = row.number(calls);
+                answer_swept(row, name, words, calls);
+            }
+            _ => answer(row, name, words),
+        }
     }
-    if row.is_rejected() {
+    if row.is_rejected {
         row.line.clear();
         row.line.put("not a row");
     }
@@ -120,10 +152,10 @@ fn main(rt: HostRuntime) -> io::Result<ExitCode> {
     for line in text.lines() {
         answer_line(&mut row, line);
         row.line.put("\n");
-        if row.is_rejected() {
+        if row.is_rejected {
             status = ExitCode::FAILURE;
         }
-        if row.line.has_failed() {
+        if row.line.has_failed {
             return Err(io::Error::from(ErrorKind::OutOfMemory));
         }
         output.write_all(row.line.bytes())?;

@@ -8,9 +8,18 @@ use std::io;
 // The most bytes that a row reads at once.
 const MOST_READ: usize = 65536;
 
-/// Lets a journal take and give few bytes a call, and fail, by the options `most=N` and
-/// `fail=A..B`.
-pub fn set_faults(row: &mut Row, journal: &mut Journal, options: &[&str]) {
+/// A journal over these bytes, by the options `most=N` and `fail=A..B`.
+pub fn journal_of(row: &mut Row, bytes: Vec<u8>, options: &[&str]) -> Option<Journal> {
+    let Ok(mut journal) = Journal::new(row.alloc, bytes) else {
+        row.line.fail();
+        return None;
+    };
+    set_faults(row, &mut journal, options);
+    Some(journal)
+}
+
+// Lets a journal take and give few bytes a call, and fail.
+fn set_faults(row: &mut Row, journal: &mut Journal, options: &[&str]) {
     if let Some(most) = find(options, "most") {
         let most = row.number(most);
         if most == 0 {
@@ -49,10 +58,7 @@ fn put<M: Medium>(row: &mut Row, medium: &mut M, bytes: &str) {
         return row.reject();
     }
     match medium.put(bytes.as_slice()) {
-        Ok(count) => {
-            row.line.word("put:");
-            row.line.put_shown(count);
-        }
+        Ok(count) => row.line.shown(format_args!("put:{count}")),
         Err(fault) => row.line.error(Error::IoError(fault)),
     }
 }
@@ -80,10 +86,7 @@ fn get<S: Source>(row: &mut Row, source: &mut S, size: &str, is_read: bool) {
 }
 
 /// `tape BYTES CALL..`; after the word `lent` calls go to a `&mut` of the tape.
-pub fn tape(row: &mut Row, words: &[&str]) {
-    let [bytes, calls @ ..] = words else {
-        return row.reject();
-    };
+pub fn tape(row: &mut Row, bytes: &str, calls: &[&str]) {
     let mut tape = Tape::new(row.bytes(bytes));
     let is_lent = calls.first() == Some(&"lent");
     for word in calls {
@@ -102,13 +105,10 @@ pub fn tape(row: &mut Row, words: &[&str]) {
 }
 
 /// `journal BYTES CALL..`, likewise.
-pub fn journal(row: &mut Row, words: &[&str]) {
-    let [bytes, calls @ ..] = words else {
-        return row.reject();
-    };
+pub fn journal(row: &mut Row, bytes: &str, calls: &[&str]) {
     let bytes = row.bytes(bytes);
-    let Ok(mut journal) = Journal::new(row.alloc, bytes) else {
-        return row.line.fail();
+    let Some(mut journal) = journal_of(row, bytes, &[]) else {
+        return;
     };
     let is_lent = calls.first() == Some(&"lent");
     for word in calls {
@@ -137,9 +137,8 @@ fn call_journal(row: &mut Row, journal: &mut Journal, word: &str) {
             show_contents(row, journal, k);
         }
         "counts" => {
-            row.line.shown(journal.taken());
-            row.line.put("/");
-            row.line.put_shown(journal.flushed());
+            let (taken, flushed) = (journal.taken(), journal.flushed());
+            row.line.shown(format_args!("{taken}/{flushed}"));
         }
         "lent" => {}
         _ => row.reject(),

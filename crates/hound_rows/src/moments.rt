@@ -31,10 +31,7 @@ pub fn show_moments(row: &mut Row, journal: &Journal, from: usize, is_repaired: 
 // What a file of these bytes is: `FIELD/COUNT/SUM`, `FIELD/ERR` or `ERR`.
 fn put_moment(line: &mut Line, bytes: Vec<u8>) {
     let mut file = Tape::new(bytes);
-    let rejection = match WavReader::new(&mut file) {
-        Ok(_) => None,
-        Err(error) => Some(error),
-    };
+    let rejection = WavReader::new(&mut file).err();
     let left = left(&mut file);
     let bytes = Tape::bytes(&file);
     match rejection {
@@ -53,13 +50,12 @@ fn put_moment(line: &mut Line, bytes: Vec<u8>) {
 
 // Whether a file is rejected for its data length.
 fn is_of_length(error: &Error) -> bool {
-    match error {
-        Error::FormatError(reason) => matches!(
-            *reason,
+    matches!(
+        error,
+        Error::FormatError(
             "data chunk length is not a multiple of sample size" | "invalid data chunk length"
-        ),
-        _ => false,
-    }
+        )
+    )
 }
 
 // The data length in the field before the data, if this many bytes are left from the field on.

@@ -5,22 +5,18 @@ use hound_row_helpers::sweep::Sweep;
 
 /// `repair HOW BYTES`, or with the option `cuts` a sweep of such rows, a row for each beginning of
 /// the bytes.
-pub fn answer(row: &mut Row, words: &[&str]) {
-    let [how, bytes, options @ ..] = words else {
-        return row.reject();
-    };
+pub fn answer(row: &mut Row, how: &str, bytes: &str, options: &[&str]) {
     row.allow(options, &["cuts"]);
     let bytes = row.bytes(bytes);
     if find(options, "cuts").is_none() {
-        repair_one(row, how, bytes);
-        return;
+        return repair_one(row, how, bytes);
     }
     let mut sweep = Sweep::new();
     for length in 0..bytes.len().saturating_add(1) {
         match bytes.get(..length).unwrap_or(&[]).to_vec(row.alloc) {
             Ok(cut) => {
-                let is_found = repair_one(row, how, cut);
-                sweep.add(row, is_found);
+                repair_one(row, how, cut);
+                sweep.add(row);
             }
             Err(_) => row.line.fail(),
         }
@@ -29,31 +25,27 @@ pub fn answer(row: &mut Row, words: &[&str]) {
 }
 
 // Repairs a file, or looks at it, and says what was found and what it then holds.
-fn repair_one(row: &mut Row, how: &str, bytes: Vec<u8>) -> bool {
+fn repair_one(row: &mut Row, how: &str, bytes: Vec<u8>) {
     let tape = Tape::new(bytes);
     let answer = match how {
         "look" => find_damage(tape),
         "mend" => repair(tape),
         "to_end" => repair_to_end(tape),
-        _ => {
-            row.reject();
-            return false;
-        }
+        _ => return row.reject(),
     };
-    match answer {
+    row.has_begun = answer.is_ok();
+    let tape = match answer {
         Ok((tape, found)) => {
             show_found(row, found);
-            row.line.word(":");
-            row.line.contents(Tape::bytes(&tape));
-            true
+            tape
         }
         Err((tape, error)) => {
             row.line.error(error);
-            row.line.word(":");
-            row.line.contents(Tape::bytes(&tape));
-            false
+            tape
         }
-    }
+    };
+    row.line.word(":");
+    row.line.contents(Tape::bytes(&tape));
 }
 
 fn show_found(row: &mut Row, found: Repair) {

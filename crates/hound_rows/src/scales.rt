@@ -6,10 +6,7 @@ use hound::{FloatBits, change_bits, float_to_int, int_to_float};
 use hound_row_helpers::row::Row;
 
 /// `to_float VALUE BITS`, `to_int PATTERN BITS` and `change VALUE OLD_BITS NEW_BITS`
-pub fn answer(row: &mut Row, name: &str, words: &[&str]) {
-    let [value, bits @ ..] = words else {
-        return row.reject();
-    };
+pub fn answer(row: &mut Row, name: &str, value: &str, bits: &[&str]) {
     let bits = match bits {
         [bits] => [row.number(bits), 32],
         [old, new] => [row.number(old), row.number(new)],

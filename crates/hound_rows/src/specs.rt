@@ -6,20 +6,14 @@ use hound_row_helpers::row::Row;
 use hound_spec::header_of;
 
 /// `writable SPEC`
-pub fn writable(row: &mut Row, words: &[&str]) {
-    let [spec] = words else {
-        return row.reject();
-    };
+pub fn writable(row: &mut Row, spec: &str) {
     let spec_ex = row.spec(spec);
     row.line
         .word(if spec_ex.is_writable() { "yes" } else { "no" });
 }
 
 /// `header SPEC RIFF_SIZE DATA_LENGTH`
-pub fn header(row: &mut Row, words: &[&str]) {
-    let [spec, riff_size, data_length] = words else {
-        return row.reject();
-    };
+pub fn header(row: &mut Row, spec: &str, riff_size: &str, data_length: &str) {
     let spec_ex = row.spec(spec);
     let (riff_size, data_length) = (row.number(riff_size), row.number(data_length));
     if !spec_ex.is_writable() {
@@ -30,10 +24,7 @@ pub fn header(row: &mut Row, words: &[&str]) {
 }
 
 /// `infinite SPEC`
-pub fn infinite(row: &mut Row, words: &[&str]) {
-    let [spec] = words else {
-        return row.reject();
-    };
+pub fn infinite(row: &mut Row, spec: &str) {
     let spec = row.spec(spec).spec;
     match spec.into_header_for_infinite_file(row.alloc) {
         Ok(header) => row.line.hex(header.as_slice()),
@@ -42,10 +33,7 @@ pub fn infinite(row: &mut Row, words: &[&str]) {
 }
 
 /// `width BITS`
-pub fn width(row: &mut Row, words: &[&str]) {
-    let [bits] = words else {
-        return row.reject();
-    };
+pub fn width(row: &mut Row, bits: &str) {
     let spec_ex = WavSpecEx::from(WavSpec {
         channels: 1,
         sample_rate: 44100,
@@ -56,11 +44,8 @@ pub fn width(row: &mut Row, words: &[&str]) {
 }
 
 /// `text NAME`
-pub fn text(row: &mut Row, words: &[&str]) {
-    let [name] = words else {
-        return row.reject();
-    };
-    let error = match *name {
+pub fn text(row: &mut Row, name: &str) {
+    let error = match name {
         "FormatError" => Error::FormatError("no RIFF tag found"),
         "TooWide" => Error::TooWide,
         "UnfinishedSample" => Error::UnfinishedSample,

@@ -7,109 +7,125 @@ use hound_row_helpers::row::Row;
 /// A type of samples.
 pub trait Value: Sample + Copy {
     /// Whether values are written as patterns, in eight hex digits.
-    const IS_PATTERN: bool;
+    const IS_PATTERN: bool = false;
 
-    /// What each place of a block holds before it is read.
-    const FILLER: Self;
-
-    /// The value of a word.
-    fn of(row: &mut Row, word: &str) -> Self;
+    /// The value of these bytes, the lowest first; a narrow type leaves the others out.
+    fn of_bytes(bytes: [u8; 4]) -> Self;
 
     /// The value as a number; for a float that of its pattern.
     fn number(self) -> i64;
 
-    /// The value after this one; after the last of the type comes its first.
-    fn next(self) -> Self;
+    /// The value of this number, if the type has it.
+    fn of_number(number: i64) -> Self {
+        let [a, b, c, d, _, _, _, _] = number.to_le_bytes();
+        Self::of_bytes([a, b, c, d])
+    }
+
+    /// The value of a word.
+    fn of(row: &mut Row, word: &str) -> Self {
+        let number = if Self::IS_PATTERN {
+            row.hex(word, 4) as i64
+        } else {
+            row.number(word)
+        };
+        let value = Self::of_number(number);
+        if value.number() != number {
+            row.reject();
+        }
+        value
+    }
 }
 
 impl Value for i8 {
-    const IS_PATTERN: bool = false;
-
-    const FILLER: i8 = 85;
-
-    fn of(row: &mut Row, word: &str) -> i8 {
-        row.number(word)
+    fn of_bytes(bytes: [u8; 4]) -> i8 {
+        let [low, _, _, _] = bytes;
+        low.cast_signed()
     }
 
     fn number(self) -> i64 {
         self as i64
-    }
-
-    fn next(self) -> i8 {
-        self.wrapping_add(1)
     }
 }
 
 impl Value for i16 {
-    const IS_PATTERN: bool = false;
-
-    const FILLER: i16 = 85;
-
-    fn of(row: &mut Row, word: &str) -> i16 {
-        row.number(word)
+    fn of_bytes(bytes: [u8; 4]) -> i16 {
+        let [low, high, _, _] = bytes;
+        i16::from_le_bytes([low, high])
     }
 
     fn number(self) -> i64 {
         self as i64
-    }
-
-    fn next(self) -> i16 {
-        self.wrapping_add(1)
     }
 }
 
 impl Value for i32 {
-    const IS_PATTERN: bool = false;
-
-    const FILLER: i32 = 85;
-
-    fn of(row: &mut Row, word: &str) -> i32 {
-        row.number(word)
+    fn of_bytes(bytes: [u8; 4]) -> i32 {
+        i32::from_le_bytes(bytes)
     }
 
     fn number(self) -> i64 {
         self as i64
-    }
-
-    fn next(self) -> i32 {
-        self.wrapping_add(1)
     }
 }
 
 impl Value for FloatBits {
     const IS_PATTERN: bool = true;
 
-    const FILLER: FloatBits = FloatBits(85);
-
-    fn of(row: &mut Row, word: &str) -> FloatBits {
-        FloatBits(row.hex(word, 4))
+    fn of_bytes(bytes: [u8; 4]) -> FloatBits {
+        FloatBits(u32::from_le_bytes(bytes))
     }
 
     fn number(self) -> i64 {
         self.0 as i64
-    }
-
-    fn next(self) -> FloatBits {
-        FloatBits(self.0.wrapping_add(1))
     }
 }
 
 impl Value for Twelve {
-    const IS_PATTERN: bool = false;
-
-    const FILLER: Twelve = Twelve(85);
-
-    fn of(row: &mut Row, word: &str) -> Twelve {
-        Twelve(row.number(word))
+    fn of_bytes(bytes: [u8; 4]) -> Twelve {
+        let [low, high, _, _] = bytes;
+        Twelve(i16::from_le_bytes([low, high]))
     }
 
     fn number(self) -> i64 {
         self.0 as i64
     }
+}
 
-    fn next(self) -> Twelve {
-        Twelve(self.0.wrapping_add(1))
+// The value and the count of `VALUE`, `VALUE*N` or `VALUE+N`.
+fn counted<'a>(row: &mut Row, word: &'a str) -> (&'a str, u32) {
+    let mark = if word.contains('+') { "+" } else { "*" };
+    let (first, count) = word.split_once(mark).unwrap_or((word, "1"));
+    (first, row.number(count))
+}
+
+/// Adds the values of a word: `VALUE`, `VALUE*N` for N times the same, or `VALUE+N` for N that count up; after the
+/// last of the type comes its first.
+pub fn push_values<T: Value>(row: &mut Row, values: &mut Vec<T>, word: &str) {
+    let (first, count) = counted(row, word);
+    let step = if word.contains('+') { 1 } else { 0 };
+    let mut value = T::of(row, first);
+    for _ in 0..count {
+        row.push(values, value);
+        value = T::of_number(value.number().saturating_add(step));
     }
+}
+
+/// The values of `V,V,..`, each of which may be `V*N` or `V+N`.
+pub fn values_of<T: Value>(row: &mut Row, words: &str) -> Vec<T> {
+    let mut values = Vec::new(row.alloc);
+    for word in words.split(',') {
+        push_values(row, &mut values, word);
+    }
+    values
+}
+
+/// How many these are; there may be more of them than memory has room for.
+pub fn count_of(row: &mut Row, words: &str) -> u32 {
+    let mut count = 0u32;
+    for word in words.split(',') {
+        count = count.saturating_add(counted(row, word).1);
+    }
+    count
 }
 
 /// A value, or why there is none, as a word.
@@ -127,46 +143,22 @@ pub fn show<T: Value>(line: &mut Line, item: hound::Result<T>) {
 pub fn put_value<T: Value>(line: &mut Line, value: T) {
     let number = value.number();
     if T::IS_PATTERN {
-        let [_, _, _, _, a, b, c, d] = number.to_be_bytes();
-        line.put_hex(&[a, b, c, d]);
+        line.put_shown(format_args!("{number:08x}"));
     } else {
         line.put_shown(number);
     }
 }
 
-/// The types by their names.
-#[derive(Clone, Copy)]
-pub enum Kind {
-    Byte,
-    Short,
-    Long,
-    Pattern,
-    Own,
-}
-
-impl Kind {
-    /// The type of this name, if there is one.
-    pub fn of(name: &str) -> Option<Kind> {
-        match name {
-            "i8" => Some(Kind::Byte),
-            "i16" => Some(Kind::Short),
-            "i32" => Some(Kind::Long),
-            "f" => Some(Kind::Pattern),
-            "own" => Some(Kind::Own),
-            _ => None,
-        }
-    }
-}
-
-/// Calls a function for a type.
+/// Calls a function for the type of this name, or else does this.
 macro_rules! at_type {
-    ($kind:expr, $function:ident($($argument:expr),*)) => {
-        match $kind {
-            Kind::Byte => $function::<i8>($($argument),*),
-            Kind::Short => $function::<i16>($($argument),*),
-            Kind::Long => $function::<i32>($($argument),*),
-            Kind::Pattern => $function::<FloatBits>($($argument),*),
-            Kind::Own => $function::<Twelve>($($argument),*),
+    ($name:expr, $($function:ident)::+($($argument:expr),*), else $other:expr) => {
+        match $name {
+            "i8" => $($function)::+::<i8>($($argument),*),
+            "i16" => $($function)::+::<i16>($($argument),*),
+            "i32" => $($function)::+::<i32>($($argument),*),
+            "f" => $($function)::+::<hound::FloatBits>($($argument),*),
+            "own" => $($function)::+::<hound_callers::Twelve>($($argument),*),
+            _ => $other,
         }
     };
 }

@@ -2,102 +2,50 @@
 ghost use Rattle.std.specs.Prelude.{◌≡◌, ◌≤◌};
 ghost use Rattle.hound.specs.{WhereTells};
 
-use crate::blocks::write_block;
-use crate::kept::{Kept, recorded_of, tape_of};
-use crate::sessions::{first_moment, has_moments, has_repaired};
-use crate::values::{Kind, Value, at_type};
-use hound::{
-    Begin, Error, FloatBits, Medium, Result, SampleFormat, SampleWriter16, Source, WavWriter,
-};
-use hound_callers::Twelve;
-use hound_row_helpers::counting::Counted;
+use crate::kept::{Kept, recorded_of, show_medium, tape_of};
+use crate::sessions::end_of;
+use crate::values::{Value, at_type, count_of, push_values, values_of};
+use hound::{Begin, End, Error, Medium, Result, SampleFormat, Source, WavWriter};
 use hound_row_helpers::row::{Row, find, name_and_value, parts};
-use hound_row_helpers::sweep::Sweep;
 use std::result;
 
 // What is done with a writer.
 #[derive(Clone, Copy)]
 struct Script<'a> {
     constructor: &'a str,
-    spec: &'a str,
+    begin: Begin,
     acts: &'a [&'a str],
-    // It ends by `finalize` and not by a drop.
-    is_finalized: bool,
+    end: End,
     // It is over a `&mut` of its medium.
     is_lent: bool,
     options: &'a [&'a str],
 }
 
 /// `write HOW SPEC OPTION.. : ACT.. : END`
-pub fn write(row: &mut Row, words: &[&str]) {
-    let (words, others) = parts(words);
-    let (acts, end) = parts(others);
-    let [constructor, spec, options @ ..] = words else {
-        return row.reject();
-    };
+pub fn write(row: &mut Row, constructor: &str, spec: &str, options: &[&str], words: &[&str]) {
+    let (acts, end) = parts(words);
     row.allow(
         options,
-        &["over", "most", "fail", "tape", "lent", "moments", "calls"],
+        &["over", "most", "fail", "tape", "lent", "moments"],
     );
+    let begin = match constructor {
+        "new" | "ex" | "try" => Begin::New(row.spec(spec)),
+        "append" | "try_append" => Begin::Append,
+        _ => return row.reject(),
+    };
     let script = Script {
         constructor,
-        spec,
+        begin,
         acts,
-        is_finalized: is_finalized(row, end),
-        is_lent: find(options, "lent").is_some(),
+        end: end_of(row, end),
+        is_lent: row.is_swept || find(options, "lent").is_some(),
         options,
     };
-    if find(options, "calls").is_some() {
-        sweep(row, script);
-    } else if find(options, "tape").is_some() {
+    if find(options, "tape").is_some() {
         let tape = tape_of(row, options);
         write_over(row, script, tape);
     } else if let Some(recorded) = recorded_of(row, options) {
         write_over(row, script, recorded);
-    }
-}
-
-// Runs a script while each range of this many calls fails in turn, over a `&mut` of the medium. A
-// run has begun if the whole header was taken.
-fn sweep(row: &mut Row, script: Script<'_>) {
-    let calls = row.option(script.options, "calls", 0u64);
-    let script = Script {
-        is_lent: true,
-        ..script
-    };
-    let mut sweep = Sweep::new();
-    for from in 1..calls.saturating_add(1) {
-        for to in from..calls.saturating_add(1) {
-            let Some(mut recorded) = recorded_of(row, script.options) else {
-                return;
-            };
-            recorded.journal.fail(from, to);
-            let _ = run(row, script, &mut recorded);
-            show(row, script, &recorded);
-            let first = first_moment(begin_of(row, script));
-            sweep.add(row, recorded.journal.taken() >= first);
-        }
-    }
-    sweep.show(row);
-}
-
-// A new file of its spec, or one that is appended to.
-fn begin_of(row: &mut Row, script: Script<'_>) -> Begin {
-    match script.constructor {
-        "append" | "try_append" => Begin::Append,
-        _ => Begin::New(row.spec(script.spec)),
-    }
-}
-
-/// `finalize` and not `drop`.
-pub fn is_finalized(row: &mut Row, end: &[&str]) -> bool {
-    match end {
-        ["finalize"] => true,
-        ["drop"] => false,
-        _ => {
-            row.reject();
-            false
-        }
     }
 }
 
@@ -107,19 +55,9 @@ fn write_over<M: Kept>(row: &mut Row, script: Script<'_>, medium: M)
     if script.is_lent {
         let mut medium = medium;
         let _ = run(row, script, &mut medium);
-        show(row, script, &medium);
+        show_medium(row, &medium, script.begin, script.options);
     } else if let Some(medium) = run(row, script, medium) {
-        show(row, script, &medium);
-    }
-}
-
-fn show<M: Kept>(row: &mut Row, script: Script<'_>, medium: &M) {
-    row.line.word(":");
-    medium.show(row);
-    if has_moments(script.options) {
-        row.line.word(":");
-        let first = first_moment(begin_of(row, script));
-        medium.show_past(row, first, has_repaired(script.options));
+        show_medium(row, &medium, script.begin, script.options);
     }
 }
 
@@ -127,7 +65,7 @@ fn show<M: Kept>(row: &mut Row, script: Script<'_>, medium: &M) {
 fn run<M: Source + Medium>(row: &mut Row, script: Script<'_>, medium: M) -> Option<M>
     requires { WhereTells M.tells ((M.state medium).place ≡ 0) }
 {
-    let mut writer = match begin(row, script, medium) {
+    let mut writer = match begin(script, medium) {
         Ok(writer) => writer,
         Err((medium, error)) => {
             row.line.error(error);
@@ -146,91 +84,100 @@ fn run<M: Source + Medium>(row: &mut Row, script: Script<'_>, medium: M) -> Opti
 
 // A constructor that returns an error drops its medium or returns it.
 fn begin<M: Source + Medium>(
-    row: &mut Row,
     script: Script<'_>,
     medium: M,
 ) -> result::Result<WavWriter<M>, (Option<M>, Error)>
     requires { WhereTells M.tells ((M.state medium).place ≡ 0) }
 {
-    match script.constructor {
-        "new" => dropping(WavWriter::new(medium, row.spec(script.spec).spec)),
-        "ex" => dropping(WavWriter::new_with_spec_ex(medium, row.spec(script.spec))),
-        "try" => handing_back(WavWriter::try_new(medium, row.spec(script.spec))),
-        "append" => dropping(WavWriter::new_append(medium)),
-        _ => handing_back(WavWriter::try_append(medium)),
-    }
+    let made = match (script.constructor, script.begin) {
+        ("new", Begin::New(spec_ex)) => WavWriter::new(medium, spec_ex.spec),
+        ("ex", Begin::New(spec_ex)) => WavWriter::new_with_spec_ex(medium, spec_ex),
+        ("append", _) => WavWriter::new_append(medium),
+        (_, Begin::New(spec_ex)) => return returning(WavWriter::try_new(medium, spec_ex)),
+        (_, Begin::Append) => return returning(WavWriter::try_append(medium)),
+    };
+    made.map_err(|error| (None, error))
 }
 
-fn dropping<M: Medium>(
-    writer: Result<WavWriter<M>>,
+// The medium comes back with an error.
+fn returning<M: Medium>(
+    made: result::Result<WavWriter<M>, (M, Error)>,
 ) -> result::Result<WavWriter<M>, (Option<M>, Error)> {
-    match writer {
-        Ok(writer) => Ok(writer),
-        Err(error) => Err((None, error)),
-    }
-}
-
-fn handing_back<M: Medium>(
-    writer: result::Result<WavWriter<M>, (M, Error)>,
-) -> result::Result<WavWriter<M>, (Option<M>, Error)> {
-    match writer {
-        Ok(writer) => Ok(writer),
-        Err((medium, error)) => Err((Some(medium), error)),
-    }
+    made.map_err(|(medium, error)| (Some(medium), error))
 }
 
 fn end<M: Medium>(row: &mut Row, script: Script<'_>, writer: WavWriter<M>) -> Option<M> {
-    if script.is_lent {
-        end_lent(row, script, writer);
-        return None;
-    }
-    if script.is_finalized {
-        let (medium, answer) = writer.finalize_into();
-        row.line.answer(answer);
-        return Some(medium);
-    }
-    row.line.word("dropped");
-    Some(writer.drop_into())
-}
-
-fn end_lent<M: Medium>(row: &mut Row, script: Script<'_>, writer: WavWriter<M>) {
-    if script.is_finalized {
-        row.line.answer(writer.finalize());
-    } else {
-        row.line.word("dropped");
-        drop(writer);
+    match (script.end, script.is_lent) {
+        (End::Finalize, true) => {
+            row.line.answer(writer.finalize());
+            None
+        }
+        (End::Finalize, false) => {
+            let (medium, answer) = writer.finalize_into();
+            row.line.answer(answer);
+            Some(medium)
+        }
+        (End::Drop, true) => {
+            row.line.word("dropped");
+            drop(writer);
+            None
+        }
+        (End::Drop, false) => {
+            row.line.word("dropped");
+            Some(writer.drop_into())
+        }
     }
 }
 
 // An act, its result and the writer's length then.
 fn take<M: Medium>(row: &mut Row, writer: &mut WavWriter<M>, act: &str) {
     let (name, value) = name_and_value(act);
-    let block = name.strip_prefix("block:");
-    let answer = match (Kind::of(name), block.and_then(Kind::of)) {
-        (Some(kind), _) => at_type!(kind, write_values(row, writer, value)),
-        (None, Some(kind)) => at_type!(kind, write_block(row, writer, value)),
-        (None, None) => take_other(row, writer, name, value),
+    let answer = match name.strip_prefix("block:") {
+        Some(kind) => at_type!(kind, write_block(row, writer, value), else rejected(row)),
+        None => {
+            at_type!(
+                name,
+                write_values(row, writer, value),
+                else take_other(row, writer, name, value)
+            )
+        }
     };
     row.line.answer(answer);
     row.line.put(":");
     row.line.put_shown(writer.len());
 }
 
+// There is no such act.
+fn rejected(row: &mut Row) -> Result<()> {
+    row.reject();
+    Ok(())
+}
+
 // `TYPE=VALUE`, `TYPE=VALUE*N` or `TYPE=VALUE+N`, up to the first error.
 fn write_values<T: Value>(
     row: &mut Row,
     writer: &mut WavWriter<impl Medium>,
-    values: &str,
+    word: &str,
 ) -> Result<()> {
-    let values = Counted::of(row, values);
-    let mut value = T::of(row, values.first);
-    for _ in 0..values.count {
-        writer.write_sample(value)?;
-        if values.counts_up {
-            value = value.next();
-        }
+    let mut values = Vec::new(row.alloc);
+    push_values::<T>(row, &mut values, word);
+    for value in &values {
+        writer.write_sample(*value)?;
     }
     Ok(())
+}
+
+// `block:TYPE=V,V,..`; `-` is an empty one.
+fn write_block<T: Value>(
+    row: &mut Row,
+    writer: &mut WavWriter<impl Medium>,
+    words: &str,
+) -> Result<()> {
+    let values = match words {
+        "-" => Vec::new(row.alloc),
+        _ => values_of::<T>(row, words),
+    };
+    writer.write_samples(&values)
 }
 
 fn take_other<M: Medium>(
@@ -254,20 +201,8 @@ fn take_other<M: Medium>(
             let count = row.number(value);
             write_batch(row, writer, count, "", false)
         }
-        _ => {
-            row.reject();
-            Ok(())
-        }
+        _ => rejected(row),
     }
-}
-
-// How many samples `V,V,..` or `V+N` are.
-fn count_of(row: &mut Row, values: &str) -> u32 {
-    let mut count = 0u32;
-    for word in values.split(',') {
-        count = count.saturating_add(Counted::of(row, word).count);
-    }
-    count
 }
 
 // Begins a batch for this many samples, writes these, if any, and flushes or drops it. Files of
@@ -276,7 +211,7 @@ fn write_batch<M: Medium>(
     row: &mut Row,
     writer: &mut WavWriter<M>,
     count: u32,
-    values: &str,
+    words: &str,
     is_flushed: bool,
 ) -> Result<()> {
     let spec = writer.spec();
@@ -284,10 +219,16 @@ fn write_batch<M: Medium>(
         return Err(Error::Unsupported);
     }
     let mut batch = writer.get_i16_writer(row.alloc, count)?;
-    if !values.is_empty() {
-        fill(row, &mut batch, values);
-    } else if batch.remaining() != count {
+    if batch.remaining() != count {
         return Err(Error::UnfinishedSample);
+    }
+    if !words.is_empty() {
+        let values: Vec<i16> = values_of(row, words);
+        for value in &values {
+            if batch.remaining() >= 1 {
+                batch.write_sample(*value);
+            }
+        }
     }
     if !is_flushed {
         return Ok(());
@@ -296,18 +237,4 @@ fn write_batch<M: Medium>(
         return Err(Error::UnfinishedSample);
     }
     batch.flush()
-}
-
-// Writes samples while there is room for them.
-fn fill<M: Medium>(row: &mut Row, batch: &mut SampleWriter16<'_, M>, values: &str) {
-    for word in values.split(',') {
-        let values = Counted::of(row, word);
-        let mut value = i16::of(row, values.first);
-        for _ in 0..values.count {
-            if batch.remaining() >= 1 {
-                batch.write_sample(value);
-            }
-            value = value.wrapping_add(1);
-        }
-    }
 }
