@@ -4,7 +4,7 @@ use Rattle.std.proofs.lemmas.Option.{IfSome_then}
 use Rattle.std.specs.Io.KnownBytes.{Appends}
 use Rattle.std.proofs.Transfers.{starts_with_of_eq, starts_with_trans}
 use Rattle.hound_number.specs.{WhereKnown}
-use Rattle.hound_sample.specs.{ReadRejection, other_format, misfit, too_wide, unsupported, int_meaning, items_of, Reads, error_of_read}
+use Rattle.hound_sample.specs.{ReadRejection, other_format, misfit, too_wide, unsupported, items_of, Reads, error_of_read}
 use Rattle.hound_reader.specs.{ReaderState, meaning_at, rejection_at, GivesItems}
 use Rattle.hound_walk.specs.{IsRejection, Readable, Unreadable}
 use Rattle.std.specs.List.{flat_map}
@@ -12,13 +12,11 @@ use Rattle.hound_walk.specs.declared.cause.Cause.TheVariants as causes
 use Rattle.hound_spec.specs.declared.error.Error.{Error}
 use Rattle.hound_spec.specs.declared.error.Error.TheVariants as errors
 use Rattle.hound_spec.specs.declared.spec.SampleFormat.{SampleFormat}
-use Rattle.hound_spec.specs.declared.spec.SampleFormat.TheVariants.{Float, Int}
 use Rattle.hound_spec.specs.declared.spec.WavSpec.{WavSpec}
 use Rattle.hound_spec.specs.declared.spec.WavSpecEx.{WavSpecEx}
-use Rattle.hound_text.specs.{integer_line}
 use Rattle.hound_commands.proofs.Outputs.{appends-none, gets-more, gets-none, gets-stopped, gets-then, gets-written}
 use Rattle.hound_commands.specs.Commands.{failure_of}
-use Rattle.hound_commands.specs.Showing.{AnswersSamples, GetsBeginning, GetsBuffered, AreShowable, Shows, ShowsSamples, ShowsUntil, StopsAt, StopsSamples, spec_line, line_for, sample_line, sample_lines, show_rejection}
+use Rattle.hound_commands.specs.Showing.{AnswersSamples, GetsBeginning, GetsBuffered, AreShowable, Shows, ShowsSamples, ShowsUntil, StopsAt, StopsSamples, spec_line, sample_line, sample_lines, show_rejection}
 use Rattle.hound_commands.specs.declared.error.CommandError.{CommandError}
 use Rattle.hound_commands.specs.declared.error.CommandError.TheVariants.{BadNumber, InputOrOutput, Rejected}
 

@@ -1,6 +1,6 @@
 -- Bytes and samples that come of a source piece by piece.
 use Rattle.std.proofs.lemmas.Grind.{common_steps}
-use Rattle.std.proofs.Common.{◌≡◌, ℕ, ◌+◌, ◌-◌, ◌*◌, ◌^◌, ◌<◌, ◌≤◌, List, ◌++◌, map, length, take, drop, sym, ap, ◌∙◌, arith, drop_at, Option, Some, Result}
+use Rattle.std.proofs.Common.{◌≡◌, ℕ, ◌+◌, ◌*◌, ◌^◌, ◌<◌, ◌≤◌, List, ◌++◌, map, length, take, drop, sym, ap, ◌∙◌, arith, drop_at, Option, Some, Result}
 use Rattle.std.proofs.lemmas.List.{drop-append-le, drop-drop, length-take-le, map-append, take-append-drop, take-take}
 use Rattle.std.specs.declared.io.Error.{Error as IoFault}
 use Rattle.hound_medium.specs.{Gets, MediumState, count_of}

@@ -17,7 +17,6 @@ use Rattle.hound_repair.specs.declared.stages.Task.{Task}
 use Rattle.hound_writer.specs.declared.resuming.RepairState.{RepairState}
 use Rattle.hound_writer.specs.declared.resuming.RepairState.TheVariants.{HasChunksAfterData}
 use Rattle.hound_repair.specs.declared.stages.Unrepairable.{Unrepairable}
-use Rattle.hound_repair.specs.declared.stages.Unrepairable.TheVariants as reasons
 use Rattle.hound_repair.proofs.Lost.{first_sector, kept_loss, mending_is_safe, same_sector, survives}
 use Rattle.hound_repair.proofs.Mending.{length_is, put_ok, repairs_kept}
 use Rattle.hound_repair.proofs.Performing.{allowed, faults_of, mends, spans}

@@ -6,7 +6,6 @@ use Rattle.hound_writer.specs.declared.effects.Report.TheVariants.{Done}
 use Rattle.hound_repair.specs.Steps.{AsksNext, effects_left}
 use Rattle.hound_repair.specs.declared.machine.RepairStep.TheVariants.{Asks}
 use Rattle.hound_repair.specs.declared.machine.Repairing.{Repairing}
-use Rattle.hound_repair.specs.declared.machine.Repairing.TheVariants as states
 use Rattle.hound_repair.specs.declared.stages.Task.{Task}
 
 pub nearer : (task : Task) (n : ℕ) (bytes : List ℕ) (old new : Repairing) (action : Action)

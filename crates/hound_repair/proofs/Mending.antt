@@ -1,7 +1,6 @@
 -- What mending a file leaves.
 use Rattle.std.proofs.lemmas.Grind.{common_steps}
 use Rattle.std.proofs.Common.{◌≡◌, ℕ, ◌-◌, Bool, true, false, not, ◌&&◌, List, ◌++◌, length, sym, ap, ◌∙◌, subst, arith, eqb-true}
-use Rattle.hound_spec.specs.{riff_size}
 use Rattle.hound_medium.specs.{MediumState}
 use Rattle.hound_walk.specs.{IsSoundSpec}
 use Rattle.hound_writer.specs.{PutsNothing, field, with_sizes}

@@ -1,10 +1,9 @@
 use Rattle.std.proofs.lemmas.Grind.{common_steps}
-use Rattle.std.proofs.Common.{◌≡◌, ◌+◌, ◌*◌, ◌/◌, ◌<◌, ◌≤◌, ℕ, length, drop, min, Result, Ok, Err, IsErrAnd, inl, inr, sym, subst, arith, rules}
+use Rattle.std.proofs.Common.{◌≡◌, ◌+◌, ◌*◌, ◌/◌, ◌<◌, ◌≤◌, ℕ, length, min, Result, Ok, Err, IsErrAnd, inl, inr, sym, subst, arith}
 use Rattle.std.proofs.Math.Nat.{le-div_iff_mul-le}
 use Rattle.std.proofs.lemmas.List.{length-drop, take_all, take_at}
-use Rattle.std.specs.Prelude.{IfErr, OnErr, OnOk}
-use Rattle.hound.specs.{AreFirstSamples, Error, IsCauseOf, Readable, WavSpecEx, samples_left}
-use Rattle.hound_callers.specs.Memory.{HasAllSamples}
+use Rattle.std.specs.Prelude.{IfErr, OnErr}
+use Rattle.hound.specs.{Error, IsCauseOf, samples_left}
 use Rattle.hound_callers.proofs.reading.read_memory.Goals as goal
 
 -- an error that is passed on

@@ -1,4 +1,3 @@
-use Rattle.std.proofs.Common.{rules}
 use Rattle.std.proofs.lemmas.Grind.{common_steps}
 use Rattle.std.proofs.Common.{◌≡◌, ◌-◌, ◌*◌, ◌/◌, ◌∙◌, List, ℕ, drop, false, ap, arith, inl, length, length-drop, refl, sym}
 use Rattle.std.specs.Borrow.{Bor}

@@ -1,5 +1,4 @@
 use Rattle.std.proofs.lemmas.Grind.{common_steps}
-use Rattle.std.proofs.Common.{rules}
 use Rattle.std.proofs.Common.{None, Ok, Some, ap, arith, inl, length, refl, subst, sym}
 use Rattle.std.specs.Prelude.{⊤}
 use Rattle.hound.specs.{Advances, Recorder, Repeats, actions_left}

@@ -1,10 +1,6 @@
 use Rattle.std.proofs.lemmas.Grind.{common_steps}
-use Rattle.std.proofs.Common.{rules}
-use Rattle.std.proofs.Common.{◌≡◌, ◌++◌, ◌∙◌, ◌%◌, ◌+◌, [], suc, drop, append_assoc, append-nil, arith, ap, refl, subst, sym}
-use Rattle.std.specs.Prelude.{◌==◌}
+use Rattle.std.proofs.Common.{append_assoc, append-nil, arith}
 use Rattle.std.proofs.lemmas.List.{at_drop_more}
-use Rattle.hound.specs.{Recorded}
-use Rattle.hound_callers.specs.Recording.{block_asks, containers_by, recorder_asks}
 use Rattle.hound_callers.proofs.recording.record_blocks.Goals as goal
 
 pub loop-i-init : goal.loop-i-init

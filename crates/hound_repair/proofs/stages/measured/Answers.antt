@@ -1,6 +1,6 @@
 use Rattle.std.proofs.lemmas.Result.{err_from_is_err_and}
 use Rattle.std.proofs.lemmas.Grind.{common_steps}
-use Rattle.std.proofs.Common.{◌<◌, ◌≤◌, ◌-◌, ◌^◌, subst, arith, rules}
+use Rattle.std.proofs.Common.{◌<◌, ◌≤◌, ◌^◌, subst, arith, rules}
 use Rattle.hound_writer.proofs.Heads.{head_inside}
 use Rattle.hound_repair.specs.Damages.{shown_of}
 use Rattle.hound_repair.proofs.Measuring.{not_written, written}

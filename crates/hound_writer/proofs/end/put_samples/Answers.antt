@@ -1,5 +1,5 @@
 use Rattle.std.proofs.lemmas.Grind.{common_steps}
-use Rattle.std.proofs.Common.{◌≡◌, ◌+◌, ◌*◌, ◌-◌, length, ap, ◌∙◌, arith, rules}
+use Rattle.std.proofs.Common.{◌≡◌, ◌+◌, ◌*◌, length, ap, ◌∙◌, arith, rules}
 use Rattle.hound_sample.proofs.Joined.{have_part, joined_size}
 use Rattle.hound_writer.proofs.PutsMany.{piece_cut, piece_out}
 use Rattle.hound_writer.proofs.end.put_samples.Goals as goal
