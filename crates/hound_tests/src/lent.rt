@@ -1,6 +1,6 @@
-// What is left of a medium that was lent, after the calls that don't return it, and of one over which no writer or reader
-// is made: the contracts don't say where it is. The journal shows that nothing was written besides, and where it is by
-// what it gives next.
+// What is left of a medium that was lent, after the calls that don't return it, and of one over which no writer or
+// reader is made: the contracts don't say where it is. The journal shows that nothing was written besides, and where it
+// is by what it gives next.
 use hound::{Journal, Source, WavReader, WavSpec, WavWriter};
 use hound_test_helpers::{FOUR_SAMPLES, name_of, sixteen};
 use std::alloc::Global;
