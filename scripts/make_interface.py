@@ -311,6 +311,7 @@ TABLES = [
     ("bindings/js/page/page.js", r"^const FORMS = (.*)$"),
     ("bindings/tests/repairs.py", r"^    pairs = (.*)$"),
     ("crates/hound_rows/expected.py", r"^PAIRS = (.*)$"),
+    ("crates/hound_sample/src/lib.rt", r"^ +\((\d+, \d+)\) => \$call"),
 ]
 # What names their bits alone: a sentence, and what is guessed or chosen from.
 CHOICES = [

@@ -33,11 +33,11 @@ TYPES = {
         "resuming.RepairState",
         "resuming.FoundFile",
     ],
-    "hound_repair": ["look.Damage", "sizes.Repair"],
+    "hound_repair": ["look.Damage", "look.Repair"],
     "hound": ["session.Begin", "session.End", "session.Step"],
 }
 # The definitions whose comments are tables, by the crate that is between the two lines where these stand.
-TABLES = {"hound_writer": ["Machine", "Resuming"], "hound_repair": ["Steps"], "hound_slices": ["Walks"]}
+TABLES = {"hound_writer": ["Recorder", "Resuming"], "hound_repair": ["Steps"], "hound_slices": ["Walks"]}
 PROVING = "docs/PROVING.md"
 TABLES_BEGIN, TABLES_END = "<!-- made by scripts/make_words.py of {} -->", "<!-- the end of what it makes -->"
 # What is made of a contract and `SampleError` are private.

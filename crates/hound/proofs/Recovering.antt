@@ -14,7 +14,7 @@ use Rattle.hound_sample.proofs.Joined.{length-concat}
 use Rattle.hound_repair.proofs.Joining.{AreWide, wide_front}
 use Rattle.hound_repair.proofs.Keeping.{no_pad_shown, stays_stored}
 use Rattle.hound_repair.specs.{held, IsNoPad, ReadsFrames, Repairs}
-use Rattle.hound_repair.specs.declared.sizes.Repair.{Repair}
+use Rattle.hound_repair.specs.declared.look.Repair.{Repair}
 use Rattle.hound_writer.specs.declared.resuming.RepairState.TheVariants.{HasChunksAfterData}
 use Rattle.hound_writer.specs.{Asked, Call, field, IsStored, publish}
 use Rattle.hound_writer.proofs.Heads.{head_beyond, head_inside}

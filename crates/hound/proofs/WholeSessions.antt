@@ -22,8 +22,7 @@ use Rattle.hound_writer.proofs.Fresh.{none_accepted}
 use Rattle.hound_writer.proofs.Heads.{head_field, head_inside}
 use Rattle.hound_writer.proofs.Samples.{length_written, samples_out}
 use Rattle.hound.specs.declared.session.Step.{Step}
-use Rattle.hound.specs.Sessions.{AnswersStep, writer_after, AnswersAll, AnswersSession, IsReturned, RunsFrom, RunsOn, RunsOnce, RunsUntil, StopsAt, StopsEarly, all_steps}
-use Rattle.hound.specs.Run.{Takes, asked_by, accepted_by, containers_of}
+use Rattle.hound.specs.Run.{AnswersStep, writer_after, AnswersAll, AnswersSession, IsReturned, RunsFrom, RunsOn, RunsOnce, RunsUntil, StopsAt, StopsEarly, all_steps, Takes, asked_by, accepted_by, containers_of}
 use Rattle.hound.specs.declared.session.Begin.{Begin}
 use Rattle.hound.specs.declared.session.Begin.TheVariants.{New, Append}
 use Rattle.hound.specs.Headline.{NoFault, accepted_of}

@@ -17,15 +17,14 @@ ghost use Rattle.hound_writer.specs.declared.effects.Report.{Report};
 ghost use Rattle.hound_writer.specs.declared.effects.Report.TheVariants.{Pending};
 ghost use Rattle.hound_writer.specs.declared.effects.Effect.TheVariants.{Size, Sync};
 ghost use Rattle.hound_repair.specs.{ReadsFrames, Repairs};
-ghost use Rattle.hound_repair.specs.declared.sizes.Repair.{Repair};
+ghost use Rattle.hound_repair.specs.declared.look.Repair.{Repair};
 ghost use Rattle.hound_writer.specs.declared.resuming.RepairState.TheVariants.{HasChunksAfterData};
 ghost use Rattle.hound.specs.declared.session.Begin.TheVariants.{New};
 ghost use Rattle.hound.specs.declared.session.Begin.{Begin};
 ghost use Rattle.hound.specs.declared.session.End.{End};
 ghost use Rattle.hound.specs.Ending.{actions_left};
 ghost use Rattle.hound.specs.Headline.{HasPublished, Holds, HoldsAtEnd, IsLeftAfter, Keeps, Kept, KeptWithin, LeftWithin, accepted_as_seen, accepted_by_all, begins_at, seen};
-ghost use Rattle.hound.specs.Run.{BeginsAs, EndsAs, Ran, asked_by, containers_of};
-ghost use Rattle.hound.specs.Sessions.{RunsOn, all_steps};
+ghost use Rattle.hound.specs.Run.{BeginsAs, EndsAs, Ran, asked_by, containers_of, RunsOn, all_steps};
 
 use crate::session::Step;
 use hound_durable::Durable;

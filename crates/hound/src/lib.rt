@@ -69,8 +69,6 @@
 mod laws;
 mod runs;
 mod session;
-mod sessions;
-mod steps;
 
 pub use hound_durable::{Durable, SyncedFile, a_durable_medium_ascends};
 pub use hound_medium::{Journal, Medium, Placed, Source, Tape, put_all};
@@ -103,6 +101,5 @@ pub use laws::{
     an_ok_flush_is_kept, calls_are_a_run, sessions_leave_one_file, what_a_loss_leaves,
     what_is_kept, what_is_known,
 };
-pub use runs::run_session;
+pub use runs::{run_session, run_sessions};
 pub use session::{Begin, End, Step};
-pub use sessions::run_sessions;

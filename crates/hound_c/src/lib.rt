@@ -13,7 +13,7 @@ ghost use Rattle.hound_sample.specs.{double_of_int, float_of_int, int_container,
 ghost use Rattle.hound_spec.specs.declared.spec.SampleFormat.TheVariants.{Float, Int};
 ghost use Rattle.hound_walk.specs.declared.cause.Cause.{Cause};
 ghost use Rattle.hound_writer.specs.{Advances, AsksForBlock, AsksForCheckpoint, BeginsRecorder, LeavesRoom, Resumes};
-ghost use Rattle.hound_slices.specs.{AppendsInPlace, BeginsForC, BeginsRepairer, CountsClipped, CountsWhole, Decodes, Encodes, FindsInFile, GivesBeginning, GivesHeader, GivesSizes, GuessesData, IsDamageError, IsExplicit, IsKind, MakesContainer, NarrowsFloats, ReadsInto, Records, RepairsFile, Returns, Sizes, StepsRepairer, TakesNumbers, TakesPart, WidensFloats, WritesFile, clipped_among, effect_of, error_code, found_file, integers, mends, overwrites, recorder_of, report_of, spec_from_c};
+ghost use Rattle.hound_slices.specs.{AppendsInPlace, BeginsForC, BeginsRepairer, CountsWhole, Decodes, Encodes, EncodesFloats, FindsInFile, GivesBeginning, GivesHeader, GivesSizes, GuessesData, IsDamageError, IsExplicit, IsKind, MakesContainer, NarrowsFloats, ReadsInto, Records, RepairsFile, Returns, Sizes, StepsRepairer, TakesNumbers, TakesPart, WidensFloats, WritesFile, effect_of, error_code, found_file, mends, overwrites, recorder_of, report_of, spec_from_c};
 ghost use Rattle.hound_slices.specs.declared.error.CallError.{CallError as AnyError};
 ghost use Rattle.hound_slices.specs.declared.error.CallError.TheVariants.{Head};
 
@@ -21,15 +21,14 @@ use hound_repair::Task;
 use hound_sample::{FloatBits, UnitDouble, UnitFloat};
 use hound_slices::{
     CallError, HoundEffect, HoundInfo, HoundRecorder, HoundRepair, HoundRepairer, HoundSpec,
-    HoundWalk, append_block, begin_repairer, beginning_for_c, code_of, code_of_error,
-    container_of_8, container_of_16, container_of_24, container_of_32, decode_block, encode_block,
-    encode_floats, encode_with_noise, file_kind, file_size, find_file_damage, find_samples,
-    found_file, guess_data, info_for_c, mends, narrow_floats, overwrites, read_block,
-    recorder_for_c, recorder_of, repair_file, report_of, spec_from_c, step_repairer, step_walk,
-    value_of_8, value_of_16, value_of_24, value_of_32, whole_frames, widen_floats, write_file,
-    write_header, write_sizes,
+    HoundWalk, append_block, begin_repairer, beginning_for_c, code_of, code_of_error, container_of,
+    decode_block, encode_block, encode_floats, encode_with_noise, file_kind, file_size,
+    find_file_damage, found_file, guess_data, info_for_c, mends, narrow_floats, overwrites,
+    read_block, recorder_for_c, recorder_of, repair_file, report_of, spec_from_c, step_repairer,
+    step_walk, value_of, whole_frames, widen_floats, write_file, write_header, write_sizes,
 };
 use hound_spec::SampleFormat;
+use hound_walk::find_samples;
 use hound_writer::{Recorder, beginning_effect};
 
 /// What is before the data: 0, or why it can't be read.
@@ -46,7 +45,7 @@ pub extern "C" fn hound_info(file: &[u8], info: &mut HoundInfo) -> i32
             *info = info_for_c(head, samples);
             0
         }
-        Err(error) => code_of_error(error),
+        Err(cause) => code_of_error(CallError::Head(cause)),
     }
 }
 
@@ -327,7 +326,7 @@ pub extern "C" fn hound_encode_f32(spec: &HoundSpec, samples: &[FloatBits], out:
 pub extern "C" fn hound_value_8(container: u32) -> i32
     ensures { result ≡ int_meaning 1 8 (take 1 (bytes_of 4 container)) }
 {
-    value_of_8(container)
+    value_of(container, 8, 1)
 }
 
 /// The same of 16 bits.
@@ -335,7 +334,7 @@ pub extern "C" fn hound_value_8(container: u32) -> i32
 pub extern "C" fn hound_value_16(container: u32) -> i32
     ensures { result ≡ int_meaning 2 16 (take 2 (bytes_of 4 container)) }
 {
-    value_of_16(container)
+    value_of(container, 16, 2)
 }
 
 /// The same of 24 bits, in three bytes or four.
@@ -344,7 +343,7 @@ pub extern "C" fn hound_value_24(container: u32) -> i32
     ensures three { result ≡ int_meaning 3 24 (take 3 (bytes_of 4 container)) }
     ensures four { result ≡ int_meaning 4 24 (bytes_of 4 container) }
 {
-    value_of_24(container)
+    value_of(container, 24, 4)
 }
 
 /// The same of 32 bits.
@@ -352,7 +351,7 @@ pub extern "C" fn hound_value_24(container: u32) -> i32
 pub extern "C" fn hound_value_32(container: u32) -> i32
     ensures { result ≡ int_meaning 4 32 (bytes_of 4 container) }
 {
-    value_of_32(container)
+    value_of(container, 32, 4)
 }
 
 /// The container of an integer, in the low bytes of a number.
@@ -360,7 +359,7 @@ pub extern "C" fn hound_value_32(container: u32) -> i32
 pub extern "C" fn hound_container_8(value: i32) -> i64
     ensures { Returns result (MakesContainer (int_container value 8 1)) }
 {
-    code_of(container_of_8(value))
+    code_of(container_of(value, 8, 1))
 }
 
 /// The same of 16 bits.
@@ -368,7 +367,7 @@ pub extern "C" fn hound_container_8(value: i32) -> i64
 pub extern "C" fn hound_container_16(value: i32) -> i64
     ensures { Returns result (MakesContainer (int_container value 16 2)) }
 {
-    code_of(container_of_16(value))
+    code_of(container_of(value, 16, 2))
 }
 
 /// The same of 24 bits, in three bytes or four.
@@ -377,7 +376,7 @@ pub extern "C" fn hound_container_24(value: i32) -> i64
     ensures three { Returns result (MakesContainer (int_container value 24 3)) }
     ensures four { Returns result (MakesContainer (int_container value 24 4)) }
 {
-    code_of(container_of_24(value))
+    code_of(container_of(value, 24, 4))
 }
 
 /// The same of 32 bits.
@@ -385,7 +384,7 @@ pub extern "C" fn hound_container_24(value: i32) -> i64
 pub extern "C" fn hound_container_32(value: i32) -> i64
     ensures { Returns result (MakesContainer (int_container value 32 4)) }
 {
-    code_of(container_of_32(value))
+    code_of(container_of(value, 32, 4))
 }
 
 /// Decodes integers of a spec to floats whose full scale is 1.
@@ -416,9 +415,7 @@ pub extern "C" fn hound_from_f32(
     out: &mut [u8],
     clipped: &mut u64,
 ) -> i64
-    ensures encodes { let s = spec_from_c spec.now in Returns result
-        (Encodes Int int_container s (integers (λ x. x) s samples.now) out.old out.new) }
-    ensures counts { Returns result (CountsClipped (clipped_among (λ x. x) (spec_from_c spec.now) samples.now)
+    ensures { Returns result (EncodesFloats (λ x. x) (spec_from_c spec.now) samples.now out.old out.new
         clipped.old clipped.new) }
 {
     code_of(encode_floats::<f32>(*spec, samples, out, clipped))
@@ -432,9 +429,7 @@ pub extern "C" fn hound_from_f64(
     out: &mut [u8],
     clipped: &mut u64,
 ) -> i64
-    ensures encodes { let s = spec_from_c spec.now in Returns result
-        (Encodes Int int_container s (integers (λ x. x) s samples.now) out.old out.new) }
-    ensures counts { Returns result (CountsClipped (clipped_among (λ x. x) (spec_from_c spec.now) samples.now)
+    ensures { Returns result (EncodesFloats (λ x. x) (spec_from_c spec.now) samples.now out.old out.new
         clipped.old clipped.new) }
 {
     code_of(encode_floats::<f64>(*spec, samples, out, clipped))
@@ -449,11 +444,8 @@ pub extern "C" fn hound_dither_f32(
     out: &mut [u8],
     clipped: &mut u64,
 ) -> i64
-    ensures encodes { let s = spec_from_c spec.now in Returns result (Encodes Int int_container s
-        (integers (λ x. x) s (with_noise (λ x. x) s.spec.bits_per_sample state.old samples.now)) out.old out.new) }
-    ensures counts { let s = spec_from_c spec.now in Returns result (CountsClipped
-        (clipped_among (λ x. x) s (with_noise (λ x. x) s.spec.bits_per_sample state.old samples.now))
-        clipped.old clipped.new) }
+    ensures encodes { let s = spec_from_c spec.now in Returns result (EncodesFloats (λ x. x) s
+        (with_noise (λ x. x) s.spec.bits_per_sample state.old samples.now) out.old out.new clipped.old clipped.new) }
     ensures takes { Returns result (TakesNumbers (length samples.now) state.old state.new) }
 {
     code_of(encode_with_noise::<f32>(*spec, samples, state, out, clipped))
@@ -468,11 +460,8 @@ pub extern "C" fn hound_dither_f64(
     out: &mut [u8],
     clipped: &mut u64,
 ) -> i64
-    ensures encodes { let s = spec_from_c spec.now in Returns result (Encodes Int int_container s
-        (integers (λ x. x) s (with_noise (λ x. x) s.spec.bits_per_sample state.old samples.now)) out.old out.new) }
-    ensures counts { let s = spec_from_c spec.now in Returns result (CountsClipped
-        (clipped_among (λ x. x) s (with_noise (λ x. x) s.spec.bits_per_sample state.old samples.now))
-        clipped.old clipped.new) }
+    ensures encodes { let s = spec_from_c spec.now in Returns result (EncodesFloats (λ x. x) s
+        (with_noise (λ x. x) s.spec.bits_per_sample state.old samples.now) out.old out.new clipped.old clipped.new) }
     ensures takes { Returns result (TakesNumbers (length samples.now) state.old state.new) }
 {
     code_of(encode_with_noise::<f64>(*spec, samples, state, out, clipped))

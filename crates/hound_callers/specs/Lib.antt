@@ -1,5 +1,4 @@
 pub mod Recording
 pub mod Recorder
 pub mod Twelve
-pub mod Parts
 pub mod Memory

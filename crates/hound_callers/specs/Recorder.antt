@@ -1,9 +1,9 @@
 -- What callers do that perform a recorder's effects themselves.
-use Rattle.std.specs.Prelude.{◌≡◌, ◌⊎◌, ℕ, ◌+◌, ◌-◌, ◌*◌, ◌/◌, ◌%◌, ◌<◌, ◌≤◌, Bool, true, false, List, [], ◌∷◌, ◌++◌, length, take, drop, codes, Result, Ok, Err, is_ok}
+use Rattle.std.specs.Prelude.{◌≡◌, ◌⊎◌, ℕ, ◌+◌, ◌-◌, ◌*◌, ◌/◌, ◌%◌, ◌<◌, ◌≤◌, Bool, true, false, List, [], ◌∷◌, ◌++◌, length, take, drop, codes, Result, Ok, Err, is_ok, suc, nat_le, if◌then◌else◌}
 use Rattle.std.specs.declared.io.Error.{Error as IoFault}
 use Rattle.std.specs.Borrow.{Bor}
 use Rattle.std.specs.List.{AllByRecursion, flat_map}
-use Rattle.hound.specs.{Action, AppendsRecorder, Counts, DoesBeginnings, Ghosts, IsIoError, IsWritable, WhereTells, beginning, data_start, Kept, accepted_by_all, SurvivesLoss, accepted_samples, field, mix, FoundFile, HasData, Head, IsAlive, IsSoundSpec, LeavesWriter, Resumes, mark_of, resumed_file, writer_of, Asked, Begun, Directed, Error, Flushes, IsRejection, IsSaid, KeptWithin, Known, Log, MediumState, Performed, Phase, PutsAt, ReadsAs, Readable, Repeats, Recorder, RecorderError, Rejection, Report, Unreadable, WavSpecEx, bytes_of, effects_of, found_in, greatest_u32, if_marked, log_kind, padded, publish, riff_size, seen, start_of, whole_containers, write, one_more}
+use Rattle.hound.specs.{Action, AppendsRecorder, Counts, DoesBeginnings, Ghosts, IsIoError, IsWritable, WhereTells, beginning, data_start, Kept, accepted_by_all, SurvivesLoss, accepted_samples, field, mix, FoundFile, HasData, Head, IsAlive, IsSoundSpec, LeavesWriter, Resumes, mark_of, resumed_file, writer_of, Asked, Begun, Directed, Error, Flushes, IsRejection, IsSaid, KeptWithin, Known, Log, MediumState, Performed, Phase, PutsAt, ReadsAs, Readable, Repeats, Recorder, RecorderError, Rejection, Report, Unreadable, WavSpecEx, bytes_of, effects_of, found_in, greatest_u32, if_marked, log_kind, padded, publish, riff_size, seen, start_of, whole_containers, write, one_more, WhereKeeps, at_beginning, new_file}
 use Rattle.hound.specs.declared.Action.TheVariants.{Shorten, Perform, Read, WriteBlock}
 use Rattle.hound.specs.declared.Effect.TheVariants.{Pad, Size, Sync}
 use Rattle.hound.specs.declared.Health.TheVariants.{Sound}
@@ -215,3 +215,25 @@ Continues f old blocks n new = (r : Recorder) × (end : Log) × (samples : ℕ) 
 abbrev pub CountsDirected : WavSpecEx → Begun → List Known → MediumState → List ℕ → Type 0
 CountsDirected s file known m contents = (log : Log) × (log.state ≡ m) × (kept : Kept log_kind s file known log)
     × Counts s (start_of s file) (found_in file ++ accepted_by_all kept.left.recorded.calls) contents
+
+-- how many of these blocks, from the first on, have so many bytes at most in all
+abbrev pub run_within : List (Bor (List ℕ)) → ℕ → ℕ
+run_within [] most = 0
+run_within (block ∷ blocks) most =
+    if nat_le (length block.now) most then suc (run_within blocks (most - length block.now)) else 0
+
+-- A part of a recording. Of the next blocks those that have so many bytes at most in all are for it, so the one after
+-- them has no room. Either it couldn't be begun, and none was saved; or it is a new file in which so many of them were
+-- saved: all, or those before one at which a recorder stopped, because it was rejected or a call failed.
+abbrev pub IsPart : {M : Type 0} → Ghosts M → WavSpecEx → ℕ → List (Bor (List ℕ)) → M → M → ℕ → Type 0
+IsPart kind s most blocks old new n = ((n ≡ 0) × ((e : Error) × IsNotBegunBy kind s old new e))
+    ⊎ WhereKeeps kind.tells kind.keeps
+    (Saves s (new_file (at_beginning (kind.state old))) (take (run_within blocks most) blocks) n (kind.state new))
+
+-- The parts of a recording, as their media were before and as they are now. In each the next blocks were saved, n in
+-- all.
+abbrev pub AreParts : {M : Type 0} → Ghosts M → WavSpecEx → ℕ → List (Bor (List ℕ)) → List M → List M → ℕ → Type 0
+AreParts kind s most blocks [] [] n = n ≡ 0
+AreParts kind s most blocks (old ∷ olds) (new ∷ news) n = (first rest : ℕ) × (n ≡ first + rest)
+    × IsPart kind s most blocks old new first × AreParts kind s most (drop first blocks) olds news rest
+AreParts kind s most blocks _ _ n = ⊥

@@ -3,9 +3,7 @@
 #![tactic(auto)]
 
 mod callers;
-mod editing;
 mod example;
-mod parts;
 mod reading;
 mod recorder;
 mod recording;
@@ -15,16 +13,14 @@ pub use callers::{
     a_repair_by_hand_is_done_again, finish, look_and_repair, open_written, publish,
     repair_recording, sample_at, samples_of,
 };
-pub use editing::append_blocks;
 pub use example::record_and_read;
-pub use parts::record_in_parts;
 pub use reading::{opened_meanwhile, read_block, read_from, read_memory, reopen, written_and_read};
 pub use recorder::{
     a_cut_recording_counts, append_by_effects, begin_by_effects, continue_by_effects,
-    record_by_effects,
+    record_by_effects, record_in_parts,
 };
 pub use recording::{
-    finish_durable, pack_one, publish_and_continue, record, record_at_once, record_batch,
-    record_checkpoints, record_steps, write_if_short,
+    append_blocks, finish_durable, pack_one, publish_and_continue, record, record_at_once,
+    record_batch, record_checkpoints, record_steps, write_if_short,
 };
 pub use twelve::Twelve;

@@ -1,7 +1,7 @@
 // Recorders that make their calls themselves.
 ghost use Rattle.std.specs.Prelude.{◌≡◌, ◌⊎◌, ◌-◌, ◌/◌, ◌<◌, ◌≤◌, ℕ, Bool, false, true, List, ◌∷◌, ◌++◌, [], Err, Ok, Result, MatchResult, is_ok, IsFalse, IsOk, IfOk, IfErr, IsErrAnd, IsTrue, OnErr, OnOk, drop, length, map, replicate, take};
 ghost use Rattle.std.specs.List.{All, concat};
-ghost use Rattle.hound.specs.{Accepts, AcceptsBytes, AreKnown, Asked, Begins, ReadsAs, IsSameFile, Takes, Checkpoints, Error, Finishes, accepted_as_seen, field, found_in, start_of, i16_bytes, whole_containers, IsNotBegun, MediumState, Repair, Repairs, SurvivesLoss, Begun, Call, Known, Left, Recorded, returned, made, marked, new_file, publish, seen, write, int_container, Around, within, Kept, KeptWithin, accepted_by_all, canonical, data_start, AcceptsEach, Ascends, WritesToBatch, containers_in, fits, remaining, signed_bytes_of, ReadsFrames, IsSixteen, Ran, asked_by, containers_of, WhereKeeps, WhereTells, WriterState, IsWhole, accepted_samples, data_length, WavSpecEx};
+ghost use Rattle.hound.specs.{Accepts, AcceptsBytes, AreKnown, Asked, Begins, ReadsAs, IsSameFile, Takes, Checkpoints, Error, Finishes, accepted_as_seen, field, found_in, start_of, i16_bytes, whole_containers, IsNotBegun, MediumState, Repair, Repairs, SurvivesLoss, Begun, Call, Known, Left, Recorded, returned, made, marked, new_file, publish, seen, write, int_container, Around, within, Kept, KeptWithin, accepted_by_all, canonical, data_start, AcceptsEach, Ascends, WritesToBatch, containers_in, fits, remaining, signed_bytes_of, ReadsFrames, IsSixteen, Ran, asked_by, containers_of, WhereKeeps, WhereTells, WriterState, IsWhole, accepted_samples, data_length, WavSpecEx, Appends, ChangesSizesOnly, Holds, IsNotAppended, appended};
 ghost use Rattle.hound.specs.declared.RepairState.TheVariants.{HasChunksAfterData};
 ghost use Rattle.hound.specs.declared.session.Begin.TheVariants.{New};
 ghost use Rattle.hound.specs.declared.session.End.TheVariants.{Drop, Finalize};
@@ -12,8 +12,8 @@ use hound::{
     Begin, Durable, End, Error, Medium, Placed, Sample, SampleWriter16, Source, Step, WavSpecEx,
     WavWriter, a_batch_is_its_values, a_block_is_its_samples, a_durable_medium_ascends,
     a_repair_loses_no_published_sample, a_run_leaves_its_calls, a_write_is_marked_by_its_ok,
-    an_ok_flush_is_kept, calls_are_a_run, i16s_are_kept, run_session, sessions_leave_one_file,
-    what_a_loss_leaves, what_is_kept, what_is_known,
+    an_append_keeps_the_front, an_ok_flush_is_kept, calls_are_a_run, i16s_are_kept, run_session,
+    sessions_leave_one_file, what_a_loss_leaves, what_is_kept, what_is_known,
 };
 use std::alloc::Global;
 use std::result;
@@ -34,7 +34,7 @@ fn record_block<S: Sample + Copy, M: Medium>(
 }
 
 // Writes blocks, with a flush after every fourth, whatever the results are.
-pub(crate) fn record_blocks<S: Sample + Copy, M: Medium>(writer: &mut WavWriter<M>, blocks: &[&[S]])
+fn record_blocks<S: Sample + Copy, M: Medium>(writer: &mut WavWriter<M>, blocks: &[&[S]])
     ensures { (s : WavSpecEx) (file : Begun) (known : List Known) → Recorded M.Placed s file known writer.old
         → Recorded M.Placed s file (known ++ recorder_asks (containers_by S.container s) 0 blocks.now) writer.new }
 {
@@ -321,4 +321,30 @@ pub fn finish_durable<M: Medium>(writer: WavWriter<Durable<M>>) -> (M, hound::Re
     let (durable, result) = writer.finalize_into();
     a_durable_medium_ascends(&durable);
     (durable.into_inner(), result)
+}
+
+/// Appends blocks of samples to a file, with a flush after every fourth, and ends it, whatever the results of these
+/// calls are.
+///
+/// If the file had all its data, each byte before them stays except the two sizes, so metadata chunks do; and what is
+/// left holds what these calls promise, after the samples that were there. An error is that of `try_append`, and
+/// nothing was written.
+pub fn append_blocks<S: Sample + Copy, M: Source + Medium>(
+    medium: M,
+    blocks: &[&[S]],
+) -> result::Result<M, (M, Error)>
+    requires { WhereTells M.tells ((M.state medium).place ≡ 0) }
+    ensures { MatchResult result (λ left. (w : WriterState M) × Appends M.Placed (M.state medium) w
+        × WhereTells M.tells (IsWhole M.state w →
+        ChangesSizesOnly w.data_start (M.state medium).contents (M.state left).contents
+        × Holds M.Placed w.spec_ex (appended (M.state medium) w.data_start
+        (accepted_samples M.state w)) (all_asked S.container w.spec_ex blocks.now) left))
+        (λ rejected. WhereTells M.tells (IsNotAppended (M.state medium) (M.state rejected.0) rejected.1)) }
+{
+    what_is_kept::<M>();
+    an_append_keeps_the_front::<M>();
+    let mut writer = WavWriter::try_append(medium)?;
+    record_blocks(&mut writer, blocks);
+    let (medium, _) = writer.finalize_into();
+    Ok(medium)
 }

@@ -5,7 +5,7 @@ use Rattle.std.specs.Io.{StartsWith}
 use Rattle.std.specs.Io.KnownBytes.{Appends, Keeps}
 use Rattle.std.proofs.KnownBytes.{starts_with_rest}
 use Rattle.std.proofs.Transfers.{starts_with_of_append, starts_with_trans}
-use Rattle.hound_commands.specs.Showing.{GetsBeginning, GetsBuffered, PushesOut}
+use Rattle.hound_commands.specs.Commands.{GetsBeginning, GetsBuffered, PushesOut}
 
 -- texts appended one after the other
 pub appends-then : (old mid new : Option (List ℕ)) (first rest : List ℕ) → Appends old mid first

@@ -1,16 +1,14 @@
 // What the program does, over any reader and writers.
-ghost use Rattle.std.specs.Prelude.{◌≡◌, ◌≤◌, ◌↔◌, ◌⊎◌, ℤ, List, IfErr, IfSome, IsNone, MatchResult, OnOk};
+ghost use Rattle.std.specs.Prelude.{◌≡◌, ◌≤◌, ◌↔◌, ◌⊎◌, ℤ, List, IfErr, IfSome, IsNone, MatchResult, OnOk, IfOk};
 ghost use Rattle.hound_spec.specs.{with_default_width};
 ghost use Rattle.hound_spec.specs.declared.spec.SampleFormat.TheVariants.{Int};
 ghost use Rattle.hound_spec.specs.declared.spec.WavSpec.{WavSpec};
-ghost use Rattle.hound_commands.specs.Commands.{AreNumbersOf, IsCommand, IsPackCommand, IsShowCommand, Packs, PacksUntil, SaySpec};
-ghost use Rattle.hound_commands.specs.Showing.{Shows, ShowsUntil};
+ghost use Rattle.hound_commands.specs.Commands.{AreNumbersOf, IsCommand, IsPackCommand, IsShowCommand, Packs, PacksUntil, SaySpec, IsPacked, IsPackFailure, Shows, ShowsUntil};
 ghost use Rattle.hound_commands.specs.declared.error.CommandError.{CommandError};
 
 use crate::error::CommandError;
-use crate::packing::file_of;
 use crate::showing::show;
-use hound_medium::Tape;
+use hound_medium::{Placed, Tape};
 use hound_spec::{SampleFormat, WavSpec};
 use hound_text::{digits, read_numbers, write_text};
 use hound_writer::WavWriter;
@@ -157,4 +155,20 @@ fn append<R: io::Read>(
     }
     writer.finalize()?;
     Ok(())
+}
+
+/// The whole file of these samples, or the first cause for which there is none: the spec, a number that is too wide,
+/// the length, an unfinished frame.
+pub fn file_of(alloc: Global, spec: WavSpec, numbers: &[i32]) -> Result<Tape, CommandError>
+    requires integers { spec.sample_format ≡ Int }
+    ensures made { IfOk result (λ file. IsPacked (with_default_width spec) numbers.now
+        (⟦<Tape as Placed>⟧.state file).contents) }
+    ensures rejected { IfErr result (IsPackFailure (with_default_width spec) numbers.now) }
+{
+    let tape = Tape::new(Vec::new(alloc));
+    let mut writer = WavWriter::new(tape, spec)?;
+    writer.write_samples(numbers)?;
+    let (file, result) = writer.finalize_into();
+    result?;
+    Ok(file)
 }

@@ -3,7 +3,6 @@
 
 mod commands;
 mod error;
-mod packing;
 mod showing;
 
 pub use commands::{run, run_append};

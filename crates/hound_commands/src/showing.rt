@@ -2,7 +2,7 @@
 ghost use Rattle.std.specs.Prelude.{◌≡◌, ◌+◌, ◌<◌, ◌++◌, ℕ, List, IfErr, OnOk, length};
 ghost use Rattle.std.specs.List.{flat_map};
 ghost use Rattle.hound_reader.specs.{meaning_at, rejection_at};
-ghost use Rattle.hound_commands.specs.Showing.{AnswersSamples, PushesOut, Shows, ShowsUntil, sample_line, show_rejection, spec_line};
+ghost use Rattle.hound_commands.specs.Commands.{AnswersSamples, PushesOut, Shows, ShowsUntil, sample_line, show_rejection, spec_line};
 ghost use Rattle.hound_text.specs.{HasLineRoom, integer_line, pattern_line};
 
 use crate::error::CommandError;

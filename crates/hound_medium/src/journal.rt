@@ -7,8 +7,7 @@ ghost use Rattle.std.specs.Io.KnownBytes.{ReadConsumes};
 ghost use Rattle.hound_number.specs.{AreBytes};
 ghost use Rattle.hound_medium.specs.State.{overlay, moment, Goes, Shifts, Gets, Puts, Flushes, one_more, faults_after};
 
-use crate::bytes::copy_from;
-use crate::past::{put_and_keep, replay};
+use crate::bytes::{copy_from, put_and_keep, replay};
 use crate::{Medium, Placed, Source, count_fault};
 use hound_spec::{Error, Result};
 use std::alloc::Global;

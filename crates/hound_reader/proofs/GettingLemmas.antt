@@ -10,8 +10,7 @@ use Rattle.hound_spec.specs.declared.spec.SampleFormat.{SampleFormat}
 use Rattle.hound_spec.specs.declared.spec.WavSpecEx.{WavSpecEx}
 use Rattle.hound_sample.proofs.Containers.{containers_append, containers_front}
 use Rattle.hound_walk.specs.{unread}
-use Rattle.hound_reader.specs.Getting.{GetsAll, IsGetError, PassesBytes}
-use Rattle.hound_reader.specs.Memory.{AreFirstSamples}
+use Rattle.hound_reader.specs.Blocks.{GetsAll, IsGetError, PassesBytes, AreFirstSamples}
 use Rattle.hound_reader.specs.Reader.{HasGiven, meaning_at}
 use Rattle.hound_reader.specs.Seeking.{ReadsInPlace}
 use borrow.Rule.Slice.PartMut.{put_mid}

@@ -13,7 +13,7 @@ use Rattle.hound_sample.specs.declared.item.SampleError.{SampleError}
 use Rattle.hound_sample.specs.declared.item.SampleError.TheVariants.{Failed}
 use Rattle.hound_spec.specs.declared.spec.SampleFormat.{SampleFormat}
 use Rattle.hound_spec.specs.declared.spec.WavSpecEx.{WavSpecEx}
-use Rattle.hound_reader.specs.Memory.{IsCauseOf, IsCutAfter, IsReasonOf}
+use Rattle.hound_reader.specs.Blocks.{IsCauseOf, IsCutAfter, IsReasonOf}
 use Rattle.hound_reader.specs.Reader.{rejection_at}
 use Rattle.hound_spec.specs.declared.error.Error.TheVariants.{IoError}
 

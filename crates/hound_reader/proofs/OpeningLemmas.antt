@@ -6,7 +6,7 @@ use Rattle.hound_medium.specs.{MediumState}
 use Rattle.hound_spec.specs.declared.error.Error.{Error}
 use Rattle.hound_walk.specs.{ReportsError, TakesAll, UnreadableAfter, unread}
 use Rattle.hound_walk.specs.declared.cause.HeadError.{HeadError}
-use Rattle.hound_reader.specs.Opening.{FindsSamples, IsNotOpened}
+use Rattle.hound_reader.specs.Reader.{FindsSamples, IsNotOpened}
 
 -- a walk that found no samples: for a cause, or since a read failed
 pub not_opened : (stop : HeadError) (e : Error) (old new : MediumState) → ReportsError stop e

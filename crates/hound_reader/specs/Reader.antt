@@ -1,5 +1,5 @@
 -- A reader at its samples: its items, blocks of them, and how many bytes it gave.
-use Rattle.std.specs.Prelude.{◌≡◌, ℕ, ◌+◌, ◌-◌, ◌*◌, ◌%◌, ◌<◌, ◌≤◌, List, length, drop, Option, Some, None, IsSome, Result, Ok, Err, [], ◌∷◌, take, ⊤, min, OnOk, OnErr, ◌^◌}
+use Rattle.std.specs.Prelude.{◌≡◌, ℕ, ◌+◌, ◌-◌, ◌*◌, ◌%◌, ◌<◌, ◌≤◌, List, length, drop, Option, Some, None, IsSome, Result, Ok, Err, [], ◌∷◌, take, ⊤, min, OnOk, OnErr, ◌^◌, ◌⊎◌}
 use Rattle.std.specs.List.{AllByRecursion}
 use Rattle.hound_number.specs.{WhereKnown}
 use Rattle.hound_spec.specs.declared.error.Error.{Error}
@@ -7,13 +7,17 @@ use Rattle.hound_spec.specs.declared.error.Error.TheVariants.{IoError}
 use Rattle.hound_spec.specs.declared.spec.SampleFormat.{SampleFormat}
 use Rattle.hound_spec.specs.declared.spec.WavSpecEx.{WavSpecEx}
 use Rattle.hound_sample.specs.{ReadRejection, Reads, error_of_read, ReadsItem, error_of_sample, ReadsEach, items_of, answer_of}
-use Rattle.hound_walk.specs.{IsSoundSpec, AreTaken}
+use Rattle.hound_walk.specs.{IsSoundSpec, AreTaken, Names, Readable, UnreadableAfter, faults_after_walk, unread}
 use Rattle.hound_spec.specs.{greatest_u32}
 use Rattle.std.specs.declared.io.Error.{Error as IoFault}
 use Rattle.hound_sample.specs.declared.item.SampleError.{SampleError}
 use Rattle.hound_sample.specs.declared.item.SampleError.TheVariants.{Failed}
 use Rattle.std.proofs.Props.{props}
 use Rattle.std.specs.Coded.{Unit-prop}
+use Rattle.hound_medium.specs.{MediumState, Stays, one_more}
+use Rattle.hound_walk.specs.declared.cause.Cause.{Cause}
+use Rattle.hound_walk.specs.declared.cause.HeadError.{HeadError}
+use Rattle.hound_walk.specs.declared.chunks.FileHead.{FileHead}
 
 -- A reader as contracts see it: what it reads from, the spec with the width of a sample, how many samples the file has,
 -- how many of them were requested, and how many bytes these took since the data began.
@@ -196,3 +200,36 @@ pub HasGiven-prop : (first : Option (List ℕ)) (given : ℕ) (left : Option (Li
 HasGiven-prop None given left = Unit-prop
 HasGiven-prop (Some xs) given None = λ a b. absurd a
 HasGiven-prop (Some xs) given (Some ys) = hlevel props
+
+-- the result of a walk to the samples of these bytes, of which `rest` is left
+abbrev pub AnswersSamples : Result (FileHead × ℕ) HeadError → List ℕ → List ℕ → Type 0
+AnswersSamples (Ok found) bytes rest =
+    Readable bytes found.0.spec_ex found.1 found.0.data_start × (rest ≡ drop found.0.data_start bytes)
+AnswersSamples (Err stop) bytes rest = ⊤
+
+-- a walk over a source: its result is that of the bytes from the place on, and only the place moves
+pub record FindsSamples (result : Result (FileHead × ℕ) HeadError) (old new : MediumState) : Type 0
+  where
+    pub answer : AnswersSamples result (unread old) (unread new)
+    pub faults : new.faults ≡ faults_after_walk result old.faults
+    pub stays : Stays old new
+    pub flushed : new.flushed ≡ old.flushed
+
+-- A reader of a source: its bytes have a head with whole frames, exactly what is before the data was taken, and nothing
+-- else has changed.
+pub record OpensSource {R : Type 0} (old : MediumState) (state : R → MediumState) (r : ReaderState R) : Type 0 where
+  pub start : ℕ
+  pub readable : Readable (unread old) r.spec_ex r.num_samples start
+  pub rest : unread (state r.reader) ≡ drop start (unread old)
+  pub stays : Stays old (state r.reader)
+  pub flushed : (state r.reader).flushed ≡ old.flushed
+  pub faults : (state r.reader).faults ≡ old.faults
+
+-- A file that isn't opened: for a cause that its bytes have, for which exactly so many of them were taken; or since a
+-- read failed, which the source has counted. Nothing else has changed.
+pub record IsNotOpened (old new : MediumState) (e : Error) : Type 0 where
+  pub stays : Stays old new
+  pub flushed : new.flushed ≡ old.flushed
+  pub why : ((cause : Cause) × (n : ℕ) × UnreadableAfter (unread old) cause n × Names e cause
+      × AreTaken n (unread old) (unread new) × (new.faults ≡ old.faults))
+      ⊎ ((fault : IoFault) × (e ≡ IoError fault) × (new.faults ≡ one_more old.faults))

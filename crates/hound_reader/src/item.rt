@@ -216,14 +216,8 @@ pub(crate) fn read_item_since<'a, R: io::Read, S: Sample, B: CountStart>(
         given: 0,
         since: PhantomData::<B>,
     };
-    let spec = spec_ex.spec;
-    let width = spec_ex.bytes_per_sample;
-    *answer = S::read_item(
-        &mut counting,
-        spec.sample_format,
-        width,
-        spec.bits_per_sample,
-    );
+    let (format, bits) = (spec_ex.spec.sample_format, spec_ex.spec.bits_per_sample);
+    *answer = S::read_item(&mut counting, format, spec_ex.bytes_per_sample, bits);
     (counting.reader, counting.given)
 }
 
@@ -240,15 +234,8 @@ fn read_many<R: io::Read, S: Sample>(
     ensures front { FillsFront result.0 result.1 samples.old samples.new }
     ensures untouched { IsSome (rejection_at S.rejection spec_ex) → reader.new ≡ reader.old }
 {
-    let spec = spec_ex.spec;
-    let width = spec_ex.bytes_per_sample;
-    let (count, read) = S::read_many(
-        reader,
-        samples,
-        spec.sample_format,
-        width,
-        spec.bits_per_sample,
-    );
+    let (format, bits) = (spec_ex.spec.sample_format, spec_ex.spec.bits_per_sample);
+    let (count, read) = S::read_many(reader, samples, format, spec_ex.bytes_per_sample, bits);
     match read {
         Ok(()) => (count, Ok(())),
         Err(error) => (count, Err(reason_of(error))),

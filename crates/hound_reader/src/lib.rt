@@ -4,11 +4,9 @@
 //! container for each.
 #![tactic(auto)]
 
-mod file;
-mod getting;
+mod blocks;
 mod item;
 mod laws;
-mod memory;
 mod reader;
 mod samples;
 

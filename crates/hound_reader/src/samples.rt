@@ -18,12 +18,9 @@ use std::marker::PhantomData;
 #[derive(Drop)]
 pub struct WavSamples<'wr, R, S> {
     pub(crate) reader: &'wr mut WavReader<R>,
-
     // A copy of the reader's, which a loop over the items can keep in registers.
     pub(crate) spec_ex: WavSpecEx,
-
     pub(crate) phantom_sample: PhantomData<S>,
-
     ghost same: { spec_ex ≡ reader.now.spec_ex },
 }
 

@@ -13,7 +13,7 @@ use Rattle.hound_writer.proofs.Heads.{head_beyond, head_field, head_inside}
 use Rattle.hound_writer.specs.{field}
 use Rattle.hound_repair.specs.Held.{are_right, data_held, ends_with_pad, frame_length, frames_held, held, mended, missing_pad, shown_length, uncounted}
 use Rattle.hound_repair.specs.Repairing.{HasRightLength, IsFoundAt, LeavesFor, Repairs, found_length, is_mended}
-use Rattle.hound_repair.specs.declared.sizes.Repair.{Repair}
+use Rattle.hound_repair.specs.declared.look.Repair.{Repair}
 use Rattle.hound_writer.specs.declared.resuming.RepairState.{RepairState}
 use Rattle.hound_writer.specs.declared.resuming.RepairState.TheVariants.{Whole, HasChunksAfterData, AllCounted}
 use Rattle.hound_repair.proofs.RightSizes.{frames_are, length_of, not_followed, same_sizes, sizes_of}

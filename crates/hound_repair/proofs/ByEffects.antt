@@ -8,9 +8,8 @@ use Rattle.hound_spec.specs.declared.error.Error.TheVariants.{IoError}
 use Rattle.hound_medium.specs.{MediumState, moment, one_more, overlay}
 use Rattle.hound_writer.specs.{PutsNothing}
 use Rattle.hound_writer.proofs.Heads.{head_beyond, head_inside}
-use Rattle.hound_repair.specs.Damages.{FindsDamage, IsSoundDamage, repair_of}
+use Rattle.hound_repair.specs.Repairing.{FindsDamage, IsSoundDamage, repair_of, IsNotFound, IsRepairFault, Repairs, is_mended}
 use Rattle.hound_repair.specs.Held.{held}
-use Rattle.hound_repair.specs.Repairing.{IsNotFound, IsRepairFault, Repairs, is_mended}
 use Rattle.hound_repair.specs.Steps.{IsNotRepaired, IsRejectedFor, IsRepair, Mends, MendsAtEach, MendsThroughLoss, PartlyMended, PerformedOn, effects_of_task, effects_where, looks_for_chunks, mending, mending_effects, mends_for, rejected_for}
 use Rattle.hound_repair.specs.declared.look.Damage.{Damage}
 use Rattle.hound_repair.specs.declared.stages.Task.{Task}

@@ -6,7 +6,7 @@ use Rattle.hound_walk.proofs.Unique.{heads_agree}
 use Rattle.hound_writer.specs.{IsIoError}
 use Rattle.hound_repair.specs.Repairing.{Finds, IsFoundAt, Repairs}
 use Rattle.hound_repair.specs.Steps.{IsNotRepaired}
-use Rattle.hound_repair.specs.declared.sizes.Repair.{Repair}
+use Rattle.hound_repair.specs.declared.look.Repair.{Repair}
 use Rattle.hound_repair.proofs.Keeping.{only_io}
 
 one_found : (looks : Bool) (contents : List ℕ) (found other : Repair) (len start m h : ℕ)

@@ -8,11 +8,10 @@ use Rattle.hound_number.specs.{bytes_of}
 use Rattle.hound_number.proofs.Mixing.{length-bytes_of}
 use Rattle.hound_medium.specs.{MediumState}
 use Rattle.hound_writer.specs.{with_sizes}
-use Rattle.hound_repair.specs.Damages.{FindsDamage, IsSoundDamage, repair_of, RepairsBytes, as_medium}
+use Rattle.hound_repair.specs.Repairing.{FindsDamage, IsSoundDamage, repair_of, RepairsBytes, as_medium, Repairs, is_mended}
 use Rattle.hound_repair.specs.Held.{mended, missing_pad}
-use Rattle.hound_repair.specs.Repairing.{Repairs, is_mended}
 use Rattle.hound_repair.specs.declared.look.Damage.{Damage}
-use Rattle.hound_repair.specs.declared.sizes.Repair.{Repair}
+use Rattle.hound_repair.specs.declared.look.Repair.{Repair}
 use Rattle.hound_repair.proofs.Mending.{length_is, mended_by, repairs_mended}
 use Rattle.hound_repair.proofs.RightSizes.{mended_apart}
 

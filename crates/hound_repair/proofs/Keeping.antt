@@ -18,7 +18,7 @@ use Rattle.hound_repair.specs.Held.{data_held, ends_with_pad, frame_length, held
 use Rattle.hound_spec.specs.declared.error.Error.{Error}
 use Rattle.hound_repair.specs.Repairing.{IsNoPad, IsRepairFault, LeavesFor, ReadsFrames, Repairs, repair_fault}
 use Rattle.hound_repair.specs.Steps.{IsNotRepaired, LeavesPartly}
-use Rattle.hound_repair.specs.declared.sizes.Repair.{Repair}
+use Rattle.hound_repair.specs.declared.look.Repair.{Repair}
 use Rattle.hound_writer.specs.declared.resuming.RepairState.TheVariants.{HasChunksAfterData}
 use Rattle.hound_repair.proofs.Again.{uncounted_cases}
 use Rattle.hound_repair.proofs.Joining.{AreWide, concat_front, wide_take}

@@ -4,11 +4,10 @@ use Rattle.std.proofs.Common.{◌≡◌, ℕ, ◌-◌, Bool, true, false, not, �
 use Rattle.hound_medium.specs.{MediumState}
 use Rattle.hound_walk.specs.{IsSoundSpec}
 use Rattle.hound_writer.specs.{PutsNothing, field, with_sizes}
-use Rattle.hound_repair.specs.Damages.{FindsDamage, IsSoundDamage, repair_of}
+use Rattle.hound_repair.specs.Repairing.{FindsDamage, IsSoundDamage, repair_of, HasRightLength, IsFoundAt, Repairs, UnlessFollowed, found_length, is_mended, state_of}
 use Rattle.hound_repair.specs.Held.{held, mended, missing_pad}
-use Rattle.hound_repair.specs.Repairing.{HasRightLength, IsFoundAt, Repairs, UnlessFollowed, found_length, is_mended, state_of}
 use Rattle.hound_repair.specs.declared.look.Damage.{Damage}
-use Rattle.hound_repair.specs.declared.sizes.Repair.{Repair}
+use Rattle.hound_repair.specs.declared.look.Repair.{Repair}
 use Rattle.hound_writer.specs.declared.resuming.RepairState.{RepairState}
 use Rattle.hound_writer.specs.declared.resuming.RepairState.TheVariants.{Whole, HasChunksAfterData}
 use Rattle.hound_repair.proofs.RightSizes.{held_frames, kept_counts, length_of, mended_apart, right_length_put, right_length_there, right_riff_put}

@@ -14,7 +14,7 @@ use Rattle.hound_writer.proofs.Patching.{data_length_of_sizes, riff_size_of_size
 use Rattle.hound_writer.proofs.Sizes.{same_length, same_riff, same_transitive}
 use Rattle.hound_repair.specs.Held.{frame_length, frames_held, held, mended, missing_pad, right_length, shown_length}
 use Rattle.hound_repair.specs.Repairing.{HasRightLength, IsFoundAt, UnlessFollowed, found_length, frames_found, is_mended, repair_fault, size_fault, state_of}
-use Rattle.hound_repair.specs.declared.sizes.Repair.{Repair}
+use Rattle.hound_repair.specs.declared.look.Repair.{Repair}
 use Rattle.hound_writer.specs.declared.resuming.RepairState.{RepairState}
 use Rattle.hound_writer.specs.declared.resuming.RepairState.TheVariants.{HasChunksAfterData}
 

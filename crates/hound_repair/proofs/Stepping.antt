@@ -14,13 +14,12 @@ use Rattle.hound_repair.proofs.Again.{held_cases, uncounted_cases}
 use Rattle.hound_repair.proofs.RightSizes.{check_fits}
 use Rattle.hound_repair.specs.declared.look.SeenHead.{SeenHead}
 use Rattle.hound_repair.specs.Held.{are_chunks, begins_chunk, chunk_content, ends_with_id3, has_known_tag, held, is_followed, right_length, shown_length, uncounted}
-use Rattle.hound_repair.specs.Repairing.{repair_fault, size_fault, state_of}
+use Rattle.hound_repair.specs.Repairing.{repair_fault, size_fault, state_of, IsSoundDamage, shown_of}
 use Rattle.hound_repair.specs.Steps.{IsAtChunk, IsFoundAs, IsLengthOf, IsMeasured, IsNotWhole, IsShown, LooksTo, else_followed, followed, has_all, has_right, steps_left, tagged}
 use Rattle.hound_writer.specs.declared.resuming.RepairState.TheVariants.{HasChunksAfterData}
 use Rattle.hound_repair.specs.declared.look.Damage.{Damage}
 use Rattle.hound_repair.specs.declared.stages.LookStep.TheVariants.{Found}
 use Rattle.hound_repair.specs.declared.stages.Stage.TheVariants as stages
-use Rattle.hound_repair.specs.Damages.{IsSoundDamage, shown_of}
 use Rattle.hound_writer.specs.{field, too_long}
 use Rattle.hound_writer.proofs.Heads.{head_inside}
 use Rattle.hound_repair.proofs.Measuring.{written}

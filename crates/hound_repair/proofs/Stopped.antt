@@ -12,7 +12,7 @@ use Rattle.hound_writer.specs.{field}
 use Rattle.hound_repair.specs.Held.{data_held, frame_length, frames_held, held, shown_length}
 use Rattle.hound_repair.specs.Repairing.{IsFoundAt, Repairs, found_length, repair_fault, size_fault}
 use Rattle.hound_repair.specs.Steps.{PartlyMended}
-use Rattle.hound_repair.specs.declared.sizes.Repair.{Repair}
+use Rattle.hound_repair.specs.declared.look.Repair.{Repair}
 use Rattle.hound_writer.specs.declared.resuming.RepairState.TheVariants.{HasChunksAfterData}
 use Rattle.hound_repair.proofs.Again.{frames_padded}
 use Rattle.hound_repair.proofs.Resuming.{frames_shown}

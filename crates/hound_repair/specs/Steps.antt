@@ -11,11 +11,10 @@ use Rattle.hound_medium.specs.{Flushes, MediumState, moment, one_more}
 use Rattle.hound_writer.specs.{AppendFault, IsIoError, NamesFault, PutsAt, PutsNothing, SameButSizes, by_bytes, field, nth, too_long}
 use Rattle.hound_writer.specs.declared.effects.Effect.{Effect}
 use Rattle.hound_writer.specs.declared.effects.Effect.TheVariants.{Sync, Pad, Size}
-use Rattle.hound_repair.specs.Damages.{FindsDamage, IsSoundDamage, repair_of, shown_of}
+use Rattle.hound_repair.specs.Repairing.{FindsDamage, IsSoundDamage, repair_of, shown_of, HasUnfitHead, IsFoundAt, IsRepairFault, Repairs, found_length, is_mended, repair_fault, state_of, unfollowed_state}
 use Rattle.hound_repair.specs.Held.{are_chunks, are_right, begins_chunk, counts_all, ends_with_id3, held, is_followed, mended, missing_pad, shown_length}
-use Rattle.hound_repair.specs.Repairing.{HasUnfitHead, IsFoundAt, IsRepairFault, Repairs, found_length, is_mended, repair_fault, state_of, unfollowed_state}
 use Rattle.hound_repair.specs.declared.look.Damage.{Damage}
-use Rattle.hound_repair.specs.declared.sizes.Repair.{Repair}
+use Rattle.hound_repair.specs.declared.look.Repair.{Repair}
 use Rattle.hound_writer.specs.declared.resuming.RepairState.{RepairState}
 use Rattle.hound_writer.specs.declared.resuming.RepairState.TheVariants.{HasChunksAfterData}
 use Rattle.hound_repair.specs.declared.stages.Unrepairable.{Unrepairable}

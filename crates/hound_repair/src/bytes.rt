@@ -2,7 +2,7 @@
 ghost use Rattle.std.specs.Prelude.{◌≡◌, ◌+◌, ◌≤◌, IfErr, IfOk, IfSome, None, length, take};
 ghost use Rattle.std.specs.Option.{IfNone};
 ghost use Rattle.hound_writer.specs.{with_sizes};
-ghost use Rattle.hound_repair.specs.Damages.{FindsDamage, IsSoundDamage, LacksRoom, RepairsBytes, as_medium, repair_of};
+ghost use Rattle.hound_repair.specs.Repairing.{FindsDamage, IsSoundDamage, LacksRoom, RepairsBytes, as_medium, repair_of};
 ghost use Rattle.hound_repair.specs.Steps.{IsRejectedFor, IsRepair, looks_for_chunks};
 
 use crate::look::Damage;

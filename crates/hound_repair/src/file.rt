@@ -4,9 +4,8 @@ ghost use Rattle.std.proofs.lemmas.Bool.{false≢true};
 ghost use Rattle.hound_walk.specs.{IsSoundSpec};
 ghost use Rattle.hound_writer.specs.{IsFileError};
 
-use crate::look::find_damage;
+use crate::look::{Repair, find_damage};
 use crate::mend::{repair, repair_to_end};
-use crate::sizes::Repair;
 use hound_medium::{Medium, Placed, Source};
 use hound_spec::{Error, Result};
 use std::alloc::Global;

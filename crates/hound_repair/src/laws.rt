@@ -17,7 +17,7 @@ ghost use Rattle.hound_repair.specs.declared.stages.Task.{Task};
 ghost use Rattle.hound_repair.specs.Steps.{AsksNext, effects_left, IsLookedAt, IsNotRepaired, Mends, PartlyMended, mending};
 ghost use Rattle.hound_repair.specs.Held.{frame_length, held, shown_length};
 ghost use Rattle.hound_repair.specs.Repairing.{Finds, IsFoundAt, IsNoPad, ReadsFrames, Repairs, found_length, repair_fault};
-ghost use Rattle.hound_repair.specs.declared.sizes.Repair.{Repair};
+ghost use Rattle.hound_repair.specs.declared.look.Repair.{Repair};
 ghost use Rattle.hound_writer.specs.declared.resuming.RepairState.TheVariants.{AllCounted, HasChunksAfterData, Whole};
 
 /// A repair loses no sample that is stored: samples whose containers are stored from the data on are read first, as

@@ -11,9 +11,6 @@ mod laws;
 mod look;
 mod machine;
 mod mend;
-mod performer;
-mod read_at;
-mod sizes;
 mod stages;
 
 pub use bytes::{find_damage_in_bytes, repair_bytes, set_sizes};
@@ -23,8 +20,7 @@ pub use laws::{
     a_look_finds_what_a_repair_does, a_repair_ends, a_repair_keeps_stored_samples,
     a_second_repair_writes_nothing, a_stopped_repair_is_done_again, effects_mend,
 };
-pub use look::{Damage, SeenHead, find_damage};
+pub use look::{Damage, Repair, SeenHead, find_damage};
 pub use machine::{FailedAction, RepairError, RepairStep, Repairing, repair_next};
 pub use mend::{repair, repair_to_end};
-pub use sizes::Repair;
 pub use stages::{Stage, Task, Unrepairable};

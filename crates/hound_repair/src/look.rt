@@ -1,19 +1,18 @@
-// What a file holds, looked at without writing.
-ghost use Rattle.std.specs.Prelude.{◌≡◌, ◌+◌, ◌<◌, ◌≤◌, ◌^◌, ◌&&◌, ◌==◌, true, false, None, Some, Ok, length, min, nat_le, nat_lt, ◌∷◌, [], IfErr, IfOk, IfSome, MatchResult, if◌then◌else◌};
+// What a file holds, looked at without writing, and the sizes that it should have.
+ghost use Rattle.std.specs.Prelude.{◌≡◌, ◌+◌, ◌<◌, ◌≤◌, ◌^◌, ◌&&◌, ◌==◌, true, false, None, Some, Ok, length, min, nat_le, nat_lt, ◌∷◌, [], IfErr, IfOk, IfSome, MatchResult, if◌then◌else◌, ◌*◌, ◌/◌, ◌%◌};
 ghost use Rattle.hound_spec.specs.{padded};
 ghost use Rattle.hound_medium.specs.{WhereTells};
-ghost use Rattle.hound_walk.specs.{IsSoundSpec};
-ghost use Rattle.hound_writer.specs.{IsMediumError};
-ghost use Rattle.hound_repair.specs.Damages.{IsSoundDamage, repair_of, shown_of};
-ghost use Rattle.hound_repair.specs.Held.{has_known_tag, has_tag, is_printable, said_length, held, missing_pad};
-ghost use Rattle.hound_repair.specs.Repairing.{Finds, IsNotFound, Looks};
+ghost use Rattle.hound_walk.specs.{IsSoundSpec, IsDataPlace};
+ghost use Rattle.hound_writer.specs.{IsMediumError, too_long};
+ghost use Rattle.hound_repair.specs.Repairing.{IsSoundDamage, repair_of, shown_of, AreRightSizes, Finds, IsNotFound, Looks, size_fault};
+ghost use Rattle.hound_repair.specs.Held.{has_known_tag, has_tag, is_printable, said_length, held, missing_pad, data_held};
+ghost use Rattle.std.specs.Option.{IfNone};
 
-use crate::performer::look_by_parts;
-use crate::sizes::{Repair, Sizes};
+use crate::mend::look_by_parts;
 use crate::stages::Task;
 use hound_medium::Source;
 use hound_number::u32_at;
-use hound_spec::{Error, WavSpecEx};
+use hound_spec::{Error, WavSpecEx, riff_size, riff_size_fits};
 use hound_writer::RepairState;
 use std::result;
 
@@ -36,13 +35,10 @@ pub(crate) const ID3_TAG: [u8; 3] = *b"TAG";
 pub struct SeenHead {
     /// The spec of the last fmt chunk.
     pub spec_ex: WavSpecEx,
-
     /// The length of the data in bytes, as in their chunk.
     pub data_length: u32,
-
     /// How many bytes are before the data.
     pub data_start: u64,
-
     /// A single byte follows the data, and isn't 0: it is a sample.
     pub has_more: bool,
 }
@@ -168,4 +164,58 @@ pub fn find_damage<S: Source>(medium: S) -> result::Result<(S, Repair), (S, Erro
         Ok(damage) => Ok((medium, damage.repair())),
         Err(error) => Err((medium, error)),
     }
+}
+
+/// What a file holds, and how it was found.
+#[derive(Clone, Copy, Debug, PartialEq, Eq)]
+pub struct Repair {
+    /// The spec of the last fmt chunk.
+    pub spec_ex: WavSpecEx,
+    /// The number of whole frames: samples for each channel.
+    pub frames: u32,
+    /// How many bytes of a torn frame follow them.
+    pub left_over: u32,
+    /// How the file was found.
+    pub state: RepairState,
+}
+
+/// The sizes that a file should have, in bytes, and what they count.
+#[derive(Clone, Copy)]
+pub(crate) struct Sizes {
+    pub(crate) riff_size: u32,
+    pub(crate) data_length: u32,
+    pub(crate) frames: u32,
+    pub(crate) left_over: u32,
+}
+
+/// The right sizes of a file with this head that shows this data length, and holds so many bytes from the data on, if
+/// the RIFF size fits.
+#[tactic(auto, using(crate::proofs::Dividing::whole_le, crate::proofs::Dividing::times_le), unfolding(crate::specs::Repairing::size_fault, crate::specs::Held::data_held, crate::specs::Held::ends_with_pad))]
+pub(crate) fn right_sizes(head: SeenHead, shown: u64, held: u64) -> Option<Sizes>
+    requires sound { IsSoundSpec head.spec_ex }
+    requires start { IsDataPlace head.data_start }
+    requires small { shown ≤ 2 ^ 32 }
+    requires few { held ≤ 2 ^ 33 }
+    ensures check { IfNone result (size_fault head.spec_ex shown head.data_start held ≡ Some too_long) }
+    ensures fits { IfSome result (λ _. size_fault head.spec_ex shown head.data_start held ≡ None) }
+    ensures right { IfSome result (AreRightSizes head shown held) }
+{
+    let frame = head.spec_ex.spec.channels as u64 * head.spec_ex.bytes_per_sample as u64;
+    // All that is held is data, except a pad byte that the data length shows.
+    let data = if held == shown + 1 && shown % 2 == 1 && shown % frame == 0 {
+        shown
+    } else {
+        held
+    };
+    let frames = data / frame;
+    let right = frames * frame;
+    if !riff_size_fits(head.data_start, right) {
+        return None;
+    }
+    Some(Sizes {
+        riff_size: riff_size(head.data_start, right) as u32,
+        data_length: right as u32,
+        frames: frames as u32,
+        left_over: (data % frame) as u32,
+    })
 }

@@ -2,7 +2,7 @@
 // done.
 ghost use Rattle.std.specs.Prelude.{◌≡◌, ◌+◌, ◌-◌, ◌≤◌, Ok, true, IfOk, IfSome, length};
 ghost use Rattle.hound_writer.specs.{nth};
-ghost use Rattle.hound_repair.specs.Damages.{IsSoundDamage};
+ghost use Rattle.hound_repair.specs.Repairing.{IsSoundDamage};
 ghost use Rattle.hound_repair.specs.Steps.{IsSoundStage, AsksEffect, AsksMore, AsksNext, AsksPart, IsSoundRepairing, IsSoundRepairStep, StaysAt, effects_of_task, failure_of};
 ghost use Rattle.hound_repair.specs.declared.machine.Repairing.TheVariants as states;
 
@@ -36,7 +36,6 @@ impl Damage {
 pub enum FailedAction {
     /// A sync: nobody knows what is stored.
     Sync,
-
     /// A read or a write.
     Call,
 }
@@ -46,13 +45,10 @@ pub enum FailedAction {
 pub enum Repairing {
     /// It looks at the file, and asks for this part.
     Looks(Stage),
-
     /// It mends a file with this head, and asks for the effect with this number.
     Mends(SeenHead, u32),
-
     /// It is done: a file with this head was found so, and is mended if that is to be.
     Found(SeenHead, RepairState),
-
     /// It has ended, since this failed.
     Failed(FailedAction),
 }
@@ -62,7 +58,6 @@ pub enum Repairing {
 pub enum RepairStep {
     /// This.
     Asks(Action),
-
     /// Nothing: this was found, and is mended if that is to be.
     Found(Damage),
 }
@@ -72,7 +67,6 @@ pub enum RepairStep {
 pub enum RepairError {
     /// The bytes decide it, and nothing was written.
     Rejected(Unrepairable),
-
     /// An effect failed: another repair, from the beginning, finds the same frames.
     Failed(FailedAction),
 }

@@ -1,16 +1,19 @@
-// Repairs of files in media.
-ghost use Rattle.std.specs.Prelude.{◌≡◌, true, false, IfErr, IfOk};
-ghost use Rattle.hound_walk.specs.{IsSoundSpec};
+// Repairs of files in media: what is read at places, and the effects that are performed.
+ghost use Rattle.std.specs.Prelude.{◌≡◌, true, false, IfErr, IfOk, ◌+◌, Ok, MatchResult, length, ◌≤◌, ◌^◌, take, drop, min};
+ghost use Rattle.hound_walk.specs.{IsSoundSpec, Head};
 ghost use Rattle.hound_medium.specs.{WhereKeeps, WhereTells};
-ghost use Rattle.hound_writer.specs.{IsMediumError};
-ghost use Rattle.hound_repair.specs.Steps.{MendsMedium, PerformsRepair, RepairsMedium, SurvivesMending};
+ghost use Rattle.hound_writer.specs.{IsMediumError, NamesFault};
+ghost use Rattle.hound_repair.specs.Steps.{MendsMedium, PerformsRepair, RepairsMedium, SurvivesMending, IsRepair, PerformedOn, PerformsOn, effects_of_task, looks_for_chunks, rejected_for};
+ghost use Rattle.hound_repair.specs.Repairing.{FindsDamage, IsSoundDamage, IsNotFound, Looks};
 
-use crate::performer::repair_by_effects;
-use crate::sizes::Repair;
-use crate::stages::Task;
+use crate::look::{Damage, Repair};
+use crate::stages::{LookStep, Stage, Task, Unrepairable, take_asked};
 use hound_medium::{Medium, Source};
+use hound_number::le_u32;
 use hound_spec::Error;
-use std::result;
+use hound_walk::{HeadError, error_of};
+use hound_writer::{Effect, put_all_at};
+use std::io;
 
 /// Repairs a file in a medium that is at its beginning, whose recording was cut off: every whole frame that it holds is
 /// read again.
@@ -35,7 +38,7 @@ use std::result;
 ///     Err((_, error)) => Err(error.into()),
 /// }
 /// ```
-pub fn repair<M: Source + Medium>(medium: M) -> result::Result<(M, Repair), (M, Error)>
+pub fn repair<M: Source + Medium>(medium: M) -> Result<(M, Repair), (M, Error)>
     requires { WhereTells M.tells ((M.state medium).place ≡ 0) }
     ensures sound { IfOk result (λ done. IsSoundSpec done.1.spec_ex) }
     ensures reported { IfErr result (λ rejected. IsMediumError rejected.1) }
@@ -49,7 +52,7 @@ pub fn repair<M: Source + Medium>(medium: M) -> result::Result<(M, Repair), (M, 
 
 /// Repairs a file as [`repair`] does, and takes all bytes from the data on for samples, also where they look like
 /// chunks. Errors are the same.
-pub fn repair_to_end<M: Source + Medium>(medium: M) -> result::Result<(M, Repair), (M, Error)>
+pub fn repair_to_end<M: Source + Medium>(medium: M) -> Result<(M, Repair), (M, Error)>
     requires { WhereTells M.tells ((M.state medium).place ≡ 0) }
     ensures sound { IfOk result (λ done. IsSoundSpec done.1.spec_ex) }
     ensures reported { IfErr result (λ rejected. IsMediumError rejected.1) }
@@ -59,4 +62,128 @@ pub fn repair_to_end<M: Source + Medium>(medium: M) -> result::Result<(M, Repair
     ensures performed { WhereTells M.tells (PerformsRepair M.keeps false M.state medium result) }
 {
     repair_by_effects(medium, Task::RepairToEnd)
+}
+
+// The error that callers get.
+fn error_for(why: Unrepairable) -> Error
+    ensures names { NamesFault result (rejected_for why) }
+    ensures reported { IsMediumError result }
+{
+    match why {
+        Unrepairable::Head(cause) => error_of(HeadError::Rejected(cause)),
+        Unrepairable::Unsupported => Error::Unsupported,
+        Unrepairable::TooLong => Error::TooLong,
+    }
+}
+
+/// Looks at a file from its beginning, one part after the other.
+pub(crate) fn look_by_parts<S: Source>(source: &mut S, task: Task) -> Result<Damage, Error>
+    ensures sound { IfOk result IsSoundDamage }
+    ensures reported { IfErr result IsMediumError }
+    ensures finds { WhereTells S.tells (MatchResult result
+        (λ damage. FindsDamage (looks_for_chunks task) (S.state source.old) damage (S.state source.new))
+        (IsNotFound (S.state source.old) (S.state source.new))) }
+{
+    let length = length_of(source)?;
+    let mut stage = Stage::first();
+    'parts: loop {
+        let mut buf = [0; 40];
+        let asked = stage.count();
+        let count = part_at(source, stage.place(length), &mut buf[..asked])?;
+        match take_asked(length, task, stage, &buf[..count]) {
+            Ok(LookStep::Next(next)) => stage = next,
+            Ok(LookStep::Found(damage)) => return Ok(damage),
+            Err(why) => return Err(error_for(why)),
+        }
+    }
+}
+
+// Performs an effect.
+fn perform<M: Medium>(medium: &mut M, effect: Effect) -> io::Result<()>
+    ensures { WhereTells M.tells (PerformsOn M.keeps effect result (M.state medium.old) (M.state medium.new)) }
+{
+    match effect {
+        Effect::Sync => medium.flush(),
+        Effect::Pad(place) => put_all_at(medium, place, &[0]),
+        Effect::Size(place, size) => put_all_at(medium, place, &le_u32(size)),
+    }
+}
+
+// Performs the effects that the task has for a file, up to one that fails.
+fn perform_all<M: Medium>(medium: &mut M, task: Task, damage: Damage) -> io::Result<()>
+    requires { IsSoundDamage damage }
+    ensures { WhereTells M.tells
+        (PerformedOn M.keeps (effects_of_task task damage) result (M.state medium.old) (M.state medium.new)) }
+{
+    let mut number = 0;
+    while let Some(effect) = damage.effect(task, number) {
+        perform(medium, effect)?;
+        number += 1;
+    }
+    Ok(())
+}
+
+// Repairs a file by its effects.
+fn repair_by_effects<M: Source + Medium>(medium: M, task: Task) -> Result<(M, Repair), (M, Error)>
+    requires { IsRepair task }
+    ensures sound { IfOk result (λ done. IsSoundSpec done.1.spec_ex) }
+    ensures reported { IfErr result (λ rejected. IsMediumError rejected.1) }
+    ensures repaired { WhereTells M.tells (RepairsMedium (looks_for_chunks task) M.state medium result) }
+    ensures moments { WhereKeeps M.tells M.keeps (MendsMedium (looks_for_chunks task) M.state medium result) }
+    ensures lost { WhereKeeps M.tells M.keeps (SurvivesMending (looks_for_chunks task) M.state medium result) }
+    ensures performed { WhereTells M.tells (PerformsRepair M.keeps (looks_for_chunks task) M.state medium result) }
+{
+    let mut medium = medium;
+    let damage = match look_by_parts(&mut medium, task) {
+        Ok(damage) => damage,
+        Err(error) => return Err((medium, error)),
+    };
+    match perform_all(&mut medium, task, damage) {
+        Ok(()) => Ok((medium, damage.repair())),
+        Err(error) => Err((medium, Error::IoError(error))),
+    }
+}
+
+/// More than any RIFF size says: bytes are counted up to here.
+pub(crate) const LIMIT: u64 = 8_589_934_592;
+
+// Fills a buffer with the bytes at a place, fewer only at their end, and returns how many.
+fn part_at<S: Source>(source: &mut S, place: u64, buf: &mut [u8]) -> io::Result<usize>
+    ensures looks { WhereTells S.tells (Looks result (S.state source.old) (S.state source.new)) }
+    ensures within { IfOk result (λ n. n ≤ length buf.old) }
+    ensures bytes { WhereTells S.tells (IfOk result (λ n.
+        take n buf.new ≡ take (length buf.old) (drop place (S.state source.old).contents))) }
+{
+    source.go(place)?;
+    let mut at = 0;
+    while at < buf.len() {
+        match source.get(&mut buf[at..]) {
+            Ok(0) => return Ok(at),
+            Ok(count) => at += count,
+            Err(error) => return Err(error),
+        }
+    }
+    Ok(at)
+}
+
+// How many bytes there are, up to `LIMIT`. It halves the range that the end is in, so it reads a byte some thirty
+// times.
+fn length_of<S: Source>(source: &mut S) -> io::Result<u64>
+    ensures looks { WhereTells S.tells (Looks result (S.state source.old) (S.state source.new)) }
+    ensures length { WhereTells S.tells (IfOk result (λ n. n ≡ min (length (S.state source.old).contents) (2 ^ 33))) }
+    ensures few { IfOk result (λ n. n ≤ 2 ^ 33) }
+{
+    let mut low = 0;
+    let mut high = LIMIT;
+    while low < high {
+        let middle = low + (high - low) / 2;
+        source.go(middle)?;
+        let mut byte = [0; 1];
+        if source.get(&mut byte)? > 0 {
+            low = middle + 1;
+        } else {
+            high = middle;
+        }
+    }
+    Ok(low)
 }

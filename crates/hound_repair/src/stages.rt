@@ -1,14 +1,14 @@
 // Which parts of a file a look at it asks for, and where each leads.
 ghost use Rattle.std.specs.Prelude.{◌≡◌, ℕ, ◌+◌, ◌-◌, ◌≤◌, Bool, List, Ok, true, IfOk, length, nat_lt, slice_index, take, drop};
 ghost use Rattle.hound_walk.specs.{Head, IsAt, IsDataPlace, IsSoundOption, IsSoundSpec, part_bytes};
-ghost use Rattle.hound_repair.specs.Damages.{IsSoundDamage};
-ghost use Rattle.hound_repair.specs.Repairing.{unfollowed_state};
+ghost use Rattle.hound_repair.specs.Repairing.{IsSoundDamage, unfollowed_state};
 ghost use Rattle.hound_repair.specs.Steps.{AreEnough, IsAsked, IsAtChunk, IsAtEnd, IsAtStage, IsFoundAs, IsLengthOf, IsMeasured, IsNotWhole, IsSoundHead, IsSoundLook, IsSoundStage, IsUnfollowed, IsShown, LooksTo, MeasuresTo, StageNearer, asked_count, asks_for, stage_place, looks_for_chunks, mends_for, else_followed, followed, steps_left};
 ghost use Rattle.hound_repair.specs.declared.stages.Stage.TheVariants as stages;
 
-use crate::look::{Damage, ID3_LENGTH, ID3_TAG, SeenHead, chunk_content, has_known_tag};
-use crate::read_at::LIMIT;
-use crate::sizes::{Repair, right_sizes};
+use crate::look::{
+    Damage, ID3_LENGTH, ID3_TAG, Repair, SeenHead, chunk_content, has_known_tag, right_sizes,
+};
+use crate::mend::LIMIT;
 use hound_number::u32_at;
 use hound_spec::is_pair;
 use hound_walk::{Cause, FileHead, HeadWalk, Part, Step, take_part};
@@ -19,13 +19,10 @@ use hound_writer::{Action, RepairState};
 pub enum Task {
     /// What [`find_damage`](crate::find_damage) does.
     FindDamage,
-
     /// What [`repair`](crate::repair) does.
     Repair,
-
     /// What [`repair_to_end`](crate::repair_to_end) does.
     RepairToEnd,
-
     /// What [`repair`](crate::repair) does, and the same to a file whose samples are all counted: its RIFF size and its
     /// pad byte become those of the canonical form.
     MakeCanonical,
@@ -49,10 +46,8 @@ impl Task {
 pub enum Unrepairable {
     /// It has no head.
     Head(Cause),
-
     /// Its samples are not written with these bits, bytes and format.
     Unsupported,
-
     /// The RIFF size of its frames would pass 4294967295.
     TooLong,
 }
@@ -62,16 +57,12 @@ pub enum Unrepairable {
 pub enum Stage {
     /// A part of the header.
     Head(HeadWalk),
-
     /// The single byte after the data, of a file with this head.
     Last(SeenHead),
-
     /// The RIFF size.
     Size(SeenHead),
-
     /// What may be a chunk's header at this place; `true` if those after the pad byte come first.
     Chunk(SeenHead, u64, bool),
-
     /// What may be an ID3v1 tag at the end.
     Tag(SeenHead),
 }
@@ -81,7 +72,6 @@ pub enum Stage {
 pub(crate) enum LookStep {
     // To another part.
     Next(Stage),
-
     // To what was found.
     Found(Damage),
 }

@@ -12,8 +12,7 @@ use lib.Ieee.{add, nan}
 use Rattle.hound_spec.specs.{IsPair}
 use Rattle.hound_spec.specs.declared.spec.SampleFormat.TheVariants.{Int}
 use Rattle.hound_sample.specs.Container.{Rejection, bytes_in, fits, if_fits, int_bytes, int_container, joined_containers, unsupported}
-use Rattle.hound_sample.specs.Dithering.{next_state, noise, state_after, with_noise}
-use Rattle.hound_sample.specs.Scale.{scaled_to}
+use Rattle.hound_sample.specs.Scale.{next_state, noise, state_after, with_noise, scaled_to}
 
 -- an integer that fits has a container
 pub fits_container : (v : ℤ) (bits width : ℕ) → IsPair Int bits width → fits bits v ≡ true

@@ -5,8 +5,6 @@ use Rattle.hound_number.specs.{bytes_of, signed_bytes_of}
 use Rattle.hound_spec.specs.{is_pair}
 use Rattle.hound_spec.specs.declared.spec.SampleFormat.TheVariants.{Int, Float}
 use Rattle.std.specs.Io.KnownBytes.{Appends}
-use Rattle.hound_sample.specs.declared.slices.Pair.{Pair}
-use Rattle.hound_sample.specs.declared.slices.Pair.TheVariants.{Of8, Of16, Of24, Of24In4, Of32}
 use Rattle.hound_spec.specs.declared.error.Error.{Error}
 use Rattle.hound_spec.specs.declared.error.Error.TheVariants.{IoError, TooWide, Unsupported}
 use Rattle.std.specs.List.{flat_map}
@@ -20,14 +18,6 @@ pub data Rejection : Type 0 where
 abbrev pub fits : ℕ → ℤ → Bool
 fits bits (pos n) = nat_lt n (2 ^ (bits - 1))
 fits bits (negsuc n) = nat_lt n (2 ^ (bits - 1))
-
--- the bits and bytes of a pair for which loops are written with constants
-abbrev pub IsOfPair : Pair → ℕ → ℕ → Type 0
-IsOfPair Of8 bits width = (bits ≡ 8) × (width ≡ 1)
-IsOfPair Of16 bits width = (bits ≡ 16) × (width ≡ 2)
-IsOfPair Of24 bits width = (bits ≡ 24) × (width ≡ 3)
-IsOfPair Of24In4 bits width = (bits ≡ 24) × (width ≡ 4)
-IsOfPair Of32 bits width = (bits ≡ 32) × (width ≡ 4)
 
 -- a number of eight bits as an unsigned byte, which counts from -128
 abbrev pub offset_byte : ℤ → List ℕ

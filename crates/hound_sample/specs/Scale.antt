@@ -1,8 +1,8 @@
 -- Samples in another scale: integers of other bits, and floats whose full scale is 1.
-use Rattle.std.specs.Prelude.{ℕ, ℤ, Option, None, Some, pos, ◌-◌, ◌^◌, ◌+ℤ◌, ◌*ℤ◌, nat_lt, if◌then◌else◌}
-use Rattle.std.specs.Float.{Float, float_to_signed, round_ties_even}
+use Rattle.std.specs.Prelude.{ℕ, ℤ, Option, None, Some, pos, ◌-◌, ◌^◌, ◌+ℤ◌, ◌*ℤ◌, nat_lt, if◌then◌else◌, zero, suc, ◌+◌, ◌*◌, ◌/◌, ◌%◌, ◌-ℤ◌, List, [], ◌∷◌}
+use Rattle.std.specs.Float.{Float, float_to_signed, round_ties_even, binary64}
 use Rattle.std.specs.Int.{int_shr, saturate_to_bits, w64}
-use lib.Ieee.{binary32, binary64, div, mul, nan, of_int}
+use lib.Ieee.{binary32, div, mul, nan, of_int, add}
 
 -- the full scale of integers of so many bits: they are from minus this to one less
 abbrev pub full_scale : ℕ → ℤ
@@ -40,3 +40,27 @@ abbrev pub with_bits : ℕ → ℕ → ℤ → ℤ
 with_bits old new v =
     if nat_lt new old then int_shr (v +ℤ pos (2 ^ (old - new - 1))) (old - new)
     else (v *ℤ pos (2 ^ (new - old)))
+
+-- the state of the generator after another one
+abbrev pub next_state : ℕ → ℕ
+next_state state = (state * 6364136223846793005 + 1442695040888963407) % 2 ^ 64
+
+-- the state after so many others
+unfoldable pub state_after : ℕ → ℕ → ℕ
+state_after zero state = state
+state_after (suc count) state = state_after count (next_state state)
+
+-- the upper 16 bits of a state less the 16 bits below them, which are two numbers of the generator
+abbrev pub difference : ℕ → ℤ
+difference state = pos (state / 2 ^ 48) -ℤ pos (state / 2 ^ 32 % 2 ^ 16)
+
+-- the noise of a state for integers of so many bits: the difference over 2^16, in steps of these, which is exact; so it
+-- is less than a step, and triangular
+abbrev pub noise : ℕ → ℕ → Float
+noise bits state = double_of_int (bits + 16) (difference state)
+
+-- floats with noise, each of the next state; the first argument is what an element is as a float
+unfoldable pub with_noise : {A : Type 0} → (A → Float) → ℕ → ℕ → List A → List Float
+with_noise float bits state [] = []
+with_noise float bits state (x ∷ values) =
+    add binary64 (float x) (noise bits (next_state state)) ∷ with_noise float bits (next_state state) values

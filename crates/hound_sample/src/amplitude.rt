@@ -4,18 +4,15 @@ ghost use Rattle.std.specs.Float.{Float};
 ghost use Rattle.std.specs.List.{count_by};
 ghost use lib.Ieee.{add, binary64, div, of_int};
 ghost use Rattle.hound_sample.specs.Container.{fits, int_container, joined_containers};
-ghost use Rattle.hound_sample.specs.Dithering.{difference, next_state, noise, state_after, with_noise};
+ghost use Rattle.hound_sample.specs.Scale.{difference, next_state, noise, state_after, with_noise, double_of_int, float_of, float_of_int, full_scale, scaled, scaled_to};
 ghost use Rattle.hound_sample.specs.Reading.{int_meaning, int_rejection};
-ghost use Rattle.hound_sample.specs.Scale.{double_of_int, float_of, float_of_int, full_scale, scaled, scaled_to};
 ghost use Rattle.hound_spec.specs.{IsPair};
 ghost use Rattle.hound_spec.specs.declared.spec.SampleFormat.TheVariants.{Int};
 
 use crate::decode::{Decode, check_type};
 use crate::scale::{double_to_int, int_to_double, int_to_float, small_int_to_float};
 use crate::slices::store_container;
-use hound_number::{
-    i16_from_le, i24_from_le, i32_from_le, le_i16, le_i32, signed_from_u8, u8_from_signed,
-};
+use hound_number::{i16_from_le, i24_from_le, le_i16, le_i32, signed_from_u8, u8_from_signed};
 use hound_spec::{Result, SampleFormat};
 use std::num::{f32_to_f64_with_nan, nearest_u64_to_f64};
 
@@ -51,10 +48,7 @@ impl Decode for UnitFloat {
                 24,
             )),
             8 => UnitFloat(small_int_to_float(signed_from_u8(container[0]) as i32, 8)),
-            _ => UnitFloat(int_to_float(
-                i32_from_le([container[0], container[1], container[2], container[3]]),
-                32,
-            )),
+            _ => UnitFloat(int_to_float(i32::decode(container, fmt, width, bits), bits)),
         }
     }
 }
@@ -132,8 +126,7 @@ fn container_of(sample: i32, bits: u16, width: u16) -> [u8; 4]
 // leaves one test for it in a loop.
 #[inline(always)]
 fn int_of(number: Option<f64>, bits: u16, count: &mut u64) -> i32
-    requires some { 1 ≤ bits }
-    requires most { bits ≤ 32 }
+    requires bits { (0 < bits) × (bits ≤ 32) }
     requires room { count.old + 1 < 2 ^ 64 }
     ensures value { result ≡ scaled_to bits (float_of number) }
     ensures count { count.new ≡ (if fits bits (scaled bits (float_of number)) then count.old else (count.old + 1)) }
@@ -167,12 +160,8 @@ fn scale_each<S: Amplitude>(bytes: &mut [u8], amplitudes: &[S], bits: u16, width
     let mut count = 0;
     for i in 0..amplitudes.len() {
         let sample = int_of(amplitudes[i].number(), bits, &mut count);
-        store_container(
-            bytes,
-            i * width as usize,
-            container_of(sample, bits, width),
-            width as usize,
-        );
+        let container = container_of(sample, bits, width);
+        store_container(bytes, i * width as usize, container, width as usize);
     }
     count
 }
@@ -190,13 +179,7 @@ pub fn store_amplitudes<S: Amplitude>(
         (map (λ x. scaled_to bits (S.amplitude x)) amplitudes.now) }
     ensures clipped { result ≡ count_by (λ x. not (fits bits (scaled bits (S.amplitude x)))) amplitudes.now }
 {
-    match (width, bits) {
-        (1, _) => scale_each(bytes, amplitudes, 8, 1),
-        (2, _) => scale_each(bytes, amplitudes, 16, 2),
-        (3, _) => scale_each(bytes, amplitudes, 24, 3),
-        (4, 24) => scale_each(bytes, amplitudes, 24, 4),
-        _ => scale_each(bytes, amplitudes, 32, 4),
-    }
+    by_pair!(bits, width, scale_each(bytes, amplitudes))
 }
 
 // The state of the generator after another one.
@@ -220,8 +203,7 @@ fn difference(state: u64) -> i32
 // The noise of a state for integers of so many bits. The step is the same for all of a call, so it is computed once.
 #[inline(always)]
 fn noise_of(state: u64, bits: u16, step: f64) -> f64
-    requires some { 1 ≤ bits }
-    requires most { bits ≤ 32 }
+    requires bits { (0 < bits) × (bits ≤ 32) }
     requires step { step ≡ div binary64 (of_int binary64 (pos 1)) (of_int binary64 (full_scale (bits + 16))) }
     ensures { result ≡ noise bits state }
 {
@@ -230,8 +212,7 @@ fn noise_of(state: u64, bits: u16, step: f64) -> f64
 
 // By what the difference is divided.
 fn noise_divisor(bits: u16) -> f64
-    requires some { 1 ≤ bits }
-    requires most { bits ≤ 32 }
+    requires { (0 < bits) × (bits ≤ 32) }
     ensures { result ≡ of_int binary64 (full_scale (bits + 16)) }
 {
     nearest_u64_to_f64(1 << (bits + 15))
@@ -240,8 +221,7 @@ fn noise_divisor(bits: u16) -> f64
 // The noise of a difference of 1.
 #[inline(always)]
 fn noise_step(bits: u16) -> f64
-    requires some { 1 ≤ bits }
-    requires most { bits ≤ 32 }
+    requires { (0 < bits) × (bits ≤ 32) }
     ensures { result ≡ div binary64 (of_int binary64 (pos 1)) (of_int binary64 (full_scale (bits + 16))) }
 {
     1.0 / noise_divisor(bits)
@@ -253,9 +233,9 @@ fn noise_step(bits: u16) -> f64
 fn scale_each_with_noise<S: Amplitude>(
     bytes: &mut [u8],
     amplitudes: &[S],
+    state: &mut u64,
     bits: u16,
     width: u16,
-    state: &mut u64,
 ) -> u64
     requires pair { IsPair Int bits width }
     requires room { length bytes.old ≡ width * length amplitudes.now }
@@ -272,12 +252,8 @@ fn scale_each_with_noise<S: Amplitude>(
         next = next_state(next);
         let noisy = sum_with(amplitudes[i].number(), noise_of(next, bits, step));
         let sample = int_of(noisy, bits, &mut count);
-        store_container(
-            bytes,
-            i * width as usize,
-            container_of(sample, bits, width),
-            width as usize,
-        );
+        let container = container_of(sample, bits, width);
+        store_container(bytes, i * width as usize, container, width as usize);
     }
     *state = next;
     count
@@ -300,11 +276,5 @@ pub fn store_with_noise<S: Amplitude>(
         (with_noise S.amplitude bits state.old amplitudes.now) }
     ensures state { state.new ≡ state_after (length amplitudes.now) state.old }
 {
-    match (width, bits) {
-        (1, _) => scale_each_with_noise(bytes, amplitudes, 8, 1, state),
-        (2, _) => scale_each_with_noise(bytes, amplitudes, 16, 2, state),
-        (3, _) => scale_each_with_noise(bytes, amplitudes, 24, 3, state),
-        (4, 24) => scale_each_with_noise(bytes, amplitudes, 24, 4, state),
-        _ => scale_each_with_noise(bytes, amplitudes, 32, 4, state),
-    }
+    by_pair!(bits, width, scale_each_with_noise(bytes, amplitudes, state))
 }

@@ -93,12 +93,11 @@ pub(crate) fn read_container<S: Decode, R: io::Read>(
 fn decode_container<S: Decode, R: ContainerReader>(
     reader: &mut R,
     fmt: SampleFormat,
-    width: u16,
     bits: u16,
+    width: u16,
 ) -> result::Result<S, SampleError>
     requires decodes { S.decode_rejection fmt width bits ≡ None }
-    requires some { 1 ≤ width }
-    requires few { width ≤ 4 }
+    requires width { (1 ≤ width) × (width ≤ 4) }
     ensures { ReadsItem None (S.value fmt width bits) width (R.remaining reader.old) (R.remaining reader.new) result }
 {
     match reader.next_container(width) {
@@ -123,13 +122,7 @@ pub(crate) fn decode_next<S: Decode, R: ContainerReader>(
     if let Err(error) = S::check(fmt, width, bits) {
         return Err(reason_of(error));
     }
-    match (width, bits) {
-        (1, _) => decode_container(reader, fmt, 1, 8),
-        (2, _) => decode_container(reader, fmt, 2, 16),
-        (3, _) => decode_container(reader, fmt, 3, 24),
-        (4, 24) => decode_container(reader, fmt, 4, 24),
-        _ => decode_container(reader, fmt, 4, 32),
-    }
+    by_pair!(bits, width, decode_container(reader, fmt))
 }
 
 // Fills the front of a buffer, all of it unless a read fails or the input ends. Returns the count.
@@ -157,8 +150,8 @@ pub(crate) fn decode_each<S: Decode>(
     from: &[u8],
     samples: &mut [S],
     fmt: SampleFormat,
-    width: u16,
     bits: u16,
+    width: u16,
 )
     requires decodes { S.decode_rejection fmt width bits ≡ None }
     requires whole { length from.now ≡ length samples.old * width }
@@ -177,12 +170,11 @@ fn read_through<S: Decode, R: io::Read>(
     samples: &mut [S],
     piece: &mut [u8],
     fmt: SampleFormat,
-    width: u16,
     bits: u16,
+    width: u16,
 ) -> (usize, Result<()>)
     requires decodes { S.decode_rejection fmt width bits ≡ None }
-    requires some { 1 ≤ width }
-    requires few { width ≤ 4 }
+    requires width { (1 ≤ width) × (width ≤ 4) }
     requires room { 4 ≤ length piece.old }
     ensures each { ReadsEach None (S.value fmt width bits) width (items_of (take result.0 samples.new) result.1)
         (R.remaining reader.old) (R.remaining reader.new) }
@@ -194,13 +186,8 @@ fn read_through<S: Decode, R: io::Read>(
         let wanted = (samples.len() - done).min(piece.len() / size);
         let (taken, answer) = read_piece(reader, &mut piece[..wanted * size]);
         let count = taken / size;
-        decode_each(
-            &piece[..count * size],
-            &mut samples[done..done + count],
-            fmt,
-            width,
-            bits,
-        );
+        let decoded = &mut samples[done..done + count];
+        decode_each(&piece[..count * size], decoded, fmt, bits, width);
         done += count;
         if let Err(error) = answer {
             return (done, Err(Error::IoError(error)));
@@ -215,20 +202,19 @@ fn read_pieces<S: Decode, R: io::Read>(
     reader: &mut R,
     samples: &mut [S],
     fmt: SampleFormat,
-    width: u16,
     bits: u16,
+    width: u16,
 ) -> (usize, Result<()>)
     requires decodes { S.decode_rejection fmt width bits ≡ None }
-    requires some { 1 ≤ width }
-    requires few { width ≤ 4 }
+    requires width { (1 ≤ width) × (width ≤ 4) }
     ensures each { ReadsEach None (S.value fmt width bits) width (items_of (take result.0 samples.new) result.1)
         (R.remaining reader.old) (R.remaining reader.new) }
     ensures front { FillsFront result.0 result.1 samples.old samples.new }
 {
     if samples.len() <= SMALL_PIECE / 4 {
-        return read_through(reader, samples, &mut [0; SMALL_PIECE], fmt, width, bits);
+        return read_through(reader, samples, &mut [0; SMALL_PIECE], fmt, bits, width);
     }
-    read_through(reader, samples, &mut [0; PIECE], fmt, width, bits)
+    read_through(reader, samples, &mut [0; PIECE], fmt, bits, width)
 }
 
 /// Reads samples as [`Sample::read_many`](crate::Sample::read_many) does, with constant widths for each pair.
@@ -251,11 +237,5 @@ pub(crate) fn read_containers<S: Decode, R: io::Read>(
     if let Err(error) = S::check(fmt, width, bits) {
         return (0, Err(error));
     }
-    match (width, bits) {
-        (1, _) => read_pieces(reader, samples, fmt, 1, 8),
-        (2, _) => read_pieces(reader, samples, fmt, 2, 16),
-        (3, _) => read_pieces(reader, samples, fmt, 3, 24),
-        (4, 24) => read_pieces(reader, samples, fmt, 4, 24),
-        _ => read_pieces(reader, samples, fmt, 4, 32),
-    }
+    by_pair!(bits, width, read_pieces(reader, samples, fmt))
 }

@@ -12,16 +12,12 @@ use std::io;
 pub enum SampleError {
     /// A call failed or the input ended, by a fault that was saved.
     Failed,
-
     /// Samples of this format aren't read as the type.
     OtherFormat,
-
     /// The samples have more bytes than the type, or the sample doesn't fit in the file's bits.
     TooWide,
-
     /// Samples of these bits and bytes aren't read or written as the type.
     Unsupported,
-
     /// The file has no room for it.
     TooLong,
 }
@@ -70,8 +66,7 @@ pub trait ContainerReader: io::Read {
     /// There is none if a read failed or the input ended before it was whole: then the fault is saved, and fewer bytes
     /// were taken.
     fn next_container(&mut self, width: u16) -> Option<[u8; 4]>
-        requires some { 1 ≤ width }
-        requires few { width ≤ 4 }
+        requires { (1 ≤ width) × (width ≤ 4) }
         ensures whole { IfSome result (λ container.
             Consumes (Self.remaining self.old) (Self.remaining self.new) (take width container)) }
         ensures part { result ≡ None → (taken : List ℕ) × (length taken < width)

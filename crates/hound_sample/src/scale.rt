@@ -18,8 +18,7 @@ use std::num::{f32_to_f64_with_nan, nearest_u32_to_f32, saturating_f64_to_i64};
 /// ```
 #[inline]
 pub fn int_to_float(sample: i32, bits: u16) -> f32
-    requires some { 0 < bits }
-    requires most { bits ≤ 32 }
+    requires { (0 < bits) × (bits ≤ 32) }
     ensures { result ≡ float_of_int bits sample }
 {
     let step = 1.0 / nearest_u32_to_f32(two_to(bits - 1));
@@ -31,8 +30,7 @@ pub fn int_to_float(sample: i32, bits: u16) -> f32
 /// The same of an integer that is a float itself, which takes less time.
 #[inline]
 pub(crate) fn small_int_to_float(sample: i32, bits: u16) -> f32
-    requires some { 0 < bits }
-    requires most { bits ≤ 32 }
+    requires bits { (0 < bits) × (bits ≤ 32) }
     requires small { nat_abs sample ≤ 2 ^ 24 }
     ensures { result ≡ float_of_int bits sample }
 {
@@ -43,8 +41,7 @@ pub(crate) fn small_int_to_float(sample: i32, bits: u16) -> f32
 /// The same as a float of 64 bits, which is the quotient itself.
 #[inline]
 pub(crate) fn int_to_double(sample: i32, bits: u16) -> f64
-    requires some { 0 < bits }
-    requires most { bits ≤ 32 }
+    requires { (0 < bits) × (bits ≤ 32) }
     ensures { result ≡ double_of_int bits sample }
 {
     f64::from(sample) * (1.0 / f64::from(two_to(bits - 1)))
@@ -60,8 +57,7 @@ pub(crate) fn int_to_double(sample: i32, bits: u16) -> f64
 /// ```
 #[inline]
 pub fn float_to_int(number: f32, bits: u16) -> (i32, bool)
-    requires some { 0 < bits }
-    requires most { bits ≤ 32 }
+    requires { (0 < bits) × (bits ≤ 32) }
     ensures value { result.0 ≡ clipped bits (scaled bits number) }
     ensures is_clipped { result.1 ≡ not (fits bits (scaled bits number)) }
 {
@@ -73,8 +69,7 @@ pub fn float_to_int(number: f32, bits: u16) -> (i32, bool)
 /// The same of a float of 64 bits, which is counted where it is clipped.
 #[inline(always)]
 pub(crate) fn double_to_int(number: f64, bits: u16, count: &mut u64) -> i32
-    requires some { 0 < bits }
-    requires most { bits ≤ 32 }
+    requires bits { (0 < bits) × (bits ≤ 32) }
     requires room { count.old + 1 < 2 ^ 64 }
     ensures value { result ≡ clipped bits (scaled bits number) }
     ensures count { count.new ≡ (if fits bits (scaled bits number) then count.old else (count.old + 1)) }
@@ -105,8 +100,7 @@ fn nearest_within(number: f64, limit: u32) -> i32
 #[cold]
 #[inline(never)]
 fn clip_distant(number: f64, bits: u16, count: &mut u64) -> i32
-    requires some { 0 < bits }
-    requires most { bits ≤ 32 }
+    requires bits { (0 < bits) × (bits ≤ 32) }
     requires room { count.old + 1 < 2 ^ 64 }
     ensures value { result ≡ clipped bits (float_to_signed w64 (round_ties_even binary64 number)) }
     ensures count { count.new ≡
@@ -129,10 +123,8 @@ fn clip_distant(number: f64, bits: u16, count: &mut u64) -> i32
 /// ```
 #[inline]
 pub fn change_bits(sample: i32, old_bits: u16, new_bits: u16) -> (i32, bool)
-    requires old { 0 < old_bits }
-    requires old_most { old_bits ≤ 32 }
-    requires new { 0 < new_bits }
-    requires new_most { new_bits ≤ 32 }
+    requires old_bits { (0 < old_bits) × (old_bits ≤ 32) }
+    requires new_bits { (0 < new_bits) × (new_bits ≤ 32) }
     ensures value { result.0 ≡ clipped new_bits (with_bits old_bits new_bits sample) }
     ensures is_clipped { result.1 ≡ not (fits new_bits (with_bits old_bits new_bits sample)) }
 {
@@ -154,8 +146,7 @@ fn widened(sample: i32, more: u16) -> i64
 // With so many bits fewer, to the nearest.
 #[inline(always)]
 fn narrowed(sample: i32, fewer: u16) -> i64
-    requires some { 0 < fewer }
-    requires most { fewer < 32 }
+    requires { (0 < fewer) × (fewer < 32) }
     ensures { result ≡ int_shr (sample +ℤ pos (2 ^ (fewer - 1))) fewer }
 {
     (i64::from(sample) + (1 << (fewer - 1))) >> fewer
@@ -164,8 +155,7 @@ fn narrowed(sample: i32, fewer: u16) -> i64
 // The integer of so many bits that is nearest, and whether it is another one.
 #[inline(always)]
 fn clip(number: i64, bits: u16) -> (i32, bool)
-    requires some { 0 < bits }
-    requires most { bits ≤ 32 }
+    requires { (0 < bits) × (bits ≤ 32) }
     ensures value { result.0 ≡ clipped bits number }
     ensures is_clipped { result.1 ≡ not (fits bits number) }
 {

@@ -4,7 +4,7 @@ use Rattle.hound_spec.specs.{is_pair}
 use Rattle.hound_spec.specs.declared.error.Error.{Error}
 use Rattle.hound_spec.specs.declared.spec.SampleFormat.TheVariants.{Int}
 use Rattle.hound_sample.specs.{IsEncoded, Rejection, fits, int_bytes, int_container, too_wide, unsupported}
-use Rattle.hound_slices.specs.Values.{IsNumberOf, MakesContainer}
+use Rattle.hound_slices.specs.Reading.{IsNumberOf, MakesContainer}
 use Rattle.hound_slices.specs.declared.error.CallError.{CallError}
 
 by : (container : Result (List ℕ) Rejection) (encoded : Result (List ℕ) Error) (outcome : Result ℕ CallError)

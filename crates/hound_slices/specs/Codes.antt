@@ -57,10 +57,6 @@ error_of_rejection (reasons.Head cause) = Head cause
 error_of_rejection reasons.Unsupported = NotWritable
 error_of_rejection reasons.TooLong = TooLong
 
--- the bytes have no data to be read, for a cause that P holds for
-abbrev pub IsHeadError : (Cause → Type 0) → CallError → Type 0
-IsHeadError P error = (cause : Cause) × (error ≡ Head cause) × P cause
-
 -- the count, or the number of the error
 abbrev pub code_for : Result ℕ CallError → ℤ
 code_for (Ok n) = pos n

@@ -1,12 +1,14 @@
 -- What reading does.
-use Rattle.std.specs.Prelude.{◌≡◌, ℕ, ◌+◌, ◌-◌, ◌*◌, ◌/◌, ◌<◌, ◌≤◌, min, List, length, take, drop, map, Option, None, Some, Result, Ok, Err}
+use Rattle.std.specs.Prelude.{◌≡◌, ℕ, ◌+◌, ◌-◌, ◌*◌, ◌/◌, ◌<◌, ◌≤◌, min, List, length, take, drop, map, Option, None, Some, Result, Ok, Err, ◌^◌, ◌++◌, replicate}
 use Rattle.hound_spec.specs.declared.spec.SampleFormat.{SampleFormat}
 use Rattle.hound_spec.specs.declared.spec.WavSpecEx.{WavSpecEx}
-use Rattle.hound_sample.specs.{containers, ReadRejection, other_format, misfit, too_wide, unsupported}
+use Rattle.hound_sample.specs.{containers, ReadRejection, other_format, misfit, too_wide, unsupported, Rejection}
 use Rattle.hound_reader.specs.{rejection_at, meaning_at}
 use Rattle.hound_walk.specs.{Readable, Unreadable}
 use Rattle.hound_slices.specs.declared.error.CallError.{CallError}
 use Rattle.hound_slices.specs.declared.error.CallError.TheVariants.{Head, OtherFormat, TooWide, NotWritable, Truncated}
+use Rattle.hound_number.specs.{bytes_of}
+use Rattle.hound_spec.specs.declared.error.Error.{Error}
 
 -- the error of a type that doesn't read samples
 abbrev pub rejection_error : ReadRejection → CallError
@@ -84,3 +86,15 @@ abbrev pub Decodes : {A : Type 0} → (SampleFormat → ℕ → ℕ → Option R
 Decodes rejection meaning s bytes old new (Ok n) = DecodesSamples rejection meaning s bytes n old new
 Decodes rejection meaning s bytes old new (Err error) = (new ≡ old)
     × (why : ReadRejection) × (rejection_at rejection s ≡ Some why) × (error ≡ rejection_error why)
+
+-- the number of four bytes, or that there are none
+abbrev pub IsNumberOf : Result (List ℕ) Error → Result ℕ CallError → Type 0
+IsNumberOf (Ok bytes) outcome = (n : ℕ) × (outcome ≡ Ok n) × (n < 2 ^ 32) × (bytes_of 4 n ≡ bytes)
+IsNumberOf (Err error) outcome = outcome ≡ Err TooWide
+
+-- the number whose low bytes are a container, and whose others are zero, or that the value needs more bits
+abbrev pub MakesContainer : Result (List ℕ) Rejection → Result ℕ CallError → Type 0
+MakesContainer (Ok container) outcome = (n : ℕ) × (outcome ≡ Ok n) × (n < 2 ^ 32)
+    × (bytes_of 4 n ≡ container ++ replicate (4 - length container) 0)
+MakesContainer (Err too_wide) outcome = outcome ≡ Err TooWide
+MakesContainer (Err unsupported) outcome = ⊥

@@ -5,7 +5,7 @@ use Rattle.hound_spec.specs.declared.spec.WavSpecEx.{WavSpecEx}
 use Rattle.hound_walk.specs.{Head, Rejected}
 use Rattle.hound_writer.specs.{by_bytes, too_long}
 use Rattle.hound_repair.specs.{HasUnfitHead, frame_length, IsFoundAt, LacksRoom, RepairsBytes}
-use Rattle.hound_repair.specs.declared.sizes.Repair.{Repair}
+use Rattle.hound_repair.specs.declared.look.Repair.{Repair}
 use Rattle.hound_writer.specs.declared.resuming.RepairState.{RepairState}
 use Rattle.hound_writer.specs.declared.resuming.RepairState.TheVariants.{Whole, CutOff, HasChunksAfterData, AllCounted}
 use Rattle.hound_slices.specs.Writing.{IsExplicit, spec_from_c}

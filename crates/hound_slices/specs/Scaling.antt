@@ -5,7 +5,8 @@ use Rattle.std.specs.List.{count_by}
 use Rattle.hound_spec.specs.{IsPair}
 use Rattle.hound_spec.specs.declared.spec.SampleFormat.TheVariants.{Int}
 use Rattle.hound_spec.specs.declared.spec.WavSpecEx.{WavSpecEx}
-use Rattle.hound_sample.specs.{fits, scaled, scaled_to, state_after}
+use Rattle.hound_sample.specs.{fits, int_container, scaled, scaled_to, state_after}
+use Rattle.hound_slices.specs.Writing.{Encodes}
 use Rattle.hound_slices.specs.declared.error.CallError.{CallError}
 use Rattle.hound_slices.specs.declared.error.CallError.TheVariants.{NoRoom, NotWritable, OtherFormat}
 
@@ -29,6 +30,13 @@ IsNoInteger s count room _ = ⊥
 abbrev pub CountsClipped : ℕ → ℕ → ℕ → Result ℕ CallError → Type 0
 CountsClipped clipped before count (Ok n) = count ≡ clipped
 CountsClipped clipped before count (Err error) = count ≡ before
+
+-- what a call does that encodes floats as integers of a spec, and counts those that are clipped
+abbrev pub EncodesFloats : {A : Type 0} → (A → Float) → WavSpecEx → List A → List ℕ → List ℕ → ℕ → ℕ
+    → Result ℕ CallError → Type 0
+EncodesFloats float s values old new before count outcome =
+    Encodes Int int_container s (integers float s values) old new outcome
+    × CountsClipped (clipped_among float s values) before count outcome
 
 -- a call takes a state of the noise for each value, and at an error none
 abbrev pub TakesNumbers : ℕ → ℕ → ℕ → Result ℕ CallError → Type 0

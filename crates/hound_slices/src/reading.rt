@@ -5,10 +5,10 @@ ghost use Rattle.hound_slices.specs.Reading.{Decodes, DecodesSamples, ReadsInto,
 ghost use Rattle.hound_slices.specs.Writing.{spec_from_c};
 
 use crate::error::CallError;
-use crate::head::find_samples;
 use crate::spec::{HoundSpec, spec_from_c};
 use hound_sample::{Decode, decode_containers};
 use hound_spec::{Error, WavSpecEx};
+use hound_walk::find_samples;
 
 // Whether samples of a spec are read as a type.
 fn check_read<S: Decode>(spec_ex: WavSpecEx) -> Result<(), CallError>
@@ -17,11 +17,8 @@ fn check_read<S: Decode>(spec_ex: WavSpecEx) -> Result<(), CallError>
     ensures some { IsOk result → 1 ≤ spec_ex.bytes_per_sample }
 {
     let spec = spec_ex.spec;
-    match S::check(
-        spec.sample_format,
-        spec_ex.bytes_per_sample,
-        spec.bits_per_sample,
-    ) {
+    let width = spec_ex.bytes_per_sample;
+    match S::check(spec.sample_format, width, spec.bits_per_sample) {
         Ok(()) => Ok(()),
         Err(Error::InvalidSampleFormat) => Err(CallError::OtherFormat),
         Err(Error::TooWide) => Err(CallError::TooWide),
@@ -37,12 +34,14 @@ fn decode_front<S: Decode>(spec_ex: WavSpecEx, bytes: &[u8], out: &mut [S]) -> u
 {
     let width = spec_ex.bytes_per_sample as usize;
     let count = out.len().min(bytes.len() / width);
+    let (format, bits) = (spec_ex.spec.sample_format, spec_ex.spec.bits_per_sample);
+    let front = &mut out[..count];
     decode_containers(
         &bytes[..count * width],
-        &mut out[..count],
-        spec_ex.spec.sample_format,
+        front,
+        format,
         spec_ex.bytes_per_sample,
-        spec_ex.spec.bits_per_sample,
+        bits,
     );
     count
 }

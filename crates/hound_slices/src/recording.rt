@@ -4,7 +4,7 @@ ghost use Rattle.hound_slices.specs.Effects.{effect_of};
 ghost use Rattle.hound_slices.specs.Recording.{block_of, found_file, health_of_code, mends, overwrites, phase_of_code, recorder_of};
 
 use crate::effect::{HoundEffect, effect_for_c};
-use crate::repairing::state_of_code;
+use crate::repairer::state_of_code;
 use crate::spec::{HoundRepair, spec_from_c};
 use hound_writer::{Action, FoundFile, Health, Phase, Recorder};
 
@@ -39,11 +39,7 @@ fn health_of_code(number: u16) -> Health
 fn code_of_health(health: Health) -> u16
     ensures { health_of_code result ≡ health }
 {
-    match health {
-        Health::Sound => 0,
-        Health::Suspect => 1,
-        Health::Dead => 2,
-    }
+    health as u16
 }
 
 // What is under way, by its number. With a block the data have so many bytes.

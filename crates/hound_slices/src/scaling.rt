@@ -5,8 +5,8 @@ ghost use lib.Ieee.{binary32};
 ghost use Rattle.hound_sample.specs.{int_container, with_noise};
 ghost use Rattle.hound_spec.specs.{IsPair};
 ghost use Rattle.hound_spec.specs.declared.spec.SampleFormat.TheVariants.{Int};
-ghost use Rattle.hound_slices.specs.Scaling.{CountsClipped, IsNoInteger, NarrowsFloats, TakesNumbers, WidensFloats, becomes_infinite, clipped_among, integers};
 ghost use Rattle.hound_slices.specs.Writing.{Encodes, spec_from_c};
+ghost use Rattle.hound_slices.specs.Scaling.{CountsClipped, IsNoInteger, NarrowsFloats, TakesNumbers, WidensFloats, becomes_infinite, clipped_among, integers};
 
 use crate::error::CallError;
 use crate::spec::{HoundSpec, spec_from_c};
@@ -52,12 +52,8 @@ pub fn encode_floats<S: Amplitude>(
 {
     let spec_ex = spec_from_c(spec);
     let end = size_of_integers(spec_ex, samples.len(), out.len())?;
-    *clipped = store_amplitudes(
-        &mut out[..end],
-        samples,
-        spec_ex.spec.bits_per_sample,
-        spec_ex.bytes_per_sample,
-    );
+    let (bits, width) = (spec_ex.spec.bits_per_sample, spec_ex.bytes_per_sample);
+    *clipped = store_amplitudes(&mut out[..end], samples, bits, width);
     Ok(end)
 }
 
@@ -80,13 +76,8 @@ pub fn encode_with_noise<S: Amplitude>(
 {
     let spec_ex = spec_from_c(spec);
     let end = size_of_integers(spec_ex, samples.len(), out.len())?;
-    *clipped = store_with_noise(
-        &mut out[..end],
-        samples,
-        spec_ex.spec.bits_per_sample,
-        spec_ex.bytes_per_sample,
-        state,
-    );
+    let (bits, width) = (spec_ex.spec.bits_per_sample, spec_ex.bytes_per_sample);
+    *clipped = store_with_noise(&mut out[..end], samples, bits, width, state);
     Ok(end)
 }
 

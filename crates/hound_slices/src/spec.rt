@@ -93,10 +93,7 @@ pub(crate) fn spec_for_c(spec_ex: WavSpecEx) -> HoundSpec
         channels: spec.channels,
         bits_per_sample: spec.bits_per_sample,
         bytes_per_sample: spec_ex.bytes_per_sample,
-        sample_format: match spec.sample_format {
-            SampleFormat::Int => 0,
-            SampleFormat::Float => 1,
-        },
+        sample_format: (spec.sample_format == SampleFormat::Float) as u16,
     }
 }
 

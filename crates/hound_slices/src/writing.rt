@@ -1,18 +1,20 @@
-// Whole files that are written.
+// Files that are written, or appended to.
 ghost use Rattle.std.specs.Prelude.{◌≡◌, ◌+◌, ◌*◌, ◌%◌, ◌^◌, ◌≤◌, ◌++◌, IsOk, IfOk, IfErr, length, take, drop};
 ghost use Rattle.hound_spec.specs.{IsPair, IsWritable, greatest_u32, data_start, header, padded, padding, riff_size};
 ghost use Rattle.hound_sample.specs.{joined_containers};
 ghost use Rattle.hound_writer.specs.{containers_in};
-ghost use Rattle.hound_slices.specs.Writing.{Encodes, GivesHeader, GivesSizes, IsSizeError, IsUnencoded, Sizes, WritesFile, spec_from_c};
+ghost use Rattle.hound_slices.specs.Writing.{Encodes, GivesHeader, GivesSizes, IsSizeError, IsUnencoded, Sizes, WritesFile, spec_from_c, AppendsInPlace};
 
 use crate::error::CallError;
 use crate::spec::{HoundSpec, spec_from_c};
 use hound_number::le_u32;
+use hound_repair::set_sizes;
 use hound_sample::{Sample, SampleError, check_containers, have_containers, store_containers};
 use hound_spec::{SampleFormat, WavSpecEx, header_length, header_of, is_pair, riff_size_fits};
+use hound_walk::find_samples;
 
-/// Checks that samples of a format have containers of a spec, which is written.
-pub(crate) fn check_samples<S: Sample + Copy>(
+// Checks that samples of a format have containers of a spec, which is written.
+fn check_samples<S: Sample + Copy>(
     spec_ex: WavSpecEx,
     format: SampleFormat,
     samples: &[S],
@@ -41,8 +43,8 @@ pub(crate) fn check_samples<S: Sample + Copy>(
     }
 }
 
-/// Stores the containers of samples at a place, and after data of an odd length the pad byte.
-pub(crate) fn write_data_at<S: Sample + Copy>(
+// Stores the containers of samples at a place, and after data of an odd length the pad byte.
+fn write_data_at<S: Sample + Copy>(
     out: &mut [u8],
     at: usize,
     samples: &[S],
@@ -57,14 +59,9 @@ pub(crate) fn write_data_at<S: Sample + Copy>(
         out.new ≡ take at out.old ++ ((body ++ padding data_length)
         ++ drop (at + (s.bytes_per_sample * length samples.now + data_length % 2)) out.old) }
 {
-    let width = spec_ex.bytes_per_sample;
+    let (bits, width) = (spec_ex.spec.bits_per_sample, spec_ex.bytes_per_sample);
     let end = at + width as usize * samples.len();
-    store_containers(
-        &mut out[at..end],
-        samples,
-        spec_ex.spec.bits_per_sample,
-        width,
-    );
+    store_containers(&mut out[at..end], samples, bits, width);
     if data_length % 2 == 1 {
         out[end] = 0;
     }
@@ -80,12 +77,8 @@ fn put_header(spec_ex: WavSpecEx, riff_size: u32, data_length: u32, out: &mut [u
     out[..header_length(spec_ex)].copy_from_slice(header.as_slice());
 }
 
-/// How many bytes so many samples take, and how many the file that has them after a header of this many.
-pub(crate) fn sizes_of(
-    spec_ex: WavSpecEx,
-    data_start: usize,
-    samples: u64,
-) -> Result<(u32, usize), CallError>
+// How many bytes so many samples take, and how many the file that has them after a header of this many.
+fn sizes_of(spec_ex: WavSpecEx, data_start: usize, samples: u64) -> Result<(u32, usize), CallError>
     requires channels { 1 ≤ spec_ex.spec.channels }
     requires width { 1 ≤ spec_ex.bytes_per_sample }
     requires some { 8 ≤ data_start }
@@ -154,11 +147,8 @@ pub fn write_sizes(
 {
     let spec_ex = spec_from_c(spec);
     let spec = spec_ex.spec;
-    if !is_pair(
-        spec.sample_format,
-        spec.bits_per_sample,
-        spec_ex.bytes_per_sample,
-    ) {
+    let width = spec_ex.bytes_per_sample;
+    if !is_pair(spec.sample_format, spec.bits_per_sample, width) {
         return Err(CallError::NotWritable);
     }
     if spec.channels == 0 || data_start < 20 {
@@ -213,16 +203,45 @@ pub fn encode_block<S: Sample + Copy>(
 {
     let spec_ex = spec_from_c(spec);
     check_samples(spec_ex, format, samples)?;
-    let width = spec_ex.bytes_per_sample;
+    let (bits, width) = (spec_ex.spec.bits_per_sample, spec_ex.bytes_per_sample);
     if samples.len() > out.len() / width as usize {
         return Err(CallError::NoRoom);
     }
     let end = samples.len() * width as usize;
-    store_containers(
-        &mut out[..end],
-        samples,
-        spec_ex.spec.bits_per_sample,
-        width,
-    );
+    store_containers(&mut out[..end], samples, bits, width);
     Ok(end)
+}
+
+/// Appends samples after those of the file in the first bytes, and returns its new length.
+pub fn append_block<S: Sample + Copy>(
+    file: &mut [u8],
+    used: usize,
+    format: SampleFormat,
+    samples: &[S],
+) -> Result<usize, CallError>
+    ensures appends { AppendsInPlace format S.container samples.now used file.old file.new result }
+    ensures within { IfOk result (λ n. n ≤ length file.old) }
+{
+    if used > file.len() {
+        return Err(CallError::NoRoom);
+    }
+    let (head, stored) = find_samples(&file[..used])?;
+    let spec_ex = head.spec_ex;
+    check_samples(spec_ex, format, samples)?;
+    let data_start = head.data_start as usize;
+    let end = data_start + stored as usize * spec_ex.bytes_per_sample as usize;
+    if end > used {
+        return Err(CallError::Truncated);
+    }
+    if samples.len() > u32::MAX as usize {
+        return Err(CallError::TooLong);
+    }
+    let count = samples.len() as u64 + stored as u64;
+    let (data_length, size) = sizes_of(spec_ex, data_start, count)?;
+    if size > file.len() {
+        return Err(CallError::NoRoom);
+    }
+    write_data_at(file, end, samples, spec_ex, data_length);
+    set_sizes(file, data_start - 4, (size - 8) as u32, data_length);
+    Ok(size)
 }

@@ -2,7 +2,7 @@
 use Rattle.std.proofs.lemmas.Grind.{common_steps}
 use Rattle.std.proofs.Common.{◌≡◌, ℕ, zero, suc, ◌/◌, ◌^◌, ◌<◌, List, ◌++◌, arith}
 use Rattle.hound_number.specs.{number, bytes_of}
-use Rattle.hound_spec.specs.FmtChunk.{FmtFields, fmt_bytes, fmt_fields}
+use Rattle.hound_spec.specs.Header.{FmtFields, fmt_bytes, fmt_fields}
 
 -- the number of the bytes of a number
 pub number-bytes_of : (k n : ℕ) → n < 256 ^ k → number (bytes_of k n) ≡ n

@@ -7,8 +7,7 @@ use Rattle.std.specs.List.{concat}
 use Rattle.hound_number.specs.{bytes_of}
 use Rattle.hound_spec.specs.declared.spec.SampleFormat.{SampleFormat}
 use Rattle.hound_spec.specs.declared.spec.WavSpecEx.{WavSpecEx}
-use Rattle.hound_spec.specs.FmtChunk.{subformat}
-use Rattle.hound_spec.specs.Header.{is_short, riff_tag, wave_tag, fmt_tag, data_tag, short_fmt, long_fmt, sized_fmt, header, data_start, padding, canonical}
+use Rattle.hound_spec.specs.Header.{subformat, is_short, riff_tag, wave_tag, fmt_tag, data_tag, short_fmt, long_fmt, sized_fmt, header, data_start, padding, canonical}
 
 pub length-subformat : (f : SampleFormat) → length (subformat f) ≡ 16
 length-subformat f = search rules

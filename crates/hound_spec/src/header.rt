@@ -1,8 +1,7 @@
 // The bytes before the data.
 ghost use Rattle.std.specs.Prelude.{◌≡◌, ◌+◌, ◌-◌, ◌*◌, ◌^◌, ◌≤◌, ◌++◌, ◌↔◌, [], IsTrue, List, ℕ, length, take, min};
-ghost use Rattle.hound_spec.specs.Header.{IsWritable, is_short, data_start, fields, header, riff_size, mask, short_fmt, long_fmt, sized_fmt};
+ghost use Rattle.hound_spec.specs.Header.{IsWritable, is_short, data_start, fields, header, riff_size, mask, short_fmt, long_fmt, sized_fmt, fmt_bytes, greatest_u32, subformat};
 ghost use Rattle.hound_number.specs.{bytes_of};
-ghost use Rattle.hound_spec.specs.FmtChunk.{fmt_bytes, greatest_u32, subformat};
 
 use crate::{Error, Result, SampleFormat, WavSpec, WavSpecEx};
 use hound_number::{le_u16, le_u32};
@@ -235,8 +234,7 @@ pub fn header_of(spec_ex: WavSpecEx, riff_size: u32, data_length: u32) -> Header
 impl WavSpec {
     ghost use Rattle.std.specs.Prelude.{◌≡◌, IfOk, IfErr, OnOk, Err};
     ghost use Rattle.hound_spec.specs.declared.error.Error.TheVariants.{OutOfMemory, Unsupported};
-    ghost use Rattle.hound_spec.specs.FmtChunk.{greatest_u32};
-    ghost use Rattle.hound_spec.specs.Header.{header, IsWritable, with_default_width};
+    ghost use Rattle.hound_spec.specs.Header.{greatest_u32, header, IsWritable, with_default_width};
 
     /// The header of a stream whose length isn't known when it begins: both sizes are 4294967295. It is for outputs
     /// without a way back; the containers follow, each by `Sample::write_padded`.

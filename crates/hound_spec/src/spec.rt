@@ -27,14 +27,11 @@ pub enum SampleFormat {
 pub struct WavSpec {
     /// The number of channels, whose samples are interleaved: a sample of each is a frame.
     pub channels: u16,
-
     /// The number of frames a second, in hertz; 44100 on a CD. It may be 0 in a file that is read.
     pub sample_rate: u32,
-
     /// The number of bits of a sample that are used; 16 on a CD. In a file that is read it can be any but 0, since the
     /// valid bits of a WAVEFORMATEXTENSIBLE aren't checked; types read only the pairs of [`WavSpecEx::is_writable`].
     pub bits_per_sample: u16,
-
     /// Whether samples are integers or floats.
     pub sample_format: SampleFormat,
 }
@@ -56,7 +53,6 @@ pub struct WavSpec {
 pub struct WavSpecEx {
     /// The properties of the audio data; its bits are the used ones.
     pub spec: WavSpec,
-
     /// The number of bytes that a sample takes in the file, its container. In a file that is read: the block align
     /// divided by the channels, rounded down (WAVEFORMATEX, "nBlockAlign").
     pub bytes_per_sample: u16,

@@ -1,6 +1,6 @@
 // The words of the program's contracts at worked lines, evaluated by the prover.
 ghost use Rattle.std.specs.Prelude.{◌≡◌, ◌∷◌, [], codes, negsuc, pos};
-ghost use Rattle.hound_commands.specs.Showing.{sample_lines, spec_line};
+ghost use Rattle.hound_commands.specs.Commands.{sample_lines, spec_line};
 ghost use Rattle.hound_text.specs.{words, integer_line, pattern_line};
 
 use hound::{SampleFormat, WavSpec, WavSpecEx};

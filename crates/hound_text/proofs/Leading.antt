@@ -2,8 +2,7 @@
 use Rattle.std.proofs.Common.{◌≡◌, ℕ, ℤ, ◌≤◌, List, [], ◌++◌, take, drop, Option, Some, None, IfSome, ap, sym, ◌∙◌, append_assoc, arith, take-append-drop, IfErr, Result, Ok, Err, subst}
 use Rattle.std.proofs.lemmas.Grind.{common_steps}
 use Rattle.std.specs.Io.KnownBytes.{Consumes, IsAtEnd}
-use Rattle.hound_text.specs.Reading.{Breaks, Follows, before, ended, numbers_from, IsRejected, IsTextRejection}
-use Rattle.hound_text.specs.Text.{SaysNoNumbers, SaysNumbers}
+use Rattle.hound_text.specs.Text.{Breaks, Follows, before, ended, numbers_from, IsRejected, IsTextRejection, SaysNoNumbers, SaysNumbers}
 use Rattle.hound_text.specs.declared.numbers.Place.{Place}
 use Rattle.std.specs.Result.{IsErrAnd}
 use Rattle.hound_text.specs.declared.numbers.TextError.{TextError}

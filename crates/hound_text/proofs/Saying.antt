@@ -12,8 +12,7 @@ use Rattle.std.specs.Int.{w32}
 use Rattle.std.specs.List.{filter, onto_first, slice_split}
 use Rattle.std.specs.Option.{option_and_then, option_map}
 use Rattle.std.specs.Str.Parse.{AllDigits, IsNumeral, digits_value, digits_value_after, starts_with_minus}
-use Rattle.hound_text.specs.Reading.{before, ended, is_digit, longer_magnitude, next_place, numbers_from}
-use Rattle.hound_text.specs.Text.{SayNumbers, SaysNoNumbers, SaysNumber, SaysNumbers, is_filled, is_separator, signed_value, without_minus, words}
+use Rattle.hound_text.specs.Text.{before, ended, is_digit, longer_magnitude, next_place, numbers_from, SayNumbers, SaysNoNumbers, SaysNumber, SaysNumbers, is_filled, is_separator, signed_value, without_minus, words}
 use Rattle.hound_text.specs.declared.numbers.Place.{Place}
 use Rattle.hound_text.specs.declared.numbers.Place.TheVariants.{Between, AfterMinus, Inside}
 

@@ -3,8 +3,6 @@
 
 mod lines;
 mod numbers;
-mod output;
 
-pub use lines::Lines;
+pub use lines::{Lines, write_text};
 pub use numbers::{TextError, digits, read_numbers};
-pub use output::write_text;

@@ -1,9 +1,9 @@
-// Lines of numbers, buffered for the output.
+// Lines of numbers, buffered for the output, and bytes to it, whatever interrupts it.
 ghost use Rattle.std.specs.Prelude.{◌≡◌, ◌+◌, ◌<◌, ◌≤◌, ◌↔◌, ℕ, IsTrue, [], ◌∷◌, ◌++◌, decimal, length, List, take, ◌-◌, IsOk, Ok, Some, min};
 ghost use Rattle.hound_text.specs.Text.{HasLineRoom, integer_line, lines_capacity, pattern_line};
 ghost use Rattle.hound_number.specs.{Writes};
 
-use crate::output::write_text;
+use std::io::ErrorKind;
 use std::marker::Model;
 use std::{io, mem};
 
@@ -155,4 +155,23 @@ impl io::Write for Lines {
     {
         Ok(())
     }
+}
+
+/// Writes all of the bytes, in order, and tries again where a write is interrupted, as std's `write_all` does, whose
+/// contract doesn't say what an `Err` has written: here it is a beginning of the bytes. A write that takes no byte is a
+/// fault of the kind `WriteZero`.
+pub fn write_text<O: io::Write>(output: &mut O, bytes: &[u8]) -> io::Result<()>
+    ensures { Writes bytes.now result (O.contents output.old) (O.contents output.new) }
+{
+    let mut at = 0;
+    let mut tries = u64::MAX;
+    while at < bytes.len() {
+        match output.write(&bytes[at..]) {
+            Ok(0) => return Err(io::Error::from(ErrorKind::WriteZero)),
+            Ok(n) => at += n,
+            Err(error) if error.kind() == ErrorKind::Interrupted && tries > 0 => tries -= 1,
+            Err(error) => return Err(error),
+        }
+    }
+    Ok(())
 }

@@ -2,8 +2,7 @@
 ghost use Rattle.std.specs.Prelude.{◌≡◌, ℕ, ◌≤◌, ◌<◌, ◌++◌, true, false, List, IfErr, IfOk, IfSome, IsNone, OnOk, SomeIff, [], ◌∷◌, Some, None, length};
 ghost use Rattle.std.specs.Io.KnownBytes.{IsAtEnd};
 ghost use Rattle.std.specs.Str.Parse.{IsNumeral, digits_value};
-ghost use Rattle.hound_text.specs.Reading.{IsRejected, IsTextRejection, Breaks, Leads, before, begins_with_digit, ended, is_digit, numbers_from};
-ghost use Rattle.hound_text.specs.Text.{SaysNumbers};
+ghost use Rattle.hound_text.specs.Text.{IsRejected, IsTextRejection, Breaks, Leads, before, begins_with_digit, ended, is_digit, numbers_from, SaysNumbers};
 ghost use Rattle.hound_text.specs.declared.numbers.Place.TheVariants.{Between, Inside};
 ghost use Rattle.hound_text.specs.declared.numbers.TextError.TheVariants.{BadNumber};
 

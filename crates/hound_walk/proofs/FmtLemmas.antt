@@ -4,7 +4,7 @@ use Rattle.std.proofs.Common.{◌≡◌, ◌+◌, ℕ, ◌-◌, ◌≤◌, true,
 use Rattle.hound_spec.specs.declared.spec.WavSpecEx.{WavSpecEx}
 use Rattle.hound_number.specs.{number}
 use Rattle.hound_spec.specs.{fmt_fields, extension}
-use Rattle.hound_walk.specs.Fmt.{◌>>=◌, wave_format, fmt_len, fmt_said, fmt_of, wave_format_pcm, wave_format_extensible, by_subformat, by_tag}
+use Rattle.hound_walk.specs.Grammar.{◌>>=◌, wave_format, fmt_len, fmt_said, fmt_of, wave_format_pcm, wave_format_extensible, by_subformat, by_tag}
 use Rattle.std.proofs.Math.Seq.{take-append-add}
 
 pub pcm_forty : (len : ℕ) (found : WavSpecEx) (after : List ℕ) → len ≡ 40 → length after ≡ 24

@@ -10,8 +10,7 @@ use Rattle.hound_spec.specs.{greatest_u32, padded, riff_tag, wave_tag, fmt_tag, 
 use Rattle.hound_walk.specs.declared.cause.Cause.{Cause}
 use Rattle.hound_walk.specs.declared.cause.Cause.TheVariants.{Ended, Format}
 use Rattle.hound_walk.specs.declared.cause.Reason.TheVariants.{NoDataChunk}
-use Rattle.hound_walk.specs.Fmt.{fmt_len, fmt_of}
-use Rattle.hound_walk.specs.Grammar.{Rejected, front_fault, content_fault, chunk_fault, fmt_fault, spec_after, cut_fault, Chunk, Head}
+use Rattle.hound_walk.specs.Grammar.{fmt_len, fmt_of, Rejected, front_fault, content_fault, chunk_fault, fmt_fault, spec_after, cut_fault, Chunk, Head}
 use Rattle.hound_walk.proofs.WalkLemmas.{walked_more, head_from, same_tag}
 use Rattle.std.proofs.lemmas.Bool.{cases_lt}
 use Rattle.hound_walk.specs.Walking.{CountsFailed, Walked, Rejects}

@@ -6,10 +6,9 @@ use Rattle.std.specs.Io.KnownBytes.{Consumes}
 use Rattle.hound_number.specs.{WhereKnown, number}
 use Rattle.hound_number.proofs.KnownSteps.{known_both, known_then, known_weaker}
 use Rattle.hound_walk.specs.Walking.{Rejects, RejectedAfter, UnreadableAfter, TakesAll, TakesFor, chunk_taken, content_taken, Walked, AreTaken}
-use Rattle.hound_walk.specs.Grammar.{Head, Rejected as Rejected', chunk_fault, data_fault, joined}
+use Rattle.hound_walk.specs.Grammar.{Head, Rejected as Rejected', chunk_fault, data_fault, joined, by_subformat, wave_format}
 use Rattle.hound_spec.specs.{riff_tag, wave_tag, FmtFields, Extension, fmt_fields, greatest_u32}
 use Rattle.std.specs.Prelude.{IfErr}
-use Rattle.hound_walk.specs.Fmt.{by_subformat, wave_format}
 use Rattle.hound_spec.specs.declared.spec.WavSpecEx.{WavSpecEx}
 use Rattle.hound_walk.specs.declared.cause.Cause.{Cause}
 use Rattle.hound_walk.specs.declared.cause.Cause.TheVariants.{Unsupported}

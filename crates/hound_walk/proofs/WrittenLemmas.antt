@@ -13,8 +13,7 @@ use Rattle.hound_spec.specs.{IsPair, IsWritable, riff_tag, wave_tag, fmt_tag, da
 use Rattle.hound_spec.proofs.FmtLemmas.{FieldsFit, number-bytes_of, fields_written}
 use Rattle.hound_spec.proofs.WritableLemmas.{PairFacts, pair_facts}
 use Rattle.hound_spec.proofs.HeaderLemmas.{sized_fmt-short, sized_fmt-long, length-long_fmt}
-use Rattle.hound_walk.specs.Fmt.{wave_format, by_tag, wave_format_pcm, wave_format_extensible, fmt_said, fmt_of}
-use Rattle.hound_walk.specs.Grammar.{Chunk, spec_after, Head, joined, fault_of, ok_of}
+use Rattle.hound_walk.specs.Grammar.{wave_format, by_tag, wave_format_pcm, wave_format_extensible, fmt_said, fmt_of, Chunk, spec_after, Head, joined, fault_of, ok_of}
 
 le_times : (a b : ℕ) → 0 < b → a ≤ b * a
 le_times a b h = omega (arith, le-mul_of_pos_right {m = b} a h)

@@ -3,8 +3,7 @@ use Rattle.std.specs.Prelude.{◌≡◌, ℕ, ◌+◌, ◌-◌, ◌*◌, ◌≤�
 use Rattle.hound_number.specs.{number}
 use Rattle.hound_spec.specs.{greatest_u32, padded, fmt_tag}
 use Rattle.hound_spec.specs.declared.spec.WavSpecEx.{WavSpecEx}
-use Rattle.hound_walk.specs.Fmt.{fmt_len, IsSoundSpec}
-use Rattle.hound_walk.specs.Grammar.{Head, IsDataPlace, Rejected}
+use Rattle.hound_walk.specs.Grammar.{fmt_len, IsSoundSpec, Head, IsDataPlace, Rejected}
 use Rattle.hound_walk.specs.Walking.{Walked, IsSoundOption}
 use Rattle.hound_walk.specs.declared.cause.Cause.{Cause}
 use Rattle.hound_walk.specs.declared.cause.Cause.TheVariants.{Ended}

@@ -5,8 +5,7 @@ use Rattle.hound_walk.specs.declared.cause.HeadError.{HeadError}
 use Rattle.hound_walk.specs.declared.cause.HeadError.TheVariants.{Failed, Rejected}
 use Rattle.hound_walk.specs.declared.cause.Cause.{Cause}
 use Rattle.hound_spec.specs.{greatest_u32, extensible, fmt_fields, padded, fmt_tag, data_tag}
-use Rattle.hound_walk.specs.Grammar.{joined, last_spec, chunk_fault, Chunk, IsChunk, chunk_bytes, spec_after, fmt_fault, front_fault, content_fault, Head, Walk, data_fault}
-use Rattle.hound_walk.specs.Fmt.{fmt_len, IsSoundSpec}
+use Rattle.hound_walk.specs.Grammar.{joined, last_spec, chunk_fault, Chunk, IsChunk, chunk_bytes, spec_after, fmt_fault, front_fault, content_fault, Head, Walk, data_fault, fmt_len, IsSoundSpec}
 use Rattle.std.specs.Str.{bytes_eq}
 use Rattle.hound_spec.specs.declared.spec.WavSpecEx.{WavSpecEx}
 use Rattle.hound_walk.specs.declared.chunks.ChunkRead.{ChunkRead}

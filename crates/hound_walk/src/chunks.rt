@@ -1,20 +1,20 @@
-// The walk over chunks to the data.
+// The walk over chunks to the data, what it takes its bytes from, and what a caller takes first of a file.
 ghost use Rattle.hound_medium.specs.{WhereTells};
-ghost use Rattle.std.specs.Prelude.{◌≡◌, ℕ, ◌+◌, ◌++◌, ◌<◌, ◌≤◌, List, [], length, drop, Ok, Some, OnOk, IfOk, IfErr};
+ghost use Rattle.std.specs.Prelude.{◌≡◌, ℕ, ◌+◌, ◌++◌, ◌<◌, ◌≤◌, List, [], length, drop, Ok, Some, OnOk, IfOk, IfErr, if◌then◌else◌, None, OnErr, ◌%◌};
 ghost use Rattle.std.specs.Io.KnownBytes.{Consumes};
 ghost use Rattle.hound_number.specs.{WhereKnown, number};
 ghost use Rattle.hound_spec.specs.{greatest_u32, riff_tag, wave_tag};
-ghost use Rattle.hound_walk.specs.Walking.{CountsFailed, Rejects, Walks, TakesFront, RejectedAfter, TakesAll, chunk_taken, content_takes, ReadsChunk, ReadsContent, SaysContent, IsSoundOption, IsSoundChunk};
-ghost use Rattle.hound_walk.specs.Fmt.{IsSoundSpec};
-ghost use Rattle.hound_walk.specs.Grammar.{Head, IsDataPlace, Rejected, front_fault, content_fault, chunk_fault};
-ghost use Rattle.hound_walk.specs.Sources.{FindsData, unread};
+ghost use Rattle.hound_walk.specs.Walking.{CountsFailed, Rejects, Walks, TakesFront, RejectedAfter, TakesAll, chunk_taken, content_takes, ReadsChunk, ReadsContent, SaysContent, IsSoundOption, IsSoundChunk, ReportsFront, UnreadableAfter};
+ghost use Rattle.hound_walk.specs.Grammar.{IsSoundSpec, Head, IsDataPlace, Rejected, front_fault, content_fault, chunk_fault, Readable, Unreadable};
+ghost use Rattle.hound_walk.specs.Sources.{FindsData, unread, Untouched, account_of};
 
-use crate::cause::{Cause, HeadError, Reason};
+use crate::cause::{Cause, HeadError, Reason, error_of};
 use crate::fmt::read_fmt_chunk;
-use crate::input::{SourceReader, fill};
+use crate::parts::count_samples;
 use hound_medium::Source;
-use hound_number::{Input, u32_at};
+use hound_number::{Input, ReadError, read_into, u32_at};
 use hound_spec::{WAVEFORMATEXTENSIBLE_LENGTH, WavSpecEx};
+use std::io;
 
 // What one chunk was (RIFF, "Chunks").
 #[derive(Drop)]
@@ -30,10 +30,8 @@ pub(crate) enum ChunkRead {
 pub struct FileHead {
     /// The spec of the last fmt chunk.
     pub spec_ex: WavSpecEx,
-
     /// The length of the data in bytes, as in their chunk.
     pub data_length: u32,
-
     /// How many bytes are before the data.
     pub data_start: u64,
 }
@@ -218,4 +216,75 @@ pub fn find_data<S: Source>(source: S) -> (S, Result<FileHead, HeadError>)
     let mut input = SourceReader { source };
     let answer = read_until_data(&mut input);
     (input.source, answer)
+}
+
+/// A source that is read by `get`, so that its failed reads are counted: an [`Input`] for the walk.
+#[derive(Drop)]
+pub struct SourceReader<S> {
+    /// The source.
+    pub source: S,
+}
+
+impl<S: Source> Input for SourceReader<S> {
+    ghost left = { λ c. if S.tells then Some (unread (S.state c.source)) else None };
+
+    ghost Kept = { Untouched };
+
+    ghost account = { λ c. if S.tells then Some (account_of (S.state c.source)) else None };
+
+    fn read_some(&mut self, buf: &mut [u8]) -> io::Result<usize> {
+        self.source.get(buf)
+    }
+}
+
+/// Fills the whole buffer, however the reads are cut.
+pub(crate) fn fill<R: Input>(reader: &mut R, buf: &mut [u8]) -> Result<(), HeadError>
+    ensures failures { CountsFailed (R.account reader.old) (R.account reader.new) result }
+    ensures ok { OnOk result (Consumes (R.left reader.old) (R.left reader.new) buf.new) }
+    ensures part { OnErr result ((bytes : List ℕ) × (length bytes < length buf.new)
+        × Consumes (R.left reader.old) (R.left reader.new) bytes) }
+    ensures err { IfErr result (λ e. Rejects e (λ c. (c ≡ Cause.Ended)
+        × WhereKnown (R.left reader.old) (R.left reader.new) (λ xs ys. (length xs < length buf.new) × (ys ≡ [])))) }
+{
+    match read_into(reader, buf) {
+        Ok(()) => Ok(()),
+        Err(ReadError::Failed(e)) => Err(HeadError::Failed(e)),
+        Err(ReadError::Ended) => Err(HeadError::Rejected(Cause::Ended)),
+    }
+}
+
+/// Takes exactly what is before the data, which must be whole frames, and returns the head and how many samples follow.
+pub fn read_until_samples<R: Input>(reader: &mut R) -> Result<(FileHead, u32), HeadError>
+    ensures sound { IfOk result (λ r. IsSoundSpec r.0.spec_ex) }
+    ensures start { IfOk result (λ r. IsDataPlace r.0.data_start) }
+    ensures failures { CountsFailed (R.account reader.old) (R.account reader.new) result }
+    ensures found { IfOk result (λ r. WhereKnown (R.left reader.old) (R.left reader.new) (λ xs ys.
+        Readable xs r.0.spec_ex r.1 r.0.data_start × (ys ≡ drop r.0.data_start xs))) }
+    ensures rejected { IfErr result (λ e. Rejects e
+        (λ c. WhereKnown (R.left reader.old) (R.left reader.new) (λ xs ys. Unreadable xs c))) }
+    ensures taken { IfErr result (TakesAll UnreadableAfter (R.left reader.old) (R.left reader.new)) }
+    ensures frames { IfOk result (λ r. r.1 % r.0.spec_ex.spec.channels ≡ 0) }
+{
+    let head = read_until_data(reader)?;
+    let num_samples = count_samples(head)?;
+    Ok((head, num_samples))
+}
+
+/// Takes the first twelve bytes of a file, and returns the size of the whole file in bytes by them: the RIFF size,
+/// which doesn't count itself and the tag before it, and eight bytes more (RIFF, "RIFF Forms"), at most 4294967303. So
+/// a caller learns whether this can be a WAVE file.
+///
+/// The size isn't checked. The errors, in the order of the bytes: `FormatError`, for a wrong RIFF tag and then for a
+/// wrong WAVE tag, after which no byte is taken; `IoError`, if a read fails or the input ends, which has the kind
+/// `Other`.
+pub fn read_wave_header<R: io::Read>(reader: &mut R) -> hound_spec::Result<u64>
+    ensures found { IfOk result (λ n. WhereKnown (R.remaining reader.old) (R.remaining reader.new) (λ xs ys.
+        (size : List ℕ) × (length size ≡ 4) × (xs ≡ riff_tag ++ (size ++ (wave_tag ++ ys))) × (n ≡ number size + 8))) }
+    ensures rejected { IfErr result (λ e.
+        WhereKnown (R.remaining reader.old) (R.remaining reader.new) (ReportsFront e)) }
+{
+    match read_riff_header(reader) {
+        Ok(size) => Ok(size as u64 + 8),
+        Err(e) => Err(error_of(e)),
+    }
 }

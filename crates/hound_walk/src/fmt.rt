@@ -2,10 +2,10 @@
 ghost use Rattle.std.specs.Prelude.{◌≡◌, ◌-◌, ◌≤◌, length, take, IfOk, IfErr};
 ghost use Rattle.hound_spec.specs.{fmt_fields, extension, pcm, ieee_float, extensible};
 ghost use Rattle.hound_walk.specs.Walking.{Gives, CountsFailed, ReadsFormat, TakesFor, content_takes};
-ghost use Rattle.hound_walk.specs.Fmt.{wave_format, wave_format_pcm, wave_format_ieee_float, wave_format_extensible, by_subformat, by_tag, fmt_len, fmt_of, IsSoundSpec};
+ghost use Rattle.hound_walk.specs.Grammar.{wave_format, wave_format_pcm, wave_format_ieee_float, wave_format_extensible, by_subformat, by_tag, fmt_len, fmt_of, IsSoundSpec};
 
 use crate::cause::{Cause, HeadError, Reason};
-use crate::input::fill;
+use crate::chunks::fill;
 use hound_number::{Input, u16_at, u32_at};
 use hound_spec::{
     EXTENSION_LENGTH, KSDATAFORMAT_SUBTYPE_IEEE_FLOAT, KSDATAFORMAT_SUBTYPE_PCM,
@@ -14,7 +14,7 @@ use hound_spec::{
 };
 
 // The fields of the first sixteen bytes, and the checks of every format tag, in order.
-#[tactic(auto, unfolding(crate::specs::Fmt::wave_format))]
+#[tactic(auto, unfolding(crate::specs::Grammar::wave_format))]
 fn check_wave_format(head: &[u8]) -> Result<WavSpecEx, Cause>
     requires { length head.now ≡ 16 }
     ensures fields { result ≡ wave_format (fmt_fields head.now) }
@@ -61,7 +61,7 @@ fn check_wave_format(head: &[u8]) -> Result<WavSpecEx, Cause>
 }
 
 // After the first sixteen bytes of integers: nothing, or bytes that are ignored.
-#[tactic(auto, unfolding(crate::specs::Fmt::wave_format_pcm))]
+#[tactic(auto, unfolding(crate::specs::Grammar::wave_format_pcm))]
 fn read_wave_format_pcm<R: Input>(
     reader: &mut R,
     chunk_len: u32,
@@ -93,7 +93,7 @@ fn read_wave_format_pcm<R: Input>(
 }
 
 // After the first sixteen bytes of floats: nothing, or a size of 0.
-#[tactic(auto, unfolding(crate::specs::Fmt::wave_format_ieee_float))]
+#[tactic(auto, unfolding(crate::specs::Grammar::wave_format_ieee_float))]
 fn read_wave_format_ieee_float<R: Input>(
     reader: &mut R,
     chunk_len: u32,
@@ -159,7 +159,7 @@ fn choose_subformat(found: WavSpecEx, rest: &[u8]) -> Result<WavSpecEx, Cause>
 }
 
 // After the first sixteen bytes of an extensible chunk: its size, and 22 bytes.
-#[tactic(auto, unfolding(crate::specs::Fmt::wave_format_extensible))]
+#[tactic(auto, unfolding(crate::specs::Grammar::wave_format_extensible))]
 fn read_wave_format_extensible<R: Input>(
     reader: &mut R,
     chunk_len: u32,
@@ -185,7 +185,7 @@ fn read_wave_format_extensible<R: Input>(
     Ok(choose_subformat(found, &rest)?)
 }
 
-#[tactic(auto, unfolding(crate::specs::Fmt::by_tag))]
+#[tactic(auto, unfolding(crate::specs::Grammar::by_tag))]
 fn read_by_tag<R: Input>(
     reader: &mut R,
     tag: u16,
@@ -205,7 +205,7 @@ fn read_by_tag<R: Input>(
 }
 
 /// Reads the used part of the content of a fmt chunk of this length: of a longer one than forty bytes the first forty.
-#[tactic(auto, unfolding(crate::specs::Fmt::fmt_said))]
+#[tactic(auto, unfolding(crate::specs::Grammar::fmt_said))]
 pub(crate) fn read_fmt_chunk<R: Input>(
     reader: &mut R,
     chunk_len: u32,

@@ -8,14 +8,12 @@
 mod cause;
 mod chunks;
 mod fmt;
-mod head;
-mod input;
 mod laws;
 mod parts;
 
 pub use cause::{Cause, HeadError, Reason, error_of};
-pub use chunks::{FileHead, find_data, read_until_data};
-pub use head::{read_until_samples, read_wave_header};
-pub use input::SourceReader;
+pub use chunks::{
+    FileHead, SourceReader, find_data, read_until_data, read_until_samples, read_wave_header,
+};
 pub use laws::{one_answer, written_is_head};
-pub use parts::{HeadWalk, Part, Step, bytes_at, count_samples, find_by_parts, take_part};
+pub use parts::{HeadWalk, Part, Step, bytes_at, count_samples, find_samples, take_part};

@@ -3,8 +3,7 @@
 ghost use Rattle.std.specs.Prelude.{◌≡◌, ℕ, ◌+◌, ◌≤◌, ◌/◌, ◌%◌, List, Option, None, Some, IfOk, IfErr, length, take, drop};
 ghost use Rattle.hound_spec.specs.{greatest_u32, padded};
 ghost use Rattle.hound_spec.specs.declared.spec.WavSpecEx.{WavSpecEx};
-ghost use Rattle.hound_walk.specs.Fmt.{fmt_len, IsSoundSpec};
-ghost use Rattle.hound_walk.specs.Grammar.{Head, IsDataPlace, Rejected, data_fault};
+ghost use Rattle.hound_walk.specs.Grammar.{fmt_len, IsSoundSpec, Head, IsDataPlace, Readable, Rejected, Unreadable, data_fault};
 ghost use Rattle.hound_walk.specs.Walking.{IsSoundOption, Rejects, Walked};
 ghost use Rattle.hound_walk.specs.Parts.{IsAhead, IsAt, IsAtPart, IsAfter, IsNearer, IsSoundStep, LeadsTo, part_bytes, part_start, part_length, parts_left};
 ghost use Rattle.hound_walk.specs.declared.parts.Part.TheVariants as kinds;
@@ -257,8 +256,8 @@ impl HeadWalk {
     }
 }
 
-/// Walks to the data of a file in memory. Of a chunk that is skipped it looks at the last byte alone.
-pub fn find_by_parts(file: &[u8]) -> Result<FileHead, Cause>
+// Walks to the data of a file in memory. Of a chunk that is skipped it looks at the last byte alone.
+fn find_by_parts(file: &[u8]) -> Result<FileHead, Cause>
     ensures head { IfOk result (λ h. Head file.now h.spec_ex h.data_length h.data_start) }
     ensures sound { IfOk result (λ h. IsSoundSpec h.spec_ex) }
     ensures start { IfOk result (λ h. IsDataPlace h.data_start) }
@@ -276,4 +275,18 @@ pub fn find_by_parts(file: &[u8]) -> Result<FileHead, Cause>
             Step::Data(head) => return Ok(head),
         }
     }
+}
+
+/// Walks over a file in memory up to its data, which must be whole frames, and also returns how many samples they are.
+pub fn find_samples(file: &[u8]) -> Result<(FileHead, u32), Cause>
+    ensures readable { IfOk result (λ r. Readable file.now r.0.spec_ex r.1 r.0.data_start) }
+    ensures sound { IfOk result (λ r. IsSoundSpec r.0.spec_ex) }
+    ensures start { IfOk result (λ r. IsDataPlace r.0.data_start) }
+    ensures frames { IfOk result (λ r. r.1 % r.0.spec_ex.spec.channels ≡ 0) }
+    ensures inside { IfOk result (λ r. r.0.data_start ≤ length file.now) }
+    ensures unreadable { IfErr result (Unreadable file.now) }
+{
+    let head = find_by_parts(file)?;
+    let samples = count_samples(head)?;
+    Ok((head, samples))
 }

@@ -10,9 +10,8 @@ use Rattle.hound_spec.specs.declared.spec.WavSpecEx.{WavSpecEx}
 use Rattle.hound_writer.specs.Beginning.{at_beginning}
 use Rattle.hound_writer.specs.Calls.{Begun, Known, marked, new_file, publish}
 use Rattle.hound_writer.specs.Effects.{Log, Performs}
-use Rattle.hound_writer.specs.Machine.{EffectEnds, GivesUp, GoesOn, HasEnded, IsSaving, MaySave, TakesBlock, after_block, cuts_next, doubted, end_of, end_place, given_up}
+use Rattle.hound_writer.specs.Recorder.{EffectEnds, GivesUp, GoesOn, HasEnded, IsSaving, MaySave, TakesBlock, after_block, cuts_next, doubted, end_of, end_place, given_up, BeginsRecorder, HasData, IsAlive, IsClear, NextEffect, length_with, recorder_of}
 use Rattle.hound_writer.specs.Parts.{PutsAt}
-use Rattle.hound_writer.specs.Recorder.{BeginsRecorder, HasData, IsAlive, IsClear, NextEffect, length_with, recorder_of}
 use Rattle.hound_writer.specs.Recording.{Directed, HasPlace, HasRoomTo, InStep, Opened, Resumed, block_known, cut_known, resumed_file}
 use Rattle.hound_writer.specs.Resuming.{ContinuesAfter, Resumes, ResumesAfter, kept_length, rest_follows, resumed_recorder}
 use Rattle.hound_writer.specs.declared.effects.Action.TheVariants.{Perform, WriteBlock}

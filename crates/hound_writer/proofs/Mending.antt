@@ -14,9 +14,8 @@ use Rattle.hound_writer.specs.Accepting.{mark_of}
 use Rattle.hound_writer.specs.Appending.{head_fault}
 use Rattle.hound_writer.specs.Effects.{Log, Performed, checkpoint, log_kind}
 use Rattle.hound_writer.specs.Publishing.{LeavesWriter, ReadsAs}
-use Rattle.hound_writer.specs.Recorder.{AppendsRecorder, effects_of, is_sound, recorder_of}
+use Rattle.hound_writer.specs.Recorder.{AppendsRecorder, effects_of, is_sound, recorder_of, end_of}
 use Rattle.hound_writer.specs.Recording.{Directed, IsCutOff, IsIdle, resumed_file, writer_of}
-use Rattle.hound_writer.specs.Machine.{end_of}
 use Rattle.hound_writer.specs.Resuming.{Resumes, ResumesAfter, kept_length}
 use Rattle.hound_writer.specs.Writer.{WriterState, accepted_bytes, accepted_samples, sample_count}
 use Rattle.hound_writer.specs.declared.effects.Effect.TheVariants.{Sync}

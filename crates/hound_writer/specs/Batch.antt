@@ -1,7 +1,7 @@
 -- What contracts see of a batch of samples of sixteen bits.
 use Rattle.std.specs.Prelude.{◌≡◌, ◌+◌, ◌++◌, ℕ, List, length, take}
 use Rattle.std.specs.Borrow.{GName}
-use Rattle.hound_writer.specs.declared.memory.BatchMemory.{Ghosts as MemoryGhosts}
+use Rattle.hound_writer.specs.declared.batch.BatchMemory.{Ghosts as MemoryGhosts}
 use Rattle.hound_writer.specs.Accepting.{i16_bytes}
 use Rattle.hound_writer.specs.Calls.{HasSameCalls}
 use Rattle.hound_writer.specs.Writer.{Ghosts, WriterState}

@@ -11,9 +11,8 @@ pub use Rattle.hound_writer.specs.Writer.{AreFrames, ChangesSizesOnly, Counts, G
 unfoldable pub use Rattle.hound_writer.specs.Writer.{with_sizes}
 pub use Rattle.hound_writer.specs.Publishing.{Checkpoints, Finishes, IsHalfPublished, IsOldOrNew, IsOutside, LeavesWriter, OncePutBefore, Publishes, PublishesAtEach, PublishesTo, PutsFrom, PutsLast, ReadsAs, place_after}
 pub use Rattle.hound_writer.specs.Effects.{Log, Performed, Performs, checkpoint, log_kind, nth, pad_effects, size_effects}
-pub use Rattle.hound_writer.specs.Recorder.{AppendsRecorder, BeginsRecorder, HasData, HasFailed, HasNoData, HasRoomFor, IsAlive, IsClear, LeavesRoom, NextEffect, advanced, effects_of, is_sound, length_with, recorder_of}
+pub use Rattle.hound_writer.specs.Recorder.{Abandons, Advances, AppendsRecorder, AsksForBlock, AsksForCheckpoint, BeginsRecorder, CutsOff, EffectEnds, EndsEffect, GivesUp, GoesOn, HadNothing, HandsOut, HasBlock, HasCleaned, HasCut, HasData, HasEffect, HasEnded, HasFailed, HasNoData, HasNothing, HasPerformed, HasRoomFor, HasSaved, HasStopped, HasWritten, IsAlive, IsClear, IsDue, IsSaving, LeavesRoom, MaySave, NextEffect, Saves, SavesFirst, Settles, TakesBlock, ThenGoesOn, advanced, after_block, cuts_next, doubted, effects_of, end_of, end_place, given_up, is_sound, length_with, recorder_of}
 pub use Rattle.hound_writer.specs.Resuming.{ContinuesAfter, Resumes, ResumesAfter, ends_whole, found_frame, kept_as, kept_length, rest_follows, resumed_recorder}
-pub use Rattle.hound_writer.specs.Machine.{Abandons, Advances, AsksForBlock, AsksForCheckpoint, CutsOff, EffectEnds, EndsEffect, GivesUp, GoesOn, HadNothing, HandsOut, HasBlock, HasCleaned, HasCut, HasEffect, HasEnded, HasNothing, HasPerformed, HasSaved, HasStopped, HasWritten, IsDue, IsSaving, MaySave, Saves, SavesFirst, Settles, TakesBlock, ThenGoesOn, after_block, cuts_next, doubted, end_of, end_place, given_up}
 pub use Rattle.hound_writer.specs.Recording.{AgreeTo, Directed, HasPlace, HasRoomTo, InStep, IsCutOff, IsIdle, IsOrdered, IsRecorderOf, IsSynced, Opened, Resumed, block_known, cut_known, resumed_file, writer_of}
 pub use Rattle.hound_writer.specs.Repeating.{IsSaid, Repeats, written_first}
 pub mod Accepting
@@ -27,6 +26,5 @@ pub mod Publishing
 pub mod Effects
 pub mod Recorder
 pub mod Resuming
-pub mod Machine
 pub mod Recording
 pub mod Repeating

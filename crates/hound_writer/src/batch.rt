@@ -1,5 +1,5 @@
 // Batches of samples of sixteen bits.
-ghost use Rattle.std.specs.Prelude.{◌≡◌, ◌+◌, ◌*◌, ◌^◌, ◌≤◌, ◌<◌, length, max, [], take, IfOk, IfErr, OnOk, Ok, Err};
+ghost use Rattle.std.specs.Prelude.{◌≡◌, ◌+◌, ◌*◌, ◌^◌, ◌≤◌, ◌<◌, length, max, [], take, IfOk, IfErr, OnOk, Ok, Err, ◌∷◌, ◌++◌, List, ℤ};
 ghost use Rattle.std.specs.Borrow.{sem, RestsIfErr};
 ghost use Rattle.hound_number.specs.{signed_bytes_of};
 ghost use Rattle.hound_spec.specs.declared.error.Error.TheVariants.{OutOfMemory, TooLong};
@@ -9,7 +9,6 @@ ghost use Rattle.hound_writer.specs.Calls.{Extends, HasSameCalls, made, marked, 
 ghost use Rattle.hound_writer.specs.Writer.{IsSixteen, HasRoom};
 
 use crate::WavWriter;
-use crate::memory::BatchMemory;
 use crate::output::Output;
 use hound_medium::Medium;
 use hound_sample::Sample;
@@ -23,16 +22,12 @@ use std::alloc::Global;
 pub struct SampleWriter16<'parent, W: Medium, B: BatchMemory = Vec<i16>> {
     // The writer that the batch goes to.
     pub(crate) parent: &'parent mut WavWriter<W>,
-
     // The writer's memory for batches, which is returned to it at the end of the batch.
     pub(crate) memory: B,
-
     // How many samples were written.
     pub(crate) written: usize,
-
     // How many samples are still to be written.
     pub(crate) left: usize,
-
     ghost long: { written + left ≤ length (B.samples memory) },
     ghost few: { written + left < 2 ^ 32 },
     ghost fits: { AreI16 (take written (B.samples memory)) },
@@ -202,5 +197,38 @@ impl<'parent, W: Medium, B: BatchMemory> SampleWriter16<'parent, W, B> {
         ensures { result ≡ remaining self.now }
     {
         self.left as u32
+    }
+}
+
+/// Memory of a fixed length that a batch is collected in: a `Vec<i16>`, the only type with this trait.
+///
+/// A batch has a type parameter for it since contracts follow a `&mut` through a struct that owns memory only where the
+/// memory's type is a parameter.
+pub trait BatchMemory: Drop {
+    /// Its samples.
+    ghost samples: { Self → List ℤ };
+
+    /// Stores a sample.
+    fn store(&mut self, index: usize, sample: i16)
+        requires { index < length (samples self.old) }
+        ensures written { take (index + 1) (samples self.new) ≡ take index (samples self.old) ++ sample ∷ [] }
+        ensures kept { length (samples self.new) ≡ length (samples self.old) };
+
+    /// The same samples as a `Vec`.
+    fn into_vec(self) -> Vec<i16>
+        ensures { result.items ≡ samples self };
+}
+
+impl BatchMemory for Vec<i16> {
+    ghost samples = { λ memory. memory.items };
+
+    #[inline(always)]
+    fn store(&mut self, index: usize, sample: i16) {
+        self[index] = sample;
+    }
+
+    #[inline(always)]
+    fn into_vec(self) -> Vec<i16> {
+        self
     }
 }

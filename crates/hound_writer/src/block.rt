@@ -14,7 +14,6 @@ pub(crate) const BLOCK_LENGTH: usize = 4096;
 pub(crate) struct Block {
     // Their bytes; those after these mean nothing.
     bytes: [u8; BLOCK_LENGTH],
-
     // How many bytes they have.
     length: usize,
 }

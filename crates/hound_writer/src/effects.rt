@@ -2,7 +2,7 @@
 ghost use Rattle.std.specs.Prelude.{◌≡◌, ◌≤◌, Option, drop, length, take};
 ghost use Rattle.hound_spec.specs.{riff_size, greatest_u32};
 ghost use Rattle.hound_writer.specs.Beginning.{BeginsWith};
-ghost use Rattle.hound_writer.specs.Effects.{checkpoint, nth, size_effects};
+ghost use Rattle.hound_writer.specs.Effects.{checkpoint, nth};
 
 use crate::recorder::RecorderError;
 use hound_spec::{WavSpecEx, riff_size};
@@ -12,10 +12,8 @@ use hound_spec::{WavSpecEx, riff_size};
 pub enum Effect {
     /// To sync it: all that was written is stored.
     Sync,
-
     /// To write a zero byte at this place.
     Pad(u64),
-
     /// To write this size at this place, in four bytes, little-endian.
     Size(u64, u32),
 }
@@ -25,13 +23,10 @@ pub enum Effect {
 pub enum Action {
     /// To read so many bytes at this place, fewer only where the file ends.
     Read(u64, u32),
-
     /// To sync it, or to write a few bytes.
     Perform(Effect),
-
     /// To write the caller's block, of so many bytes, at this place.
     WriteBlock(u64, u32),
-
     /// To cut the file off at this place, unless it is no longer than that.
     Shorten(u64),
 }
@@ -41,13 +36,10 @@ pub enum Action {
 pub enum BeginningEffect {
     /// To sync the folder that holds its name.
     SyncFolder,
-
     /// To cut it off at its first byte, if it has one.
     Empty,
-
     /// To sync it.
     Sync,
-
     /// To write the header from this byte of it on, at the same place in the file: 40 bytes, or fewer at its end.
     Header(u32),
 }
@@ -57,10 +49,8 @@ pub enum BeginningEffect {
 pub enum Report {
     /// It hasn't ended, or nobody knows.
     Pending,
-
     /// All of it is done.
     Done,
-
     /// It has failed, or a part of it isn't done.
     Failed,
 }
@@ -72,29 +62,13 @@ pub(crate) fn checkpoint_effect(data_start: u64, data_length: u32, number: u32) 
     requires fits { riff_size data_start data_length ≤ greatest_u32 }
     ensures { result ≡ nth (checkpoint data_start data_length) number }
 {
-    if data_length % 2 == 0 {
-        return effect_of_sizes(data_start, data_length, number);
-    }
-    if number == 0 {
-        return Some(Effect::Pad(data_start + data_length as u64));
-    }
-    effect_of_sizes(data_start, data_length, number - 1)
-}
-
-// The same, after the pad byte.
-fn effect_of_sizes(data_start: u64, data_length: u32, number: u32) -> Option<Effect>
-    requires after_header { 20 ≤ data_start }
-    requires fits { riff_size data_start data_length ≤ greatest_u32 }
-    ensures { result ≡ nth (size_effects data_start data_length) number }
-{
-    match number {
-        0 => Some(Effect::Sync),
-        1 => {
-            let size = riff_size(data_start, data_length as u64);
-            Some(Effect::Size(4, size as u32))
-        }
-        2 => Some(Effect::Size(data_start - 4, data_length)),
-        3 => Some(Effect::Sync),
+    let riff_size = riff_size(data_start, data_length as u64) as u32;
+    match (number, data_length % 2 == 1) {
+        (0, true) => Some(Effect::Pad(data_start + data_length as u64)),
+        (0, false) | (1, true) => Some(Effect::Sync),
+        (1, false) | (2, true) => Some(Effect::Size(4, riff_size)),
+        (2, false) | (3, true) => Some(Effect::Size(data_start - 4, data_length)),
+        (3, false) | (4, true) => Some(Effect::Sync),
         _ => None,
     }
 }

@@ -1,12 +1,12 @@
-// What is written at the end of the written data: bytes, or the containers of samples.
-ghost use Rattle.std.specs.Prelude.{◌≡◌, ◌≤◌, false, not, IsOk, is_ok};
-ghost use Rattle.hound_medium.specs.{PutsAll, WhereTells};
+// What is written at places: bytes, the two sizes, and at the end of the written data the containers of samples.
+ghost use Rattle.std.specs.Prelude.{◌≡◌, ◌≤◌, false, not, IsOk, is_ok, ◌+◌, length, OnOk};
+ghost use Rattle.hound_medium.specs.{PutsAll, WhereTells, WhereKeeps};
 ghost use Rattle.hound_sample.specs.{all_containers, joined_containers};
-ghost use Rattle.hound_writer.specs.{all_out, PutsAt, containers_in, sample_bytes};
+ghost use Rattle.hound_writer.specs.{all_out, PutsAt, containers_in, sample_bytes, PatchesAtEach, Patches};
 
 use crate::block::{BLOCK_LENGTH, Block};
-use crate::patch::put_all_at;
 use hound_medium::{Medium, put_all};
+use hound_number::le_u32;
 use hound_sample::Sample;
 use hound_spec::WavSpecEx;
 use std::io;
@@ -38,10 +38,10 @@ fn go_and_put<M: Medium>(
     requires { WhereTells M.tells (may_have_moved ≡ false → (M.state medium.old).place ≡ at) }
     ensures { WhereTells M.tells (PutsAt M.keeps at bytes.now result (M.state medium.old) (M.state medium.new)) }
 {
-    if may_have_moved {
-        return put_all_at(medium, at, bytes);
+    if !may_have_moved {
+        return put_all(medium, bytes);
     }
-    put_all(medium, bytes)
+    put_all_at(medium, at, bytes)
 }
 
 // Writes the containers of samples, a block at a time, or stops at the first `put` that fails.
@@ -94,4 +94,34 @@ pub(crate) fn put_samples_at_end<M: Medium, S: Sample + Copy>(
     let result = put_samples(medium, block, samples, bits, spec_ex.bytes_per_sample);
     *may_have_moved = result.is_err();
     result
+}
+
+/// Writes bytes at a place, or stops at the first call of the medium that fails.
+#[inline(always)]
+pub fn put_all_at<M: Medium>(medium: &mut M, place: u64, bytes: &[u8]) -> io::Result<()>
+    ensures { WhereTells M.tells (PutsAt M.keeps place bytes.now result (M.state medium.old) (M.state medium.new)) }
+{
+    medium.go(place)?;
+    put_all(medium, bytes)
+}
+
+/// Writes both sizes, the RIFF size first, and flushes the medium, which is then after the data length. It ends at the
+/// first fault.
+pub fn patch<M: Medium>(
+    medium: &mut M,
+    data_len_offset: u64,
+    riff_size: u32,
+    data_length: u32,
+) -> io::Result<()>
+    requires beyond { 8 ≤ data_len_offset }
+    requires inside { WhereTells M.tells (data_len_offset + 4 ≤ length (M.state medium.old).contents) }
+    ensures patches { WhereTells M.tells (Patches data_len_offset riff_size data_length result
+        (M.state medium.old) (M.state medium.new)) }
+    ensures place { WhereTells M.tells (OnOk result ((M.state medium.new).place ≡ data_len_offset + 4)) }
+    ensures moments { WhereKeeps M.tells M.keeps
+        (PatchesAtEach data_len_offset riff_size data_length result (M.state medium.old) (M.state medium.new)) }
+{
+    put_all_at(medium, 4, &le_u32(riff_size))?;
+    put_all_at(medium, data_len_offset, &le_u32(data_length))?;
+    medium.flush()
 }

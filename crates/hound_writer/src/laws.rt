@@ -13,8 +13,7 @@ ghost use Rattle.hound_writer.specs.Calls.{Begun, Known, marked, new_file, publi
 ghost use Rattle.hound_writer.specs.Effects.{Log, Performed, Performs, log_kind};
 ghost use Rattle.hound_writer.specs.Parts.{PutsAt};
 ghost use Rattle.hound_writer.specs.Publishing.{LeavesWriter};
-ghost use Rattle.hound_writer.specs.Machine.{GivesUp, GoesOn, HasEnded, TakesBlock, cuts_next, end_of};
-ghost use Rattle.hound_writer.specs.Recorder.{BeginsRecorder, IsAlive, effects_of, recorder_of};
+ghost use Rattle.hound_writer.specs.Recorder.{GivesUp, GoesOn, HasEnded, TakesBlock, cuts_next, end_of, BeginsRecorder, IsAlive, effects_of, recorder_of};
 ghost use Rattle.hound_writer.specs.Recording.{AgreeTo, Directed, IsCutOff, Opened, Resumed, block_known, cut_known, resumed_file, writer_of};
 ghost use Rattle.hound_writer.specs.Repeating.{IsSaid, Repeats, written_first};
 ghost use Rattle.hound_writer.specs.Resuming.{Resumes};

@@ -10,20 +10,18 @@ mod end;
 mod file;
 mod laws;
 mod machine;
-mod memory;
 mod output;
-mod patch;
 mod recorder;
 mod resuming;
 mod write;
 
 pub use batch::SampleWriter16;
 pub use effects::{Action, BeginningEffect, Effect, Report, beginning_effect, part_from};
+pub use end::{patch as patch_sizes, put_all_at};
 pub use laws::{
     a_block_is_its_samples, a_cut_is_ignored, a_recorder_directs, an_effect_may_be_repeated,
     one_append_answer,
 };
-pub use patch::{patch as patch_sizes, put_all_at};
 pub use recorder::{Health, Phase, Recorder, RecorderError};
 pub use resuming::{FoundFile, RepairState};
 pub use write::WavWriter;

@@ -1,6 +1,6 @@
 // What a recorder's caller asks for, and is to do.
 ghost use Rattle.std.specs.Prelude.{◌≡◌};
-ghost use Rattle.hound_writer.specs.Machine.{after_block, doubted, Advances, AsksForBlock, AsksForCheckpoint, EndsEffect, GivesUp, GoesOn, HandsOut, Saves, SavesFirst, Settles, end_place};
+ghost use Rattle.hound_writer.specs.Recorder.{after_block, doubted, Advances, AsksForBlock, AsksForCheckpoint, EndsEffect, GivesUp, GoesOn, HandsOut, Saves, SavesFirst, Settles, end_place};
 
 use crate::effects::{Action, Report};
 use crate::recorder::{Health, Phase, Recorder, RecorderError};

@@ -4,8 +4,7 @@ ghost use Rattle.hound_spec.specs.{riff_size};
 ghost use Rattle.hound_writer.specs.Parts.{IsLimit, IsPublishResult};
 
 use crate::block::{BLOCK_LENGTH, Block};
-use crate::end::{put_at_end, put_samples_at_end};
-use crate::patch::patch;
+use crate::end::{patch, put_at_end, put_samples_at_end};
 use hound_medium::Medium;
 use hound_sample::{Sample, SampleError, check_containers, have_containers, reason_of};
 use hound_spec::{Error, Result, WavSpecEx, riff_size, riff_size_fits};
@@ -17,25 +16,18 @@ use std::{io, result};
 pub(crate) struct Output<W: Medium> {
     // The properties of the audio data, and the bytes of a container.
     spec_ex: WavSpecEx,
-
     // The medium that the file goes to.
     writer: W,
-
     // The place of the first data byte.
     data_start: u64,
-
     // How many bytes of the accepted samples are written.
     data_bytes_written: u32,
-
     // Whether the medium may be elsewhere than after these.
     may_have_moved: bool,
-
     // The buffered accepted samples, which are written after these.
     block: Block,
-
     // Below this many buffered bytes there is room for a sample, in the block and in the file.
     fast_path_limit: usize,
-
     // The memory that batches use, which later ones reuse.
     pub(crate) batch_memory: Option<Vec<i16>>,
 }

@@ -11,25 +11,18 @@ use hound_spec::{WavSpecEx, header_length, is_pair, riff_size_fits};
 pub enum RecorderError {
     /// No such samples are written, or none there.
     NotWritable,
-
     /// The samples of the file are no whole frames.
     UnfinishedFrame,
-
     /// The sizes of the file would pass 32 bits.
     TooLong,
-
     /// The file lacks samples that its header counts.
     Truncated,
-
     /// The recording was cut off, and isn't to be mended.
     NeedsMend,
-
     /// Chunks or a tag follow the data, and aren't to be overwritten.
     NeedsOverwrite,
-
     /// A write failed, or a checkpoint isn't done: one has to be, before samples are written.
     NeedsCheckpoint,
-
     /// A sync failed, after which it is unknown what is stored.
     SyncFailed,
 }
@@ -39,11 +32,9 @@ pub enum RecorderError {
 pub enum Health {
     /// Nothing has failed since the last checkpoint.
     Sound,
-
     /// A write has failed, or the header counts other samples than the recorder. A checkpoint has to be done before a
     /// block is written.
     Suspect,
-
     /// A sync has failed, so nobody knows what is stored. Each call is an error from then on.
     Dead,
 }
@@ -53,16 +44,12 @@ pub enum Health {
 pub enum Phase {
     /// Nothing is.
     Idle,
-
     /// A checkpoint is.
     Saving,
-
     /// A block was requested, and a checkpoint may come first. Once it is written, the data have so many bytes.
     Requested(u32),
-
     /// A block is being written, after which the data have so many bytes.
     Writing(u32),
-
     /// The write of a block has failed, and what it left is being cut off.
     Cleaning,
 }
@@ -74,25 +61,18 @@ pub enum Phase {
 pub struct Recorder {
     /// The place of the first data byte.
     pub data_start: u64,
-
     /// How many bytes of data are written.
     pub data_length: u32,
-
     /// How many effects of a checkpoint are done; 0 if none is under way.
     pub number: u32,
-
     /// How many bytes a sample has.
     pub bytes_per_sample: u16,
-
     /// How many samples a frame has.
     pub channels: u16,
-
     /// Whether the file is as this counts it.
     pub health: Health,
-
     /// What is under way.
     pub phase: Phase,
-
     /// Whether bytes may follow the data that are to be cut off.
     pub has_rest: bool,
 }

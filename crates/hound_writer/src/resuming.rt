@@ -11,15 +11,12 @@ use std::fmt;
 pub enum RepairState {
     /// Both sizes are right: those of the whole frames that the file holds.
     Whole,
-
     /// The data length is wrong, as where a recording was cut off.
     CutOff,
-
     /// Something follows the data, by the data length, so the file wasn't cut off in them: a chunk with a tag of RIFF
     /// or its common extensions, as `LIST`, `bext` or `id3 `, which may itself be cut off; chunks with printable tags
     /// to the end of the file; or an ID3v1 tag at the end. The pad byte after the data may lack.
     HasChunksAfterData,
-
     /// The data length counts all whole frames that the file holds. Only the RIFF size is another one than in the
     /// canonical form, as where a program writes no pad byte, so no sample is concerned.
     AllCounted,
@@ -43,19 +40,14 @@ impl fmt::Display for RepairState {
 pub struct FoundFile {
     /// The spec of its samples.
     pub spec_ex: WavSpecEx,
-
     /// The place of the first data byte.
     pub data_start: u64,
-
     /// How many bytes of data its header counts.
     pub data_length: u32,
-
     /// How many bytes the file has.
     pub length: u64,
-
     /// How many whole frames it holds.
     pub frames: u32,
-
     /// How it was found.
     pub state: RepairState,
 }

@@ -34,7 +34,6 @@ use std::{io, result};
 pub struct WavWriter<W: Medium> {
     // The file that it writes.
     pub(crate) output: Output<W>,
-
     // The fault of the last call that wrote samples and failed.
     pub(crate) fault: io::Error,
 }

@@ -2,8 +2,7 @@ use Rattle.std.proofs.lemmas.Grind.{common_steps}
 use Rattle.std.proofs.Common.{rules, ◌≡◌, ℕ, ◌≤◌, ◌<◌, List, [], ◌∷◌, codes, get_or, length, Result, Ok, Err, IfErr, MatchResult, inl, inr, sym, subst, arith}
 use Rattle.std.specs.Borrow.{Bor}
 use Rattle.hound_spec.specs.declared.spec.WavSpec.{WavSpec}
-use Rattle.hound_commands.specs.Commands.{IsPackCommand, IsShowCommand, PacksUntil, SaySpec}
-use Rattle.hound_commands.specs.Showing.{ShowsUntil}
+use Rattle.hound_commands.specs.Commands.{IsPackCommand, IsShowCommand, PacksUntil, SaySpec, ShowsUntil}
 use Rattle.hound_commands.specs.declared.error.CommandError.{CommandError}
 use Rattle.hound_spec.specs.{with_default_width}
 use Rattle.hound_commands.proofs.commands.run.Goals as goal

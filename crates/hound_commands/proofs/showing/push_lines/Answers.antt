@@ -3,7 +3,7 @@ use Rattle.std.proofs.lemmas.Grind.{common_steps, flat_map-append}
 use Rattle.std.specs.List.{flat_map}
 use Rattle.std.proofs.Transfers.{starts_with_of_append}
 use Rattle.hound_commands.proofs.Outputs.{gets-more, gets-then, stopped-within}
-use Rattle.hound_commands.specs.Showing.{GetsBuffered}
+use Rattle.hound_commands.specs.Commands.{GetsBuffered}
 use Rattle.hound_commands.proofs.showing.push_lines.Goals as goal
 
 pub returns-in_err-make_room : goal.returns-in_err-make_room

@@ -1,6 +1,6 @@
 use Rattle.std.proofs.Common.{◌++◌, take}
 use Rattle.std.specs.List.{flat_map}
-use Rattle.hound_commands.specs.Showing.{GetsBuffered}
+use Rattle.hound_commands.specs.Commands.{GetsBuffered}
 use Rattle.hound_commands.proofs.showing.push_lines.Given as goal
 
 abbrev pub invariant-loop-sample : goal.invariant-loop-sample

@@ -4,8 +4,7 @@ use Rattle.hound_number.specs.{Writes}
 use Rattle.hound_commands.proofs.Outputs.{appends-kept, appends-none, part-written}
 use Rattle.hound_commands.proofs.ShowAnswers.{err_is, file_shown, file_stops, head_stops, part_stops, stopped}
 use Rattle.hound_spec.specs.declared.spec.WavSpecEx.{WavSpecEx}
-use Rattle.hound_commands.specs.Commands.{failure_of}
-use Rattle.hound_commands.specs.Showing.{AnswersSamples}
+use Rattle.hound_commands.specs.Commands.{failure_of, AnswersSamples}
 use Rattle.hound_commands.specs.declared.error.CommandError.{CommandError}
 use Rattle.hound_commands.specs.declared.error.CommandError.TheVariants.{InputOrOutput}
 use Rattle.hound_commands.proofs.showing.show.Goals as goal

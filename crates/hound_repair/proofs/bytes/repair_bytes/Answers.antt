@@ -1,7 +1,7 @@
 use Rattle.std.proofs.Common.{◌≡◌, ◌+◌, ◌≤◌, ◌∷◌, [], ◌++◌, length, take, drop, refl, sym, ap, ◌∙◌, arith, rules}
 use Rattle.std.proofs.lemmas.List.{append-nil, drop-set-lt, drop_at, length-take-le, take_at, take_more_set}
 use Rattle.std.proofs.lemmas.Slice.{drop-append-drop}
-use Rattle.hound_repair.specs.Damages.{as_medium}
+use Rattle.hound_repair.specs.Repairing.{as_medium}
 use Rattle.hound_repair.specs.Steps.{looks_for_chunks}
 use Rattle.hound_repair.proofs.ByEffects.{repair_mends}
 use Rattle.hound_repair.proofs.InPlace.{repairs_in_place}

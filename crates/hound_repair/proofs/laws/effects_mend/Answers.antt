@@ -2,7 +2,7 @@ use Rattle.std.proofs.Common.{true, ◌-◌, ◌<◌, ◌^◌, arith, subst, sym
 use Rattle.hound_writer.proofs.Heads.{head_beyond, head_inside}
 use Rattle.hound_repair.specs.Steps.{PartlyMended, PerformedOn, mending, mending_effects}
 use Rattle.hound_repair.specs.Held.{held}
-use Rattle.hound_repair.specs.Damages.{repair_of}
+use Rattle.hound_repair.specs.Repairing.{repair_of}
 use Rattle.hound_repair.proofs.Mending.{length_is}
 use Rattle.hound_repair.proofs.RightSizes.{length_fits}
 use Rattle.hound_repair.proofs.Performing.{allowed, mends, on_log, spans}

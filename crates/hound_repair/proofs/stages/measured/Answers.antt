@@ -2,7 +2,7 @@ use Rattle.std.proofs.lemmas.Result.{err_from_is_err_and}
 use Rattle.std.proofs.lemmas.Grind.{common_steps}
 use Rattle.std.proofs.Common.{◌<◌, ◌≤◌, ◌^◌, subst, arith, rules}
 use Rattle.hound_writer.proofs.Heads.{head_inside}
-use Rattle.hound_repair.specs.Damages.{shown_of}
+use Rattle.hound_repair.specs.Repairing.{shown_of}
 use Rattle.hound_repair.proofs.Measuring.{not_written, written}
 use Rattle.hound_repair.proofs.Stepping.{counts_serve, sizes_rejected}
 use Rattle.hound_repair.proofs.stages.measured.Goals as goal

@@ -4,8 +4,7 @@ use Rattle.std.proofs.lemmas.List.{take_all}
 use Rattle.std.specs.List.{count_by}
 use lib.Ieee.{add, binary64, nan}
 use Rattle.hound_sample.specs.Container.{fits, int_container, joined_containers}
-use Rattle.hound_sample.specs.Dithering.{next_state, noise, with_noise}
-use Rattle.hound_sample.specs.Scale.{scaled, scaled_to}
+use Rattle.hound_sample.specs.Scale.{next_state, noise, with_noise, scaled, scaled_to}
 use Rattle.hound_sample.proofs.Amplitudes.{counted, joined_next, next_with_noise, none_more, one_more, with_noise-length}
 use Rattle.hound_sample.proofs.amplitude.scale_each_with_noise.Goals as goal
 
@@ -33,9 +32,9 @@ loop-i-preserved g c =
       stored = ap (λ n. take n c.store_container.new.bytes)
           (let same : (i + 1) * width ≡ i * width + width = omega arith in same)
           ∙ c.store_container.ensures.stored
-          ∙ ap (λ l. l ++ take width c.container_of.result) c.loop-i.invariant.stored
+          ∙ ap (λ l. l ++ take width c.container_of-container.result) c.loop-i.invariant.stored
           ∙ sym (joined_next bits width noisy i _ some
-          (ap (λ v. int_container v bits width) (sym value) ∙ c.container_of.ensures));
+          (ap (λ v. int_container v bits width) (sym value) ∙ c.container_of-container.ensures));
       count = counted (λ x. fits bits (scaled bits x)) noisy i c.loop-i.count _ _ some c.loop-i.invariant.count sum
           c.int_of-sample.ensures.count;
       few = search rules;

@@ -1,8 +1,7 @@
 use Rattle.std.proofs.Common.{◌≡◌, ◌≤◌, ◌*◌, drop, length, map, not, take}
 use Rattle.std.specs.List.{count_by}
 use Rattle.hound_sample.specs.Container.{fits, int_container, joined_containers}
-use Rattle.hound_sample.specs.Dithering.{state_after, with_noise}
-use Rattle.hound_sample.specs.Scale.{scaled, scaled_to}
+use Rattle.hound_sample.specs.Scale.{state_after, with_noise, scaled, scaled_to}
 use Rattle.hound_sample.proofs.amplitude.scale_each_with_noise.Given as goal
 
 abbrev pub invariant-loop-i : goal.invariant-loop-i

@@ -43,7 +43,7 @@ returns-in-Err-clause-each g c =
     omega (arith, few, c.min-wanted.ensures, c.loop-done.invariant.within) in
     let size : length bytes ≡ taken = length-take-le taken piece c.read_piece-taken.ensures.within in
     let whole = div-mul-le_self taken width in
-    let torn = lt-div-mul-add {a = taken} {b = width} c.requires.some in
+    let torn = lt-div-mul-add {a = taken} {b = width} c.requires.width.0 in
     let part : length (take (done + count - done) (drop done c.loop-done.samples)) ≡ count =
     length-take-le (done + count - done) (drop done c.loop-done.samples)
     (omega (arith, end, length-drop done c.loop-done.samples)) ∙ omega arith in
@@ -97,14 +97,8 @@ slice_bounds-decode_each-end-in-loop-done g c = grind (arith, common_steps)
 pub overflow_add-done : goal.overflow_add-done
 overflow_add-done g c = grind (arith, common_steps)
 
-pub slice_bounds-decode_each-end-in-loop-done-2 : goal.slice_bounds-decode_each-end-in-loop-done-2
-slice_bounds-decode_each-end-in-loop-done-2 g c = grind (arith, common_steps)
-
 pub decode_each-requires-clause-whole : goal.decode_each-requires-clause-whole
 decode_each-requires-clause-whole g c = grind (arith, common_steps)
-
-pub overflow_add-done-in-loop-done : goal.overflow_add-done-in-loop-done
-overflow_add-done-in-loop-done g c = grind (arith, common_steps)
 
 pub loop-done-smaller : goal.loop-done-smaller
 loop-done-smaller g c = grind (arith, common_steps)

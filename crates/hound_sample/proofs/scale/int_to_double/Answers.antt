@@ -12,4 +12,4 @@ returns c =
     let value = c.from.ensures ∙ ap (of_int binary64) (to_z-of_z c.ranges.sample) in
     let full = c.from-2.ensures ∙ ap (λ m. of_int binary64 (pos m)) c.two_to.ensures.value in
     (λ i. mul binary64 (value i) (div binary64 (of_bits binary64 0x3ff0_0000_0000_0000) (full i)))
-    ∙ times_step64 (c.args.bits - 1) (omega (arith, c.requires.most)) (of_int binary64 c.args.sample)
+    ∙ times_step64 (c.args.bits - 1) (omega (arith, c.requires.1)) (of_int binary64 c.args.sample)

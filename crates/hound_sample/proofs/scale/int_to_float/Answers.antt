@@ -19,4 +19,4 @@ returns c =
     let step = ap (div binary32 (of_bits binary32 0x3f80_0000)) full in
     (λ i. mul binary32 (size i) (slice_index_or (step i ∷ neg (step i) ∷ []) (bool_byte (lt_z (value i) (pos 0))) nan))
     ∙ signed_product binary32 c.args.sample _
-    ∙ times_step32 (c.args.bits - 1) (omega (arith, c.requires.most)) (of_int binary32 c.args.sample)
+    ∙ times_step32 (c.args.bits - 1) (omega (arith, c.requires.1)) (of_int binary32 c.args.sample)

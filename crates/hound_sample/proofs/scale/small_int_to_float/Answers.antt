@@ -12,4 +12,4 @@ returns c =
     let full = c.nearest_u32_to_f32.ensures ∙ ap (λ m. of_int binary32 (pos m)) c.two_to.ensures.value in
     (λ i. mul binary32 (of_int binary32 (to_z-of_z c.ranges.sample i))
     (div binary32 (of_bits binary32 0x3f80_0000) (full i)))
-    ∙ times_step32 (c.args.bits - 1) (omega (arith, c.requires.most)) (of_int binary32 c.args.sample)
+    ∙ times_step32 (c.args.bits - 1) (omega (arith, c.requires.bits.1)) (of_int binary32 c.args.sample)

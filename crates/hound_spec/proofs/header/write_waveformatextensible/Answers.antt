@@ -1,7 +1,6 @@
 use Rattle.std.proofs.Common.{◌≡◌, ◌++◌, ◌*◌, append_assoc}
 use Rattle.hound_number.specs.{bytes_of}
-use Rattle.hound_spec.specs.FmtChunk.{fmt_bytes, extensible, subformat}
-use Rattle.hound_spec.specs.Header.{fields, mask}
+use Rattle.hound_spec.specs.Header.{fmt_bytes, extensible, subformat, fields, mask}
 use Rattle.hound_spec.proofs.header.write_waveformatextensible.Goals as goal
 
 pub returns : goal.returns

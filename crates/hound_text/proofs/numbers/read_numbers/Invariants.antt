@@ -1,4 +1,4 @@
-use Rattle.hound_text.specs.Reading.{Follows, MayRead}
+use Rattle.hound_text.specs.Text.{Follows, MayRead}
 use Rattle.hound_text.proofs.numbers.read_numbers.Given as goal
 
 abbrev pub invariant-loop-count : goal.invariant-loop-count

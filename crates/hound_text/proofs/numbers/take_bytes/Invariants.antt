@@ -1,5 +1,5 @@
 use Rattle.std.proofs.Common.{length}
-use Rattle.hound_text.specs.Reading.{Leads}
+use Rattle.hound_text.specs.Text.{Leads}
 use Rattle.hound_text.proofs.numbers.take_bytes.Given as goal
 
 -- the bytes so far have led here

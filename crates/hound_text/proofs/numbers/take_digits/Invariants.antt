@@ -1,5 +1,5 @@
 use Rattle.std.proofs.Common.{◌≡◌, ◌<◌, ◌⊎◌, ◌++◌, length, List, ℕ}
-use Rattle.hound_text.specs.Reading.{numbers_from}
+use Rattle.hound_text.specs.Text.{numbers_from}
 use Rattle.hound_text.specs.declared.numbers.Place.TheVariants.{Inside}
 use Rattle.hound_text.proofs.numbers.take_digits.Given as goal
 

@@ -2,9 +2,8 @@ use Rattle.std.proofs.lemmas.Grind.{common_steps}
 use Rattle.std.proofs.Common.{◌≡◌, ◌+◌, ◌≤◌, ℕ, List, ◌++◌, Some, Ok, take, drop, length, refl, ◌∙◌, arith, rules, length-append, length-take-le}
 use Rattle.hound_spec.specs.declared.spec.WavSpecEx.{WavSpecEx}
 use Rattle.hound_number.proofs.Counting.{NoneFailed-trans}
-use Rattle.hound_walk.specs.Fmt.{fmt_len, fmt_of}
+use Rattle.hound_walk.specs.Grammar.{fmt_len, fmt_of, spec_after}
 use Rattle.hound_walk.proofs.FmtLemmas.{fmt_and_rest}
-use Rattle.hound_walk.specs.Grammar.{spec_after}
 use Rattle.hound_spec.specs.{padded}
 use Rattle.hound_walk.specs.Walking.{ReadsContent}
 use Rattle.hound_walk.specs.declared.chunks.ChunkRead.TheVariants.{Other}

@@ -1,7 +1,7 @@
 use Rattle.std.proofs.Common.{◌+◌, ◌-◌, ◌++◌, length, arith, rules, sym, ap, ◌∙◌, length-append, take_all}
 use Rattle.std.proofs.lemmas.Result.{err_from_is_err_and}
 use Rattle.std.proofs.KnownBytes.{Consumes-trans}
-use Rattle.hound_walk.specs.Fmt.{wave_format_extensible}
+use Rattle.hound_walk.specs.Grammar.{wave_format_extensible}
 use Rattle.hound_number.specs.{number}
 use Rattle.hound_walk.proofs.Gives.{ok_from_taken, err_from_taken}
 use Rattle.hound_walk.proofs.FmtLemmas.{extensible_at}

@@ -2,7 +2,7 @@ use Rattle.std.proofs.Common.{◌≡◌, true, ◌||◌, ◌==◌, ◌++◌, ari
 use Rattle.std.proofs.lemmas.Bool.Decides.{nat_tests}
 use Rattle.std.proofs.lemmas.Grind.{common_steps}
 use Rattle.std.proofs.KnownBytes.{Consumes-trans}
-use Rattle.hound_walk.specs.Fmt.{wave_format_pcm}
+use Rattle.hound_walk.specs.Grammar.{wave_format_pcm}
 use Rattle.hound_walk.proofs.Gives.{ok_from_taken}
 use Rattle.hound_walk.proofs.FmtLemmas.{pcm_forty}
 use Rattle.hound_walk.proofs.fmt.read_wave_format_pcm.Goals as goal

@@ -1,7 +1,7 @@
 use Rattle.std.proofs.Common.{◌≡◌, ◌+◌, Err, arith, subst}
 use Rattle.hound_spec.specs.declared.spec.WavSpecEx.{WavSpecEx}
 use Rattle.hound_spec.specs.{padded}
-use Rattle.hound_walk.specs.Fmt.{fmt_len, fmt_of}
+use Rattle.hound_walk.specs.Grammar.{fmt_len, fmt_of}
 use Rattle.hound_walk.proofs.PartLemmas.{caused, rejects_at, reaches, passed_fmt, rejected_fmt, fmt_inside, chunk_inside}
 use Rattle.hound_walk.specs.Parts.{IsAfter}
 use Rattle.hound_walk.proofs.parts.take_fmt.Goals as goal

@@ -1,7 +1,6 @@
 use Rattle.std.proofs.lemmas.Grind.{common_steps}
 use Rattle.std.proofs.Common.{ℕ, Err, arith, refl}
-use Rattle.hound_writer.specs.Machine.{TakesBlock}
-use Rattle.hound_writer.specs.Recorder.{HasNoData, IsAlive, length_with}
+use Rattle.hound_writer.specs.Recorder.{TakesBlock, HasNoData, IsAlive, length_with}
 use Rattle.hound_writer.specs.declared.recorder.Recorder.{Recorder}
 use Rattle.hound_writer.specs.declared.recorder.RecorderError.{RecorderError}
 use Rattle.hound_writer.specs.declared.recorder.RecorderError.TheVariants.{NotWritable, UnfinishedFrame, TooLong, Truncated, NeedsMend, NeedsOverwrite, NeedsCheckpoint, SyncFailed}
